@@ -1,5 +1,5 @@
-/* The calls that only tell. Each hands the handle to a proved call, which hands it out again as it was, in the same block: so
- * the caller's handle, which isn't written, goes on holding it. */
+/* The calls that only read. Each hands the handle to a proved call, which hands it out again as it was, in the same
+ * block. So the caller's handle, which isn't written, still holds it. */
 #include "luntrebis.h"
 
 void lt_held_memory_collect(struct lt_memory memory, uint16_t element, uint64_t number, struct lt_memory *next,

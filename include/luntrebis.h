@@ -1,21 +1,21 @@
-/* Luntrebis for C: a memory of I- and M-structures, with no disk, or kept in an image file that the caller reads and
- * writes.
+/* Luntrebis for C: a memory of I- and M-structures. It has no disk, or is kept in an image file that the caller reads
+ * and writes.
  *
- * The life of a handle, threads, and what each call promises: docs/EMBEDDING.md.
+ * docs/EMBEDDING.md describes the life of a handle, threads, and what each call promises.
  *
- * Every pointer points to what its type says, aligned, and for a call alone: no two of them overlap. With a count, a
- * length, a room or places behind it, it points to so many. What they point to is initialized, `next`, outcomes and
- * buffers too, and a handle of zero bytes holds nothing. None of them is null, not even where the length is 0. No call
- * aborts, and none keeps a pointer.
+ * Every pointer points to what its type says, aligned. With a count, a length, a room or places after it, it points to
+ * that many. During a call no other pointer overlaps it. What it points to is initialized; this holds for `next`,
+ * outcomes and buffers too. No pointer is null, not even if the length is 0. A handle of zero bytes holds nothing. No
+ * call aborts, and none keeps a pointer.
  *
- * A call that changes what a handle holds takes the handle by value and hands it out at `next`, which may be the place
- * that it came from. What was handed over may not be handed over again: so
+ * A call that changes what a handle holds takes the handle by value and hands it out at `next`. `next` may be the place
+ * that the handle came from. A handle that was handed over must not be handed over again, so write
  *     lt_memory_step(m, &command, &m, &outcome);
- * A handle that is written over is lost, and so is its memory. A call that only tells takes a pointer to the handle, and
- * changes nothing: several of them may stand in one expression.
+ * A handle that is overwritten is lost, and so is its memory. A call that only reads takes a pointer to the handle and
+ * changes nothing. Several such calls may be in one expression.
  *
- * A call that may be refused returns the refusal's number, and 0 where it isn't; all else that it tells is written where it
- * is told to. A call that is never refused returns what it tells.
+ * A call that may be refused returns the number of the refusal, or 0 if it isn't refused. It writes its other results
+ * where its pointers say. A call that is never refused returns its result.
  */
 #ifndef LUNTREBIS_H
 #define LUNTREBIS_H
@@ -27,17 +27,17 @@
 extern "C" {
 #endif
 
-/* The version of this header, and of the library that it came with. */
+/* The version of this header, and of the library that it belongs to. */
 #define LT_VERSION "0.1.0"
 #define LT_VERSION_NUMBER 100
 
-/* The library's: 10,000 for each major version, 100 for each minor one, 1 for each patch. */
+/* The version of the library: 10,000 for each major version, 100 for each minor one, 1 for each patch. */
 uint32_t lt_version(void);
 
 /* The version of the layout in which images are made and opened. */
 uint16_t lt_layout_version(void);
 
-/* What is asked, by `tag`. */
+/* What a command asks for, by `tag`. */
 enum lt_tag {
     LT_ALLOC_I = 1, /* a block of `address` cells, to be fetched and stored */
     LT_ALLOC_M = 2, /* a block of `address` cells, to be taken and put */
@@ -50,7 +50,7 @@ enum lt_tag {
     LT_RESET = 9    /* the cells of the block with the base `address` are emptied */
 };
 
-/* What a command came to, by `tag`. */
+/* The outcome of a command, by `tag`. */
 enum lt_answer {
     LT_WAITING = 0, /* deferred: its answer is collected later */
     LT_BASE = 1,    /* the base of the new block, in `value` */
@@ -68,8 +68,8 @@ enum lt_answer {
     LT_CONFIRMED = 128
 };
 
-/* Why a call is refused. 0 is no refusal. The other numbers up to 24 are those of the program imem: no call here
- * answers them, and lt_refusal_name names them, too. */
+/* Why a call is refused. 0 means that it isn't. The other numbers up to 24 are refusals of the program imem. No call
+ * here returns them, but lt_refusal_name names them, too. */
 enum lt_refusal {
     LT_OK = 0,
     LT_GAP = 1,           /* a number beyond the next one */
@@ -79,17 +79,17 @@ enum lt_refusal {
     LT_NO_ELEMENT = 5,
     LT_NOT_ANSWERED = 6,  /* a confirmation of an entry that waits */
     LT_JOURNAL_FULL = 7,  /* the journal has no room: turns make some */
-    LT_DEVICE = 8,        /* the steps couldn't be listed, or the caller lost one: the image has to be opened again, and
-                           * where that was a sync, not before its file system is mounted anew or the machine restarted */
-    LT_FAILED = 9,        /* an earlier call failed: of no call here, since LT_DEVICE is answered again */
+    LT_DEVICE = 8,        /* the steps couldn't be listed, or the caller lost one. Open the image again; if a sync
+                           * failed, not before its file system is mounted anew or the machine is restarted */
+    LT_FAILED = 9,        /* an earlier call failed; no call here returns it, because LT_DEVICE is returned again */
     LT_NO_MEMORY = 10,    /* of lt_memory_new, lt_format, lt_open and lt_inspect */
     LT_WRONG_LENGTH = 12, /* of lt_open and lt_inspect, as the next four: the image's first fault */
-    LT_NO_HEADER = 13,    /* never finished, or damaged: no reason to call lt_format on a file that was there */
+    LT_NO_HEADER = 13,    /* never finished, or damaged; this is no reason to call lt_format on an existing file */
     LT_BAD_HEADER = 14,
     LT_BAD_PAGE = 15,
     LT_BAD_RECORD = 16,
     LT_BAD_LIMITS = 17,   /* of lt_memory_new and lt_format */
-    LT_OLD_VERSION = 21,  /* of lt_open: an image of the first layout, of which `imem migrate` makes one of this */
+    LT_OLD_VERSION = 21,  /* of lt_open: an image of the first layout; `imem migrate` makes one of this layout */
     LT_NO_CALL = 255      /* an unknown tag, no such write, or no group */
 };
 
@@ -102,51 +102,55 @@ struct lt_command {
     uint64_t value;
 };
 
-/* Where `refusal` isn't 0, the rest is 0. */
+/* If `refusal` isn't 0, the rest is 0. */
 struct lt_outcome {
     uint8_t refusal;
     uint8_t tag;
     uint64_t value;
 };
 
-/* A handle. Zero bytes hold nothing. */
+/* A handle of a memory. Zero bytes hold nothing. */
 struct lt_memory {
     void *block;
 };
 
-/* A memory of 1 to 1,048,576 cells and 1 to 64 elements: 0, and `next` holds it; else the refusal, and `next` is as
- * it was. */
+/* Makes a memory of 1 to 1,048,576 cells and 1 to 64 elements. Returns 0, and `next` holds the memory; else returns the
+ * refusal, and `next` is as it was. */
 uint8_t lt_memory_new(uint32_t cells, uint16_t elements, struct lt_memory *next);
 
-/* Each of these takes a memory that is held. One command: its refusal, and what it comes to, at `outcome`. */
+/* Serves one command. Returns its refusal, and writes its outcome at `outcome`. This call and the next two take a
+ * handle that holds a memory. */
 uint8_t lt_memory_step(struct lt_memory memory, const struct lt_command *command, struct lt_memory *next,
                        struct lt_outcome *outcome);
 
-/* What is kept under an element's number, at `outcome`: LT_NO_ELEMENT, LT_FORGOTTEN, LT_GAP, or the entry. */
+/* Writes the entry that is kept under an element's number at `outcome`, or its refusal: LT_NO_ELEMENT, LT_FORGOTTEN or
+ * LT_GAP. Returns the refusal. */
 uint8_t lt_memory_collect(const struct lt_memory *memory, uint16_t element, uint64_t number, struct lt_outcome *outcome);
 
-/* Frees it. */
+/* Frees the memory. */
 void lt_memory_free(struct lt_memory memory);
 
 /* ---- An image
  *
  * The caller reads the file, hands its bytes to lt_open, and does all writing. Each of lt_format, lt_open, lt_serve,
- * lt_serve_group, lt_turn and lt_sweep leaves a list of steps (lt_steps, lt_step_at, lt_step_bytes). The caller carries them out
- * on its file, all of them, in their order, before it passes on what any call here told, and before the next such call:
- * that begins a new list, where this one ended. Where it can't carry out a step it calls lt_failed, and opens the file anew.
- * A crash at any moment on the way leaves a file that means the memory before the call or after it.
+ * lt_serve_group, lt_turn and lt_sweep leaves a list of steps (lt_steps, lt_step_at, lt_step_bytes). The caller carries
+ * out all of these steps on its file, in their order. It does so before it passes on any result of a call here, and
+ * before the next such call, which begins a new list. If the caller can't carry out a step, it calls lt_failed, and
+ * opens the file again. If there is a crash before all steps are carried out, the file means the memory before the call
+ * or after it.
  *
- * After a sync that failed the system may show bytes that the disk hasn't got, and the next sync succeeds: the file
- * isn't opened again before its file system has been mounted anew, or the machine restarted. The file is opened above
- * descriptor 2, as the program may have been started with one of the first three closed, and would print into the image.
- * It is the caller's alone by a lock (flock), which children that were forked and duplicates of the descriptor keep. */
+ * After a failed sync the system may show bytes that aren't on the disk, and the next sync succeeds. So the file must
+ * not be opened again before its file system is mounted anew or the machine is restarted. The caller opens the file
+ * under a descriptor above 2: if the program was started with one of the first three closed, it would print into the
+ * image. A lock (flock) keeps the file for the caller alone. Forked children and duplicates of the descriptor keep the
+ * lock, too. */
 
-/* A handle. Zero bytes hold nothing. */
+/* A handle of an image. Zero bytes hold nothing. */
 struct lt_image {
     void *block;
 };
 
-/* The entries of an element's window are kept from `base` on; `next` is the number of its next new request. Where
+/* The window of an element: its entries are kept from `base` on, and `next` is the number of its next new request. If
  * `refusal` isn't 0, the rest is 0. */
 struct lt_bounds {
     uint8_t refusal;
@@ -167,7 +171,7 @@ struct lt_waiter {
     uint64_t number;
 };
 
-/* What is to be done on the file, by `kind`. */
+/* What a step does on the file, by `kind`. */
 enum lt_kind {
     LT_NO_STEP = 0, /* there is no such step */
     LT_WRITE = 1,   /* `length` bytes from the offset `place` on */
@@ -180,7 +184,7 @@ struct lt_step {
     uint64_t length;
 };
 
-/* What a turn of a checkpoint did, or a sweep, by `tag` of its outcome. */
+/* What a turn of a checkpoint or a sweep did, by `tag` of its outcome. */
 enum lt_turn_tag {
     LT_IDLE = 0,
     LT_BEGAN = 1,
@@ -190,94 +194,98 @@ enum lt_turn_tag {
     LT_SWEPT = 5
 };
 
-/* The length of an image of 1 to 1,048,576 cells, 1 to 64 elements and 16 to 4,096 slots of its journal; 0 where a
+/* Returns the length of an image of 1 to 1,048,576 cells, 1 to 64 elements and 16 to 4,096 journal slots, or 0 if a
  * number is out of its range. */
 uint64_t lt_image_length(uint32_t cells, uint16_t elements, uint32_t slots);
 
-/* The sizes of the image of these bytes, which are all of a file, as its header in force has them: 0, and they are at
- * `limits`; else the refusal, and nothing is changed. The bytes are copied until it returns. */
+/* Reads the sizes of an image from its header in force. `bytes` are all bytes of its file. Returns 0, and the sizes are
+ * at `limits`; else returns the refusal, and nothing is changed. The call works on a copy of the bytes, which is freed
+ * before it returns. */
 uint8_t lt_limits(const uint8_t *bytes, size_t length, struct lt_sizes *limits);
 
-/* Makes the image of an empty memory: 0, and `next` holds it; else the refusal, and `next` is as it was. The caller's
- * file has the length of lt_image_length, and may hold any bytes, which are lost: it is one that the caller has just
- * made, exclusively (O_EXCL). */
+/* Makes the image of an empty memory. Returns 0, and `next` holds the image; else returns the refusal, and `next` is as
+ * it was. The caller's file has the length of lt_image_length. It may hold any bytes, which are lost, so the caller
+ * makes it just before, exclusively (O_EXCL). */
 uint8_t lt_format(uint32_t cells, uint16_t elements, uint32_t slots, struct lt_image *next);
 
-/* Opens the image of these bytes, which are all of the file: 0, and `next` holds it; else the refusal, and `next` is
- * as it was. The bytes are copied. */
+/* Opens an image. `bytes` are all bytes of its file, and are copied. Returns 0, and `next` holds the image; else
+ * returns the refusal, and `next` is as it was. */
 uint8_t lt_open(const uint8_t *bytes, size_t length, struct lt_image *next);
 
-/* Each of these takes an image that is held. One command: its refusal, and what it comes to, at `outcome`. lt_steps tells
- * how many steps it left. */
+/* Serves one command. Returns its refusal, and writes its outcome at `outcome`. lt_steps returns how many steps it
+ * left. This call and all that follow with a handle take one that holds an image. */
 uint8_t lt_serve(struct lt_image image, const struct lt_command *command, struct lt_image *next,
                  struct lt_outcome *outcome);
 
-/* 1 to 16 requests, each of another element, which are put on the disk together: 0, and what each came to, at its
- * place of `outcomes`: LT_DEVICE of each where the steps couldn't be listed. Else the outcomes are as they were:
- * LT_DEVICE after a lost step, or LT_NO_CALL where these are no such requests, or there aren't as many places as
- * requests. lt_steps tells how many steps it left. */
+/* Serves 1 to 16 requests, each of another element, and puts them on the disk together. Returns 0, and writes the
+ * outcome of each request at its place in `outcomes`. Each is LT_DEVICE if the steps couldn't be listed. Else the
+ * outcomes are as they were, and it returns LT_DEVICE after a lost step, or LT_NO_CALL if the commands are no such
+ * requests or `places` isn't their count. lt_steps returns how many steps it left. */
 uint8_t lt_serve_group(struct lt_image image, const struct lt_command *commands, size_t count, struct lt_image *next,
                        struct lt_outcome *outcomes, size_t places);
 
-/* The place of the first of these commands, from 0, that is no request, as of a tag that no request has, and that so keeps
- * lt_serve_group from taking them: `count` where there is none. */
+/* Returns the index, from 0, of the first command that is no request, for example because no request has its tag. Such
+ * a command keeps lt_serve_group from taking them. Returns `count` if there is none. */
 size_t lt_first_unknown(const struct lt_command *commands, size_t count);
 
-/* One turn of a checkpoint: its refusal, and what it did, at `outcome`. */
+/* Makes one turn of a checkpoint. Returns its refusal, and writes what it did at `outcome`. */
 uint8_t lt_turn(struct lt_image image, struct lt_image *next, struct lt_outcome *outcome);
 
-/* Frees up to `most` slots of the journal that are to be swept, since the area in force holds their commands, with one sync
- * for all, where a turn frees three: LT_SWEPT at `outcome`, and how many they were, none while a checkpoint is under way.
- * It leaves a step for each slot, and the sync. */
+/* Frees at most `most` slots of the journal that are to be swept: the area in force holds their commands. It needs one
+ * sync for all of them, while a turn frees three slots. `outcome` is LT_SWEPT with the number of freed slots, which is
+ * 0 while a checkpoint is under way. It leaves a step for each slot, and the sync. */
 uint8_t lt_sweep(struct lt_image image, uint32_t most, struct lt_image *next, struct lt_outcome *outcome);
 
-/* Says that a step couldn't be carried out: from then on each answer is LT_DEVICE, but for LT_NO_CALL, and no call
- * leaves a step. lt_room and lt_count tell what they told before. */
+/* Says that a step couldn't be carried out. From then on each call on the image that may be refused returns LT_DEVICE
+ * or LT_NO_CALL, and no call leaves a step. lt_room and lt_count return what they returned before. */
 void lt_failed(struct lt_image image, struct lt_image *next);
 
-/* Each of these only tells, of an image that is held, and adds no steps. How many steps the last call left. */
+/* Returns how many steps the last call left. This call and those that follow up to lt_count only read, and add no
+ * steps. */
 size_t lt_steps(const struct lt_image *image);
 
-/* The step with this index, from 0; of the kind LT_NO_STEP, and else zeros, where there is none. */
+/* Returns the step with this index, from 0. If there is none, its kind is LT_NO_STEP and the rest is 0. */
 struct lt_step lt_step_at(const struct lt_image *image, size_t index);
 
-/* The bytes of the write with this index, which has just `length` of them: 0. Else LT_NO_CALL, and the buffer is as it
- * was. */
+/* Copies the bytes of the write with this index into a buffer of just their length. Returns 0; else LT_NO_CALL, and the
+ * buffer is as it was. */
 uint8_t lt_step_bytes(const struct lt_image *image, size_t index, uint8_t *buffer, size_t length);
 
-/* What is kept under an element's number, at `outcome`: LT_NO_ELEMENT, LT_FORGOTTEN, LT_GAP, or the entry. */
+/* Writes the entry that is kept under an element's number at `outcome`, or its refusal: LT_NO_ELEMENT, LT_FORGOTTEN,
+ * LT_GAP, or LT_DEVICE after a lost step. Returns the refusal. */
 uint8_t lt_collect(const struct lt_image *image, uint16_t element, uint64_t number, struct lt_outcome *outcome);
 
-/* The request that is kept under an element's number, with the tag 0 where none is, and after a lost step. */
+/* Returns the request that is kept under an element's number. Its tag is 0 if there is none, and after a lost step. */
 struct lt_command lt_entry(const struct lt_image *image, uint16_t element, uint64_t number);
 
-/* The requests that wait at a cell, in their order of arrival, at `waiters`, as many as there is room for: how many; 0
- * after a lost step. A store answers all of them, a put the first. */
+/* Writes the requests that wait at a cell at `waiters`, in their order of arrival, as many as there is room for.
+ * Returns how many it wrote, 0 after a lost step. A store answers all of them, a put the first. */
 size_t lt_waiters(const struct lt_image *image, uint32_t address, struct lt_waiter *waiters, size_t room);
 
-/* The window of an element, at `window`: LT_NO_ELEMENT, or its bounds. */
+/* Writes the window of an element at `window`, or its refusal: LT_NO_ELEMENT, or LT_DEVICE after a lost step. Returns
+ * the refusal. */
 uint8_t lt_window(const struct lt_image *image, uint16_t element, struct lt_bounds *window);
 
-/* How many more commands there is room for. */
+/* Returns how many more commands there is room for. */
 uint32_t lt_room(const struct lt_image *image);
 
-/* How many commands have been accepted since lt_format. */
+/* Returns how many commands have been accepted since lt_format. */
 uint64_t lt_count(const struct lt_image *image);
 
-/* Frees it. There is nothing more to carry out. */
+/* Frees the image. It leaves no steps to carry out. */
 void lt_close(struct lt_image image);
 
-/* What the image of these bytes means, by its own layout, as `imem inspect` prints it: 0, the text's length, at
- * `written`, and the text at the start of the buffer where it has room for it, of which the rest is as it was. Else the
- * refusal, and nothing is changed. */
+/* Writes what the image in these bytes means, by its own layout, as `imem inspect` prints it. Returns 0. The text's
+ * length is at `written`. The text is at the start of the buffer if there is room for it, and the rest of the buffer is
+ * as it was. Else returns the refusal, and nothing is changed. */
 uint8_t lt_inspect(const uint8_t *bytes, size_t length, char *buffer, size_t room, size_t *written);
 
-/* The name of the refusal with this number, 1 to 24 or LT_NO_CALL: its length, and the name, with no zero behind it, at
- * the start of the buffer where it has room for it, of which the rest is as it was. LT_OK, and any other number, has no
- * letter, and none has more than 11. */
+/* Returns the length of the name of the refusal with this number, 1 to 24 or LT_NO_CALL. The name is at the start of
+ * the buffer if there is room for it, with no zero after it, and the rest of the buffer is as it was. The name of
+ * LT_OK, and of any other number, is empty. No name has more than 11 letters. */
 size_t lt_refusal_name(uint8_t refusal, char *buffer, size_t room);
 
-/* The name of an answer by its tag, in the same way. None has more than 12 letters. */
+/* Returns the length of the name of an answer, by its tag, in the same way. No name has more than 12 letters. */
 size_t lt_answer_name(uint8_t tag, char *buffer, size_t room);
 
 #ifdef __cplusplus

@@ -52,7 +52,7 @@ static ssize_t boot_name(char *name) {
     return read_short("/proc/sys/kernel/random/boot_id", name, 64);
 }
 
-/* Leaves the note, in which the kernel's name of its present run stands. Whether it is left. */
+/* Leaves the note, which contains the kernel's name of its present run. Returns whether it is left. */
 static int leave_note(const char *path) {
     char name[64];
     int file, left;
@@ -66,7 +66,7 @@ static int leave_note(const char *path) {
     return left;
 }
 
-/* Whether the note keeps the file from being opened. One of an earlier run of the machine is taken away. */
+/* Whether the note keeps the file from being opened. A note of an earlier run of the machine is removed. */
 static int note_stands(const char *path) {
     char was[64], is[64];
     struct stat seen;
@@ -89,7 +89,7 @@ static void lose(struct ltf *file, int sync) {
     lt_failed(file->image, &file->image);
 }
 
-/* Adds the bytes of a write to those of the writes before it. */
+/* Appends the bytes of a write to those of the writes before it. */
 static int add_bytes(struct ltf *file, size_t index, size_t used, size_t length) {
     if (used + length > file->room) {
         size_t room = 2 * (used + length);
@@ -102,7 +102,8 @@ static int add_bytes(struct ltf *file, size_t index, size_t used, size_t length)
     return lt_step_bytes(&file->image, index, file->bytes + used, length) ? -1 : 0;
 }
 
-/* The write with this index, and those right behind it that go on where it ends: the index behind them, or 0 at a fault. */
+/* Makes the write with this index, together with the writes after it that begin where the one before ends. Returns the
+ * index after them, or 0 at a fault. */
 static size_t carry_out_writes(struct ltf *file, size_t index) {
     struct lt_step step = lt_step_at(&file->image, index);
     uint64_t begin = step.place, end = step.place;
@@ -116,7 +117,7 @@ static size_t carry_out_writes(struct ltf *file, size_t index) {
     return write_all(file->file, file->bytes, (size_t)(end - begin), (off_t)begin) < 0 ? 0 : index;
 }
 
-/* All steps of the last call, in their order: 0, or LT_DEVICE. */
+/* Carries out all steps of the last call, in their order. Returns 0 or LT_DEVICE. */
 static int carry_out(struct ltf *file) {
     size_t count = lt_steps(&file->image);
     for (size_t index = 0; index < count && !lost(file);) {
@@ -134,7 +135,7 @@ static int carry_out(struct ltf *file) {
 
 /* ---- Commands */
 
-/* Whether a call was answered with LT_DEVICE, or its steps weren't carried out: the library may have had no memory for them. */
+/* Whether a call returned LT_DEVICE, or its steps weren't carried out. The library may have had no memory for them. */
 static int is_lost(struct ltf *file, int refusal) {
     if (refusal == LT_DEVICE && !lost(file)) {
         errno = ENOMEM;
@@ -143,7 +144,8 @@ static int is_lost(struct ltf *file, int refusal) {
     return carry_out(file) != 0;
 }
 
-/* A sweep, or where there is nothing to sweep a turn of a checkpoint: 1 where something was done, 0, or LT_DEVICE. */
+/* Makes a sweep, or if there is nothing to sweep a turn of a checkpoint. Returns 1 if something was done, 0, or
+ * LT_DEVICE. */
 static int make_room(struct ltf *file) {
     struct lt_outcome outcome = {0, 0, 0};
     if (is_lost(file, lt_sweep(file->image, SWEPT_AT_ONCE, &file->image, &outcome))) return LT_DEVICE;
@@ -162,7 +164,7 @@ int ltf_tidy(struct ltf *file) {
     return ltf_room(file) < file->limits.slots / 2 ? make_room(file) : 0;
 }
 
-/* Room for a command more: 1, or 0 where there is none to be made, or LT_DEVICE. */
+/* Makes room for one more command. Returns 1, 0 if no room can be made, or LT_DEVICE. */
 static int find_room(struct ltf *file) {
     int made = 1;
     while (made == 1 && ltf_room(file) == 0) made = make_room(file);
@@ -178,8 +180,8 @@ static int wakes(const struct lt_command *command) {
     return command->tag == LT_STORE || command->tag == LT_PUT;
 }
 
-/* How many of those who wait at a command's cell these commands may resume: all that there are where one stores, one for
- * each that puts; none where an earlier command has the cell. */
+/* How many of those who wait at a command's cell these commands may resume: all of them if one stores, and one for each
+ * that puts; none if an earlier command has the same cell. */
 static size_t most_woken(const struct ltf *file, const struct lt_command *commands, size_t count, size_t at) {
     size_t most = 0;
     if (!wakes(&commands[at])) return 0;
@@ -191,7 +193,7 @@ static size_t most_woken(const struct ltf *file, const struct lt_command *comman
     return most;
 }
 
-/* Who waits at the cells where these commands store or put: how many at that of each. */
+/* Notes who waits at the cells where these commands store or put, and how many wait at the cell of each. */
 static void note_waiters(struct ltf *file, const struct lt_command *commands, size_t count, size_t *waited) {
     size_t room = (size_t)KEPT * file->limits.elements, used = 0;
     for (size_t at = 0; at < count; at++) {
@@ -208,13 +210,13 @@ static int is_woken(const struct ltf *file, uint16_t element, uint64_t number) {
     return 0;
 }
 
-/* Notes those who are answered of the ones who waited, up to the first who isn't: they are resumed in their order. */
+/* Notes which of those who waited are answered, up to the first who isn't: they are resumed in their order. */
 static void note_woken(struct ltf *file, const struct lt_waiter *waited, size_t count) {
     for (size_t at = 0; at < count && is_answered(file, waited[at].element, waited[at].number); at++)
         file->woken[file->woken_count++] = waited[at];
 }
 
-/* Notes whom these commands resumed: who waited before them, and behind those who came to wait with them. */
+/* Notes whom these commands resumed: those who waited before them, and then those who came to wait with them. */
 static void note_all_woken(struct ltf *file, const struct lt_command *commands, size_t count,
                            const struct lt_outcome *outcomes, const size_t *waited) {
     for (size_t at = 0, used = 0; at < count; used += waited[at++]) note_woken(file, file->waited + used, waited[at]);
@@ -225,8 +227,8 @@ static void note_all_woken(struct ltf *file, const struct lt_command *commands, 
     }
 }
 
-/* Empties the list of those who are resumed, with room for all who may wait and for each command: 0, or LT_NO_MEMORY. What
- * an opening asks for is enough for a group. */
+/* Empties the list of those who are resumed, and makes room for all who may wait and for each command. Returns 0 or
+ * LT_NO_MEMORY. The memory that an opening takes is enough for a group. */
 static int forget_woken(struct ltf *file, size_t commands) {
     size_t room = (size_t)KEPT * file->limits.elements + (commands < MEMBERS ? MEMBERS : commands);
     file->woken_count = 0;
@@ -272,7 +274,7 @@ int ltf_serve(struct ltf *file, const struct lt_command *command, struct lt_outc
     return serve_alone(file, command, outcome);
 }
 
-/* How many of the commands are the next group: requests of as many elements. 0 where the first one is none. */
+/* How many of the commands are the next group, with one request of each element. 0 if the first one is no request. */
 static size_t next_group(const struct lt_command *commands, size_t count) {
     size_t members = 0;
     if (count > MEMBERS) count = MEMBERS;
@@ -295,7 +297,7 @@ static int serve_group(struct ltf *file, const struct lt_command *commands, size
     return refusal;
 }
 
-/* A group, and each member alone for which the journal had no room. */
+/* Serves a group, and then alone each member for which the journal had no room. */
 static int serve_members(struct ltf *file, const struct lt_command *commands, size_t count, struct lt_outcome *outcomes) {
     int refusal = serve_group(file, commands, count, outcomes);
     for (size_t at = 0; at < count && refusal == 0; at++)
@@ -370,7 +372,8 @@ struct ltf_fault ltf_failure(const struct ltf *file) {
 
 /* ---- The file */
 
-/* Above the three standard descriptors, where one of them was closed: what is printed would else be written into it. */
+/* Moves a descriptor above the three standard ones, in case one of those was closed. What is printed would else be
+ * written into the file. */
 static int above(int file) {
     int kept = file;
     if (file >= 0 && file < 3) {
@@ -380,7 +383,7 @@ static int above(int file) {
     return kept;
 }
 
-/* Opens the file, which is this program's alone from then on, among those that ask for the lock: it, or -errno. */
+/* Opens the file for this program alone, if it is one that asks for the lock. Returns the descriptor, or -errno. */
 static int open_alone(const char *path, int flags) {
     struct stat seen;
     int file = above(open(path, O_RDWR | O_CLOEXEC | O_NONBLOCK | flags, 0600));
@@ -397,13 +400,14 @@ static int open_alone(const char *path, int flags) {
     return -error;
 }
 
-/* Whether the path is still a name of the open file. */
+/* Whether the path still names the open file. */
 static int is_named(int file, const char *path) {
     struct stat open, named;
     return fstat(file, &open) == 0 && stat(path, &named) == 0 && open.st_ino == named.st_ino && open.st_dev == named.st_dev;
 }
 
-/* Makes the file in which an image is formed. One that is there was left by a run that was stopped, where its lock is free. */
+/* Makes the file in which an image is formed. A file that exists was left by a run that was stopped, if its lock is
+ * free. */
 static int make_alone(const char *path) {
     int file = open_alone(path, 0);
     if (file >= 0) {
@@ -421,7 +425,7 @@ static int make_alone(const char *path) {
     return file;
 }
 
-/* Puts a file's name on the disk. */
+/* Syncs the folder of a file, so that its name is on the disk. */
 static int sync_folder(const char *path) {
     char *copy = strdup(path);
     int folder = copy ? open(dirname(copy), O_RDONLY | O_DIRECTORY | O_CLOEXEC) : -1;
@@ -431,7 +435,7 @@ static int sync_folder(const char *path) {
     return -error;
 }
 
-/* A path and what is added to it; none where there is no memory. */
+/* A path with a suffix, or none if there is no memory. */
 static char *path_with(const char *path, const char *added) {
     size_t room = strlen(path) + strlen(added) + 1;
     char *joined = malloc(room);
@@ -439,7 +443,7 @@ static char *path_with(const char *path, const char *added) {
     return joined;
 }
 
-/* The path of the note: beside the target, where the path is a link that leads to one. */
+/* The path of the note. If the path is a link to a file, the note is beside that file. */
 static char *note_of(const char *path) {
     struct stat seen;
     char *target = lstat(path, &seen) == 0 && S_ISLNK(seen.st_mode) ? realpath(path, NULL) : NULL;
@@ -458,13 +462,13 @@ static struct ltf *with_no_image(const char *path) {
     return NULL;
 }
 
-/* The image's steps, with which its file means it. */
+/* Carries out the image's steps, so that the file means the image. */
 static int begin(struct ltf *file) {
     if (carry_out(file) == 0) return 0;
     return -file->failure.error;
 }
 
-/* Forms the image, and names it: a run that is stopped leaves no half an image under that name. */
+/* Forms the image, and then names it: a run that is stopped leaves no half image under that name. */
 static int form(struct ltf *file, const char *path, const char *forming) {
     int answer;
     struct lt_sizes sizes = file->limits;
@@ -504,7 +508,7 @@ int ltf_create(const char *path, uint32_t cells, uint16_t elements, uint32_t slo
     return answer;
 }
 
-/* All bytes of the file. */
+/* Reads all bytes of the file. */
 static int read_all(int file, uint8_t **bytes, size_t *length) {
     struct stat seen;
     if (fstat(file, &seen) < 0) return -errno;

@@ -20,7 +20,7 @@ struct parcel {
     struct ticket *of;
 };
 
-/* What one thread, one call or one queue wants to know. That of a thread lies on its stack. */
+/* What one thread, one call or one queue asks. The ticket of a thread is on its stack. */
 struct ticket {
     struct ticket *next, **link; /* in the list that it is in */
     enum kind kind;
@@ -40,7 +40,8 @@ struct list {
     struct ticket *first, **end;
 };
 
-/* What is known of a leased element: the numbers whose last answer wasn't told yet, by their place in the window. */
+/* What is known of a leased element: which numbers' last answers weren't delivered yet, by their place in the
+ * window. */
 struct lane {
     int leased, ready;
     uint64_t base, next;
@@ -101,7 +102,7 @@ static void wait_for_it(struct lts *shared, struct ticket *ticket) {
     if (ticket->told) pthread_cond_signal(ticket->told); /* Its time may be over. */
 }
 
-/* ---- Telling. Under the lock, but for the calls of lts_done. */
+/* ---- Answers. Under the lock, but for the calls of lts_done. */
 
 static int is_last(const struct lt_outcome *outcome) {
     return outcome->refusal || outcome->tag != LT_WAITING;
@@ -119,7 +120,7 @@ static void send(struct lts_queue *queue, struct parcel *parcel) {
     pthread_mutex_unlock(&queue->lock);
 }
 
-/* Tells a ticket its answer, `later` where it waited. It may be gone behind this. */
+/* Gives a ticket its answer, with `later` if it waited. The ticket may be gone after this call. */
 static void tell(struct lts *shared, struct ticket *ticket, int later) {
     struct lts_answer answer = {ticket->command, ticket->outcome, ticket->mark, later};
     struct lane *lane = &shared->lanes[ticket->command.element % ELEMENTS];
@@ -147,7 +148,7 @@ static void refuse(struct lts *shared, struct ticket *ticket, uint8_t refusal, i
     tell(shared, ticket, later);
 }
 
-/* Everybody who waits, or has asked. */
+/* Refuses all who wait or have asked. */
 static void refuse_all(struct lts *shared, uint8_t refusal) {
     struct ticket *ticket;
     for (size_t at = 0; at < (size_t)ELEMENTS * KEPT; at++)
@@ -161,9 +162,9 @@ static void refuse_all(struct lts *shared, uint8_t refusal) {
     }
 }
 
-/* ---- The owner's thread. It gives the lock up while it uses the file. */
+/* ---- The owner's thread. It gives up the lock while it uses the file. */
 
-/* Tells those who wait for an entry that is answered now. */
+/* Answers those who wait for an entry that is answered now. */
 static void wake(struct lts *shared, const struct lt_waiter *woken) {
     struct ticket *ticket;
     while ((ticket = *waiting_for(shared, woken->element, woken->number))) {
@@ -180,7 +181,7 @@ static void wake_all(struct lts *shared) {
     for (size_t at = 0; at < count; at++) wake(shared, &woken[at]);
 }
 
-/* A request that waits under a number: it is told, or told later. */
+/* Answers a request whose number is waited for, now or later. */
 static void look(struct lts *shared, struct ticket *ticket) {
     ltf_collect(shared->file, ticket->command.element, ticket->command.number, &ticket->outcome);
     if (is_last(&ticket->outcome))
@@ -189,7 +190,7 @@ static void look(struct lts *shared, struct ticket *ticket) {
         wait_for_it(shared, ticket);
 }
 
-/* Gives up what a leased element has been told, up to the first entry that hasn't been. */
+/* Confirms the entries of a leased element up to the first one whose last answer wasn't delivered. */
 static void confirm(struct lts *shared, uint16_t element, struct lane *lane) {
     struct lt_command command = {LT_CONFIRM, element, 0, lane->base, 0};
     struct lt_outcome outcome = {0, 0, 0};
@@ -205,7 +206,7 @@ static void confirm(struct lts *shared, uint16_t element, struct lane *lane) {
     if (outcome.refusal == 0) lane->base = command.number;
 }
 
-/* Numbers a request of a leased element, where it has the number 0. Whether it may be asked. */
+/* Numbers a request of a leased element if it has the number 0. Returns whether it may be asked. */
 static int number(struct lts *shared, struct ticket *ticket) {
     uint16_t element = ticket->command.element;
     struct lane *lane = &shared->lanes[element % ELEMENTS];
@@ -225,7 +226,7 @@ static int number(struct lts *shared, struct ticket *ticket) {
     return 1;
 }
 
-/* The lowest element that isn't leased. */
+/* Leases the lowest element that isn't leased. */
 static void lease(struct lts *shared, struct ticket *ticket) {
     uint16_t element = 0;
     while (element < shared->elements && shared->lanes[element].leased) element++;
@@ -237,7 +238,8 @@ static void lease(struct lts *shared, struct ticket *ticket) {
     tell(shared, ticket, 0);
 }
 
-/* Takes up to a group of those who asked, the first of each element. What needs no step is told at once. */
+/* Takes up to a group of those who asked, the first of each element. Requests that need no step are answered at
+ * once. */
 static size_t gather(struct lts *shared, struct ticket **members) {
     uint8_t seen[ELEMENTS] = {0};
     struct ticket *ticket = shared->asked.first, *next;
@@ -262,7 +264,7 @@ static size_t gather(struct lts *shared, struct ticket **members) {
     return count;
 }
 
-/* Those of a batch who ask, numbered; the others are told, or wait. How many are left. */
+/* Numbers the requests of a batch; the others are answered, or wait. Returns how many requests are left. */
 static size_t sort_out(struct lts *shared, struct ticket **members, size_t count) {
     size_t asks = 0;
     for (size_t at = 0; at < count; at++) {
@@ -277,7 +279,8 @@ static size_t sort_out(struct lts *shared, struct ticket **members, size_t count
     return asks;
 }
 
-/* Tells a member its answer. One that is told later waits from then on, but for that of a thread, which asks again. */
+/* Gives a member its answer. One that is answered later waits from then on. That of a thread doesn't: the thread asks
+ * again. */
 static void answer(struct lts *shared, struct ticket *ticket) {
     int waits = !is_last(&ticket->outcome);
     if (waits && !ticket->done && !ticket->queue) waits = ticket->leased;
@@ -302,7 +305,7 @@ static void serve(struct lts *shared, struct ticket **members, size_t count) {
     if (refusal == 0) wake_all(shared);
 }
 
-/* Keeps the journal half empty while nobody asks. Whether there was something to do. */
+/* Keeps the journal half empty while nobody asks. Returns whether there was something to do. */
 static int tidy(struct lts *shared) {
     int did;
     pthread_mutex_unlock(&shared->lock);
@@ -323,8 +326,8 @@ static size_t count_bits(uint64_t bits) {
     return count;
 }
 
-/* Waits for those who were in the last two groups: a quarter of the time that a group takes, at most. Without it those who
- * are told together come back one by one, and are parted into two groups for ever. */
+/* Waits for those who were in the last two groups, for at most a quarter of the time that a group takes. Without it
+ * those who are answered together come back one by one, and stay parted into two groups. */
 static void linger(struct lts *shared) {
     size_t wanted = count_bits(shared->lately[0] | shared->lately[1]);
     int64_t end = now() + shared->pace / 4;
@@ -336,7 +339,7 @@ static void linger(struct lts *shared) {
     shared->idle = 0;
 }
 
-/* A group of those who asked. */
+/* Serves a group of those who asked. */
 static void serve_next(struct lts *shared) {
     struct ticket *members[MEMBERS];
     size_t count;
@@ -378,7 +381,7 @@ static void *own(void *given) {
 
 /* ---- Those who ask */
 
-/* Puts tickets into the owner's list. Under the lock. Whether it takes any. */
+/* Puts tickets into the owner's list, under the lock. Returns whether it takes any. */
 static int enter(struct lts *shared, struct ticket *ticket) {
     if (shared->dead || shared->ending) return 0;
     ticket->state = QUEUED;
@@ -388,7 +391,7 @@ static int enter(struct lts *shared, struct ticket *ticket) {
     return 1;
 }
 
-/* Takes back a ticket whose time is over. Whether its answer came first. */
+/* Takes back a ticket whose time is over. Returns whether its answer came first. */
 static int take_back(struct lts *shared, struct ticket *ticket, pthread_cond_t *told) {
     while (ticket->state == TAKEN) pthread_cond_wait(told, &shared->lock);
     if (ticket->state == TOLD) return 1;
@@ -397,7 +400,7 @@ static int take_back(struct lts *shared, struct ticket *ticket, pthread_cond_t *
     return 0;
 }
 
-/* A thread's ticket: asks, and waits until it is told, or until the time is over. */
+/* Asks with a thread's ticket, and waits until it is answered or the time is over. */
 static void ask_and_wait(struct lts *shared, struct ticket *ticket, const struct timespec *end) {
     pthread_condattr_t how;
     pthread_cond_t told;
@@ -463,7 +466,7 @@ void lts_give_back(struct lts *shared, uint16_t element) {
     pthread_mutex_unlock(&shared->lock);
 }
 
-/* All tickets of a batch, or none. */
+/* Makes all tickets of a batch, or none. */
 static int submit(struct lts *shared, const struct ticket *like, const struct lt_command *commands, size_t count) {
     struct list made = {NULL, &made.first};
     struct ticket *ticket;

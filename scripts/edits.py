@@ -1,4 +1,4 @@
-"""What the wrong bodies of this repository are, and what the prover says of one, for the scripts beside this file."""
+"""Reads the wrong bodies of this repository and the prover's words about one, for the scripts beside this file."""
 import re
 from dataclasses import dataclass, field
 from pathlib import Path
@@ -15,13 +15,13 @@ NO_CLAUSES = ("loop", "invariant", "requires", "overflow", "lemma")
 
 
 def edits_of(crate, top=sources.TOP):
-    """The edits of a crate by their names: those that the gate tries, and the others."""
+    """Returns the edits of a crate by their names: those that the gate tries, and the others."""
     folder = top / "crates" / crate
     return {it.stem: it for part in ("must-fail", "edits") for it in sorted((folder / part).glob("*.edit"))}
 
 
 def pairs(path):
-    """The replacements of an edit or a twin: file, old text, new text."""
+    """Yields the replacements of an edit or a twin: file, old text, new text."""
     file = old = None
     for line in path.read_text().split("\n"):
         if line.startswith("file: "):
@@ -33,13 +33,15 @@ def pairs(path):
 
 
 def breaks(path):
-    """What an edit is meant to break: a function, as the prover names it, and in words what of it (`is_of`)."""
+    """Returns what an edit is meant to break: a function, as the prover names it, and in words which part of it
+    (`is_of`)."""
     return [tuple(line[len(BREAKS) :].split(None, 1)) for line in path.read_text().split("\n") if line.startswith(BREAKS)]
 
 
 def is_of(goal, what):
-    """Whether a goal is of what an edit is meant to break: a clause by its label; `returns`, the only clause; `invariant`, that of
-    a type; `loop NAME`, that of a loop; `requires CALLEE LABEL`, what a call requires; `overflow`, of a number."""
+    """Whether a goal belongs to what an edit is meant to break: a clause, by its label; `returns`, the only clause;
+    `invariant`, that of a type; `loop NAME`, that of a loop; `requires CALLEE LABEL`, what a call requires; `overflow`,
+    of a number."""
     kind, *names = what.split()
     required = re.search(r"(?:^|-)(\w+)-requires(?:-clause-(\w+))?", goal)
     if kind == "requires":
@@ -57,7 +59,7 @@ def is_of(goal, what):
 
 @dataclass
 class Words:
-    """What the prover says of a crate that isn't proved."""
+    """The prover's words about a crate that isn't proved."""
 
     goals: dict = field(default_factory=dict)  # of each function: its goals that are open, those first that no answer is written for
     gone: dict = field(default_factory=dict)  # of each function: what its answers name and the function no longer has
@@ -66,13 +68,13 @@ class Words:
     flaws: list = field(default_factory=list)  # each message with its file and its goal
 
     def open_at(self, function, what):
-        """The goals that are open of what an edit is meant to break; of a lemma, what is said of it."""
+        """Returns the open goals of what an edit is meant to break; for a lemma, what the prover says about it."""
         if what == "lemma":
             return self.lemmas if any(it.split("::")[-1] == function.split("::")[-1] for it in self.refused) else []
         return [goal for goal in self.goals.get(function, []) if is_of(goal, what)]
 
     def missed(self, function, what):
-        """What there is where no goal of that is open."""
+        """Returns what the prover says instead, if no goal of that is open."""
         goals, gone = self.goals.get(function), self.gone.get(function)
         if goals:
             also = f"; gone: {', '.join(gone)}" if gone else ""
@@ -82,13 +84,14 @@ class Words:
         return f"BAD: refused, but not in {function}: {self.place()}"
 
     def place(self):
-        """Where the prover stopped: the first function with a goal that isn't proved."""
+        """Returns where the prover stopped: the first function with a goal that isn't proved."""
         for function, goals in self.goals.items():
             return f"`{function}`: `{goals[0]}`"
         return f"`-`: {self.flaws[0][2][:80] if self.flaws else '-'}"
 
     def unread_in(self, changed):
-        """A message that says that an edit of these files can't be read at all, so that no contract was tried."""
+        """Returns a message which says that an edit of these files can't be read at all, so that no contract was
+        tried."""
         for file, goal, message in self.flaws:
             if (file in changed or file.startswith(("src/", "specs/"))) and (not goal or is_gone(message)):
                 return message
@@ -96,8 +99,8 @@ class Words:
 
 
 def read_words(said, crate, top=sources.TOP):
-    """What the prover's words about a crate come to. A goal is open where a search finds no proof, which a note tells with its place
-    in the code, or where the answer that is written for it doesn't fit."""
+    """Reads the prover's words about a crate. A goal is open if a search finds no proof, which a note says with its
+    place in the code, or if the answer that is written for it doesn't fit."""
     words = Words(flaws=FLAW.findall(said), refused=[function.split("::", 1)[-1] for function, _ in OPEN.findall(said)])
     notes = [(function_at(crate, file, int(line), top), goal) for file, line, goal in NOTE.findall(said)]
     for function, rest in OPEN.findall(said):
@@ -116,13 +119,13 @@ def read_words(said, crate, top=sources.TOP):
 
 
 def function_at(crate, file, line, top):
-    """The function that has this line of a file, or None. An edit keeps the lines of a file."""
+    """Returns the function that has this line of a file, or None. An edit keeps the lines of a file."""
     found = (it for it in sources.functions(crate, top) if it.file == Path(file).name and it.line <= line < it.line + it.lines)
     return next(found, None)
 
 
 def is_named(function, name):
-    """Whether a name of the prover may mean this function: of a type, or of a trait's impl for it, or of no type."""
+    """Whether a name of the prover may mean this function: of a type, of a trait's impl for the type, or of no type."""
     *_, owner, last = ["", *name.split("::")]
     if function.name != last:
         return False
@@ -132,35 +135,36 @@ def is_named(function, name):
 
 
 def is_verdict(said):
-    """Whether the prover came to its end, and said that something isn't proved."""
+    """Whether the prover came to its end and said that something isn't proved."""
     return "logic=not-proved" in said or OPEN.search(said) is not None
 
 
 def is_gone(message):
-    """Whether a message says that a name isn't there, or a text can't be read, so that no contract was tried."""
+    """Whether a message says that a name doesn't exist or a text can't be read, so that no contract was tried."""
     return GONE.search(re.sub(r"`[^`]*`", "", message)) is not None
 
 
 class Known:
-    """The functions of the repository with their clauses, to look up what an edit is meant to break."""
+    """The functions of the repository with their clauses, in which to look up what an edit is meant to break."""
 
     def __init__(self, top=sources.TOP):
         self.by_crate = {crate: list(sources.functions(crate, top)) for crate in sources.stands_on(top)}
         self.all = [it for functions in self.by_crate.values() for it in functions]
 
     def functions(self, crate, function):
-        """The functions that a name of the prover may mean: of a type, also that of the trait whose impl it is."""
+        """Returns the functions that a name of the prover may mean. For a type these include the functions of a trait
+        that the type implements."""
         *_, owner, name = ["", *function.split("::")]
         found = [it for it in self.by_crate[crate] if is_named(it, function)]
         traits = {owner.removeprefix(it.owner) for it in found if owner != it.owner}
         return found + [it for it in self.all if it.name == name and it.owner and it.owner in traits]
 
     def labels(self, functions, kind):
-        """The labels of the clauses of these functions, function by function."""
+        """Returns the labels of the clauses of these functions, function by function."""
         return [[clause.label for clause in it.clauses if clause.kind == kind] for it in functions]
 
     def why_not(self, crate, function, what):
-        """Why there is no such thing to break, or None."""
+        """Returns why there is no such thing to break, or None."""
         kind, *names = what.split()
         found = self.functions(crate, function)
         is_impl = any(it.owner and function.split("::")[-1].startswith(it.owner) for it in self.by_crate[crate])
@@ -177,11 +181,23 @@ class Known:
         return None if kind in NO_CLAUSES or kind in sum(ensured, []) else f"{function} has no clause `{kind}`"
 
 
+def misplaced(crate, path, top):
+    """Yields the replacements of an edit, or of its twin, whose old text isn't in its file exactly once."""
+    for file, old, _ in pairs(path):
+        source = top / "crates" / crate / file
+        found = source.read_text().count(old) if source.is_file() else 0
+        if found != 1:
+            yield f"{path.relative_to(top)}: stands {found} times in {file}: {old[:60]}"
+
+
 def faults(top=sources.TOP):
-    """The edits that don't say which clause they break, or name one that there isn't."""
+    """Yields the edits that don't say which clause they break, name one that doesn't exist, or whose old text is gone."""
     known = Known(top)
     for crate in known.by_crate:
         for name, path in edits_of(crate, top).items():
+            twin = top / "crates" / crate / "edits" / f"{name}.twin"
+            for it in filter(Path.is_file, (path, twin)):
+                yield from misplaced(crate, it, top)
             said = breaks(path)
             if not said or any(len(it) != 2 for it in said):
                 yield f"{path.relative_to(top)}: no line `{BREAKS}FUNCTION CLAUSE`"

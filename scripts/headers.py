@@ -1,6 +1,7 @@
-"""What the headers of include/ declare, for the scripts beside this file: constants, records, calls; their comments.
+"""What the headers of include/ declare, for the scripts beside this file: constants, records, calls, and their
+comments.
 
-The headers are plain C: a declaration ends with a semicolon, and a comment stands before what it is about, or behind.
+The headers are plain C: a declaration ends with a semicolon, and a comment comes before or after what it is about.
 """
 import re
 from dataclasses import dataclass, field
@@ -14,8 +15,8 @@ CALL = re.compile(r"^(?P<gives>[\w ]+?[ *]+)(?P<name>lt[a-z]?_\w+)\s*\((?P<given
 
 @dataclass
 class Item:
-    """A declaration. `fields` has an enumeration's (name, value, comment), a record's (type, name, comment), and for a
-    call what it is given, as a record's."""
+    """A declaration. `fields` has (name, value, comment) for an enumeration, (type, name, comment) for a record, and
+    the parameters of a call in the same form as a record."""
 
     kind: str  # enum, struct, opaque (a struct whose fields nobody sees), call, macro, text
     name: str
@@ -26,7 +27,7 @@ class Item:
 
 
 def plain(comment):
-    """A comment's words, without its stars: paragraphs stay."""
+    """Returns a comment's words without its stars. Paragraphs stay."""
     lines = [re.sub(r"^\s*\* ?", "", it).rstrip() for it in comment.strip()[2:-2].strip().splitlines()]
     return "\n".join(lines).strip()
 
@@ -36,7 +37,7 @@ def paths():
 
 
 def pieces(text):
-    """Each declaration with its comment, and each comment of its own with no declaration."""
+    """Yields each declaration with its comment, and each comment that has no declaration."""
     comment, words, depth = "", "", 0
     for token in TOKEN.findall(text):
         if token.startswith("/*"):
@@ -65,7 +66,7 @@ def pieces(text):
 
 
 def members(body, ends):
-    """The members of a record or an enumeration: (text, comment)."""
+    """Yields the members of a record or an enumeration: (text, comment)."""
     body = re.sub(rf"({ends})[ \t]*(/\*.*?\*/)", r"\2\1", body, flags=re.S)
     for part in re.split(ends + r"(?![^/]*\*/)", body):
         comment = " ".join(plain(it) for it in re.findall(r"/\*.*?\*/", part, re.S))
@@ -74,13 +75,13 @@ def members(body, ends):
 
 
 def typed(text):
-    """A type and a name, as `const uint8_t *bytes`."""
+    """Splits a declaration such as `const uint8_t *bytes` into a type and a name."""
     found = re.match(r"^(.*?)(\w+)$", text)
     return " ".join(found[1].replace("*", " * ").split()), found[2]
 
 
 def values(body):
-    """The constants of an enumeration; one without a value has the next number."""
+    """Yields the constants of an enumeration. A constant without a value has the next number."""
     last = -1
     for word, said in members(body, ","):
         name, _, value = (it.strip() for it in word.partition("="))
@@ -89,7 +90,7 @@ def values(body):
 
 
 def records(body):
-    """The fields of a record; one type may stand before several names."""
+    """Yields the fields of a record. One type may stand before several names."""
     for word, said in members(body, ";"):
         first, *others = (it.strip() for it in word.split(","))
         kind, name = typed(first)
@@ -98,7 +99,7 @@ def records(body):
 
 
 def given(text):
-    """What a call is given."""
+    """Returns the parameters of a call."""
     return [(*typed(" ".join(it.split())), "") for it in text.split(",")] if text.strip() not in ("", "void") else []
 
 
@@ -124,5 +125,5 @@ def items(path):
 
 
 def calls():
-    """The names of all calls, by header."""
+    """Returns the names of all calls, by header."""
     return {path.name: [it.name for it in items(path) if it.kind == "call"] for path in paths()}

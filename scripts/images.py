@@ -1,6 +1,7 @@
-"""An image as docs/FORMAT.md has it, of either version, for the scripts beside this file: a plain memory, how its image is spelled, and what any bytes mean.
+"""Images of either version as docs/FORMAT.md describes them, for the scripts beside this file: a plain memory, the
+bytes of its image, and what any bytes mean.
 
-It is written from that page alone, shares nothing with the program, and prefers plain words to speed.
+It is written from that page alone and shares nothing with the program. It is plain rather than fast.
 """
 import random
 import struct
@@ -19,7 +20,7 @@ FAULTS = {12: "WrongLength", 13: "NoHeader", 14: "BadHeader", 15: "BadPage", 16:
 
 
 class Fault(Exception):
-    """The first fault of an image, by its number."""
+    """The first fault of an image, with its number."""
 
     def __str__(self):
         return f"refused {self.args[0]} {FAULTS[self.args[0]]}"
@@ -44,8 +45,9 @@ class Cell:
 
 
 class Memory:
-    """Of each address its cell, or None; of each element its base number and its entries, each [operation, reply]: an operation is (code, address or length, value), a reply
-    (code, value), or None of one that waits. That of the first version has shorter windows, and no reset."""
+    """The state of a memory: for each address its cell, or None; for each element its base number and its entries, each
+    [operation, reply]. An operation is (code, address or length, value). A reply is (code, value), or None if the
+    request waits. A memory of the first version has shorter windows and no reset."""
 
     def __init__(self, cells, elements, version=2):
         self.version = version
@@ -53,7 +55,7 @@ class Memory:
         self.windows = [[1, []] for _ in range(elements)]
 
     def step(self, element, number, op):
-        """One command. Whether it was accepted."""
+        """Takes one command. Returns whether it was accepted."""
         if element >= len(self.windows):
             return False
         window = self.windows[element]
@@ -71,7 +73,7 @@ class Memory:
         return True
 
     def act(self, who, code, at, value):
-        """An operation on the cells. Who is answered, and what."""
+        """Does an operation on the cells. Returns who is answered, and with what."""
         if code in (ALLOC_I, ALLOC_M):
             return [(who, self.allocate(code, at))]
         cell = self.cells[at] if at < len(self.cells) else None
@@ -91,7 +93,7 @@ class Memory:
         return NO_SPACE, 0
 
     def end_lives(self, code, at, cell):
-        """A block is given back, or all its cells are emptied."""
+        """Gives a block back, or empties all of its cells."""
         if cell is None or cell.base != at:
             return NO_BLOCK, 0
         cells = self.cells[at : at + cell.length]
@@ -143,7 +145,7 @@ class Limits:
 
     @property
     def session(self):
-        """The bytes of a session record."""
+        """Returns the bytes of a session record."""
         return 64 * self.window
 
     @property
@@ -151,7 +153,7 @@ class Limits:
         return self.window * self.elements
 
     def parts(self):
-        """Of an area: pages of cells, of nodes, and of sessions."""
+        """Returns the parts of an area: pages of cells, of nodes, and of sessions."""
         return -(-self.cells // 128), -(-self.nodes * NODE.size // PAGE), -(-self.elements * self.session // PAGE)
 
     def pages(self):
@@ -188,7 +190,7 @@ def spell_slot(gate, group, sequence, element, number, op):
 
 
 def spell_area(data, area, limits, memory, dice):
-    """Puts the pages of a memory into an image, with any nodes and any links of what is free, as `dice` falls."""
+    """Writes the pages of a memory into an image, with nodes and links of what is free as `dice` chooses."""
     free = list(range(limits.nodes))
     dice.shuffle(free)
     for node in free:
@@ -212,7 +214,7 @@ def spell_area(data, area, limits, memory, dice):
 
 
 def new(limits):
-    """A new image."""
+    """Makes a new image."""
     data = bytearray(limits.length())
     spell_area(data, 0, limits, Memory(limits.cells, limits.elements, limits.version), random.Random(1))
     data[: HEADER.size] = spell_header(OPEN, 0, 1, 0, limits)
@@ -220,7 +222,7 @@ def new(limits):
 
 
 def new_with_a_block(limits):
-    """A new image on which element 0 has made a block of all cells."""
+    """Makes a new image on which element 0 has made a block of all cells."""
     data, memory = bytearray(limits.length()), Memory(limits.cells, limits.elements, limits.version)
     memory.step(0, 1, (ALLOC_I, limits.cells, 0))
     spell_area(data, 0, limits, memory, random.Random(1))
@@ -242,7 +244,8 @@ class Meaning:
 
 
 def read(data):
-    """What the bytes of a file mean, by the rules of its version. A `Fault`, the first one, where they mean nothing."""
+    """Returns what the bytes of a file mean, by the rules of its version. Raises the first `Fault` if they mean
+    nothing."""
     area, generation, count, limits = read_header(data)
     need(len(data) == limits.length(), 12)
     memory = read_area(data, area, limits)
@@ -254,7 +257,8 @@ def read(data):
 
 
 def read_to_open(data):
-    """What the bytes of a file mean that is to be opened: one of the first version isn't, whatever stands behind its header."""
+    """Returns what the bytes of a file mean that is to be opened. A file of the first version is refused, whatever
+    follows its header."""
     need(read_header(data)[3].version == 2, 21)
     return read(data)
 
@@ -288,7 +292,7 @@ def read_area(data, area, limits):
 
 
 def read_cells(data, area, limits, memory):
-    """Of each waiting cell its first and its last node."""
+    """Returns the first and the last node of each waiting cell."""
     need(not any(data[limits.cell_at(area, limits.cells) : limits.node_at(area, 0)]), 15)
     ends, block, end = {}, None, 0
     for a in range(limits.cells):
@@ -350,7 +354,7 @@ def read_session(record, limits):
 
 
 def read_run(data, count, limits, memory):
-    """Takes the commands of the run. How many there are."""
+    """Takes the commands of the run. Returns how many there are."""
     run, left = 0, 0  # left: how many of this group are to come
     while run < limits.slots and count + run < LAST:
         gate, group, code, zero, element, more, sequence, number, at, last, value, rest = RECORD.unpack_from(data, limits.slot_at(count + run))

@@ -1,8 +1,8 @@
-"""Whether a run of threads, or a dialogue, was right: for the scripts beside this file.
+"""Judges whether a run of threads, or a dialogue, was right, for the scripts beside this file.
 
-The order in which its commands were accepted is read off the writes that its disk was given. The plain memory of images.py takes the same
-commands in that order. Then each printed line has to be what that memory keeps, or kept when it was confirmed, and the image that was
-left has to mean that memory.
+It reads the order in which the commands were accepted from the writes to the disk. The plain memory of images.py takes
+the same commands in that order. Then each printed line has to be what that memory keeps, or kept when it was confirmed,
+and the image that was left has to mean that memory.
 """
 import copy
 import struct
@@ -11,7 +11,7 @@ import images
 
 
 class Wrong(Exception):
-    """What isn't as it has to be."""
+    """Something isn't as it has to be."""
 
 
 def need(holds, why):
@@ -20,7 +20,7 @@ def need(holds, why):
 
 
 def calls(record):
-    """What a disk was told: of each write its place and its bytes, of each sync None."""
+    """Yields what a disk was asked to do: for each write its place and its bytes, for each sync None."""
     raw, at = record.read_bytes(), 0
     while at < len(raw):
         if raw[at : at + 1] == b"s":
@@ -33,7 +33,8 @@ def calls(record):
 
 
 def groups(before, record):
-    """The commands that were put on the disk, a list for each group, as an element, a number and an operation; and the file at the end."""
+    """Returns the commands that were put on the disk, as a list for each group with elements, numbers and operations;
+    and the file at the end."""
     file, found = bytearray(before), []
     limits = images.read_header(before)[3]
     meaning = images.read(before)
@@ -50,7 +51,7 @@ def groups(before, record):
 
 
 def group_at(file, limits, sequence):
-    """The group that begins with the slot of this sequence number, where its gate is open."""
+    """Returns the group that begins with the slot of this sequence number, if its gate is open."""
     gate, length, *_, own = images.RECORD.unpack_from(file, limits.slot_at(sequence))[:7]
     if gate != images.OPEN or own != sequence:
         return []
@@ -59,7 +60,7 @@ def group_at(file, limits, sequence):
 
 
 def text_of(reply):
-    """A reply, as it is printed."""
+    """Returns a reply as it is printed."""
     if reply is None:
         return "waiting"
     name = images.REPLIES[reply[0] - 1]
@@ -71,8 +72,8 @@ def same(one, other):
 
 
 class History:
-    """The memory after all groups and before the last one (`states`), the operation and the last entry of each request, and each
-    value that a cell had."""
+    """The memory after all groups and before the last one (`states`), the operation and the last entry of each request,
+    and each value that a cell had."""
 
     def __init__(self, before, found):
         self.memory = images.read(before).memory
@@ -102,7 +103,7 @@ class History:
             self.values.setdefault(address, set()).add(cell.value if full else None)
 
     def kept(self, memory, element, number):
-        """What a memory keeps for a request, or what was kept when it was confirmed; "" where there is none."""
+        """Returns what a memory keeps for a request, or kept when it was confirmed; "" if there is nothing."""
         base, entries = memory.windows[element]
         if base <= number < base + len(entries):
             return text_of(entries[number - base][1])
@@ -110,7 +111,7 @@ class History:
 
 
 def judge_run(case, before, record, left, printed, status):
-    """Raises Wrong where a run of a case, a script on this image, wasn't right."""
+    """Raises Wrong if a run of a case, which is a script on this image, wasn't right."""
     found, file = groups(before, record)
     need(file == left, "the file isn't what was written")
     history = History(before, found)
@@ -129,7 +130,8 @@ def judge_run(case, before, record, left, printed, status):
 
 
 def seen_lines(case, lines, history, meant, failed):
-    """Sees that each line is right, and that they are a beginning of each element's own. How many each has."""
+    """Checks that each line is right, and that the lines are a prefix of each element's own. Returns how many each
+    element has."""
     sent, at = {}, 0
     for element, asked in case.asks():
         number = 1  # Each image is new.
@@ -153,7 +155,7 @@ def seen_lines(case, lines, history, meant, failed):
 
 
 def line_of(element, number, op, line):
-    """Whether a line is that of this request or glance, what a glance saw, and the reply."""
+    """Returns whether a line is that of this request or glance, what a glance saw, and the reply."""
     if op[0] != "glance":
         head = f"{element}.{number} "
         return line.startswith(head), None, line.removeprefix(head)
@@ -163,7 +165,8 @@ def line_of(element, number, op, line):
 
 
 def judge_standstill(case, memory):
-    """Sees that nobody could have gone on: somebody waits, and who has more to ask has a full window, whose first request waits."""
+    """Checks that nobody could have continued: somebody waits, and each element that has more to ask has a full window
+    whose first request waits."""
     need(any(reply is None for _, entries in memory.windows for _, reply in entries), "it stalled, and nobody waits")
     for element, asked in case.asks():
         base, entries = memory.windows[element]
@@ -173,7 +176,7 @@ def judge_standstill(case, memory):
 
 
 def judge_dialogue(case, before, record, left, printed, status):
-    """Raises Wrong where a dialogue of a case's lines wasn't right."""
+    """Raises Wrong if a dialogue of a case's lines wasn't right."""
     need(status == 0, f"status {status}")
     need(printed == case.answers, "the answers aren't those of the lines, one after another")
     found, file = groups(before, record)

@@ -1,5 +1,5 @@
-"""The manual's pages and the completions of the shells, made of what imem says of itself, of the headers, and of
-docs/FORMAT.md. `pages(imem)` and `completions(imem)` give each file's path below share/ with its text."""
+"""Makes the manual's pages and the completions of the shells from imem's help, the headers, and docs/FORMAT.md.
+`pages(imem)` and `completions(imem)` give each file's path below share/ with its text."""
 import itertools
 import re
 import subprocess
@@ -15,13 +15,13 @@ ABOUT = "a durable memory of I-structure and M-structure cells"
 
 
 def told(imem, *words):
-    """What the program prints, which calls itself by its file's name."""
+    """Returns what the program prints, with `imem` in place of its file's name."""
     text = subprocess.run([imem, *words], capture_output=True, text=True, check=True).stdout
     return re.sub(rf"^Usage: {re.escape(str(imem).rpartition('/')[2])}\b", "Usage: imem", text, flags=re.M)
 
 
 class Help:
-    """What the program says of itself, or of one of its subcommands."""
+    """The help of the program, or of one of its subcommands."""
 
     def __init__(self, text):
         self.usage = re.search(r"^Usage: (.*)$", text, re.M)[1]
@@ -40,7 +40,7 @@ class Help:
 
 
 def read_help(imem):
-    """The program's own, and that of each subcommand."""
+    """Returns the program's help, and that of each subcommand."""
     top = Help(told(imem, "--help"))
     return top, {name: Help(told(imem, name, "--help")) for name, _ in top.subcommands if name != "help"}
 
@@ -53,7 +53,7 @@ def escaped(text):
 
 
 def line(text):
-    """A line of text, none of which is a request."""
+    """Returns a line of text that roff doesn't take for a request."""
     done = escaped(text)
     return f"\\&{done}" if done.startswith((".", "\\(aq")) else done
 
@@ -68,19 +68,19 @@ def heading(name, section, about):
 
 
 def finished(lines):
-    """The text of a page: right behind a heading no paragraph is begun."""
+    """Returns the text of a page. No paragraph macro follows a heading directly, as mandoc warns about that."""
     return re.sub(r"^(\.S[HS] .*\n)\.PP\n", r"\1", "\n".join(lines) + "\n", flags=re.M)
 
 
 def runs(part):
-    """The lines of a paragraph: those with space before them stand as they are, the others are filled."""
+    """Yields the lines of a paragraph. Lines that begin with a space stay as they are; the others are filled."""
     for stands, run in itertools.groupby(part.splitlines(), lambda it: it.startswith("  ")):
         yield from as_it_stands(run) if stands else [".PP", *map(line, run)]
 
 
 def prose(text):
-    """Paragraphs: lines with space before them stand as they are, the others are filled. `Example:` and `Exit status:`
-    have a heading."""
+    """Yields paragraphs. Lines that begin with a space stay as they are; the others are filled. `Example:` and `Exit
+    status:` get a heading."""
     heads = {"Example": "EXAMPLES", "Exit status": "EXIT STATUS"}
     for part in text.split("\n\n"):
         head, colon, rest = part.partition(":")
@@ -121,7 +121,7 @@ def pages_of_help(imem):
 
 
 def paragraphs(comment):
-    """A comment of a header."""
+    """Yields the paragraphs of a header's comment."""
     for part in comment.split("\n\n"):
         yield from runs(part)
 
@@ -142,7 +142,7 @@ def page_of_headers():
 
 
 def item(it):
-    """A declaration: what it is called, its text, its comment."""
+    """Returns a declaration: its name, its text, its comment."""
     if it.kind == "text" and not it.text:
         head, _, rest = it.comment.lstrip("- ").partition("\n")
         is_head = it.comment.startswith("----")
@@ -154,7 +154,7 @@ def item(it):
 
 
 def spoken(text):
-    """A line of Markdown: links by their words, code in bold."""
+    """Returns a line of Markdown: links by their words, code in bold."""
     text = re.sub(r"\[([^\]]+)\]\([^)]+\)", r"\1", text)
     parts = re.split(r"`([^`]+)`|\*\*([^*]+)\*\*", text)
     done = ""
@@ -183,7 +183,7 @@ def table(rows):
 
 
 def of_markdown(text):
-    """The roff of a document behind its title."""
+    """Yields the roff of a document after its title."""
     parts = re.split(r"(^```.*?^```\n)", text, flags=re.M | re.S)
     for part in parts:
         if part.startswith("```"):
@@ -213,7 +213,7 @@ def page_of_format():
 
 
 def pages(imem):
-    """Each page: its path and its text."""
+    """Returns each page: its path and its text."""
     of_library = {"man/man3/luntrebis.3": page_of_headers(), "man/man5/imem-image.5": page_of_format()}
     return {**dict(pages_of_help(imem)), **of_library}
 

@@ -11,7 +11,7 @@ from sources import TOP
 OUT = TOP / "out"
 PACKAGES = TOP / "packages"
 VERSION = (TOP / "VERSION").read_text().strip()
-SERIES = "1"  # Of the calls: another number where a program that was built before would not run as before.
+SERIES = "1"  # Of the calls: it changes if a program that was built before would not run as before.
 SONAME = f"libluntrebis.so.{SERIES}"
 ARCHIVE, SHARED, IMEM = OUT / "libluntrebis.a", OUT / SONAME, OUT / "imem"
 PROVED = OUT / "libluntrebis.proved"  # Of which commit the library is, and what the prover said of it.
@@ -20,25 +20,25 @@ SAFE = "-Wl,-z,defs,-z,relro,-z,now,-z,noexecstack"
 
 
 def date():
-    """The day of the version, as the changelog of the Debian packages has it."""
+    """Returns the day of the version, as the changelog of the Debian packages has it."""
     found = re.search(r"^ -- .*>  (.*)$", (PACKAGES / "debian" / "changelog").read_text(), re.M)
     return email.utils.parsedate_to_datetime(found[1]).date().isoformat()
 
 
 def names():
-    """Each call that a program may make."""
+    """Returns each call that a program may make."""
     return sorted(name for calls in headers.calls().values() for name in calls)
 
 
 def take_apart(archive, folder):
-    """The objects of an archive."""
+    """Unpacks the objects of an archive."""
     folder.mkdir()
     subprocess.run(["ar", "x", archive], cwd=folder, check=True)
     return sorted(folder.iterdir())
 
 
 def compile_sources(folder):
-    """The objects of the C files that lie beside the headers."""
+    """Compiles the C files beside the headers, and yields their objects."""
     for source in sorted(headers.FOLDER.glob("*.c")):
         made = folder / f"{source.stem}.c.o"
         subprocess.run(["cc", *FLAGS, f"-I{headers.FOLDER}", "-c", source, "-o", made], check=True)
@@ -74,13 +74,13 @@ def link(one, room, shared):
 
 
 def filled(name, **values):
-    """A template of packages/install, with @NAME@ replaced."""
+    """Returns a template of packages/install, with @NAME@ replaced."""
     text = (PACKAGES / "install" / name).read_text()
     return re.sub(r"@(\w+)@", lambda it: values[it[1]], text)
 
 
 def versions():
-    """Each place that says the version: what it says."""
+    """Yields each place that has the version, and what it says."""
     looks = {
         "crates/im_program/src/words.rt": r'^const VERSION: &str = "([\d.]+),',
         "packages/python/pyproject.toml": r'^version = "(.*)"',
@@ -98,7 +98,7 @@ def versions():
 
 
 def faults():
-    """What doesn't agree: versions; bindings with the header; a call whose name another library may have."""
+    """Yields what doesn't agree: versions, bindings and headers, and a call whose name another library may have."""
     for file, version in versions():
         if version != VERSION:
             yield f"{file}: the version is {version}, and {VERSION} in VERSION"
@@ -113,7 +113,7 @@ MARK = b"commit ------------, not proved"
 
 
 def commit():
-    """The commit of the checkout, in twelve letters; the last is + where its crates have changed since."""
+    """Returns the commit of the checkout in twelve letters. The last one is + if its crates have changed since."""
     try:
         words = ["git", "-C", TOP, "rev-parse", "HEAD"]
         told = subprocess.run(words, capture_output=True, text=True, check=True).stdout.strip()

@@ -1,4 +1,4 @@
-"""What a page of this repository has to be for its reader, for scripts/check: its width, its size, its sentences, no dates."""
+"""Checks the pages of this repository for scripts/check: their width, their size, their sentences, no dates."""
 import re
 
 from sources import TOP
@@ -10,7 +10,7 @@ LARGE = ("docs/DECISIONS.md",)
 
 
 def paragraphs(text):
-    """The paragraphs, items of lists and cells of tables of a page, each in one line; what is code is left out."""
+    """Yields the paragraphs, list items and table cells of a page, each in one line. Code is left out."""
     text = re.sub(r"^```.*?^```", "", text, flags=re.M | re.S)
     for block in re.split(r"\n\s*\n|\n(?=[ ]*(?:[-*]|\d+\.) )|\n(?=\|)", text):
         if block.startswith("|"):

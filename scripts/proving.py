@@ -1,7 +1,8 @@
-"""Proves crates side by side, each once those that it stands on are proved: for scripts/build-imem and scripts/library.
+"""Proves crates side by side, each once the crates that it stands on are proved, for scripts/build-imem and
+scripts/library.
 
-One `rt` at a time works in a checkout, so each lane has a room: a copy of the sources, to which the libraries that other lanes
-built are handed. What is proved at last lies in the checkout, as if it had been proved there.
+One `rt` at a time works in a checkout, so each lane has a room: a copy of the sources, to which the libraries of the
+other lanes are copied. At the end the proved libraries are in the checkout, as if they had been proved there.
 """
 import os
 import shutil
@@ -31,7 +32,7 @@ def library_in(top, crate):
 
 
 def hand_on(crate, source, target):
-    """Gives a checkout, or a room, the library that lies in another one."""
+    """Gives a checkout or a room the library that another one has."""
     there = library_in(target, crate)
     if not there.is_dir():
         there.parent.mkdir(parents=True, exist_ok=True)
@@ -39,7 +40,7 @@ def hand_on(crate, source, target):
 
 
 def make_room(folder, order):
-    """A copy of the sources of these crates."""
+    """Makes a copy of the sources of these crates."""
     folder.mkdir()
     shutil.copy(sources.TOP / "HANDLES", folder / "HANDLES")
     lines = (sources.TOP / "crates.txt").read_text().splitlines()
@@ -53,7 +54,7 @@ def make_room(folder, order):
 
 
 class Work:
-    """Which crates are to be proved, are being proved, and are proved."""
+    """The crates that are to be proved, are being proved, and are proved."""
 
     def __init__(self, below, order):
         self.below, self.order = below, order
@@ -62,7 +63,8 @@ class Work:
         self.above = {it: sum(it in needed(other, below) for other in order) for it in order}
 
     def take(self):
-        """A crate whose lower ones are proved, first that on which most others stand; None where there is no more to do."""
+        """Returns a crate whose lower crates are proved, first the one on which most others stand. Returns None if
+        there is no more to do."""
         with self.changed:
             while self.left and not self.failed:
                 ready = [it for it in self.left if all(below in self.proved for below in self.below[it])]
@@ -83,7 +85,7 @@ class Work:
 
 
 def prove_in(room, work, start):
-    """A lane: proves one crate after another in its room."""
+    """Runs a lane, which proves one crate after another in its room."""
     while (crate := work.take()) is not None:
         for lower in needed(crate, work.below) - {crate}:
             hand_on(lower, sources.TOP, room)
@@ -100,7 +102,7 @@ def prove_in(room, work, start):
 
 
 def prove_below(crate):
-    """Proves all that a crate stands on. Whether each is proved; what isn't, is told."""
+    """Proves all that a crate stands on. Returns whether each is proved, and prints the crates that aren't."""
     below = sources.stands_on()
     wanted = needed(crate, below) - {crate}
     work, start = Work(below, [it for it in below if it in wanted]), time.time()

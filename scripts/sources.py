@@ -1,4 +1,5 @@
-"""What the sources of this repository hold, for the scripts beside this file: crates, functions with their clauses, lemmas."""
+"""What the sources of this repository contain, for the scripts beside this file: crates, functions with their clauses,
+lemmas."""
 import re
 from dataclasses import dataclass, field
 from pathlib import Path
@@ -15,7 +16,7 @@ LEMMA = re.compile(r"(|  )(?:(?:pub|abbrev|unfoldable) )*([^\s:(){},|]+) : ")
 
 class Clause(NamedTuple):
     kind: str  # requires or ensures
-    label: str  # "" where it has none
+    label: str  # "" if it has none
     fact: str  # what stands between its braces, in one line
 
 
@@ -37,7 +38,7 @@ class Function:
 
     @property
     def parameters(self):
-        """How many values it takes, `self` among them."""
+        """Returns the number of its parameters, with `self`."""
         return sum(bool(it.strip()) for it in split(within(self.text, self.text.index(self.name) + len(self.name))))
 
     def path(self):
@@ -54,7 +55,7 @@ class Lemma:
 
 
 def stands_on(top=TOP):
-    """Of each crate of crates.txt, in its order, the crates of this repository that it stands on."""
+    """Returns for each crate of crates.txt, in its order, the crates of this repository that it stands on."""
     lines = [line.split("#")[0].partition(":") for line in (top / "crates.txt").read_text().splitlines()]
     named = {name.split()[0]: rest.split() for name, colon, rest in lines if colon}
     return {crate: [it for it in rest if it in named] for crate, rest in named.items()}
@@ -88,7 +89,7 @@ def function(crate, path, lines, at, found, owner, is_trait):
 
 
 def clauses_of(head):
-    """The clauses of a signature, each from its head to the line before the next one, or the body."""
+    """Yields the clauses of a signature. Each goes from its head to the line before the next clause or the body."""
     starts = [at for at, line in enumerate(head) if CLAUSE.match(line)]
     for start, end in zip(starts, [*starts[1:], len(head)]):
         found = CLAUSE.match(head[start])
@@ -98,7 +99,7 @@ def clauses_of(head):
 
 
 def within(text, at):
-    """What stands in the first parentheses from there on that no angle brackets hold."""
+    """Returns the text in the first parentheses from there on that aren't inside angle brackets."""
     depth, begin, plain = 0, None, text.replace("->", "  ")
     for end in range(at, len(plain)):
         sign = plain[end]
@@ -111,7 +112,7 @@ def within(text, at):
 
 
 def split(text):
-    """The parts of a list between its commas, those in brackets aside."""
+    """Splits a list at its commas, except for those inside brackets."""
     depth, parts = 0, [""]
     for sign in text:
         depth += (sign in "(<[{") - (sign in ")>]}")
@@ -123,29 +124,30 @@ def split(text):
 
 
 def types(crate, top=TOP):
-    """The types and traits of a crate's sources: name and file."""
+    """Yields the types and traits of a crate's sources, each with its name and file."""
     for path in sorted((top / "crates" / crate / "src").rglob("*.rt")):
         yield from ((name, path.name) for name in TYPE.findall(path.read_text()))
 
 
 def definitions(crate, top=TOP):
-    """The definitions of a crate's specs/: name and file."""
+    """Yields the definitions of a crate's specs/, each with its name and file."""
     for path in sorted((top / "crates" / crate / "specs").rglob("*.antt")):
         yield from ((name, path.name) for name in DEFINITION.findall(path.read_text()))
 
 
 def ends(line, depth):
-    """Whether a signature without a body ends here, and no record of a clause does."""
+    """Whether a signature without a body ends here, and not a record of a clause."""
     return line.endswith(";") and not depth
 
 
 def opens(line, space):
-    """Whether a signature without clauses ends here, its body behind it."""
+    """Whether a signature without clauses ends here, followed by its body."""
     return line.endswith(" {") and (line.startswith((f"{space}) ", f"{space}fn ")) or bool(FUNCTION.match(line)))
 
 
 def lemmas(crate, top=TOP):
-    """The lemmas of a crate's own files of proofs, not those that answer a function's goals. One may stand in a `module _`."""
+    """Yields the lemmas of a crate's own files of proofs, without those that answer a function's goals. A lemma may be
+    in a `module _`."""
     for path in sorted((top / "crates" / crate / "proofs").glob("*.antt")):
         here, space, in_module = None, "", False
         for line in path.read_text().splitlines() + ["end"]:
@@ -166,6 +168,6 @@ def lemmas(crate, top=TOP):
 
 
 def own_line(lemma, line, space):
-    """Whether a line goes on with this lemma, which begins with so much space."""
+    """Whether a line belongs to this lemma, which is indented by this much."""
     begins = (" ", ")", "]", "}", f"{lemma.name} ", f"{lemma.name}=")
     return line.startswith(tuple(space + it for it in begins))

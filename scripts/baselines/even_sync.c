@@ -1,7 +1,9 @@
-// Syncs that all take the same time: fdatasync and fsync sleep for EVEN_SYNC_US microseconds, or do nothing, and ask nothing of the disk. So what is compared meets the same disk, however busy the real one is.
+// Syncs that all take the same time: fdatasync and fsync sleep for EVEN_SYNC_US microseconds, or do nothing, and don't
+// use the disk. So all programs that are compared have the same disk, however busy the real one is.
 //
-// It is loaded before the C library (LD_PRELOAD). At the program's end the file that EVEN_SYNC_TOLD names is told three numbers: the syncs,
-// the gates that were opened, which are writes of one byte A5, and how many of those were of a header, in the first two pages.
+// It is loaded before the C library (LD_PRELOAD). At the program's end it writes three numbers to the file that
+// EVEN_SYNC_TOLD names: the syncs, the gates that were opened, which are writes of one byte A5, and the gates of a
+// header, which are in the first two pages.
 #include <stdatomic.h>
 #include <stdio.h>
 #include <stdlib.h>
@@ -60,7 +62,7 @@ __attribute__((destructor)) static void tell(void) {
     fclose(out);
 }
 
-// A program may end with no destructor called.
+// A program may end without calling destructors.
 void _exit(int status) {
     tell();
     for (;;)

@@ -1,10 +1,11 @@
-// The four calls that put a command into a journal, made in C on the file of a program that makes them too: a slot's body,
-// a sync, its gate, a sync. Of a group there are as many bodies as FOUR_CALLS_BODIES says.
+// The four calls that put a command into a journal, made in C on the file of a program that makes them too: a slot's
+// body, a sync, its gate, a sync. A group has FOUR_CALLS_BODIES bodies.
 //
-// It is loaded before the C library (LD_PRELOAD). After each command or group of the program, which is each second sync after
-// the opening's, it makes the calls itself, twice, into slots from the offset FOUR_CALLS_AT on. So the program's command
-// and those two meet the same disk at the same time. At the program's end the file that FOUR_CALLS_TOLD names has a line for
-// each command but the first: the nanoseconds that the program's took, those of the first calls, those of the second.
+// It is loaded before the C library (LD_PRELOAD). A command or group of the program ends at each second sync after the
+// opening's. After it, the library makes the calls itself, twice, into slots from the offset FOUR_CALLS_AT on. So the
+// program's command and those two meet the same disk at the same time. At the program's end the file that
+// FOUR_CALLS_TOLD names gets a line for each command but the first: the nanoseconds of the program's command, of the
+// first calls, and of the second.
 #include <stdio.h>
 #include <stdlib.h>
 #include <string.h>
@@ -65,7 +66,7 @@ int fdatasync(int file) {
     return result;
 }
 
-// The first command's time isn't its own: it comes behind the opening.
+// The time of the first command includes the opening, so it isn't used.
 __attribute__((destructor)) static void tell(void) {
     const char *path = getenv("FOUR_CALLS_TOLD");
     FILE *out = path ? fopen(path, "w") : NULL;
@@ -75,7 +76,7 @@ __attribute__((destructor)) static void tell(void) {
         fclose(out);
 }
 
-// A program may end with no destructor called.
+// A program may end without calling destructors.
 void _exit(int status) {
     tell();
     for (;;)

@@ -1,5 +1,6 @@
-// The two copies of a left-right structure, written by hand: readers mark that they read and look at the copy that is
-// shown; the writer changes the other one, shows it, waits until nobody reads the first any more, and changes that.
+// The two copies of a left-right structure, written by hand. Readers mark that they read, and look at the copy that is
+// shown. The writer changes the other copy and shows it. Then it waits until nobody reads the first copy any longer,
+// and changes that.
 //
 // usage: left_right WORKLOAD COUNT      as im_bench_threads: readings, readings_beside, shows
 use std::cell::UnsafeCell;
@@ -21,7 +22,7 @@ struct Both {
     epochs: Vec<Epoch>,
 }
 
-// One writer alone changes a copy, and only one that nobody reads.
+// One writer alone changes a copy, and only a copy that nobody reads.
 unsafe impl Sync for Both {}
 
 #[derive(Clone, Copy)]

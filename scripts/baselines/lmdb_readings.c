@@ -1,7 +1,9 @@
-// Readings of cells kept in LMDB, each a read transaction of its own: renewed, one value got, reset.
+// Readings of cells kept in LMDB. Each is a read transaction of its own: renewed, one value got, reset.
 //
-// usage: lmdb_readings WORKLOAD COUNT      as im_bench_threads: readings, readings_beside. The writer beside readers commits sixteen changes at a
-// time, and syncs nothing, as a pane does. Links with -llmdb -lpthread. Its files lie in memory, in a folder of /dev/shm that is removed.
+// usage: lmdb_readings WORKLOAD COUNT      as im_bench_threads: readings, readings_beside
+//
+// The writer beside readers commits sixteen changes at a time, and syncs nothing, as a pane does. Links with -llmdb
+// -lpthread. Its files are in memory, in a folder of /dev/shm that is removed.
 #include <lmdb.h>
 #include <pthread.h>
 #include <stdint.h>

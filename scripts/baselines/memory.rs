@@ -1,5 +1,5 @@
-//! The memory as one would write it with the standard library alone: the same commands, checks and answers. It has the
-//! workloads of `crates/im_bench/src/memory.rt`, and prints the same lines: `memory WORKLOAD COUNT`.
+//! The memory written with the standard library alone: the same commands, checks and answers. It has the workloads of
+//! `crates/im_bench/src/memory.rt`, and prints the same lines: `memory WORKLOAD COUNT`.
 
 use std::collections::{BTreeMap, VecDeque};
 use std::process::ExitCode;

@@ -1,4 +1,4 @@
-// Groups as a journal has them, made in C with nothing round them: sixteen bodies, a sync, one gate, a sync.
+// Groups as a journal has them, made in C without anything else: sixteen bodies, a sync, one gate, a sync.
 //
 // usage: raw_groups FILE OFFSET GROUPS      prints the nanoseconds of all groups together
 #include <fcntl.h>

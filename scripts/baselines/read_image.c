@@ -57,7 +57,7 @@ struct command {
     uint8_t operation;
 };
 
-// The largest image's.
+// The sizes of the largest image.
 static uint8_t headers[2][64], area[PAGES * PAGE], journal[SLOTS * 64];
 static struct cell cells[CELLS];
 static struct node nodes[WINDOW * ELEMENTS];
@@ -83,7 +83,7 @@ static bool read_cell(const uint8_t *p, uint32_t cells, struct cell *c) {
     return c->tag <= 4 && (c->kind == 1 || c->kind == 2) && (c->tag == 2 || alone) && (c->tag > 2 || c->value == 0);
 }
 
-// Whether a cell is the first of its block, or goes on with the block of the cell before it.
+// Whether a cell is the first of its block, or continues the block of the cell before it.
 static bool goes_on(uint32_t a) {
     const struct cell *c = &cells[a];
     if (c->tag == 0)
@@ -168,7 +168,7 @@ static void print_report(const struct header *h) {
     }
 }
 
-// The header in force, and the records of its area. How many commands stand behind it.
+// Reads the header in force and the records of its area. Returns how many commands follow it.
 static uint32_t read_parts(int file, struct header *h) {
     read_bytes(file, headers[0], 64, 0, 64);
     read_bytes(file, headers[1], 64, PAGE, 64);

@@ -1,6 +1,8 @@
 // Synced writes of sixteen threads to RocksDB, whose log groups them.
 //
-// usage: rocksdb_puts FOLDER COUNT      COUNT puts of each thread; prints the nanoseconds of all together. Links with -lrocksdb -lpthread.
+// usage: rocksdb_puts FOLDER COUNT      COUNT puts of each thread
+//
+// It prints the nanoseconds of all puts together. Links with -lrocksdb -lpthread.
 #include <pthread.h>
 #include <rocksdb/c.h>
 #include <stdint.h>

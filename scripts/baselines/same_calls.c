@@ -1,7 +1,7 @@
 // The calls that a program made on a file, made again in C: same_calls FILE CALLS.
 //
-// Each line of CALLS is a call: `w OFFSET LENGTH` writes bytes there, `r OFFSET LENGTH` reads them, `s` syncs. What is
-// written are zeros and a counter: only the time is asked for.
+// Each line of CALLS is a call: `w OFFSET LENGTH` writes bytes there, `r OFFSET LENGTH` reads them, `s` syncs. It
+// writes zeros and a counter, because only the time matters.
 #include <fcntl.h>
 #include <stdio.h>
 #include <string.h>

@@ -1,4 +1,5 @@
-/* What commands leave to be carried out through the library for C: N puts and takes on a new image, and how many steps of which kind. */
+/* What commands leave to be carried out through the library for C: N puts and takes on a new image, and the number of
+ * steps of each kind. */
 #include <stdio.h>
 #include <stdlib.h>
 #include "luntrebis.h"

@@ -1,4 +1,5 @@
-/* The work of `im_bench put_and_take N`, by the library for C: what a step through it costs beside the same call in Rattle. */
+/* The work of `im_bench put_and_take N` through the library for C: the cost of a step through it beside the same call
+ * in Rattle. */
 #include <stdlib.h>
 #include <stdio.h>
 #include "luntrebis.h"

@@ -1,8 +1,9 @@
-// A disk that stops: the reads, writes and syncs of one file, those past so many failing with EIO from then on, in all threads.
+// A disk that stops: after a given number of reads, writes and syncs of one file, all later ones fail with EIO, in all
+// threads.
 //
-// It is loaded before the C library (LD_PRELOAD). STOPPING_AT is where the file is, STOPPING_AFTER how many calls of it pass, and
-// STOPPING_TOLD a file that is told of each write that passed, of the first that failed, and of each sync that passed: a letter (w, f, s), and
-// of a write its place and length in eight bytes each, and its bytes.
+// It is loaded before the C library (LD_PRELOAD). STOPPING_AT is the path of the file, and STOPPING_AFTER the number of
+// calls that pass. STOPPING_TOLD is a file that gets each write that passed, the first one that failed, and each sync
+// that passed: a letter (w, f, s), and for a write its place and length in eight bytes each, and its bytes.
 #define _GNU_SOURCE
 #include <errno.h>
 #include <fcntl.h>
@@ -27,7 +28,7 @@ static int begins(void) {
     return told >= 0;
 }
 
-// Whether a call is of the file; with the lock held.
+// Whether a call is on the file. The lock is held.
 static int is_its(int file) {
     struct stat found;
     if (most < 0 && !begins())

@@ -1,8 +1,8 @@
-// When a program writes to the journal of its image, in nanoseconds: a command takes, with the calls of the disk and what
-// follows them, the time from its first write to that of the next.
+// When a program writes to the journal of its image, in nanoseconds. A command takes the time from its first write to
+// that of the next command. That includes the calls of the disk and what follows them.
 //
-// It is loaded before the C library (LD_PRELOAD). At the program's end the file that WRITE_TIMES_TOLD names has a line for
-// each write of more than one byte at or past the offset WRITE_TIMES_FROM.
+// It is loaded before the C library (LD_PRELOAD). At the program's end the file that WRITE_TIMES_TOLD names gets a line
+// for each write of more than one byte at or past the offset WRITE_TIMES_FROM.
 #include <stdio.h>
 #include <stdlib.h>
 #include <sys/syscall.h>
@@ -36,7 +36,7 @@ __attribute__((destructor)) static void tell(void) {
         fclose(out);
 }
 
-// A program may end with no destructor called.
+// A program may end without calling destructors.
 void _exit(int status) {
     tell();
     for (;;)

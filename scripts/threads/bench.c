@@ -1,7 +1,8 @@
-/* Threads that each put and take at a cell of their own, each command on the disk before the next one.
+/* Threads that each put and take at a cell of their own. Each command is on the disk before the next one.
  *
- * usage: bench THREADS COMMANDS SLOTS IMAGE      It prints threads, nanoseconds a command, and groups, syncs and writes a
- * command. */
+ * usage: bench THREADS COMMANDS SLOTS IMAGE
+ *
+ * It prints the threads, the nanoseconds of a command, and the groups, syncs and writes of a command. */
 #include <inttypes.h>
 #include <pthread.h>
 #include <stdio.h>

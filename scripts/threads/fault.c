@@ -1,6 +1,7 @@
-/* A step that fails under sixteen threads, with one more that waits: all are told LT_DEVICE, and whoever asks later too.
+/* A step that fails under sixteen threads, while one more waits. All of them get LT_DEVICE, and those who ask later
+ * too.
  *
- * usage: fault IMAGE      with FAIL_AT in the environment (slow_sync.c). */
+ * usage: fault IMAGE      with FAIL_AT in the environment (slow_sync.c) */
 #include <pthread.h>
 #include <stdio.h>
 #include <stdlib.h>

@@ -1,6 +1,6 @@
-/* Pairs of elements that hand items to each other, an item and a token for it in turn, until the program is killed or its
- * time is over. Each answer is printed as `K.N REPLY`, once it was told. On an image that is there they go on where the
- * run before was stopped.
+/* Pairs of elements that hand items to each other, an item and a token for it in turn, until the program is killed or
+ * its time is over. Each answer is printed as `K.N REPLY` once it has come. On an existing image they continue where
+ * the run before was stopped.
  *
  * usage: hand IMAGE SECONDS */
 #include <inttypes.h>
@@ -30,7 +30,7 @@ static void stop(uint16_t element, uint64_t number, struct lt_outcome outcome) {
     _exit(4);
 }
 
-/* What the run before left: those that waited are waited for, and the others told again. */
+/* What the run before left: waits for the requests that waited, and prints the others again. */
 static void go_on(uint16_t element, struct lt_bounds window) {
     for (uint64_t number = window.base; number < window.next; number++) {
         struct lt_outcome outcome = lts_await(shared, element, number);
@@ -39,7 +39,8 @@ static void go_on(uint16_t element, struct lt_bounds window) {
     }
 }
 
-/* The item of this number is the number: even elements take it and give a token back, odd ones the other way round. */
+/* The item with a number is the number itself. Even elements take it and give a token back; odd ones do the
+ * opposite. */
 static void hand(uint16_t element, uint64_t number) {
     int puts = element % 2 == 1 ? number % 2 == 1 : number % 2 == 0;
     uint32_t cell = element / 2u + (number % 2 == 1 ? 0 : 32);

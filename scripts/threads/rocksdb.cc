@@ -1,4 +1,4 @@
-// As bench.c of RocksDB: each write is synced. usage: rocksdb THREADS COMMANDS FOLDER
+// The same as bench.c, with RocksDB: each write is synced. usage: rocksdb THREADS COMMANDS FOLDER
 #include <rocksdb/db.h>
 #include <rocksdb/options.h>
 

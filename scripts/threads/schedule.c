@@ -1,16 +1,17 @@
-/* Runs the threads of a program one at a time, in an order that a seed gives: a library for LD_PRELOAD.
+/* Runs the threads of a program one at a time, in an order that a seed chooses: a library for LD_PRELOAD.
  *
- * A thread goes on until it waits, wakes, yields, begins or joins another, reads its input, writes its output or calls
- * the disk. There the seed says who goes on: anyone at random, or who has the highest priority, which is lost at a few
- * places. A wait may end for no reason, as a futex's may; one that has an end ends when nobody else can go on. Input comes
- * line by line or all at once, and may keep whoever reads it waiting. Syncs aren't made.
+ * A thread runs until it waits, wakes, yields, begins or joins another, reads its input, writes its output or calls the
+ * disk. Then the seed chooses the next one: anyone at random, or the thread with the highest priority, which it loses
+ * at a few places. A wait may end for no reason, as a futex's may. A wait with a time limit ends when nobody else can
+ * continue. Input comes line by line or all at once, and may keep its reader waiting. Syncs aren't made.
  *
- * SCHEDULE is the seed. Where they are set: SCHEDULE_RECORD, a file that gets each write and sync of the disk (`w`, its
- * place and length in eight bytes each, its bytes; `s`); SCHEDULE_FAULT, the number from 0 of the call of the disk that fails;
- * SCHEDULE_FOR_GOOD, that each later one fails too; SCHEDULE_STEPS, how many steps are too many.
+ * SCHEDULE is the seed. The others are optional. SCHEDULE_RECORD is a file that gets each write and sync of the disk
+ * (`w`, its place and length in eight bytes each, its bytes; `s`). SCHEDULE_FAULT is the number, from 0, of the call of
+ * the disk that fails. SCHEDULE_FOR_GOOD makes each later one fail too. SCHEDULE_STEPS is the number of steps that are
+ * too many.
  *
- * Where no thread can go on the program ends with status 99, and after too many steps with 98; standard error says where
- * each thread is. */
+ * If no thread can continue, the program ends with status 99, and after too many steps with 98. Standard error says
+ * where each thread is. */
 #define _GNU_SOURCE
 #include <dlfcn.h>
 #include <errno.h>

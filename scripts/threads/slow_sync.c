@@ -1,5 +1,5 @@
-/* Stands before the system's calls: a sync takes SYNC_US microseconds and does nothing else, so that figures don't tell of
- * the machine's disk; and the write or sync with the number FAIL_AT behind fail_now fails, and no later one. */
+/* Replaces calls of the system. A sync takes SYNC_US microseconds and does nothing else, so that figures don't depend
+ * on the machine's disk. The write or sync with the number FAIL_AT after fail_now fails, and no later one does. */
 #include <errno.h>
 #include <stdatomic.h>
 #include <stdlib.h>

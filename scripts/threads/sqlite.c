@@ -1,5 +1,5 @@
-/* As bench.c of SQLite, with a write-ahead log, each insertion synced, all threads on one connection by turns, which is
- * faster than a connection each. usage: sqlite THREADS COMMANDS FILE */
+/* The same as bench.c, with SQLite and its write-ahead log. Each insertion is synced. All threads use one connection in
+ * turn, which is faster than a connection each. usage: sqlite THREADS COMMANDS FILE */
 #include <pthread.h>
 #include <sqlite3.h>
 #include <stdio.h>

@@ -1,4 +1,5 @@
-/* Whom each call resumes, by ltf_woken: the first line that isn't as it should be, or "woken as they waited".
+/* Checks by ltf_woken whom each call resumes. Prints the first line that isn't as it should be, or "woken as they
+ * waited".
  *
  * usage: woken IMAGE */
 #include <inttypes.h>
@@ -12,7 +13,7 @@ enum { I = 0, M = 8 }; /* Two blocks of eight cells: of I cells from 0 on, and o
 static struct ltf *file;
 static int faults;
 
-/* Those who were resumed, as `element.number` each. */
+/* The resumed requests, as `element.number` each. */
 static void expect(const char *what, const char *wanted) {
     char found[256] = "";
     size_t count, used = 0;
@@ -24,7 +25,7 @@ static void expect(const char *what, const char *wanted) {
     printf("%s: woken%s, and not%s\n", what, found, wanted);
 }
 
-/* Commands one after another, or as they stand together. */
+/* Serves commands one after another, or together. */
 static void serve(const char *what, const struct lt_command *commands, size_t count, const char *wanted) {
     struct lt_outcome outcomes[16];
     int answer = count == 1 ? ltf_serve(file, commands, outcomes) : ltf_serve_all(file, commands, count, outcomes);

@@ -1,5 +1,5 @@
--- What contracts see of an arena: the waiters on its lists, and, for who shows the table of nodes, how the nodes are
--- linked. (Own.)
+-- An arena as contracts see it: the waiters on its lists, and the links between its nodes, for a caller that shows the
+-- table of nodes. (Own.)
 use Rattle.std.specs.Prelude.{◌≡◌, ◌≢◌, ◌↔◌, ℕ, ◌+◌, ◌-◌, ◌<◌, List, [], ◌∷◌, ◌++◌, drop, length, Option, None, Some}
 use Rattle.std.specs.Prelude.{slice_get, slice_set, slice_index_or}
 use Rattle.std.specs.List.{sum_by}
@@ -10,13 +10,13 @@ use Rattle.im_types.specs.declared.records.NodeRecord.TheVariants.{Free as FreeN
 use Rattle.im_arena.specs.declared.table.Ends.{Ends}
 use Rattle.im_arena.specs.Chain.{place_from}
 
--- how many nodes there are, and the waiters on each list
+-- the number of nodes, and the waiters on each list
 pub record Lists : Type 0 where
   pub nodes : ℕ
   pub lists : List (List Waiter)
 
--- the record of each node, the ends of each list (None: of an empty one), and the node that the next waiter takes
--- (NONE: no node is free)
+-- the record of each node, the ends of each list (None for an empty one), and the node that the next waiter takes (NONE
+-- if no node is free)
 pub record Links : Type 0 where
   pub records : List NodeRecord
   pub ends : List (Option Ends)
@@ -35,17 +35,17 @@ list_at held list = slice_index_or held.lists list []
 abbrev pub with_list : Lists → ℕ → List Waiter → Lists
 with_list held list waiters = record { nodes = held.nodes; lists = slice_set held.lists list waiters }
 
--- how many nodes hold no waiter
+-- the number of nodes that hold no waiter
 abbrev pub free : Lists → ℕ
 free held = held.nodes - sum_by length held.lists
 
--- the first waiter of one list is off it, this one stands at the end of another, and the other lists are as before
+-- the first waiter is taken off one list, this one stands at the end of another, and the other lists are as before
 pub record IsHandedOver (from to : ℕ) (waiter : Waiter) (old new : Lists) : Type 0 where
   pub rest : list_at new from ≡ drop 1 (list_at old from)
   pub behind : list_at new to ≡ list_at old to ++ waiter ∷ []
   pub others : (list : ℕ) → list ≢ from → list ≢ to → list_at new list ≡ list_at old list
 
--- how a free node reads
+-- the record of a free node
 abbrev pub free_record : NodeRecord
 free_record = FreeNode NONE
 
@@ -60,7 +60,7 @@ abbrev pub first_in : Option Ends → ℕ
 first_in None = NONE
 first_in (Some e) = e.first
 
--- the last node of ends, or none
+-- the last node of ends, or NONE
 abbrev pub last_in : Option Ends → ℕ
 last_in None = NONE
 last_in (Some e) = e.last
@@ -82,8 +82,8 @@ next_in links n = link_of (slice_index_or links.records n free_record)
 abbrev pub node_at : Links → ℕ → ℕ → ℕ
 node_at links list place = place_from (next_in links) (first_in (ends_at links list)) place
 
--- the links from the first node of each list lead through its waiters to its last node, whose link is NONE; no node
--- is on two lists or twice on one; and a node that is on none is free
+-- the links from the first node of each list lead through its waiters to its last node, whose link is NONE. No node is
+-- on two lists or twice on one, and a node that is on none is free.
 pub record IsThreaded (shown : Shown) : Type 0 where
   pub node_count : length shown.links.records ≡ shown.held.nodes
   pub list_count : length shown.links.ends ≡ length shown.held.lists
@@ -97,15 +97,15 @@ pub record IsThreaded (shown : Shown) : Type 0 where
       → ((a i : ℕ) → a < length shown.held.lists → i < length (list_at shown.held a) → node_at shown.links a i ≢ n)
       → slice_get shown.links.records n ≡ Some free_record
 
--- what a new waiter on a list leaves: the records of all nodes but the one that it takes and, where somebody waits
--- already, the last one before it, which now links to it; and the ends of all other lists
+-- a new waiter on a list leaves the ends of all other lists, and the records of all nodes but at most two. These are
+-- the node that it takes and, if the list isn't empty, the last node before it, which now links to it.
 pub record IsPushed (list : ℕ) (old new : Shown) : Type 0 where
   pub records : (n : ℕ) → n ≢ old.links.spare → (list_at old.held list ≢ [] → n ≢ last_in (ends_at old.links list))
       → slice_get new.links.records n ≡ slice_get old.links.records n
   pub ends : (b : ℕ) → b ≢ list → slice_get new.links.ends b ≡ slice_get old.links.ends b
 
--- what the first waiter of a list leaves as it goes: the records of all nodes but its own, and the ends of all other
--- lists; its list goes on with the nodes behind that one
+-- taking the first waiter off a list leaves the ends of all other lists, and the records of all nodes but that
+-- waiter's; its list continues with the nodes after that one
 pub record IsPopped (list : ℕ) (old new : Shown) : Type 0 where
   pub records : (n : ℕ) → n ≢ first_in (ends_at old.links list) → slice_get new.links.records n ≡ slice_get old.links.records n
   pub ends : (b : ℕ) → b ≢ list → slice_get new.links.ends b ≡ slice_get old.links.ends b

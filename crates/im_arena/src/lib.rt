@@ -22,16 +22,27 @@ pub use table::Ends;
 use table::{Node, Row, transfer};
 pub use walk::Waiters;
 
-/// Lists of waiters over one table of nodes. A waiter on a list takes one node, and no memory is taken once the arena
-/// is made. Lists are numbered from 0 up to [`Arena::list_count`], and nodes up to [`Arena::node_count`].
-#[derive(Drop)]
+/// Lists of waiters over one table of nodes. Each waiter on a list takes one node. The arena takes no memory once it is
+/// made. Lists are numbered from 0 to [`Arena::list_count`] - 1, and nodes from 0 to [`Arena::node_count`] - 1.
 pub struct Arena {
     nodes: Vec<Node>,
-    // The row of each list, and then that of the free nodes.
+    // The row of each list, and last the row of the free nodes.
     rows: Vec<Row>,
     lists: u32,
-    // How many nodes are free: to count them would take a walk.
+    // The number of free nodes. It is kept because a count would walk the whole row.
     free: u32,
+}
+
+// By one call, so that whoever owns an arena isn't proved to let go each of its fields wherever it may end.
+impl Drop for Arena {
+    fn drop(self) {
+        let Arena {
+            nodes: _,
+            rows: _,
+            lists: _,
+            free: _,
+        } = self;
+    }
 }
 
 impl Model for Arena {
@@ -47,8 +58,8 @@ impl Model for Arena {
 }
 
 impl Arena {
-    /// An arena with so many nodes, all free, and so many empty lists: 16 bytes for each node, and 8 for each list.
-    /// `NoMemory` where that memory is refused.
+    /// Makes an arena with the given numbers of nodes, all free, and of lists, all empty. It takes 16 bytes for each
+    /// node and 8 for each list. Returns `NoMemory` if that memory is refused.
     pub fn new(alloc: Global, nodes: u32, lists: u32) -> Result<Arena, Refusal>
         ensures nodes { IfOk result (λ a. a.held.nodes ≡ nodes) }
         ensures empty { IfOk result (λ a. a.held.lists ≡ replicate lists []) }
@@ -69,21 +80,21 @@ impl Arena {
         })
     }
 
-    /// How many lists there are.
+    /// Returns the number of lists.
     pub fn list_count(&self) -> u32
         ensures { result ≡ length self.now.held.lists }
     {
         self.lists
     }
 
-    /// How many nodes there are.
+    /// Returns the number of nodes.
     pub fn node_count(&self) -> u32
         ensures { result ≡ self.now.held.nodes }
     {
         self.nodes.len() as u32
     }
 
-    /// How many nodes hold no waiter.
+    /// Returns the number of nodes that hold no waiter.
     pub fn free_count(&self) -> u32
         ensures free { result ≡ free self.now.held }
         ensures sum { result + sum_by length self.now.held.lists ≡ self.now.held.nodes }
@@ -91,14 +102,14 @@ impl Arena {
         self.free // As each push and pop counts.
     }
 
-    /// Whether no node is free.
+    /// Returns whether no node is free.
     pub fn is_full(&self) -> bool
         ensures { IsTrue result ↔ (free self.now.held ≡ 0) }
     {
         self.free_count() == 0
     }
 
-    /// Whether a list has no waiter.
+    /// Returns whether a list has no waiter.
     pub fn is_empty(&self, list: u32) -> bool
         requires { list < length self.now.held.lists }
         ensures { IsTrue result ↔ (list_at self.now.held list ≡ []) }
@@ -106,7 +117,7 @@ impl Arena {
         self.rows[list as usize].first == NONE
     }
 
-    /// How many waiters a list has. It takes as many steps as there are.
+    /// Returns the number of waiters on a list. It takes one step for each of them.
     pub fn len(&self, list: u32) -> u32
         requires { list < length self.now.held.lists }
         ensures { result ≡ length (list_at self.now.held list) }
@@ -121,8 +132,8 @@ impl Arena {
         self.node_count()
     }
 
-    /// The waiter at a place of a list, counted from 0; `None` past its end. It takes as many steps as the place, and
-    /// no more than the list has waiters.
+    /// Returns the waiter at a place of a list, counted from 0, or `None` past its end. It takes one step for each
+    /// place, and at most one for each waiter of the list.
     pub fn at(&self, list: u32, place: u32) -> Option<Waiter>
         requires { list < length self.now.held.lists }
         ensures { result ≡ slice_get (list_at self.now.held list) place }
@@ -140,7 +151,7 @@ impl Arena {
         Some(self.nodes[node as usize].waiter())
     }
 
-    /// The waiters of a list, in their order; nobody where there is no such list. Each takes one step.
+    /// Returns the waiters of a list in their order, or none if there is no such list. Each waiter takes one step.
     pub fn waiters(&self, list: u32) -> Waiters<'_>
         ensures { result ≡ list_at self.now.held list }
     {
@@ -150,7 +161,7 @@ impl Arena {
         Waiters::from(&self.nodes, self.rows[list as usize].first)
     }
 
-    /// The first waiter of a list; `None` where it is empty.
+    /// Returns the first waiter of a list, or `None` if the list is empty.
     pub fn front(&self, list: u32) -> Option<Waiter>
         requires { list < length self.now.held.lists }
         ensures { result ≡ slice_get (list_at self.now.held list) 0 }
@@ -158,7 +169,8 @@ impl Arena {
         self.at(list, 0)
     }
 
-    /// Puts a waiter at the end of a list, unless no node is free: it then changes nothing, and returns `false`.
+    /// Puts a waiter at the end of a list and returns `true`. If no node is free, it returns `false` and changes
+    /// nothing.
     pub fn push_back(&mut self, list: u32, waiter: Waiter) -> bool
         requires { list < length self.old.held.lists }
         ensures room { IsTrue result ↔ 0 < free self.old.held }
@@ -182,7 +194,7 @@ impl Arena {
         true
     }
 
-    /// Takes the first waiter off a list, and frees its node; `None` where the list is empty.
+    /// Takes the first waiter off a list, frees its node and returns the waiter. Returns `None` if the list is empty.
     pub fn pop_front(&mut self, list: u32) -> Option<Waiter>
         requires { list < length self.old.held.lists }
         ensures first { result ≡ slice_get (list_at self.old.held list) 0 }
@@ -205,7 +217,7 @@ impl Arena {
         Some(waiter)
     }
 
-    /// The first and the last node of a list; `None` where it is empty.
+    /// Returns the first and the last node of a list, or `None` if the list is empty.
     pub fn ends(&self, list: u32) -> Option<Ends>
         requires { list < length self.now.held.lists }
         ensures ends { Some result ≡ slice_get self.now.links.ends list }
@@ -214,14 +226,14 @@ impl Arena {
         self.rows[list as usize].ends()
     }
 
-    /// The node that the next waiter takes; [`NONE`] where no node is free.
+    /// Returns the node that the next waiter takes, or [`NONE`] if no node is free.
     pub fn spare(&self) -> u32
         ensures { result ≡ self.now.links.spare }
     {
         self.rows[self.lists as usize].first
     }
 
-    /// The last node of a list; [`NONE`] where the list is empty, and where there is no such list.
+    /// Returns the last node of a list, or [`NONE`] if the list is empty or there is no such list.
     pub fn last(&self, list: u32) -> u32
         ensures { result ≡ last_in (ends_at self.now.links list) }
     {
@@ -234,7 +246,7 @@ impl Arena {
         }
     }
 
-    /// What is shown of a node, by its index. A free node reads as one that links to [`NONE`].
+    /// Returns the record of the node with this index. The record of a free node always links to [`NONE`].
     pub fn node(&self, index: u32) -> NodeRecord
         requires { index < self.now.held.nodes }
         ensures record_at { Some result ≡ slice_get self.now.links.records index }
@@ -245,7 +257,7 @@ impl Arena {
     }
 }
 
-// So many nodes, all free, each linked to the next one.
+// Makes the given number of nodes, all free, each linked to the next one.
 fn free_nodes(alloc: Global, count: u32) -> Result<Vec<Node>, AllocError>
     ensures { IfOk result (λ v. AreFree v.items count) }
 {
@@ -260,7 +272,7 @@ fn free_nodes(alloc: Global, count: u32) -> Result<Vec<Node>, AllocError>
     Ok(nodes)
 }
 
-// So many empty rows, and then one of all nodes.
+// Makes the given number of empty rows, and then one row of all nodes.
 fn rows_of(alloc: Global, nodes: u32, lists: u32) -> Result<Vec<Row>, AllocError>
     ensures { IfOk result (λ v. v.items ≡ start_rows nodes lists) }
 {

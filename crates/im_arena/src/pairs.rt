@@ -1,12 +1,13 @@
-//! Calls on two lists, one after the other, by the public calls of an arena alone.
+//! Calls on two lists in turn, through the public calls of an arena alone.
 ghost use Rattle.std.specs.Prelude.{◌≡◌, ◌≢◌, ℕ, ◌<◌, ◌∷◌, ◌++◌, [], length, drop, slice_get, IfSome, IfNone};
 ghost use Rattle.im_arena.specs.Lists.{list_at, free, IsHandedOver};
 
 use crate::Arena;
 use im_types::Waiter;
 
-/// Takes the first waiter off one list, and puts another one at the end of another list; `None` where the first list is
-/// empty, and then nothing changes. What is on one list is never reached from another, whatever node it stands on.
+/// Takes the first waiter off the list `from`, and puts another one at the end of the list `to`. Returns the waiter
+/// that it took. If the list `from` is empty, it returns `None` and changes nothing. A waiter on one list is never
+/// reached from another list, whatever node it stands on.
 pub fn hand_over(arena: &mut Arena, from: u32, to: u32, waiter: Waiter) -> Option<Waiter>
     requires from { from < length arena.old.held.lists }
     requires to { to < length arena.old.held.lists }

@@ -7,7 +7,7 @@ ghost use Rattle.im_arena.specs.Table.{free_node, waiter_in, record_of, ends_of,
 
 use im_types::{NONE, NodeRecord, Waiter};
 
-/// The ends of a list that isn't empty.
+/// The first and the last node of a list that isn't empty.
 #[derive(Clone, Copy, Debug, PartialEq, Eq)]
 pub struct Ends {
     /// The index of its first node.
@@ -16,10 +16,10 @@ pub struct Ends {
     pub last: u32,
 }
 
-/// A place for one waiter, in 16 bytes. A free node is marked so, and is blank.
+/// A node: room for one waiter, in 16 bytes. A free node is marked as free and has no waiter.
 #[derive(Clone, Copy)]
 pub(crate) struct Node {
-    // The node after it on its row, NONE at the last.
+    // The next node of its row, NONE at the last one.
     pub(crate) next: u32,
     pub(crate) element: u16,
     pub(crate) used: bool,
@@ -28,7 +28,8 @@ pub(crate) struct Node {
 
 const _: () = prove!(size_of::<Node>() == 16);
 
-/// Where a row of nodes begins and ends, in 8 bytes; both NONE where it is empty. How long it is the links tell.
+/// The first and the last node of a row, in 8 bytes. Both are NONE if the row is empty. The links between its nodes
+/// give its length.
 #[derive(Clone, Copy)]
 pub(crate) struct Row {
     pub(crate) first: u32,
@@ -94,7 +95,7 @@ impl Row {
         }
     }
 
-    // A row of all nodes, in their order.
+    // Returns the row of all nodes, in their order.
     pub(crate) fn full(nodes: u32) -> Row
         ensures { result ≡ full_row nodes }
     {
@@ -120,7 +121,7 @@ impl Row {
         }
     }
 
-    // The row without its first node, which led to `next`.
+    // Returns the row without its first node, whose link was `next`.
     fn without_first(self, next: u32) -> Row
         ensures { Detached self.last next result }
     {
@@ -131,7 +132,7 @@ impl Row {
     }
 }
 
-// Links a node behind the last one of a row.
+// Links a node behind the last one of a row, and returns the longer row.
 fn attach(nodes: &mut [Node], row: Row, node: u32) -> Row
     requires { row.last ≢ NONE → row.last < length nodes.old }
     ensures { Attached nodes.old nodes.new row.first row.last node result }
@@ -145,7 +146,8 @@ fn attach(nodes: &mut [Node], row: Row, node: u32) -> Row
     Row { first, last: node }
 }
 
-// Moves the first node of one row to the end of another, where it holds `content`, and returns the waiter that it held.
+// Moves the first node of one row to the end of another row, and puts `content` into it. Returns the waiter that it
+// held.
 pub(crate) fn transfer(
     nodes: &mut [Node],
     rows: &mut [Row],

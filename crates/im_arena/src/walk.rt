@@ -1,4 +1,4 @@
-//! Walking a list.
+//! A walk along a list.
 ghost use Rattle.im_types.specs.declared.operations.Waiter.{Waiter as WaiterSpec};
 ghost use Rattle.im_arena.specs.Table.{waiters_from, IsWalk};
 ghost use Rattle.std.specs.Prelude.{◌≡◌, List, []};
@@ -8,7 +8,7 @@ use crate::table::Node;
 use im_types::{NONE, Waiter};
 use std::marker::Model;
 
-/// The waiters of a list, from its first one on. Contracts see those that are still to come.
+/// An iterator over the waiters of a list, from the first one on. Contracts see the waiters that are still to come.
 #[derive(Drop)]
 pub struct Waiters<'a> {
     nodes: &'a [Node],
@@ -29,7 +29,7 @@ impl<'a> Model for Waiters<'a> {
 }
 
 impl<'a> Waiters<'a> {
-    // Nobody.
+    // Returns an iterator over no waiter.
     pub(crate) fn nobody() -> Waiters<'a>
         ensures { result ≡ [] }
     {
@@ -39,7 +39,7 @@ impl<'a> Waiters<'a> {
         }
     }
 
-    // The waiters from this node on.
+    // Returns an iterator over the waiters from a node on.
     pub(crate) fn from(nodes: &'a [Node], at: u32) -> Waiters<'a>
         requires { IsWalk nodes.now at }
         ensures { result ≡ waiters_from nodes.now at }

@@ -1,4 +1,4 @@
-// Blocks in a table of cells.
+// Workloads on blocks in a table of cells.
 ghost use Rattle.std.specs.Prelude.{◌<◌};
 
 use im_cell::CellTable;
@@ -28,7 +28,8 @@ fn release_each(table: &mut CellTable, first: u32, step: u32, count: u32) -> u64
     sum
 }
 
-// A table of as many holes of one cell as there can be, each before a block of one cell, and behind them one of two.
+// Makes a table of as many one-cell holes as there can be. Each stands before a block of one cell. After them stands a
+// hole of two cells.
 fn with_holes(alloc: Global) -> Result<CellTable, Refusal> {
     let mut table = CellTable::new(alloc, MAX_CELLS)?;
     let _ = place_each(&mut table, 1, HOLES.wrapping_mul(2));
@@ -43,7 +44,7 @@ pub fn fill_and_release(alloc: Global, count: u32) -> Result<u64, Refusal> {
     Ok(sum.wrapping_add(release_each(&mut table, 0, 1, count)))
 }
 
-/// Makes a block in the last hole, the only one with room for it, and releases it, so many times.
+/// Makes a block in the last hole, the only one with room for it, and releases it, `count` times.
 pub fn place_and_release(alloc: Global, count: u32) -> Result<u64, Refusal> {
     let mut table = with_holes(alloc)?;
     let mut sum = 0u64;
@@ -56,7 +57,7 @@ pub fn place_and_release(alloc: Global, count: u32) -> Result<u64, Refusal> {
     Ok(sum)
 }
 
-/// Releases so many blocks, each between two holes.
+/// Releases `count` blocks, each between two holes.
 pub fn release(alloc: Global, count: u32) -> Result<u64, Refusal> {
     let mut table = with_holes(alloc)?;
     Ok(release_each(&mut table, 1, 2, count))

@@ -1,4 +1,5 @@
-// One block of all cells, and who waits for them. Each call is of the next cell, and past the last one each is refused.
+// Workloads on one block of all cells, and on who waits for them. Each call is of the next cell. Past the last cell
+// each call is refused.
 ghost use Rattle.std.specs.Prelude.{◌≡◌, ◌<◌, List, Option, length, IfOk};
 ghost use Rattle.im_cell.specs.declared.slots.Slot.{Slot};
 ghost use Rattle.im_istore.specs.Agreement.{Agree, AgreeBut};
@@ -100,28 +101,28 @@ fn put_each(table: &mut CellTable, arena: &mut Arena, count: u32) -> u64
     sum
 }
 
-/// Stores to cells of which so many have a reader each.
+/// Stores to `count` cells. The first `readers` cells have a reader each.
 pub fn stores(alloc: Global, readers: u32, count: u32) -> Result<u64, Refusal> {
     let (mut table, mut arena) = one_block(alloc, Kind::I)?;
     let _ = fetch_each(&mut table, &mut arena, readers);
     Ok(store_each(&mut table, &mut arena, count))
 }
 
-/// Fetches from cells of which so many are full.
+/// Fetches from `count` cells. The first `full` cells are full.
 pub fn fetches(alloc: Global, full: u32, count: u32) -> Result<u64, Refusal> {
     let (mut table, mut arena) = one_block(alloc, Kind::I)?;
     let _ = store_each(&mut table, &mut arena, full);
     Ok(fetch_each(&mut table, &mut arena, count))
 }
 
-/// Puts to cells of which so many have a taker each.
+/// Puts to `count` cells. The first `takers` cells have a taker each.
 pub fn puts(alloc: Global, takers: u32, count: u32) -> Result<u64, Refusal> {
     let (mut table, mut arena) = one_block(alloc, Kind::M)?;
     let _ = take_each(&mut table, &mut arena, takers);
     Ok(put_each(&mut table, &mut arena, count))
 }
 
-/// Takes from cells of which so many are full.
+/// Takes from `count` cells. The first `full` cells are full.
 pub fn takes(alloc: Global, full: u32, count: u32) -> Result<u64, Refusal> {
     let (mut table, mut arena) = one_block(alloc, Kind::M)?;
     let _ = put_each(&mut table, &mut arena, full);

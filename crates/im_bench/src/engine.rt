@@ -1,20 +1,20 @@
-// Requests to an engine on a file, one by one and as groups of sixteen, and turns of a checkpoint. Their elements take
-// turns, none asks more than its window keeps, and each stores into a cell of its own.
+// Requests to an engine on a file, one by one and in groups of sixteen, and turns of a checkpoint. The elements take
+// turns. None asks for more than its window keeps, and each stores into a cell of its own.
 use arrayvec::ArrayVec;
 use im_disk::{Disk, FileDisk, Unknown};
 use im_engine::{Engine, are_apart};
 use im_types::{Command, MAX_CELLS, Op, Refusal, Request, Served};
 
-// Element 0 made the block.
+// How many elements ask. Element 0 made the block.
 const ASKERS: u32 = 48;
 
-// The stores that come before a turn.
+// How many stores come before a turn.
 const BEFORE: u32 = 16;
 
-// The cells of a page: on an image of the largest size as many stores are each on a page of its own as it has pages.
+// The cells of a page. On an image of the largest size, as many stores as it has pages are each on a page of its own.
 const STEP: u32 = 128;
 
-// The request with an index, which stores into this cell.
+// Returns the request with an index, which stores into this cell.
 fn store_into(index: u32, cell: u32) -> Request {
     Request {
         element: (index % ASKERS + 1) as u16,
@@ -23,12 +23,12 @@ fn store_into(index: u32, cell: u32) -> Request {
     }
 }
 
-// The request with an index.
+// Returns the request with an index.
 fn store(index: u32) -> Request {
     store_into(index, index)
 }
 
-// Sixteen requests, from the one with this index on.
+// Returns sixteen requests, from the one with this index on.
 fn members(first: u32) -> ArrayVec<Request, 16> {
     let mut members = ArrayVec::new();
     for more in 0..16u32 {
@@ -37,7 +37,7 @@ fn members(first: u32) -> ArrayVec<Request, 16> {
     members
 }
 
-// How many members were served.
+// Returns how many members were served.
 fn done(served: &[Served]) -> u64 {
     let mut sum = 0u64;
     for answer in served {
@@ -48,7 +48,7 @@ fn done(served: &[Served]) -> u64 {
     sum
 }
 
-/// Serves so many requests, each by itself. How many were answered.
+/// Serves `count` requests, each by itself. Returns how many were answered.
 pub fn one_by_one<D: Disk>(engine: &mut Engine<D>, count: u32) -> u64 {
     let mut sum = 0u64;
     for index in 0..count {
@@ -59,7 +59,7 @@ pub fn one_by_one<D: Disk>(engine: &mut Engine<D>, count: u32) -> u64 {
     sum
 }
 
-/// Serves so many requests, in groups of sixteen. How many were answered.
+/// Serves `count` requests, in groups of sixteen. Returns how many were answered.
 pub fn together<D: Disk>(engine: &mut Engine<D>, count: u32) -> u64 {
     let mut sum = 0u64;
     for group in 0..count / 16 {
@@ -73,7 +73,8 @@ pub fn together<D: Disk>(engine: &mut Engine<D>, count: u32) -> u64 {
     sum
 }
 
-/// Makes the same groups, and serves none: what `together` costs beside the engine. How many requests they have.
+/// Makes the same groups, and serves none: this is what `together` costs besides the engine. Returns how many requests
+/// they have.
 pub fn made(count: u32) -> u64 {
     let mut sum = 0u64;
     for group in 0..count / 16 {
@@ -85,8 +86,8 @@ pub fn made(count: u32) -> u64 {
     sum
 }
 
-// Serves the requests with these indexes, each by itself; on an image of the largest size each is on a page of its own.
-// How many were answered.
+// Serves the requests with these indexes, each by itself. On an image of the largest size each is on a page of its own.
+// Returns how many were answered.
 fn on_pages<D: Disk>(engine: &mut Engine<D>, from: u32, to: u32) -> u64 {
     let mut sum = 0u64;
     for index in from..to {
@@ -98,7 +99,7 @@ fn on_pages<D: Disk>(engine: &mut Engine<D>, from: u32, to: u32) -> u64 {
     sum
 }
 
-// Makes so many turns. How many weren't refused.
+// Makes `count` turns. Returns how many weren't refused.
 fn make_turns<D: Disk>(engine: &mut Engine<D>, count: u32) -> u64 {
     let mut sum = 0u64;
     for _turn in 0..count {
@@ -109,21 +110,22 @@ fn make_turns<D: Disk>(engine: &mut Engine<D>, count: u32) -> u64 {
     sum
 }
 
-/// Serves a few stores, then makes so many turns: the first of them begins a checkpoint. How many weren't refused.
+/// Serves a few stores, then makes `count` turns, the first of which begins a checkpoint. Returns how many weren't
+/// refused.
 pub fn turns<D: Disk>(engine: &mut Engine<D>, count: u32) -> u64 {
     let _served = on_pages(engine, 0, BEFORE);
     make_turns(engine, count)
 }
 
-/// Serves a few stores, makes so many turns, and serves more stores while the pages of a checkpoint are left, or, after
-/// no turn, while there is none. How many of these were answered.
+/// Serves a few stores, makes `turns` turns, and serves `count` more stores while pages of a checkpoint are left.
+/// Without a turn there is no checkpoint. Returns how many of the later stores were answered.
 pub fn after_turns<D: Disk>(engine: &mut Engine<D>, turns: u32, count: u32) -> u64 {
     let _served = on_pages(engine, 0, BEFORE);
     let _made = make_turns(engine, turns);
     on_pages(engine, BEFORE, count.saturating_add(BEFORE))
 }
 
-/// Opens the image at a path, and does a workload's calls on it; `None` where none has this name.
+/// Opens the image at a path, and does a workload's calls on it. Returns `None` if no workload has this name.
 pub fn on_file(
     rt: &HostRuntime,
     workload: &str,

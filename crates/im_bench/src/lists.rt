@@ -1,4 +1,4 @@
-// Waiters on one list of an arena, which has as many nodes as a memory may have cells.
+// Workloads on one list of an arena, which has as many nodes as a memory may have cells.
 ghost use Rattle.std.specs.Prelude.{◌<◌, length, IfOk};
 
 use im_arena::Arena;
@@ -42,7 +42,7 @@ pub fn push(alloc: Global, count: u32) -> Result<u64, Refusal> {
     Ok(sum)
 }
 
-/// Takes waiters off a list on which every node stands.
+/// Takes waiters off a list that has every node.
 pub fn pop(alloc: Global, count: u32) -> Result<u64, Refusal> {
     let mut arena = one_list(alloc)?;
     for number in 0..MAX_CELLS {
@@ -55,7 +55,7 @@ pub fn pop(alloc: Global, count: u32) -> Result<u64, Refusal> {
     Ok(sum)
 }
 
-/// Puts a waiter on an empty list and takes it off, so many times.
+/// Puts a waiter on an empty list and takes it off, `count` times.
 pub fn push_and_pop(alloc: Global, count: u32) -> Result<u64, Refusal> {
     let mut arena = one_list(alloc)?;
     let mut sum = 0u64;

@@ -16,7 +16,7 @@ use std::alloc::Global;
 use std::process::ExitCode;
 use std::{env, io};
 
-/// The checksum of a workload; `None` where none has this name.
+/// Returns the checksum of a workload, or `None` if no workload has this name.
 fn checksum(alloc: Global, workload: &str, count: u32) -> Option<Result<u64, Refusal>> {
     let sum = match workload {
         "push" => lists::push(alloc, count),
@@ -56,7 +56,7 @@ fn usage(rt: &HostRuntime) -> io::Result<u8> {
     Ok(2)
 }
 
-// Prints what a workload came to, and returns the status to end with.
+// Prints the result of a workload, and returns the status to end with.
 fn tell(
     rt: &HostRuntime,
     workload: &str,

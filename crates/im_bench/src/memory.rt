@@ -1,4 +1,4 @@
-// Requests to a whole memory. The elements take turns, and each confirms its window where that is full.
+// Requests to a whole memory. The elements take turns, and each confirms its window when it is full.
 use im_arena::Arena;
 use im_cell::CellTable;
 use im_memory::Memory;
@@ -45,12 +45,12 @@ fn digest(entry: Entry) -> u64 {
     }
 }
 
-// A checksum with one entry more.
+// Adds an entry to a checksum.
 fn mixed(sum: u64, entry: Entry) -> u64 {
     sum.wrapping_mul(31).wrapping_add(digest(entry))
 }
 
-// A checksum with the bounds of each window.
+// Adds the bounds of each window to a checksum.
 fn with_windows(sum: u64, memory: &Memory) -> Result<u64, Refusal> {
     let mut sum = sum;
     for element in 0..memory.elements() {
@@ -64,7 +64,7 @@ fn with_windows(sum: u64, memory: &Memory) -> Result<u64, Refusal> {
     Ok(sum)
 }
 
-// A memory of so many cells and elements.
+// Makes a memory of the given numbers of cells and elements.
 fn empty(alloc: Global, cells: u32, elements: u16) -> Result<Memory, Refusal> {
     match Limits::new(cells, elements, MIN_SLOTS) {
         Some(limits) => Memory::new(alloc, limits),
@@ -72,7 +72,7 @@ fn empty(alloc: Global, cells: u32, elements: u16) -> Result<Memory, Refusal> {
     }
 }
 
-// The request with an index: each element asks its first one, then each its second one, and so on.
+// Asks the request with an index: each element asks its first one, then each its second one, and so on.
 fn ask(memory: &mut Memory, index: u32, op: Op) -> Result<Entry, Refusal> {
     let element = element_of(index);
     let number = number_of(index);
@@ -91,7 +91,7 @@ fn ask(memory: &mut Memory, index: u32, op: Op) -> Result<Entry, Refusal> {
     }
 }
 
-// A memory whose first request made a block of all cells.
+// Makes a memory whose first request made a block of all cells.
 fn one_block(alloc: Global, kind: Kind) -> Result<Memory, Refusal> {
     let mut memory = empty(alloc, MAX_CELLS, MAX_ELEMENTS)?;
     let _ = ask(&mut memory, 0, Op::Alloc(kind, MAX_CELLS))?;
@@ -113,7 +113,7 @@ fn write(kind: Kind, a: u32) -> Op {
     }
 }
 
-/// Writes to so many cells, each read by the next element.
+/// Writes to `count` cells, each read by the next element.
 pub fn write_and_read(alloc: Global, kind: Kind, count: u32) -> Result<u64, Refusal> {
     let mut memory = one_block(alloc, kind)?;
     let mut sum = 0u64;
@@ -125,7 +125,7 @@ pub fn write_and_read(alloc: Global, kind: Kind, count: u32) -> Result<u64, Refu
     with_windows(sum, &memory)
 }
 
-/// Reads of so many cells that wait, each until the next element writes the cell, and then the answer is collected.
+/// Makes `count` reads that wait. Each waits until the next element writes the cell; then its answer is collected.
 pub fn read_and_write(alloc: Global, kind: Kind, count: u32) -> Result<u64, Refusal> {
     let mut memory = one_block(alloc, kind)?;
     let mut sum = 0u64;
@@ -141,7 +141,7 @@ pub fn read_and_write(alloc: Global, kind: Kind, count: u32) -> Result<u64, Refu
     with_windows(sum, &memory)
 }
 
-// Makes a block, and writes and reads its last cell; the block's base, and the checksum.
+// Makes a block, and writes and reads its last cell. Returns the block's base and the checksum.
 fn use_block(memory: &mut Memory, index: u32, n: u32, sum: u64) -> Result<(u32, u64), Refusal> {
     let made = ask(memory, index, Op::Alloc(Kind::I, n))?;
     let Entry::Answered(Reply::Base(base)) = made else {
@@ -153,8 +153,8 @@ fn use_block(memory: &mut Memory, index: u32, n: u32, sum: u64) -> Result<(u32, 
     Ok((base, mixed(mixed(mixed(sum, made), stored), fetched)))
 }
 
-/// Releases a block and makes another, of 1 to 16 cells, of which one is written and read, so many times. Which one is
-/// released, and how long the new one is, an arithmetic sequence says.
+/// Releases a block and makes another of 1 to 16 cells, `count` times. One cell of the new block is written and read.
+/// An arithmetic sequence says which block is released and how long the new one is.
 pub fn release_and_allocate(alloc: Global, count: u32) -> Result<u64, Refusal> {
     let mut memory = empty(alloc, MAX_CELLS, MAX_ELEMENTS)?;
     let mut bases = [NONE; LIVE];
@@ -173,13 +173,13 @@ pub fn release_and_allocate(alloc: Global, count: u32) -> Result<u64, Refusal> {
     with_windows(sum, &memory)
 }
 
-/// Makes a memory of so many cells and one element.
+/// Makes a memory of `count` cells and one element.
 pub fn cells(alloc: Global, count: u32) -> Result<u64, Refusal> {
     let memory = empty(alloc, count, 1)?;
     Ok(memory.cells() as u64)
 }
 
-/// Makes a memory of one cell and so many elements.
+/// Makes a memory of one cell and `count` elements.
 pub fn elements(alloc: Global, count: u32) -> Result<u64, Refusal> {
     let Ok(elements) = u16::try_from(count) else {
         return Err(Refusal::BadLimits);
@@ -188,13 +188,13 @@ pub fn elements(alloc: Global, count: u32) -> Result<u64, Refusal> {
     Ok(memory.elements() as u64)
 }
 
-/// Makes a table of so many cells.
+/// Makes a table of `count` cells.
 pub fn table(alloc: Global, count: u32) -> Result<u64, Refusal> {
     let table = CellTable::new(alloc, count)?;
     Ok(table.cells() as u64)
 }
 
-/// Makes an arena of so many nodes.
+/// Makes an arena of `count` nodes.
 pub fn nodes(alloc: Global, count: u32) -> Result<u64, Refusal> {
     let arena = Arena::new(alloc, count, 1)?;
     Ok(arena.node_count() as u64)

@@ -1,9 +1,9 @@
-// Records of cells on a page.
+// Workloads on the records of cells on a page.
 use im_records::{CELLS_ON_A_PAGE, PAGE, put_cell, read_cell};
 use im_types::layout::CELL_RECORD;
 use im_types::{Block, CellRecord, Kind, MAX_CELLS, PresenceTag};
 
-// A page of full cells of one block.
+// Makes a page of full cells of one block.
 fn full_page() -> [u8; PAGE] {
     let mut page = [0; PAGE];
     let block = Block {
@@ -30,7 +30,7 @@ fn digest(cell: Option<CellRecord>) -> u64 {
     }
 }
 
-/// Reads the record of the next cell of a page of full cells, and so round, so many times.
+/// Reads the record of the next cell of a page of full cells, round and round, `count` times.
 pub fn read(count: u32) -> u64 {
     let page = full_page();
     let mut sum = 0u64;

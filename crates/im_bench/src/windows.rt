@@ -5,7 +5,7 @@ use std::alloc::Global;
 
 const ELEMENTS: u32 = 4_096;
 
-// The request with an index: each element asks its first one, then each its second one, and so on.
+// Returns the request with an index: each element asks its first one, then each its second one, and so on.
 fn request(index: u32) -> Request {
     Request {
         element: (index % ELEMENTS) as u16,
@@ -36,7 +36,7 @@ fn note_each(sessions: &mut Sessions, count: u32) -> u64 {
     sum
 }
 
-/// Judges requests of which so many are kept, and notes none.
+/// Judges `count` requests, of which `kept` are kept, and notes none.
 pub fn judge(alloc: Global, kept: u32, count: u32) -> Result<u64, Refusal> {
     let mut sessions = Sessions::new(alloc, ELEMENTS as u16)?;
     let _ = note_each(&mut sessions, kept);

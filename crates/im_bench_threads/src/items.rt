@@ -9,7 +9,7 @@ use std::sync::Wait;
 use std::thread;
 use std::thread::{Scope, Threads};
 
-// Sends so many items, and the end mark.
+// Sends `count` items, and the end mark.
 fn send<R: Wait>(rt: &R, inlet: Inlet<Intent>, count: u32)
     requires { inlet.items ≡ [] }
 {
@@ -22,7 +22,7 @@ fn send<R: Wait>(rt: &R, inlet: Inlet<Intent>, count: u32)
     let _finished = inlet.finish(rt);
 }
 
-// Receives to the end. How many items came.
+// Receives up to the end. Returns how many items came.
 fn receive<R: Wait>(rt: &R, outlet: Outlet<Intent>) -> u64
     requires { outlet.ended ≡ false }
 {
@@ -51,7 +51,7 @@ fn pass_within<'s, E, R: Threads + Wait + Sync>(
     }
 }
 
-/// Passes so many items through a pipe. How many came.
+/// Passes `count` items through a pipe. Returns how many came.
 pub fn pass<R: Threads + Wait + Sync>(rt: &R, alloc: Global, count: u32) -> Result<u64, Refusal> {
     thread::scope(thread::scope_env(), rt, move |scope| {
         pass_within(rt, alloc, scope, count)

@@ -1,8 +1,8 @@
-//! The ends of threads.
+//! Waits for threads to end.
 
 use std::thread::{JoinHandle, Threads};
 
-/// Waits for all threads that could be begun. The sum of what they came to.
+/// Waits for all threads that could be started. Returns the sum of their results.
 pub fn join_all<R: Threads>(rt: &R, threads: Vec<Option<JoinHandle<u64>>>) -> u64 {
     let mut sum = 0u64;
     for thread in threads {

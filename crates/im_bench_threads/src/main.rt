@@ -1,7 +1,8 @@
-//! Workloads of threads, to count groups and to take times: `im_bench_threads WORKLOAD COUNT` passes COUNT items
-//! through a pipe, or reads or shows as many cells on a pane; `im_bench_threads WORKLOAD COUNT IMAGE` does COUNT
-//! stores for one element or for each of sixteen on the image in a file, whose memory is new. It prints a line with
-//! what that came to.
+//! Workloads of threads, to count groups and to take times.
+//!
+//! `im_bench_threads WORKLOAD COUNT` passes COUNT items through a pipe, or reads or shows that many cells on a pane.
+//! `im_bench_threads WORKLOAD COUNT IMAGE` does COUNT stores, for one element or for each of sixteen, on the image in a
+//! file, whose memory is new. It prints a line with the result.
 #![tactic(auto)]
 
 mod items;
@@ -28,7 +29,7 @@ fn usage<R: Eprint>(rt: &R) -> io::Result<u8> {
     Ok(2)
 }
 
-// Prints what a workload came to, and returns the status to end with.
+// Prints the result of a workload, and returns the status to end with.
 fn tell<R: Print + Eprint>(
     rt: &R,
     workload: &str,
@@ -49,7 +50,7 @@ fn tell<R: Print + Eprint>(
     Ok(status)
 }
 
-// What a workload with no image came to; `None` where none has this name.
+// Returns the result of a workload that takes no image, or `None` if none has this name.
 fn with_no_image<R: Threads + Wait + Sync>(
     rt: &R,
     alloc: Global,
@@ -77,7 +78,7 @@ fn make_block<D: Disk>(engine: &mut Engine<D>) -> Result<(), Refusal> {
     Ok(())
 }
 
-// What a workload on an image came to; `None` where none has this name.
+// Returns the result of a workload on an image, or `None` if none has this name.
 fn on_engine<D: Disk + Drop + Send, R: Threads + Wait + Sync>(
     rt: &R,
     alloc: Global,
@@ -96,7 +97,7 @@ fn on_engine<D: Disk + Drop + Send, R: Threads + Wait + Sync>(
     Ok(Some(done))
 }
 
-// Opens the image at a path, and does a workload on it; `None` where none has this name.
+// Opens the image at a path, and does a workload on it. Returns `None` if no workload has this name.
 fn on_file<R: Files<File = File> + AllocGlobal + Threads + Wait + Sync, S: Start + Send>(
     rt: &R,
     workload: &str,

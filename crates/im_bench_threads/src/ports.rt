@@ -1,4 +1,4 @@
-//! Stores through ports of one controller: by one thread alone, and by sixteen beside the thread that keeps
+//! Stores through ports of one controller: with one thread alone, and with sixteen beside the thread that keeps
 //! checkpoints.
 ghost use Rattle.std.specs.Prelude.{◌≡◌};
 ghost use Rattle.im_controller.specs.Kept.{begun_in};
@@ -15,15 +15,16 @@ use std::sync::Wait;
 use std::thread;
 use std::thread::{JoinHandle, Scope, Threads};
 
-// How many elements store beside each other: 1, 2 and so on.
+// How many elements store at once: 1, 2 and so on.
 const ELEMENTS: u16 = 16;
 
-// How many lines the trace has room for: five for each store, and 32 for each element.
+// Returns how many lines the trace has room for: five for each store, and 32 for each element.
 fn trace_room(count: u32) -> usize {
     (count as usize).saturating_mul(80).saturating_add(512)
 }
 
-// Whether it is worth to ask again after a refusal: the journal was full, and a turn of a checkpoint was made.
+// Returns whether it is worth asking again after a refusal. It is if the journal was full and a turn of a checkpoint
+// was made.
 fn is_helped<D: Disk, K: Name, R: Wait>(
     rt: &R,
     controller: &Controller<D, K>,
@@ -33,7 +34,7 @@ fn is_helped<D: Disk, K: Name, R: Wait>(
     matches!(refusal, Refusal::JournalFull) && port.help(rt, controller).is_ok()
 }
 
-// Stores a value, again after each turn that the full journal needed. Whether it was answered.
+// Stores a value, and asks again after each turn that the full journal needs. Returns whether it was answered.
 fn submit<D: Disk, K: Name, R: Wait>(
     rt: &R,
     controller: &Controller<D, K>,
@@ -55,7 +56,8 @@ fn submit<D: Disk, K: Name, R: Wait>(
     false
 }
 
-// Confirms all before a store, again after each turn that the full journal needed. Whether it was answered.
+// Confirms all entries before a store, and asks again after each turn that the full journal needs. Returns whether it
+// was answered.
 fn confirm<D: Disk, K: Name, R: Wait>(
     rt: &R,
     controller: &Controller<D, K>,
@@ -75,7 +77,7 @@ fn confirm<D: Disk, K: Name, R: Wait>(
     false
 }
 
-// Does the stores of an element, up to the first that is refused, and retires its port. How many were answered.
+// Does the stores of an element, up to the first that is refused, and retires its port. Returns how many were answered.
 fn store_all<D: Disk, K: Name, R: Wait>(
     rt: &R,
     controller: &Controller<D, K>,
@@ -98,7 +100,7 @@ fn store_all<D: Disk, K: Name, R: Wait>(
     done
 }
 
-// Begins a thread that stores, if there is a port and a thread for it.
+// Starts a thread that stores, if there is a port and a thread for it.
 fn begin<'s, E, D: Disk + Drop + Send, K: Name + Send + Sync, R: Threads + Wait + Sync>(
     rt: &'s R,
     scope: &Scope<'s, E>,
@@ -115,7 +117,7 @@ fn begin<'s, E, D: Disk + Drop + Send, K: Name + Send + Sync, R: Threads + Wait 
     }
 }
 
-// Begins the thread that keeps checkpoints. Whether one can be made.
+// Starts the thread that keeps checkpoints. Returns whether one could be made.
 fn keep<'s, E, D: Disk + Drop + Send, K: Name + Send + Sync, R: Threads + Wait + Sync>(
     rt: &'s R,
     scope: &Scope<'s, E>,
@@ -124,7 +126,7 @@ fn keep<'s, E, D: Disk + Drop + Send, K: Name + Send + Sync, R: Threads + Wait +
     scope.spawn(move || controller.keep_checkpoints(rt)).is_ok()
 }
 
-// Begins a thread for each element.
+// Starts a thread for each element.
 fn begin_all<'s, E, D: Disk + Drop + Send, K: Name + Send + Sync, R: Threads + Wait + Sync>(
     rt: &'s R,
     scope: &Scope<'s, E>,
@@ -138,7 +140,7 @@ fn begin_all<'s, E, D: Disk + Drop + Send, K: Name + Send + Sync, R: Threads + W
     }
 }
 
-// Stores by a thread for each element, beside the one that keeps checkpoints.
+// Stores with a thread for each element, beside the one that keeps checkpoints.
 fn store_at_once<D: Disk + Drop + Send, K: Name + Send + Sync, R: Threads + Wait + Sync>(
     rt: &R,
     alloc: Global,
@@ -155,7 +157,7 @@ fn store_at_once<D: Disk + Drop + Send, K: Name + Send + Sync, R: Threads + Wait
     })
 }
 
-// Stores by this thread alone.
+// Stores with this thread alone.
 fn store_alone<D: Disk, K: Name, R: Wait>(
     rt: &R,
     controller: &Controller<D, K>,
@@ -167,7 +169,7 @@ fn store_alone<D: Disk, K: Name, R: Wait>(
     }
 }
 
-// Stores, alone or at once, by a controller that has a name.
+// Stores, alone or at once, through a controller that has a name.
 fn store_named<D: Disk + Drop + Send, K: Name + Send + Sync, R: Threads + Wait + Sync>(
     rt: &R,
     alloc: Global,
@@ -194,8 +196,8 @@ fn store_named<D: Disk + Drop + Send, K: Name + Send + Sync, R: Threads + Wait +
     done
 }
 
-/// Does so many stores of element 1, by this thread alone, or of each of sixteen elements, by a thread for each. How
-/// many were answered.
+/// Does `count` stores of element 1 with this thread alone, or of each of sixteen elements with a thread for each.
+/// Returns how many were answered.
 pub fn stores<D: Disk + Drop + Send, R: Threads + Wait + Sync>(
     rt: &R,
     alloc: Global,

@@ -1,4 +1,4 @@
-//! Readings of a pane, alone and beside the thread that shows, and what a show costs.
+//! Reads of a pane, alone and beside the thread that shows, and the cost of a show.
 ghost use Rattle.std.specs.Prelude.{◌≡◌};
 ghost use Rattle.im_types.specs.Changes.{is_below};
 
@@ -17,7 +17,7 @@ const CELLS: u32 = 65_536;
 // How many readers a pane has.
 const READERS: u16 = 16;
 
-// How many threads read beside the one that shows, and by how many readers in turn each of them does.
+// How many threads read beside the one that shows, and how many readers each of them uses in turn.
 const BESIDE: u16 = 3;
 
 const IN_TURN: u16 = 5;
@@ -25,20 +25,21 @@ const IN_TURN: u16 = 5;
 /// What is done on a pane.
 #[derive(Clone, Copy)]
 pub enum Reading {
-    /// This thread reads full cells. The sum of what it read.
+    /// This thread reads full cells. The result is the sum of what it read.
     Alone,
-    /// Each of three threads reads, while this one shows a quarter as many changes. The sum of what they read.
+    /// Each of three threads reads, while this one shows a quarter as many changes. The result is the sum of what they
+    /// read.
     Beside,
-    /// This thread shows changes, sixteen at once. How many it showed.
+    /// This thread shows changes, sixteen at once. The result is how many it showed.
     Shows,
 }
 
-// The address that is read or written at an index: all over the cells.
+// Returns the address that is read or written at an index. Addresses are spread over all cells.
 fn address(index: u32) -> u32 {
     index.wrapping_mul(40_503) % CELLS
 }
 
-// The change at an index: a cell is full, and in the next round full no more.
+// Returns the change at an index: a cell becomes full, and in the next round not full.
 fn change(index: u32) -> Change {
     if index / CELLS % 2 == 0 {
         Change::Full(address(index), u64::from(index))
@@ -47,7 +48,7 @@ fn change(index: u32) -> Change {
     }
 }
 
-// Whether a change is of so many cells alone.
+// Returns whether a change is of these cells alone.
 fn is_inside(change: Change, cells: usize) -> bool
     ensures { result ≡ is_below cells change }
 {
@@ -58,7 +59,7 @@ fn is_inside(change: Change, cells: usize) -> bool
     }
 }
 
-// Puts the change at an index ahead. Whether there was room for it.
+// Puts the change at an index ahead. Returns whether there was room for it.
 fn put<J: PaneName>(pane: &mut Pane<J>, index: u32) -> bool {
     let change = change(index);
     if is_inside(change, pane.cell_count()) {
@@ -67,7 +68,7 @@ fn put<J: PaneName>(pane: &mut Pane<J>, index: u32) -> bool {
     false
 }
 
-// Puts so many changes ahead, and shows each sixteen. How many there was room for.
+// Puts `count` changes ahead, and shows every sixteen. Returns how many there was room for.
 fn show<J: PaneName, R: Wait>(rt: &R, pane: &mut Pane<J>, count: u32) -> u64 {
     let mut shown = 0u64;
     for index in 0..count {
@@ -81,7 +82,7 @@ fn show<J: PaneName, R: Wait>(rt: &R, pane: &mut Pane<J>, count: u32) -> u64 {
     shown
 }
 
-// Reads so many cells. The sum of those that are full.
+// Reads `count` cells. Returns the sum of those that are full.
 fn read<J: PaneName>(glance: Glance<J>, count: u32) -> u64 {
     let mut glance = glance;
     let mut sum = 0u64;
@@ -93,7 +94,7 @@ fn read<J: PaneName>(glance: Glance<J>, count: u32) -> u64 {
     sum
 }
 
-// So many of the readers that are left.
+// Returns `count` of the readers that are left.
 fn readers<J: PaneName>(alloc: Global, pane: &mut Pane<J>, count: u16) -> Vec<Glance<J>> {
     let mut glances = Vec::new(alloc);
     for _ in 0..count {
@@ -104,7 +105,8 @@ fn readers<J: PaneName>(alloc: Global, pane: &mut Pane<J>, count: u16) -> Vec<Gl
     glances
 }
 
-// Reads so many cells by each of these readers in turn. What one takes may hang on where its words lie in the memory.
+// Reads `count` cells with each of these readers in turn. The time of one may depend on where its words lie in the
+// memory.
 fn read_in_turn<J: PaneName>(glances: Vec<Glance<J>>, count: u32) -> u64 {
     let mut sum = 0u64;
     for glance in glances {
@@ -113,13 +115,13 @@ fn read_in_turn<J: PaneName>(glances: Vec<Glance<J>>, count: u32) -> u64 {
     sum
 }
 
-// All cells are shown as full, and then this thread reads.
+// Shows all cells as full, and then reads with this thread.
 fn read_alone<J: PaneName, R: Wait>(rt: &R, alloc: Global, pane: &mut Pane<J>, count: u32) -> u64 {
     let _shown = show(rt, pane, CELLS);
     read_in_turn(readers(alloc, pane, READERS), count / u32::from(READERS))
 }
 
-// Begins a thread that reads, if there is one.
+// Starts a thread that reads, if it can be made.
 fn begin<'s, E, J: PaneName + Send + Sync + 's>(
     alloc: Global,
     scope: &Scope<'s, E>,
@@ -133,7 +135,7 @@ fn begin<'s, E, J: PaneName + Send + Sync + 's>(
     }
 }
 
-// Begins all threads that read.
+// Starts all threads that read.
 fn begin_all<'s, E, J: PaneName + Send + Sync + 's>(
     alloc: Global,
     scope: &Scope<'s, E>,
@@ -146,7 +148,7 @@ fn begin_all<'s, E, J: PaneName + Send + Sync + 's>(
     }
 }
 
-// Three threads read, and this one shows.
+// Reads with three threads, while this one shows.
 fn read_beside<J: PaneName + Send + Sync, R: Threads + Wait + Sync>(
     rt: &R,
     alloc: Global,
@@ -161,7 +163,7 @@ fn read_beside<J: PaneName + Send + Sync, R: Threads + Wait + Sync>(
     })
 }
 
-// Does it on a pane that has a name.
+// Does a reading on a pane that has a name.
 fn run_named<J: PaneName + Send + Sync, R: Threads + Wait + Sync>(
     rt: &R,
     alloc: Global,
@@ -181,7 +183,7 @@ fn run_named<J: PaneName + Send + Sync, R: Threads + Wait + Sync>(
     done
 }
 
-/// Does it so many times on a new pane, of which no cell is full.
+/// Does a reading `count` times on a new pane, none of whose cells is full.
 pub fn run<R: Threads + Wait + Sync>(
     rt: &R,
     alloc: Global,

@@ -1,4 +1,4 @@
--- What a handle holds may cross threads.
+-- The contents of a handle may go to another thread.
 use denote.Param.Send.{IsSend, sendable}
 use Rattle.std.proofs.Crossing.{crosses}
 use Rattle.im_memory.specs.contracts.memory.Memory as Memory

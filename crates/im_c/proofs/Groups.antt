@@ -1,4 +1,4 @@
--- A group is told as many answers as it has requests.
+-- A group gets as many answers as it has requests.
 use Rattle.std.proofs.Common.{◌≡◌, ◌⊎◌, ⊎_elim, suc, true, false, List, [], ◌∷◌, length, map, refl, ap, ◌∙◌, arith}
 use Rattle.im_types.specs.declared.commands.Request.{Request}
 use Rattle.im_types.specs.declared.commands.Command.{Command}
@@ -22,7 +22,7 @@ told_refused : (refusal : Refusal) (rs : List Request) → length (map outcome_s
 told_refused refusal [] = refl
 told_refused refusal (r ∷ rs) = ap suc (told_refused refusal rs)
 
--- what a group is told has a place for each member
+-- the answers of a group have a place for each member
 pub told_each : {D : Type 0} (old new : EngineState D) (rs : List Request) (ss : List Served)
     → GroupAnswered old rs ss new → length (map outcome_served ss) ≡ length rs
 told_each {D} old new rs ss it = by_life (true_or_false old.failed)

@@ -1,4 +1,4 @@
--- A group of requests on an image, as C spells it.
+-- A group of requests on an image, for C.
 use Rattle.std.specs.Prelude.{◌≡◌, ℕ, ◌<◌, ◌≤◌, true, false, List, [], ◌∷◌, ◌++◌, ◌+◌, length, map, Option, Some, None}
 use Rattle.std.specs.Prelude.{Ok, Err}
 use Rattle.im_types.specs.declared.operations.Op.{Op}
@@ -16,7 +16,7 @@ use Rattle.im_c.specs.declared.plain.LtOutcome.{LtOutcome}
 use Rattle.im_c.specs.Plain.{outcome_of, no_call}
 use Rattle.im_c.specs.Image.{idle_after}
 
--- the request with this operation, where there is one
+-- the request with this operation, if there is an operation
 abbrev pub request_with : LtCommand → Option Op → List Request
 request_with c None = []
 request_with c (Some op) = record { element = c.element; number = c.number; op = op } ∷ []
@@ -30,17 +30,17 @@ abbrev pub requests_of : List LtCommand → List Request
 requests_of [] = []
 requests_of (c ∷ cs) = request_in c ++ requests_of cs
 
--- one more where the command means a request, and else 0
+-- one more if the command means a request, else 0
 abbrev pub one_more_for : List Request → ℕ → ℕ
 one_more_for [] later = 0
 one_more_for (r ∷ rs) later = later + 1
 
--- the place of the first command that means no request, from 0, or how many there are
+-- the index, from 0, of the first command that means no request, or the number of commands
 abbrev pub first_unknown : List LtCommand → ℕ
 first_unknown [] = 0
 first_unknown (c ∷ cs) = one_more_for (request_in c) (first_unknown cs)
 
--- The commands are 1 to 16 requests of as many elements, and so many are the places for answers.
+-- The commands are 1 to 16 requests, each of another element, and there are as many places for answers.
 pub record IsGroup (commands : List LtCommand) (places : ℕ) : Type 0 where
   pub some : 0 < length commands
   pub few : length commands ≤ 16
@@ -48,13 +48,13 @@ pub record IsGroup (commands : List LtCommand) (places : ℕ) : Type 0 where
   pub apart : AreApart (requests_of commands)
   pub told : places ≡ length commands
 
--- what stands for a member's answer
+-- the outcome for a member's answer
 abbrev pub outcome_served : Served → LtOutcome
 outcome_served Unserved = no_call
 outcome_served (Done outcome) = outcome_of (Ok outcome)
 outcome_served (Refused refusal) = outcome_of (Err refusal)
 
--- what a group comes to, and what the caller's file does on the way
+-- the outcomes of a group, and what the caller's file holds on the way
 pub record ServesGroup (old : ImageState) (commands : List LtCommand) (before : List LtOutcome) (answer : ℕ) (after : List LtOutcome) (new : ImageState) : Type 0 where
   pub unknown : (IsGroup commands (length before) → ⊥) → (answer ≡ 255) × (after ≡ before) × (new ≡ idle_after old)
   pub lost : IsGroup commands (length before) → old.lost ≡ true → (answer ≡ number_of Device) × (after ≡ before) × (new ≡ old)

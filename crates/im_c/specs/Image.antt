@@ -1,4 +1,4 @@
--- An image, as C spells what is asked of it.
+-- The calls of an image, for C.
 use Rattle.std.specs.Prelude.{◌≡◌, ℕ, true, false, List, length, replicate, Some, None, Option, Result, Ok, Err}
 use Rattle.im_types.specs.declared.commands.Command.{Command}
 use Rattle.im_types.specs.declared.commands.Outcome.{Outcome}
@@ -25,15 +25,15 @@ use Rattle.im_c.specs.declared.plain.LtBounds.{LtBounds}
 use Rattle.im_c.specs.declared.plain.LtStep.{LtStep}
 use Rattle.im_c.specs.Plain.{meant, outcome_of, entry_outcome, refused, no_call}
 
--- a file with the length of an image, each byte in doubt
+-- a file with the length of an image, each byte of which is in doubt
 abbrev pub blank : Sizes → Moment
 blank s = given (replicate (image_length layout_in_use s) 0)
 
--- what a call that is none does: nothing is left to carry out
+-- the effect of a call that is none: no step is left
 abbrev pub idle_after : ImageState → ImageState
 idle_after i = record i { engine = begun_in i }
 
--- what a command comes to, and what the caller's file does on the way
+-- the outcome of a command, and what the caller's file holds on the way
 pub record Serves (old : ImageState) (c : LtCommand) (out : LtOutcome) (new : ImageState) : Type 0 where
   pub unknown : meant c ≡ None → (out ≡ no_call) × (new ≡ idle_after old)
   pub lost : (command : Command) → meant c ≡ Some command → old.lost ≡ true → (out ≡ outcome_of (Err Device)) × (new ≡ old)
@@ -57,12 +57,12 @@ abbrev pub turn_page : TurnDone → ℕ
 turn_page (Page page) = page
 turn_page done = 0
 
--- what stands for a turn
+-- the outcome for a turn
 abbrev pub turn_outcome : Result TurnDone Refusal → LtOutcome
 turn_outcome (Ok done) = record { refusal = 0; tag = turn_code done; value = turn_page done }
 turn_outcome (Err refusal) = refused (number_of refusal)
 
--- what a turn comes to, and what the caller's file does on the way
+-- the outcome of a turn, and what the caller's file holds on the way
 pub record Turns (old : ImageState) (out : LtOutcome) (new : ImageState) : Type 0 where
   pub lost : old.lost ≡ true → (out ≡ outcome_of (Err Device)) × (new ≡ old)
   -- so the answer isn't `Failed`
@@ -71,12 +71,12 @@ pub record Turns (old : ImageState) (out : LtOutcome) (new : ImageState) : Type 
       → (answer : Result TurnDone Refusal) × (out ≡ turn_outcome answer) × TurnAnswered (begun_in old) answer new.engine
       × Carries old.engine.disk.now new (MeansState (begun_in old))
 
--- what stands for a sweep: how many slots it closed
+-- the outcome for a sweep: how many slots it closed
 abbrev pub sweep_outcome : Result ℕ Refusal → LtOutcome
 sweep_outcome (Ok swept) = record { refusal = 0; tag = 5; value = swept }
 sweep_outcome (Err refusal) = refused (number_of refusal)
 
--- what a sweep comes to, and what the caller's file does on the way
+-- the outcome of a sweep, and what the caller's file holds on the way
 pub record SweepsBy (old : ImageState) (most : ℕ) (out : LtOutcome) (new : ImageState) : Type 0 where
   pub lost : old.lost ≡ true → (out ≡ outcome_of (Err Device)) × (new ≡ old)
   -- so the answer isn't `Failed`
@@ -85,12 +85,12 @@ pub record SweepsBy (old : ImageState) (most : ℕ) (out : LtOutcome) (new : Ima
       → (answer : Result ℕ Refusal) × (out ≡ sweep_outcome answer) × SweepAnswered (begun_in old) most answer new.engine
       × Carries old.engine.disk.now new (MeansState (begun_in old))
 
--- what is kept under an element's number
+-- the entry that is kept under an element's number
 pub record CollectsFrom (i : ImageState) (element number : ℕ) (out : LtOutcome) : Type 0 where
   pub lost : i.lost ≡ true → out ≡ entry_outcome (Err Device)
   pub alive : i.lost ≡ false → out ≡ entry_outcome (ask i.engine.memory.windows (record { element = element; number = number }))
 
--- the request of an element under a number, as it is kept; its tag is 0 where it isn't
+-- the request of an element that is kept under a number; its tag is 0 if there is none
 abbrev pub asked_as : ℕ → ℕ → Option Kept → LtCommand
 asked_as element number None = record { tag = 0; element = element; address = 0; number = number; value = 0 }
 asked_as element number (Some k) =
@@ -103,7 +103,7 @@ pub record TellsAsked (i : ImageState) (element number : ℕ) (asked : LtCommand
       → asked ≡ asked_as element number
       (kept_for i.engine.memory.windows (record { element = element; number = number }))
 
--- a window's bounds, or why there are none
+-- a window's bounds, or the refusal
 abbrev pub window_of : Result (ℕ × ℕ) Refusal → LtBounds
 window_of (Ok b) = record { refusal = 0; base = b.0; next = b.1 }
 window_of (Err refusal) = record { refusal = number_of refusal; base = 0; next = 0 }
@@ -113,13 +113,13 @@ pub record ShowsWindow (i : ImageState) (element : ℕ) (out : LtBounds) : Type 
   pub lost : i.lost ≡ true → out ≡ window_of (Err Device)
   pub alive : i.lost ≡ false → out ≡ window_of (bounds i.engine.memory.windows element)
 
--- a step, as C spells it
+-- a step, in C's form
 abbrev pub step_of : Option Task → LtStep
 step_of None = record { kind = 0; place = 0; length = 0 }
 step_of (Some (Puts place bytes)) = record { kind = 1; place = place; length = length bytes }
 step_of (Some Settles) = record { kind = 2; place = 0; length = 0 }
 
--- a buffer gets these bytes where it has their length, and else it stays
+-- a buffer gets these bytes if it has their length; else it stays
 pub record CopiesBytes (bytes old : List ℕ) (answer : ℕ) (new : List ℕ) : Type 0 where
   pub fits : length bytes ≡ length old → (answer ≡ 0) × (new ≡ bytes)
   pub other : (length bytes ≡ length old → ⊥) → (answer ≡ 255) × (new ≡ old)

@@ -1,4 +1,4 @@
--- A command on a memory, as C spells it.
+-- A command on a memory, for C.
 use Rattle.std.specs.Prelude.{◌≡◌, Some, None}
 use Rattle.im_types.specs.declared.commands.Command.{Command}
 use Rattle.im_types.specs.Step.{step}
@@ -7,9 +7,9 @@ use Rattle.im_c.specs.declared.plain.LtCommand.{LtCommand}
 use Rattle.im_c.specs.declared.plain.LtOutcome.{LtOutcome}
 use Rattle.im_c.specs.Plain.{meant, outcome_of, no_call}
 
--- what a command comes to, and what the memory becomes
+-- the outcome of a command, and what the memory becomes
 pub record Steps (old : MemoryState) (c : LtCommand) (out : LtOutcome) (new : MemoryState) : Type 0 where
-  -- what is no command changes nothing
+  -- something that is no command changes nothing
   pub unknown : meant c ≡ None → (out ≡ no_call) × (new ≡ old)
   -- a command is answered, and acts, as the definition says
   pub known : (command : Command) → meant c ≡ Some command

@@ -1,4 +1,4 @@
--- A text, as C is told it.
+-- Faults, texts and names, for C.
 use Rattle.std.specs.Prelude.{◌≡◌, ◌⊎◌, ℕ, ◌<◌, ◌≤◌, List, [], ◌++◌, ◌==◌, codes, drop, length, Some, Err}
 use Rattle.std.specs.Prelude.{if◌then◌else◌}
 use Rattle.im_types.specs.declared.refusals.Refusal.{Refusal}
@@ -9,27 +9,28 @@ use Rattle.im_types.specs.Meaning.{Reads}
 use Rattle.im_listed.specs.Image.{IsFaultOf}
 use Rattle.im_report.specs.Inspecting.{Tells}
 
--- the number of why these bytes aren't opened: of their first fault, or that there was no room
+-- the number of the refusal of these bytes: their first fault, or want of memory
 abbrev pub TellsFault : List ℕ → ℕ → Type 0
 TellsFault file number = (refusal : Refusal) × (number ≡ number_of refusal) × IsFaultOf file refusal
 
--- why these bytes aren't read, by the rules of their own version: their first fault, or there was no room for them, or for a step
+-- why these bytes aren't read, by the rules of their own version: their first fault, or want of memory for them or for
+-- a step
 abbrev pub IsFlawOf : List ℕ → Refusal → Type 0
 IsFlawOf file refusal = (refusal ≡ NoMemory) ⊎ (refusal ≡ Device) ⊎ Reads (layout_in file) file (Err refusal)
 
--- the number of why these bytes aren't read
+-- the number of the refusal to read these bytes
 abbrev pub TellsFlaw : List ℕ → ℕ → Type 0
 TellsFlaw file number = (refusal : Refusal) × (number ≡ number_of refusal) × IsFlawOf file refusal
 
--- why the sizes of these bytes aren't told: the first fault of length and headers, or there was no room for them
+-- why the sizes of these bytes aren't read: the first fault of length and headers, or want of memory
 abbrev pub IsHeaderFlawOf : List ℕ → Refusal → Type 0
 IsHeaderFlawOf file refusal = (refusal ≡ NoMemory) ⊎ (refusal ≡ Device) ⊎ (header_fault (layout_in file) file ≡ Some refusal)
 
--- the number of why the sizes of these bytes aren't told
+-- the number of the refusal to read the sizes of these bytes
 abbrev pub TellsHeaderFlaw : List ℕ → ℕ → Type 0
 TellsHeaderFlaw file number = (refusal : Refusal) × (number ≡ number_of refusal) × IsHeaderFlawOf file refusal
 
--- a buffer begins with a text where that fits, and else it stays
+-- a buffer begins with a text if the text fits; else it stays
 pub record PutsText (text old new : List ℕ) : Type 0 where
   pub fits : length text ≤ length old → new ≡ text ++ drop (length text) old
   pub other : length old < length text → new ≡ old

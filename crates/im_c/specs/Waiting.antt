@@ -1,19 +1,19 @@
--- Who waits at a cell, as C is told it.
+-- The requests that wait at a cell, for C.
 use Rattle.std.specs.Prelude.{◌≡◌, ℕ, true, false, List, ◌++◌, length, map, min, take, drop}
 use Rattle.im_types.specs.declared.operations.Waiter.{Waiter}
 use Rattle.im_types.specs.Contents.{waiters_at}
 use Rattle.im_listed.specs.Image.{ImageState}
 use Rattle.im_c.specs.declared.plain.LtWaiter.{LtWaiter}
 
--- a request that waits, as C spells it
+-- a request that waits, in C's form
 abbrev pub waiter_of : Waiter → LtWaiter
 waiter_of who = record { element = who.element; number = who.number }
 
--- as many of these as there are places, and behind them what was there
+-- as many of these as there are places, and after them what was there
 abbrev pub first_of : List LtWaiter → List LtWaiter → List LtWaiter
 first_of who places = take (length places) who ++ drop (length who) places
 
--- who waits at a cell, in the order of arrival, as many as there are places; nobody after a lost step
+-- the requests that wait at a cell, in their order of arrival, as many as there are places; none after a lost step
 pub record TellsWaiters (i : ImageState) (a : ℕ) (old : List LtWaiter) (count : ℕ) (new : List LtWaiter) : Type 0 where
   pub lost : i.lost ≡ true → (count ≡ 0) × (new ≡ old)
   pub alive : i.lost ≡ false → let who = waiters_at i.engine.memory.cells a in

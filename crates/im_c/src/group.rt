@@ -1,4 +1,4 @@
-//! A group of requests on an image, as C spells it.
+//! A group of requests on an image, for C.
 ghost use Rattle.std.specs.Prelude.{◌≡◌, ◌↔◌, ◌<◌, ◌≤◌, ◌++◌, [], length, map, IsSome, IsTrue};
 ghost use Rattle.im_c.specs.Handing.{Becomes};
 ghost use Rattle.im_c.specs.Group.{IsGroup, ServesGroup, first_unknown, outcome_served, request_in, requests_of};
@@ -11,7 +11,7 @@ use im_listed::Image;
 use im_types::codes::op_of;
 use im_types::{Refusal, Request, Served};
 
-// Adds the request that is meant, if one is.
+// Adds the request that a command means, if it means one.
 fn add_request(command: &LtCommand, members: &mut ArrayVec<Request, 16>)
     requires room { length members.old.items < 16 }
     ensures { members.new.items ≡ members.old.items ++ request_in command.now }
@@ -26,7 +26,7 @@ fn add_request(command: &LtCommand, members: &mut ArrayVec<Request, 16>)
     }
 }
 
-// The requests that are meant.
+// The requests that the commands mean.
 fn gather(commands: &[LtCommand], members: &mut ArrayVec<Request, 16>)
     requires few { length commands.now ≤ 16 }
     requires empty { members.old.items ≡ [] }
@@ -39,7 +39,7 @@ fn gather(commands: &[LtCommand], members: &mut ArrayVec<Request, 16>)
     }
 }
 
-// Whether this is a group, with so many places for answers. Then `members` are its requests.
+// Whether the commands are a group, with one place for each answer. Then `members` are its requests.
 fn gathered(commands: &[LtCommand], places: usize, members: &mut ArrayVec<Request, 16>) -> bool
     requires empty { members.old.items ≡ [] }
     ensures group { IsTrue result ↔ IsGroup commands.now places }
@@ -61,7 +61,7 @@ fn gathered(commands: &[LtCommand], places: usize, members: &mut ArrayVec<Reques
     are_apart(members.as_slice())
 }
 
-// The place of the first command that means no request.
+// The index of the first command that means no request.
 fn first_unknown(commands: &[LtCommand]) -> usize
     ensures { result ≡ first_unknown commands.now }
 {
@@ -77,7 +77,7 @@ fn first_unknown(commands: &[LtCommand]) -> usize
     place
 }
 
-// What stands for a member's answer.
+// The outcome for a member's answer.
 fn outcome_served(served: Served) -> LtOutcome
     ensures { result ≡ outcome_served served }
 {
@@ -88,7 +88,7 @@ fn outcome_served(served: Served) -> LtOutcome
     }
 }
 
-// Spells the answers.
+// The outcomes for the answers.
 fn spell_all(served: &[Served], outcomes: &mut ArrayVec<LtOutcome, 16>)
     requires few { length served.now ≤ 16 }
     requires empty { outcomes.old.items ≡ [] }
@@ -99,7 +99,7 @@ fn spell_all(served: &[Served], outcomes: &mut ArrayVec<LtOutcome, 16>)
     }
 }
 
-// Tells the answers.
+// Writes the outcomes of the answers.
 fn tell_all(served: &[Served], places: &mut [LtOutcome])
     requires few { length served.now ≤ 16 }
     requires same { length (map outcome_served served.now) ≡ length places.old }
@@ -110,7 +110,7 @@ fn tell_all(served: &[Served], places: &mut [LtOutcome])
     places.copy_from_slice(outcomes.as_slice());
 }
 
-// A group, as C spells it.
+// Serves a group. Returns 0, or the number of the refusal.
 fn serve_group(image: &mut Image, commands: &[LtCommand], outcomes: &mut [LtOutcome]) -> u8
     ensures { ServesGroup image.old commands.now outcomes.old result outcomes.new image.new }
 {
@@ -128,10 +128,12 @@ fn serve_group(image: &mut Image, commands: &[LtCommand], outcomes: &mut [LtOutc
     0
 }
 
-/// Serves 1 to 16 requests, each of another element, as [`lt_serve`](crate::lt_serve) would one after another, and puts
-/// all that are accepted on the disk together: 0, and what each came to, at its place of `outcomes`, of which there are
-/// just as many. Else `outcomes` are as they were: the number of `Device` where a step was lost before, or 255 where
-/// this is no such group, which changes nothing. Where the list can't grow, each member is refused with `Device`.
+/// Serves 1 to 16 requests, each of another element, as [`lt_serve`](crate::lt_serve) would one after another. All that
+/// are accepted are put on the disk together. Returns 0, and writes the outcome of each request at its place in
+/// `outcomes`, which has one place for each request. If the list of steps can't grow, each outcome is `Device`.
+///
+/// Returns the number of `Device` if a step was lost before, and 255 if the commands are no such group. Then the memory
+/// doesn't change, and `outcomes` are as they were.
 #[unsafe(no_mangle)]
 pub extern "C" fn lt_serve_group(
     image: LtImage,
@@ -149,8 +151,8 @@ pub extern "C" fn lt_serve_group(
     number
 }
 
-/// The place of the first of these commands, from 0, that is no request, as of a tag that no request has: it keeps them
-/// from being a group. As many as there are where each is a request.
+/// Returns the index, from 0, of the first command that is no request, for example because no request has its tag. Such
+/// a command keeps the commands from being a group. Returns the number of commands if each is a request.
 #[unsafe(no_mangle)]
 pub extern "C" fn lt_first_unknown(commands: &[LtCommand]) -> usize
     ensures place { result ≡ first_unknown commands.now }

@@ -1,4 +1,4 @@
-//! An image, as C holds it: C reads the file, and carries out the writes and syncs.
+//! An image for C, which reads the file and carries out the writes and syncs.
 ghost use Rattle.std.specs.Prelude.{◌≡◌, ◌≢◌, ◌⊎◌, true, false, length, map};
 ghost use Rattle.std.specs.Prelude.{Ok, Some, Err, IsSome, IfSome, IfOk, IfErr, slice_get};
 ghost use Rattle.std.specs.declared.option.Option.{Option};
@@ -30,8 +30,8 @@ use im_types::{Kept, Limits, Refusal};
 use std::alloc::Global;
 use std::marker::Model;
 
-/// An image as C holds it, or none, as which a struct of zero bytes counts. A call that takes it leaves nothing behind:
-/// it hands it out again at `next`, which may be the place that it came from. A handle that is written over is lost.
+/// A handle of an image, or of none: a struct of zero bytes holds none. A call that takes the handle hands it out again
+/// at `next`, which may be the place that it came from. A handle that is overwritten is lost.
 #[repr(C)]
 #[derive(Drop)]
 pub struct LtImage {
@@ -45,7 +45,7 @@ impl Model for LtImage {
     ghost also_owns = { λ h. holds_image h.alloc h.ptr h.value };
 }
 
-// It may go to another thread, as its block may.
+// A handle may go to another thread, because its block may.
 unsafe impl Send for LtImage {}
 
 impl LtImage {
@@ -128,7 +128,7 @@ fn opened(alloc: Global, bytes: &[u8]) -> Result<Box<Image>, Refusal>
     }
 }
 
-// One command, as C spells it.
+// Serves one command. Returns its outcome for C.
 fn serve(image: &mut Image, command: &LtCommand) -> LtOutcome
     ensures { Serves image.old command.now result image.new }
 {
@@ -141,7 +141,7 @@ fn serve(image: &mut Image, command: &LtCommand) -> LtOutcome
     }
 }
 
-// The number of what a turn did.
+// The tag for what a turn did.
 fn turn_code(done: TurnDone) -> u8
     ensures { result ≡ turn_code done }
 {
@@ -155,7 +155,7 @@ fn turn_code(done: TurnDone) -> u8
     }
 }
 
-// The page that a turn wrote, or 0.
+// The number of the page that a turn wrote, or 0.
 fn turn_page(done: TurnDone) -> u64
     ensures { result ≡ turn_page done }
 {
@@ -165,7 +165,7 @@ fn turn_page(done: TurnDone) -> u64
     }
 }
 
-// What stands for a turn.
+// The outcome of a turn.
 fn turn_outcome(answer: Result<TurnDone, Refusal>) -> LtOutcome
     ensures { result ≡ turn_outcome answer }
 {
@@ -179,14 +179,14 @@ fn turn_outcome(answer: Result<TurnDone, Refusal>) -> LtOutcome
     }
 }
 
-// One turn, as C spells it.
+// Makes one turn. Returns its outcome for C.
 fn turn(image: &mut Image) -> LtOutcome
     ensures { Turns image.old result image.new }
 {
     turn_outcome(image.turn())
 }
 
-// What stands for a sweep.
+// The outcome of a sweep.
 fn sweep_outcome(answer: Result<u32, Refusal>) -> LtOutcome
     ensures { result ≡ sweep_outcome answer }
 {
@@ -200,21 +200,21 @@ fn sweep_outcome(answer: Result<u32, Refusal>) -> LtOutcome
     }
 }
 
-// One sweep, as C spells it.
+// Makes one sweep. Returns its outcome for C.
 fn sweep(image: &mut Image, most: u32) -> LtOutcome
     ensures { SweepsBy image.old most result image.new }
 {
     sweep_outcome(image.sweep(most))
 }
 
-// What is kept under an element's number, as C spells it.
+// The entry that is kept under an element's number, for C.
 fn collected(image: &Image, element: u16, number: u64) -> LtOutcome
     ensures { CollectsFrom image.now element number result }
 {
     entry_outcome(image.collect(element, number))
 }
 
-// The request of an element under a number, as C spells it.
+// The request of an element under a number, for C.
 fn asked_as(element: u16, number: u64, kept: Option<Kept>) -> LtCommand
     ensures { result ≡ asked_as element number kept }
 {
@@ -236,7 +236,7 @@ fn asked_as(element: u16, number: u64, kept: Option<Kept>) -> LtCommand
     }
 }
 
-// What was asked under an element's number, as C spells it.
+// The request that was asked under an element's number, for C.
 fn asked_in(image: &Image, element: u16, number: u64) -> LtCommand
     ensures { TellsAsked image.now element number result }
 {
@@ -246,7 +246,7 @@ fn asked_in(image: &Image, element: u16, number: u64) -> LtCommand
     }
 }
 
-// The bounds of a window, as C spells them.
+// The bounds of a window, for C.
 fn window_of(answer: Result<(u64, u64), Refusal>) -> LtBounds
     ensures { result ≡ window_of answer }
 {
@@ -264,14 +264,14 @@ fn window_of(answer: Result<(u64, u64), Refusal>) -> LtBounds
     }
 }
 
-// The window of an element, as C spells it.
+// The window of an element, for C.
 fn shown_window(image: &Image, element: u16) -> LtBounds
     ensures { ShowsWindow image.now element result }
 {
     window_of(image.window(element))
 }
 
-// How many commands were accepted, and how many more can be.
+// The number of accepted commands, and of the commands that there is room for.
 #[derive(Clone, Copy)]
 struct Totals {
     room: u32,
@@ -293,14 +293,14 @@ fn totalled(image: LtImage, next: &mut LtImage) -> Totals
     totals
 }
 
-// How many steps there are.
+// The number of steps.
 fn count_of(steps: &[Step]) -> usize
     ensures { result ≡ length (map task_of steps.now) }
 {
     steps.len()
 }
 
-// The step with this index, as C spells it.
+// The step with this index, for C.
 fn step_at(steps: &[Step], index: usize) -> LtStep
     ensures { result ≡ step_of (slice_get (map task_of steps.now) index) }
 {
@@ -333,7 +333,7 @@ fn copy_step(steps: &[Step], index: usize, buffer: &mut [u8]) -> u8
     }
 }
 
-// Copies bytes into a buffer of their length: 0. Else 255.
+// Copies bytes into a buffer of their length. Returns 0, or 255 if the lengths differ.
 fn copy(bytes: &[u8], buffer: &mut [u8]) -> u8
     ensures { CopiesBytes bytes.now buffer.old result buffer.new }
 {
@@ -344,10 +344,10 @@ fn copy(bytes: &[u8], buffer: &mut [u8]) -> u8
     0
 }
 
-/// Makes the image of an empty memory of so many cells, 1 to 1,048,576, elements, 1 to 64, and journal slots, 16 to
-/// 4,096: 0, and `next` holds it. Else the number of the refusal, and `next` is as it was: `BadLimits` where a number
-/// is out of its range, `NoMemory`, or `Device` where the list of steps couldn't grow. The caller's file has the
-/// length of [`lt_image_length`].
+/// Makes the image of an empty memory with the given number of cells, 1 to 1,048,576, elements, 1 to 64, and journal
+/// slots, 16 to 4,096. Returns 0, and `next` holds the image. Else returns the number of the refusal, and `next` is as
+/// it was: `BadLimits` if a number is out of its range, `NoMemory`, or `Device` if the list of steps couldn't grow. The
+/// caller's file has the length of [`lt_image_length`].
 #[unsafe(no_mangle)]
 pub extern "C" fn lt_format(
     alloc: Global,
@@ -379,7 +379,7 @@ pub extern "C" fn lt_format(
     }
 }
 
-/// The length of an image of these sizes; 0 where a number is out of its range.
+/// Returns the length of an image of these sizes, or 0 if a number is out of its range.
 #[unsafe(no_mangle)]
 pub extern "C" fn lt_image_length(cells: u32, elements: u16, slots: u32) -> u64
     ensures length { AreLimits cells elements slots
@@ -392,9 +392,9 @@ pub extern "C" fn lt_image_length(cells: u32, elements: u16, slots: u32) -> u64
     }
 }
 
-/// Opens the image of these bytes, which are those of the caller's file: 0, and `next` holds it. Else the number of the
-/// refusal, and `next` is as it was: the first fault of the bytes, `OldVersion` among them, `NoMemory`, or `Device`
-/// where the list of steps couldn't grow.
+/// Opens the image in these bytes, which are those of the caller's file. Returns 0, and `next` holds the image. Else
+/// returns the number of the refusal, and `next` is as it was: the first fault of the bytes, which may be `OldVersion`,
+/// `NoMemory`, or `Device` if the list of steps couldn't grow.
 #[unsafe(no_mangle)]
 pub extern "C" fn lt_open(alloc: Global, bytes: &[u8], next: &mut LtImage) -> u8
     ensures some { result ≡ 0 → IsSome next.new.value }
@@ -415,7 +415,7 @@ pub extern "C" fn lt_open(alloc: Global, bytes: &[u8], next: &mut LtImage) -> u8
     }
 }
 
-/// Closes the image. It leaves nothing to carry out.
+/// Closes the image. It leaves no steps to carry out.
 #[unsafe(no_mangle)]
 pub extern "C" fn lt_close(image: LtImage)
     requires some { IsSome image.value }
@@ -423,9 +423,9 @@ pub extern "C" fn lt_close(image: LtImage)
     drop(image.into_box());
 }
 
-/// One command: its refusal, and what it comes to, at `outcome`. The caller carries out the steps that it leaves
-/// ([`lt_held_steps`]) before it tells that to anybody. The refusals are those of a request and of a confirmation,
-/// `JournalFull`, `Device`, and 255 for an unknown tag, which changes nothing.
+/// Serves one command. Returns its refusal, and writes its outcome at `outcome`. The caller carries out the steps that
+/// it leaves ([`lt_held_steps`]) before it passes the outcome on. The refusals are those of a request and of a
+/// confirmation, `JournalFull`, `Device`, and 255 for an unknown tag, which changes nothing.
 #[unsafe(no_mangle)]
 pub extern "C" fn lt_serve(
     image: LtImage,
@@ -444,9 +444,9 @@ pub extern "C" fn lt_serve(
     told.refusal
 }
 
-/// One turn of a checkpoint: its refusal, `Device`, or 0, and at `outcome` what it did, by the tag: 0 nothing, 1 it
-/// began, 2 it wrote the page with the number in `value`, 3 it put the pages on the disk, 4 the area that was written
-/// is in force, 5 it made slots free. The caller carries out the steps that it leaves.
+/// Makes one turn of a checkpoint. Returns 0, or the number of `Device`. `outcome` says by its tag what the turn did: 0
+/// nothing, 1 it began, 2 it wrote the page with the number in `value`, 3 it synced the pages, 4 the written area is in
+/// force, 5 it freed slots. The caller carries out the steps that it leaves.
 #[unsafe(no_mangle)]
 pub extern "C" fn lt_turn(image: LtImage, next: &mut LtImage, outcome: &mut LtOutcome) -> u8
     requires some { IsSome image.value }
@@ -459,9 +459,9 @@ pub extern "C" fn lt_turn(image: LtImage, next: &mut LtImage, outcome: &mut LtOu
     outcome.refusal
 }
 
-/// Closes the gates of so many slots at most that are to be swept, with one sync: its refusal, `Device`, or 0, and at
-/// `outcome` the tag 5 and as `value` how many there were, none while a checkpoint is under way. The caller carries out
-/// the steps that it leaves.
+/// Closes the gates of at most the given number of slots that are to be swept, with one sync. Returns 0, or the number
+/// of `Device`. `outcome` has the tag 5, and as `value` the number of those slots, which is 0 while a checkpoint is
+/// under way. The caller carries out the steps that it leaves.
 #[unsafe(no_mangle)]
 pub extern "C" fn lt_sweep(
     image: LtImage,
@@ -479,8 +479,8 @@ pub extern "C" fn lt_sweep(
     outcome.refusal
 }
 
-/// What is kept under an element's number, at `outcome`. Refused with `NoElement`, with `Forgotten` below the window,
-/// with `Gap` where the number isn't used yet, and with `Device`. Nothing changes.
+/// Writes the entry that is kept under an element's number at `outcome`. It is refused with `NoElement`, with
+/// `Forgotten` below the window, with `Gap` if the number isn't used yet, and with `Device`. Nothing changes.
 #[unsafe(no_mangle)]
 pub extern "C" fn lt_held_collect(
     image: LtImage,
@@ -497,8 +497,8 @@ pub extern "C" fn lt_held_collect(
     *next = LtImage::of_box(held);
 }
 
-/// The request that is kept under an element's number, at `asked`. Its tag is 0 where none is, and after a lost step.
-/// Nothing changes.
+/// Writes the request that is kept under an element's number at `asked`. Its tag is 0 if there is none, and after a
+/// lost step. Nothing changes.
 #[unsafe(no_mangle)]
 pub extern "C" fn lt_held_entry(
     image: LtImage,
@@ -516,7 +516,7 @@ pub extern "C" fn lt_held_entry(
     *asked = kept;
 }
 
-/// The window of an element, at `window`. Refused with `NoElement` and with `Device`. Nothing changes.
+/// Writes the window of an element at `window`. It is refused with `NoElement` and with `Device`. Nothing changes.
 #[unsafe(no_mangle)]
 pub extern "C" fn lt_held_window(
     image: LtImage,
@@ -532,7 +532,7 @@ pub extern "C" fn lt_held_window(
     *next = LtImage::of_box(held);
 }
 
-/// How many more commands can be accepted.
+/// Returns how many more commands can be accepted.
 #[unsafe(no_mangle)]
 pub extern "C" fn lt_held_room(image: LtImage, next: &mut LtImage) -> u32
     requires some { IsSome image.value }
@@ -541,7 +541,7 @@ pub extern "C" fn lt_held_room(image: LtImage, next: &mut LtImage) -> u32
     totalled(image, next).room
 }
 
-/// How many commands have been accepted since the image was formatted.
+/// Returns how many commands have been accepted since the image was formatted.
 #[unsafe(no_mangle)]
 pub extern "C" fn lt_held_count(image: LtImage, next: &mut LtImage) -> u64
     requires some { IsSome image.value }
@@ -561,8 +561,8 @@ pub extern "C" fn lt_failed(image: LtImage, next: &mut LtImage)
     *next = LtImage::of_box(held);
 }
 
-/// How many steps the last call left to carry out: of `lt_format`, `lt_open`, `lt_serve`, `lt_serve_group`,
-/// `lt_turn` and `lt_sweep`.
+/// Returns how many steps the last call left to carry out. `lt_format`, `lt_open`, `lt_serve`, `lt_serve_group`,
+/// `lt_turn` and `lt_sweep` leave steps.
 #[unsafe(no_mangle)]
 pub extern "C" fn lt_held_steps(image: LtImage, next: &mut LtImage) -> usize
     requires some { IsSome image.value }
@@ -574,7 +574,7 @@ pub extern "C" fn lt_held_steps(image: LtImage, next: &mut LtImage) -> usize
     count
 }
 
-/// The step with this index, from 0, at `step`.
+/// Writes the step with this index, from 0, at `step`.
 #[unsafe(no_mangle)]
 pub extern "C" fn lt_held_step_at(
     image: LtImage,
@@ -590,7 +590,8 @@ pub extern "C" fn lt_held_step_at(
     *next = LtImage::of_box(held);
 }
 
-/// The bytes of the write with this index, from 0, which has just as many: 0. Else 255, and the buffer is as it was.
+/// Copies the bytes of the write with this index, from 0, into a buffer of just their length. Returns 0, or 255, and
+/// then the buffer is as it was.
 #[unsafe(no_mangle)]
 pub extern "C" fn lt_held_step_bytes(
     image: LtImage,

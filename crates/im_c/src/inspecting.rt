@@ -1,4 +1,4 @@
-//! What the image in a caller's bytes means, told to C.
+//! The report of the image in a caller's bytes, for C.
 ghost use Rattle.std.specs.Prelude.{◌≡◌, ◌≢◌, [], Some, IfOk, IfErr};
 ghost use Rattle.im_report.specs.Inspecting.{Tells};
 ghost use Rattle.im_c.specs.Telling.{IsFlawOf, TellsFlaw, IsTold, PutsText};
@@ -10,7 +10,7 @@ use im_text::{Observer, Progress, Reason};
 use im_types::{Entry, Refusal};
 use std::alloc::Global;
 
-// Nobody, who follows no work.
+// An observer that ignores what it is told.
 #[derive(Drop)]
 struct Nobody;
 
@@ -22,7 +22,7 @@ impl Observer for Nobody {
     fn refused(&mut self, _reason: Reason) {}
 }
 
-// Why there is no report: the first fault of the bytes, or that there wasn't room for it.
+// Why there is no report: the first fault of the bytes, or want of memory for it.
 fn fault_of(alloc: Global, disk: &mut Listed) -> Refusal
     ensures { IsFlawOf disk.old.now.bytes result }
 {
@@ -48,7 +48,7 @@ fn report_of(alloc: Global, bytes: &[u8]) -> Result<Vec<u8>, Refusal>
     Err(fault_of(alloc, &mut disk))
 }
 
-/// Puts a text at the start of a buffer, if it fits.
+/// Copies a text to the start of a buffer, if it fits.
 pub(crate) fn put_text(text: &[u8], buffer: &mut [u8])
     ensures { PutsText text.now buffer.old buffer.new }
 {
@@ -58,9 +58,10 @@ pub(crate) fn put_text(text: &[u8], buffer: &mut [u8])
     buffer[..text.len()].copy_from_slice(text);
 }
 
-/// Tells what the image of these bytes means, as `imem inspect` prints it: 0, the text's length at `written`, and the
-/// text at the start of `buffer` where it fits, of which the rest is as it was. An image of the first layout is told by
-/// its own rules. Else the number of the refusal, and nothing is changed: the first fault of the bytes, or `NoMemory`.
+/// Writes what the image in these bytes means, as `imem inspect` prints it. Returns 0. The text's length is at
+/// `written`; the text is at the start of `buffer` if it fits, and the rest of `buffer` is as it was. An image of the
+/// first layout is reported by its own rules. Else returns the number of the refusal, and nothing is changed: the first
+/// fault of the bytes, or `NoMemory`.
 #[unsafe(no_mangle)]
 pub extern "C" fn lt_inspect(
     alloc: Global,

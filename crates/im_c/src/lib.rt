@@ -1,5 +1,5 @@
-//! What C may call: a memory with no disk, and an image whose writes and syncs C carries out itself.
-//! `include/luntrebis.h` declares it, and docs/EMBEDDING.md tells how it is used.
+//! The calls for C: a memory with no disk, and an image whose writes and syncs C carries out itself.
+//! `include/luntrebis.h` declares them, and docs/EMBEDDING.md says how to use them.
 #![tactic(auto)]
 
 mod group;

@@ -1,4 +1,4 @@
-//! A memory with no disk, as C holds it.
+//! A memory with no disk, for C.
 ghost use Rattle.std.specs.Prelude.{◌≡◌, ◌≢◌, ◌⊎◌, Some, IsSome, IfSome, IfOk, IfErr};
 ghost use Rattle.std.specs.declared.option.Option.{Option};
 ghost use Rattle.im_types.specs.Contents.{empty_contents};
@@ -17,8 +17,8 @@ use im_types::{Limits, Refusal};
 use std::alloc::Global;
 use std::marker::Model;
 
-/// A memory as C holds it, or none, as which a struct of zero bytes counts. A call that takes it leaves nothing behind:
-/// it hands it out again at `next`, which may be the place that it came from. A handle that is written over is lost.
+/// A handle of a memory, or of none: a struct of zero bytes holds none. A call that takes the handle hands it out again
+/// at `next`, which may be the place that it came from. A handle that is overwritten is lost.
 #[repr(C)]
 #[derive(Drop)]
 pub struct LtMemory {
@@ -32,7 +32,7 @@ impl Model for LtMemory {
     ghost also_owns = { λ h. holds_memory h.alloc h.ptr h.value };
 }
 
-// It may go to another thread, as its block may.
+// A handle may go to another thread, because its block may.
 unsafe impl Send for LtMemory {}
 
 impl LtMemory {
@@ -83,7 +83,7 @@ fn made(alloc: Global, limits: Limits) -> Result<Box<Memory>, Refusal>
     }
 }
 
-// One command, as C spells it.
+// Serves one command. Returns its outcome for C.
 fn step(memory: &mut Memory, command: &LtCommand) -> LtOutcome
     ensures { Steps memory.old command.now result memory.new }
 {
@@ -93,9 +93,9 @@ fn step(memory: &mut Memory, command: &LtCommand) -> LtOutcome
     }
 }
 
-/// Makes a memory of so many cells, 1 to 1,048,576, and elements, 1 to 64, with no block and no entry: 0, and `next`
-/// holds it. Else the number of the refusal, and `next` is as it was: `BadLimits` where a number is out of its range,
-/// `NoMemory`. No later call on it takes memory.
+/// Makes a memory with the given number of cells, 1 to 1,048,576, and elements, 1 to 64, with no block and no entry.
+/// Returns 0, and `next` holds the memory. Else returns the number of the refusal, and `next` is as it was: `BadLimits`
+/// if a number is out of its range, or `NoMemory`. No later call on the memory needs more memory.
 #[unsafe(no_mangle)]
 pub extern "C" fn lt_memory_new(alloc: Global, cells: u32, elements: u16, next: &mut LtMemory) -> u8
     ensures bad { (AreLimits cells elements 16 → ⊥) → result ≡ 17 }
@@ -116,8 +116,8 @@ pub extern "C" fn lt_memory_new(alloc: Global, cells: u32, elements: u16, next: 
     }
 }
 
-/// One command: its refusal, and what it comes to, at `outcome`. The refusals are those of a request and of a
-/// confirmation, and 255 for an unknown tag; then nothing changes. It takes no memory.
+/// Serves one command. Returns its refusal, and writes its outcome at `outcome`. The refusals are those of a request
+/// and of a confirmation, and 255 for an unknown tag; then nothing changes. The call needs no memory.
 #[unsafe(no_mangle)]
 pub extern "C" fn lt_memory_step(
     memory: LtMemory,
@@ -135,8 +135,8 @@ pub extern "C" fn lt_memory_step(
     outcome.refusal
 }
 
-/// What is kept under an element's number, at `outcome`. Refused with `NoElement`, with `Forgotten` below the window,
-/// and with `Gap` where the number isn't used yet. Nothing changes.
+/// Writes the entry that is kept under an element's number at `outcome`. It is refused with `NoElement`, with
+/// `Forgotten` below the window, and with `Gap` if the number isn't used yet. Nothing changes.
 #[unsafe(no_mangle)]
 pub extern "C" fn lt_held_memory_collect(
     memory: LtMemory,

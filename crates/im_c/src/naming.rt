@@ -1,4 +1,4 @@
-//! The names of refusals and of answers, told to C.
+//! The names of refusals and answers, for C.
 ghost use Rattle.std.specs.Prelude.{◌≡◌, length};
 ghost use Rattle.im_c.specs.Telling.{PutsText, answer_name, refusal_name};
 
@@ -60,7 +60,7 @@ fn answer_of(tag: u8) -> &'static str
     }
 }
 
-// A name's length, and the name at the start of the buffer, if it fits.
+// Returns the length of a name, and copies the name to the start of the buffer if it fits.
 fn tell_name(name: &'static str, buffer: &mut [u8]) -> usize
     ensures length { result ≡ length name.now }
     ensures name { PutsText name.now buffer.old buffer.new }
@@ -69,8 +69,8 @@ fn tell_name(name: &'static str, buffer: &mut [u8]) -> usize
     name.len()
 }
 
-/// The length of the name of the refusal with this number, and the name at the start of `buffer` where it fits, of
-/// which the rest is as it was. The name of 0, and of a number that is no refusal, has no letter.
+/// Returns the length of the name of the refusal with this number. The name is at the start of `buffer` if it fits, and
+/// the rest of `buffer` is as it was. The name of 0, and of a number that is no refusal, is empty.
 #[unsafe(no_mangle)]
 pub extern "C" fn lt_refusal_name(refusal: u8, buffer: &mut [u8]) -> usize
     ensures length { result ≡ length (refusal_name refusal) }
@@ -79,8 +79,8 @@ pub extern "C" fn lt_refusal_name(refusal: u8, buffer: &mut [u8]) -> usize
     tell_name(name_of(refusal), buffer)
 }
 
-/// The length of the name of the answer with this tag, and the name at the start of `buffer` where it fits, of which
-/// the rest is as it was. The name of a tag that no answer has, has no letter.
+/// Returns the length of the name of the answer with this tag. The name is at the start of `buffer` if it fits, and the
+/// rest of `buffer` is as it was. The name of a tag that no answer has is empty.
 #[unsafe(no_mangle)]
 pub extern "C" fn lt_answer_name(tag: u8, buffer: &mut [u8]) -> usize
     ensures length { result ≡ length (answer_name tag) }

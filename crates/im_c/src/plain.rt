@@ -1,4 +1,4 @@
-//! Commands and what they come to, as C spells them.
+//! Commands and outcomes in C's form.
 ghost use Rattle.std.specs.Prelude.{◌≡◌};
 ghost use Rattle.im_types.specs.Bytes.{entry_code, entry_number};
 ghost use Rattle.im_c.specs.Plain.{meant, outcome_of, entry_outcome, refused};
@@ -6,15 +6,21 @@ ghost use Rattle.im_c.specs.Plain.{meant, outcome_of, entry_outcome, refused};
 use im_types::codes::op_of;
 use im_types::{Command, Entry, Outcome, Refusal, Reply, Request};
 
-/// The number that stands for a call that is none: an unknown tag.
+/// The number of the refusal of something that is no call, such as an unknown tag.
 pub(crate) const NO_CALL: u8 = 255;
 
 // The tag of a confirmation that was accepted.
 const CONFIRMED: u8 = 128;
 
-/// A command. The tag is the code that the journal has for it: 1 and 2 an allocation of `address` cells of kind I and
-/// M, 3 a release of the block with the base `address`, 4 a fetch, 5 a store, 6 a take and 7 a put at `address`, 8 a
-/// confirmation of all below `number`, 9 a reset of the block with the base `address`. Any other tag is no command.
+/// A command. Its tag is the code that the journal has for it:
+///
+/// - 1 and 2: an allocation of `address` cells of kind I and M.
+/// - 3: a release of the block with the base `address`.
+/// - 4, 5, 6 and 7: a fetch, a store, a take and a put at `address`.
+/// - 8: a confirmation of all numbers below `number`.
+/// - 9: a reset of the block with the base `address`.
+///
+/// Any other tag is no command.
 #[repr(C)]
 #[derive(Clone, Copy)]
 pub struct LtCommand {
@@ -22,18 +28,18 @@ pub struct LtCommand {
     pub tag: u8,
     /// The element that asks, from 0.
     pub element: u16,
-    /// The address, or the length of an allocation; else of no account.
+    /// The address, or the length of an allocation; else unused.
     pub address: u32,
-    /// The request's number, or the one up to which is confirmed.
+    /// The number of the request, or the number below which all is confirmed.
     pub number: u64,
-    /// The value of a store or a put; else of no account.
+    /// The value of a store or a put; else unused.
     pub value: u64,
 }
 
-/// What a call came to. `refusal` is 0, or the number of the refusal, or 255 for what is no call; then the rest is 0.
-/// The tag is the code that the image has for an entry: 0 it waits, 1 a base in `value`, 2 no space, 3 bad length, 4 a
-/// value in `value`, 5 stored, 6 clash, 7 no cell, 8 wrong kind, 9 released, 10 no block, 11 still waiting, 12 cleared;
-/// or 128, confirmed.
+/// The outcome of a call. `refusal` is 0, the number of the refusal, or 255 for something that is no call. If it isn't
+/// 0, the rest is 0. The tag is the code that the image has for an entry: 0 it waits, 1 a base in `value`, 2 no space,
+/// 3 bad length, 4 a value in `value`, 5 stored, 6 clash, 7 no cell, 8 wrong kind, 9 released, 10 no block, 11 still
+/// waiting, 12 cleared. The tag of an accepted confirmation is 128.
 #[repr(C)]
 #[derive(Clone, Copy, Default)]
 pub struct LtOutcome {
@@ -45,8 +51,8 @@ pub struct LtOutcome {
     pub value: u64,
 }
 
-/// The base of an element's window, from which on its entries are kept, and the number of its next new request.
-/// `refusal` is 0, or the number of the refusal; then the rest is 0.
+/// The window of an element. Its entries are kept from `base` on, and `next` is the number of its next new request.
+/// `refusal` is 0 or the number of the refusal. If it isn't 0, the rest is 0.
 #[repr(C)]
 #[derive(Clone, Copy)]
 pub struct LtBounds {
@@ -58,7 +64,7 @@ pub struct LtBounds {
     pub next: u64,
 }
 
-/// A request that waits: an element, and the number under which it asked.
+/// A request that waits: its element and its number.
 #[repr(C)]
 #[derive(Clone, Copy)]
 pub struct LtWaiter {
@@ -72,28 +78,28 @@ pub struct LtWaiter {
 #[repr(C)]
 #[derive(Clone, Copy)]
 pub struct LtLimits {
-    /// How many cells, 1 to 1,048,576.
+    /// The number of cells, 1 to 1,048,576.
     pub cells: u32,
-    /// How many elements, 1 to 64.
+    /// The number of elements, 1 to 64.
     pub elements: u16,
-    /// How many slots its journal has, 16 to 4,096.
+    /// The number of journal slots, 16 to 4,096.
     pub slots: u32,
 }
 
-/// A step on the caller's file. The kind is 1 for a write of `length` bytes at `place`, 2 for a sync, and 0 where there
-/// is no such step; then the rest is 0.
+/// A step on the caller's file. Its kind is 1 for a write of `length` bytes at `place`, 2 for a sync, and 0 if there is
+/// no such step. The rest is 0 if the kind isn't 1.
 #[repr(C)]
 #[derive(Clone, Copy)]
 pub struct LtStep {
-    /// What is to be done.
+    /// The kind of the step.
     pub kind: u8,
     /// The offset of the first byte.
     pub place: u64,
-    /// How many bytes.
+    /// The number of bytes.
     pub length: u64,
 }
 
-/// The command that is meant; `None` where the tag is none of a command.
+/// Returns the command that is meant, or `None` if no command has this tag.
 pub(crate) fn meant(command: &LtCommand) -> Option<Command>
     ensures { result ≡ meant command.now }
 {
@@ -148,7 +154,7 @@ fn entry_number(entry: Entry) -> u64
     }
 }
 
-/// What stands for the refusal with this number.
+/// The outcome of the refusal with this number.
 pub(crate) fn refused(number: u8) -> LtOutcome
     ensures { result ≡ refused number }
 {
@@ -159,7 +165,7 @@ pub(crate) fn refused(number: u8) -> LtOutcome
     }
 }
 
-/// What stands for an answer.
+/// The outcome of an answer.
 pub(crate) fn outcome_of(answer: Result<Outcome, Refusal>) -> LtOutcome
     ensures { result ≡ outcome_of answer }
 {
@@ -178,7 +184,7 @@ pub(crate) fn outcome_of(answer: Result<Outcome, Refusal>) -> LtOutcome
     }
 }
 
-/// What stands for an entry that is kept, or for why none is.
+/// The outcome of an entry that is kept, or of the refusal if none is.
 pub(crate) fn entry_outcome(answer: Result<Entry, Refusal>) -> LtOutcome
     ensures { result ≡ entry_outcome answer }
 {

@@ -1,4 +1,4 @@
-//! The sizes of the image in a caller's bytes, told to C.
+//! The sizes of the image in a caller's bytes, for C.
 ghost use Rattle.std.specs.Prelude.{◌≡◌, ◌≢◌, IfOk, IfErr};
 ghost use Rattle.im_types.specs.Header.{header_of};
 ghost use Rattle.im_types.specs.Layout.{sizes_of};
@@ -26,9 +26,9 @@ fn limits_of(alloc: Global, bytes: &[u8]) -> Result<Limits, Refusal>
     }
 }
 
-/// The sizes of the image of these bytes, of either layout, as its header in force has them: 0, and they are at
-/// `limits`. Else the number of the refusal, and nothing is changed: the first fault of its length and its headers, or
-/// `NoMemory`. The rest of the image isn't looked at.
+/// Reads the sizes of the image in these bytes, of either layout, from its header in force. Returns 0, and the sizes
+/// are at `limits`. Else returns the number of the refusal, and nothing is changed: the first fault of its length and
+/// its headers, or `NoMemory`. The rest of the image isn't read.
 #[unsafe(no_mangle)]
 pub extern "C" fn lt_limits(alloc: Global, bytes: &[u8], limits: &mut LtLimits) -> u8
     ensures told { result ≡ 0 → sizes_told limits.new ≡ (header_of bytes.now).sizes }

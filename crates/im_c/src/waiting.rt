@@ -1,4 +1,4 @@
-//! Who waits at a cell, told to C.
+//! The requests that wait at a cell, for C.
 ghost use Rattle.std.specs.Prelude.{◌≡◌, length, map, min, IsSome};
 ghost use Rattle.im_types.specs.Contents.{waiters_at};
 ghost use Rattle.im_c.specs.Handing.{Shows};
@@ -9,7 +9,7 @@ use crate::plain::LtWaiter;
 use im_listed::Image;
 use im_types::Waiter;
 
-// One that waits, as C spells it.
+// A request that waits, in C's form.
 fn waiter_of(who: Waiter) -> LtWaiter
     ensures { result ≡ waiter_of who }
 {
@@ -19,7 +19,7 @@ fn waiter_of(who: Waiter) -> LtWaiter
     }
 }
 
-// Tells who waits at a cell, as many as there are places: how many.
+// Writes the requests that wait at a cell, as many as there are places. Returns how many it wrote.
 fn tell_waiters(image: &Image, address: u32, places: &mut [LtWaiter]) -> usize
     ensures count { let who = waiters_at image.now.engine.memory.cells address in
         result ≡ min (length who) (length places.old) }
@@ -37,7 +37,7 @@ fn tell_waiters(image: &Image, address: u32, places: &mut [LtWaiter]) -> usize
     count
 }
 
-// Tells who waits at a cell; nobody after a lost step.
+// The same, but none after a lost step.
 fn told_waiters(image: &Image, address: u32, places: &mut [LtWaiter]) -> usize
     ensures { TellsWaiters image.now address places.old result places.new }
 {
@@ -47,8 +47,8 @@ fn told_waiters(image: &Image, address: u32, places: &mut [LtWaiter]) -> usize
     }
 }
 
-/// The requests that wait at a cell, in their order of arrival, at `waiters`, as many as there are places: how many.
-/// None where the address lies in no block, and after a lost step. Nothing changes.
+/// Writes the requests that wait at a cell at `waiters`, in their order of arrival, as many as there are places.
+/// Returns how many it wrote: 0 if the address lies in no block, and after a lost step. Nothing changes.
 #[unsafe(no_mangle)]
 pub extern "C" fn lt_held_waiters(
     image: LtImage,

@@ -20,6 +20,7 @@ use Rattle.im_cell.specs.declared.state.State.TheVariants.{FullM, ClashedM}
 use Rattle.im_cell.specs.declared.state.TheConstants.{NOWHERE}
 use Rattle.im_cell.specs.Slots.{slot_at, new_slot, with_cell, is_waiting}
 use Rattle.im_cell.specs.Cells.{block_of, state_slot, state_for, value_of, kind_of, slots_in, IsFilled}
+use Rattle.im_cell.specs.Table.{base_in}
 
 pub length-slots : (states : List State) (values : List ℕ) (extents : List Extent) → length values ≡ length states
     → length extents ≡ length states → length (slots_in states values extents) ≡ length states
@@ -138,6 +139,28 @@ waited-read states values extents now k state b ev ex view less read is =
     is (get_or values k 0) (get_or extents k NOWHERE)
     ∙ ap (λ t. is_waiting (state_slot t (get_or values k 0) (get_or extents k NOWHERE))) read
     ∙ ap is_waiting (sym (at-slots states values extents k state 0 NOWHERE ev ex less) ∙ ap (λ s. slot_at s k) view)
+
+-- the base of a cell's block is in its extent
+base-of : (s : State) (v : ℕ) (x : Extent) → IsSome (state_slot s v x) → x.base ≡ base_in (state_slot s v x)
+base-of Free v x some = absurd (never None refl some)
+base-of EmptyI v x some = refl
+base-of WaitingI v x some = refl
+base-of FullI v x some = refl
+base-of ClashedI v x some = refl
+base-of EmptyM v x some = refl
+base-of WaitingM v x some = refl
+base-of FullM v x some = refl
+base-of ClashedM v x some = refl
+
+pub base-read : (states : List State) (values : List ℕ) (extents : List Extent) (now : List (Option Slot)) (k : ℕ)
+    (x : Extent) → length values ≡ length states → length extents ≡ length states
+    → slots_in states values extents ≡ now → k < length states → x ≡ get_or extents k x
+    → IsSome (slot_at now k) → x.base ≡ base_in (slot_at now k)
+base-read states values extents now k x ev ex view less read some =
+    let there : slot_at now k ≡ state_slot (get_or states k Free) (get_or values k 0) x =
+    ap (λ s. slot_at s k) (sym view) ∙ at-slots states values extents k Free 0 x ev ex less
+    ∙ ap (state_slot (get_or states k Free) (get_or values k 0)) (sym read) in
+    base-of (get_or states k Free) (get_or values k 0) x (subst IsSome there some) ∙ ap base_in (sym there)
 
 -- a cell beside those that are filled
 pub beside-fill : (slots : List (Option Slot)) (base n : ℕ) (slot : Option Slot) (k : ℕ)

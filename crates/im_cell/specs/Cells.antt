@@ -1,4 +1,4 @@
--- What is kept for a cell, and what it stands for. (Own.)
+-- The parts that are kept for a cell, and the cell that they stand for. (Own.)
 use Rattle.std.specs.Prelude.{◌≡◌, ℕ, ◌%◌, ◌^◌, ◌<◌, ◌≤◌, slice_index_or, List, [], ◌∷◌, Option, None}
 use Rattle.im_types.specs.declared.operations.Block.{Block}
 use Rattle.im_types.specs.declared.operations.Kind.{Kind}
@@ -16,11 +16,11 @@ use Rattle.im_cell.specs.declared.state.State.TheVariants.{Free, EmptyI, Waiting
 use Rattle.im_cell.specs.declared.state.State.TheVariants.{FullM, ClashedM}
 use Rattle.im_cell.specs.Slots.{new_slot}
 
--- the block that lies there
+-- the block of this kind at this place
 abbrev pub block_of : Extent → Kind → Block
 block_of extent kind = record { base = extent.base; length = extent.length; kind = kind }
 
--- the slot of a cell in this state, with this value, in a block that lies there
+-- the slot of a cell in this state, with this value, in a block at this place
 abbrev pub state_slot : State → ℕ → Extent → Option Slot
 state_slot Free v extent = None
 state_slot EmptyI v extent = new_slot (block_of extent I) Empty
@@ -43,14 +43,14 @@ state_for M Waiting = WaitingM
 state_for M (Full v) = FullM
 state_for M (Clashed v) = ClashedM
 
--- the value in a cell; 0 of one that has none
+-- the value in a cell, or 0 if it has none
 abbrev pub value_of : Cell → ℕ
 value_of Empty = 0
 value_of Waiting = 0
 value_of (Full v) = v
 value_of (Clashed v) = v
 
--- the kind of a cell's block; I of a free cell
+-- the kind of a cell's block, or I for a free cell
 abbrev pub kind_of : State → Kind
 kind_of Free = I
 kind_of EmptyI = I
@@ -62,7 +62,7 @@ kind_of WaitingM = M
 kind_of FullM = M
 kind_of ClashedM = M
 
--- the slots of cells, by what is kept for each
+-- the slots of cells, from the parts that are kept for each
 unfoldable pub slots_in : List State → List ℕ → List Extent → List (Option Slot)
 slots_in [] values extents = []
 slots_in (state ∷ states) [] extents = []
@@ -70,8 +70,8 @@ slots_in (state ∷ states) (value ∷ values) [] = []
 slots_in (state ∷ states) (value ∷ values) (extent ∷ extents) =
     state_slot state value extent ∷ slots_in states values extents
 
--- what a page shows of a cell that is kept so: a free one names a hole by its extent, and the list of one that is waited
--- for begins at its value
+-- the record of a cell, from the parts that are kept for it. A free cell's extent has the two numbers of its record. A
+-- waiting cell's value is the first node of its list.
 abbrev pub record_shown : State → ℕ → Extent → ℕ → CellRecord
 record_shown Free v extent last = FreeCell extent.base extent.length
 record_shown EmptyI v extent last = BlockCell (block_of extent I) TagEmpty
@@ -83,7 +83,7 @@ record_shown WaitingM v extent last = BlockCell (block_of extent M) (TagWaiting 
 record_shown FullM v extent last = BlockCell (block_of extent M) (TagFull v)
 record_shown ClashedM v extent last = BlockCell (block_of extent M) (TagClashed v)
 
--- the records of cells, by what is kept for each
+-- the records of cells, from the parts that are kept for each
 unfoldable pub rows_in : List State → List ℕ → List Extent → List ℕ → List CellRecord
 rows_in [] values extents lasts = []
 rows_in (state ∷ states) [] extents lasts = []
@@ -92,12 +92,12 @@ rows_in (state ∷ states) (value ∷ values) (extent ∷ extents) [] = []
 rows_in (state ∷ states) (value ∷ values) (extent ∷ extents) (last ∷ lasts) =
     record_shown state value extent last ∷ rows_in states values extents lasts
 
--- the elements from one on, up to another one, are this one, and the others are as they were
+-- the elements `from` to `to - 1` are this one, and the others are as they were
 pub record IsFilled {X : Type 0} (d : X) (old new : List X) (from to : ℕ) (x : X) : Type 0 where
   pub each : (k : ℕ) → from ≤ k → k < to → slice_index_or new k d ≡ x
   pub others : (k : ℕ) → (from ≤ k → k < to → ⊥) → slice_index_or new k d ≡ slice_index_or old k d
 
--- as much is kept of each kind for the cells of a row, and so many fit in all
+-- the four lists of a row have the same length, and each has room for this number of cells
 pub record IsRow (states values extents lasts room fit_states fit_values fit_extents fit_lasts : ℕ) : Type 0 where
   pub values_are : values ≡ states
   pub extents_are : extents ≡ states

@@ -1,4 +1,4 @@
--- What a contract sees of a table of cells: a slot for each address, None for a free cell. (Own.)
+-- A table of cells as a contract sees it: a slot for each address, None for a free cell. (Own.)
 use Rattle.std.specs.Prelude.{◌≡◌, ℕ, ◌+◌, ◌<◌, ◌≤◌, List, length, Bool, true, false, not, Option, None, Some}
 use Rattle.std.specs.Prelude.{slice_index_or, take, drop, if◌then◌else◌, ◌==◌}
 use Rattle.std.specs.List.{list_any}
@@ -13,7 +13,7 @@ use Rattle.im_types.specs.declared.cells.Cell.{Cell}
 use Rattle.im_types.specs.declared.cells.Cell.TheVariants.{Empty, Waiting, Full, Clashed}
 use Rattle.im_cell.specs.declared.slots.Slot.{Slot}
 
--- the slot at an address; None in no block, which includes each address past the last cell
+-- the slot at an address; None in no block and past the last cell
 abbrev pub slot_at : List (Option Slot) → ℕ → Option Slot
 slot_at slots a = slice_index_or slots a None
 
@@ -39,7 +39,7 @@ cell_at slots a = cell_in (slot_at slots a)
 abbrev pub new_slot : Block → Cell → Option Slot
 new_slot block cell = Some (record { block = block; cell = cell })
 
--- the slot of each cell of a new block of so many cells
+-- the slot of each cell of a new block of n cells
 abbrev pub empty_slot : ℕ → ℕ → Kind → Option Slot
 empty_slot base n kind = new_slot (record { base = base; length = n; kind = kind }) Empty
 
@@ -55,24 +55,24 @@ shown_cell (TagWaiting first last) = Waiting
 shown_cell (TagFull v) = Full v
 shown_cell (TagClashed v) = Clashed v
 
--- the slot that a cell's record on a page shows; the hole that a free cell's record names shows nothing
+-- the slot of a cell's record on a page; the hole in a free cell's record shows nothing
 abbrev pub shown_slot : CellRecord → Option Slot
 shown_slot (FreeCell hole next) = None
 shown_slot (BlockCell block tag) = new_slot block (shown_cell tag)
 
--- each block lies below the cell count, and all its cells are its own
+-- each block lies below the cell count, and each of its cells is in that block alone
 pub record HasBlocks (slots : List (Option Slot)) : Type 0 where
   pub within : (a : ℕ) (block : Block) → block_at slots a ≡ Some block → (block.base ≤ a) × (a < block.base + block.length) × (block.base + block.length ≤ length slots)
   pub whole : (a : ℕ) (block : Block) → block_at slots a ≡ Some block → (b : ℕ) → block.base ≤ b → b < block.base + block.length → block_at slots b ≡ Some block
 
--- whether a cell is waited for
+-- whether requests wait for a cell
 abbrev pub is_waiting_cell : Cell → Bool
 is_waiting_cell Empty = false
 is_waiting_cell Waiting = true
 is_waiting_cell (Full v) = false
 is_waiting_cell (Clashed v) = false
 
--- whether the cell of a slot is waited for
+-- whether requests wait for the cell of a slot
 abbrev pub is_waiting : Option Slot → Bool
 is_waiting None = false
 is_waiting (Some slot) = is_waiting_cell slot.cell
@@ -82,20 +82,20 @@ abbrev pub block_with_base : ℕ → Option Block → Option Block
 block_with_base a None = None
 block_with_base a (Some block) = if block.base == a then Some block else None
 
--- there is a block, and none of its cells, which begin at this address, is waiting
+-- there is a block, and no request waits for any of its cells, which begin at this address
 abbrev pub is_quiet_block : List (Option Slot) → ℕ → Option Block → Bool
 is_quiet_block slots a None = false
 is_quiet_block slots a (Some block) = not (list_any is_waiting (take block.length (drop a slots)))
 
--- there is a block with this base, and none of its cells is waiting
+-- there is a block with this base, and no request waits for any of its cells
 abbrev pub is_releasable : List (Option Slot) → ℕ → Bool
 is_releasable slots a = is_quiet_block slots a (block_with_base a (block_at slots a))
 
--- the length of a block
+-- the length of a block, or 0
 abbrev pub length_of : Option Block → ℕ
 length_of None = 0
 length_of (Some block) = block.length
 
--- how many cells the block at an address has
+-- the number of cells of the block at an address
 abbrev pub length_at : List (Option Slot) → ℕ → ℕ
 length_at slots a = length_of (block_at slots a)

@@ -6,30 +6,30 @@ use Rattle.im_holes.specs.Holes.{holder_at}
 use Rattle.im_cell.specs.declared.slots.Slot.{Slot}
 use Rattle.im_cell.specs.Slots.{slot_at, block_at, is_waiting, HasBlocks}
 
--- one where a test is passed, and none where it isn't
+-- 1 if a test holds, else 0
 abbrev pub one_if : Bool → ℕ
 one_if true = 1
 one_if false = 0
 
--- of n cells from one on, how many pass a test
+-- the number of cells that pass a test, among n cells from one on
 abbrev pub count_from : (ℕ → Bool) → ℕ → ℕ → ℕ
 count_from test zero base = 0
 count_from test (suc n) base = one_if (test base) + count_from test n (suc base)
 
--- whether a cell is waited for
+-- whether requests wait for a cell
 abbrev pub waits_at : List (Option Slot) → ℕ → Bool
 waits_at slots k = is_waiting (slot_at slots k)
 
--- the same of the cells before one; false of the others
+-- the same for the cells before one; false for the others
 abbrev pub waits_before : List (Option Slot) → ℕ → ℕ → Bool
 waits_before slots at k = if nat_lt k at then waits_at slots k else false
 
--- the number of a block's first cell says how many of its cells pass a test
+-- the number of a block's first cell is the number of its cells that pass a test
 abbrev pub HasCounts : List (Option Slot) → (ℕ → Bool) → List (Option ℕ) → Type 0
 HasCounts slots test holes = (k : ℕ) (block : Block) → block_at slots k ≡ Some block
     → holder_at holes block.base ≡ Some (count_from test block.length block.base)
 
--- the base of a slot's block; 0 of none
+-- the base of a slot's block, or 0
 abbrev pub base_in : Option Slot → ℕ
 base_in None = 0
 base_in (Some slot) = slot.block.base
@@ -39,26 +39,26 @@ abbrev pub moved : Bool → ℕ → ℕ
 moved true n = n + 1
 moved false n = n - 1
 
--- there is one more to come, or one less
+-- the number can become one more, or one less
 abbrev pub CanMove : Bool → ℕ → Type 0
 CanMove more n = (more ≡ true → n + 1 < 2 ^ 32) × (more ≡ false → 0 < n)
 
--- what every table keeps
+-- the invariant of a table
 pub record IsTable (slots : List (Option Slot)) (holes : List (Option ℕ)) : Type 0 where
   pub count : length holes ≡ length slots
   pub few : length slots < 2 ^ 32
-  -- each block lies in the table, and all its cells are its own
+  -- each block lies in the table, and each of its cells is in that block alone
   pub blocks : HasBlocks slots
-  -- a cell is free in the one where it is in the other
+  -- a cell is free in `holes` if and only if it is free in `slots`
   pub free : (k : ℕ) → is_none (holder_at holes k) ≡ is_none (slot_at slots k)
   pub waits : HasCounts slots (waits_at slots) holes
 
--- so many cells, each of them held
+-- n cells, each of them held
 pub record IsHeldBy (holes : List (Option ℕ)) (n : ℕ) : Type 0 where
   pub count : length holes ≡ n
   pub held : (k : ℕ) → k < n → IsSome (holder_at holes k)
 
--- the cells from one on, up to another one, are free, and that one isn't, or is past the last cell
+-- the cells `from` to `to - 1` are free, and the cell `to` isn't free or is past the last one
 pub record IsFreeTo (slots : List (Option Slot)) (from to : ℕ) : Type 0 where
   pub order : from ≤ to
   pub inside : to ≤ length slots

@@ -1,4 +1,4 @@
--- Units of cells, in which one record may stand for all. (Own.)
+-- Units of cells. One record may stand for all cells of a unit. (Own.)
 use Rattle.std.specs.Prelude.{ℕ, suc, ◌/◌, List, [], ◌∷◌, Bool, true, false, Option, None, slice_index_or}
 use Rattle.im_types.specs.declared.cells.Cell.TheVariants.{Empty}
 use Rattle.im_cell.specs.declared.slots.Slot.{Slot}
@@ -7,29 +7,29 @@ use Rattle.im_cell.specs.declared.unit.Unit.TheVariants.{Each, Free, Block}
 use Rattle.im_cell.specs.declared.unit.TheConstants.{UNIT}
 use Rattle.im_cell.specs.Slots.{new_slot}
 
--- a unit; past the last one each cell has its own record
+-- a unit; past the last unit each cell has its own record
 abbrev pub unit_at : List Unit → ℕ → Unit
 unit_at units j = slice_index_or units j Each
 
--- each of its cells has its own record
+-- each cell of the unit has its own record
 abbrev pub is_own : Unit → Bool
 is_own Each = true
 is_own Free = false
 is_own (Block block) = false
 
--- the slot of each cell of a unit for which one record stands
+-- the slot of each cell of a unit with one record for all
 abbrev pub common_slot : Unit → Option Slot
 common_slot Each = None
 common_slot Free = None
 common_slot (Block block) = new_slot block Empty
 
--- the slot of a cell with this record of its own, in a unit
+-- the slot of a cell in a unit, with this record of its own
 abbrev pub slot_by : Unit → Option Slot → Option Slot
 slot_by Each own = own
 slot_by Free own = None
 slot_by (Block block) own = new_slot block Empty
 
--- the slots of cells from one on
+-- the slots of the cells from one on
 abbrev pub shown_from : ℕ → List Unit → List (Option Slot) → List (Option Slot)
 shown_from i units [] = []
 shown_from i units (slot ∷ slots) = slot_by (unit_at units (i / UNIT)) slot ∷ shown_from (suc i) units slots

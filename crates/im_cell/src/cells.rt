@@ -1,8 +1,9 @@
-//! The records of cells, one for each.
+//! The records of the cells, one for each cell.
 ghost use Rattle.std.specs.Prelude.{◌≡◌, ◌-◌, ◌<◌, ◌≤◌, length, slice_set, IsSome};
 ghost use Rattle.im_types.specs.Place.{fill};
 ghost use Rattle.im_cell.specs.Slots.{slot_at, with_cell, is_waiting};
 ghost use Rattle.im_cell.specs.Cells.{slots_in, IsFilled};
+ghost use Rattle.im_cell.specs.Table.{base_in};
 ghost use Rattle.im_cell.specs.Units.{common_slot};
 
 use crate::slots::Slot;
@@ -11,7 +12,7 @@ use crate::unit::Unit;
 use im_types::Cell;
 use std::marker::Model;
 
-/// Three numbers for each cell, in lists of their own: 17 bytes. Contracts see the slots.
+/// Three numbers for each cell, in separate lists. They take 17 bytes for each cell. Contracts see the slots.
 #[derive(Drop)]
 pub(crate) struct Cells {
     states: Vec<State>,
@@ -32,7 +33,7 @@ impl Model for Cells {
         × (length c.extents.items ≡ length c.states.items) };
 }
 
-// Makes the states from one on, up to another one, the same.
+// Sets the states `from` to `to - 1` to one state.
 fn fill_states(states: &mut [State], from: usize, to: usize, state: State)
     requires { to ≤ length states.old }
     ensures { IsFilled State.Free states.old states.new from to state }
@@ -42,7 +43,7 @@ fn fill_states(states: &mut [State], from: usize, to: usize, state: State)
     }
 }
 
-// The same of extents.
+// Sets the extents `from` to `to - 1` to one extent.
 fn fill_extents(extents: &mut [Extent], from: usize, to: usize, extent: Extent)
     requires { to ≤ length extents.old }
     ensures { IsFilled NOWHERE extents.old extents.new from to extent }
@@ -53,7 +54,7 @@ fn fill_extents(extents: &mut [Extent], from: usize, to: usize, extent: Extent)
 }
 
 impl Cells {
-    /// The cells of these lists, which are of one length.
+    /// Makes the cells of these lists, which have the same length.
     pub(crate) fn over(states: Vec<State>, values: Vec<u64>, extents: Vec<Extent>) -> Cells
         requires values { length values.items ≡ length states.items }
         requires extents { length extents.items ≡ length states.items }
@@ -66,7 +67,7 @@ impl Cells {
         }
     }
 
-    /// How many cells there are.
+    /// Returns the number of cells.
     #[inline(always)]
     pub(crate) fn len(&self) -> usize
         ensures { result ≡ length self.now }
@@ -74,7 +75,7 @@ impl Cells {
         self.states.len()
     }
 
-    /// The slot of a cell.
+    /// Returns the slot of a cell, or `None` if it is free.
     #[inline(always)]
     pub(crate) fn slot(&self, at: usize) -> Option<Slot>
         requires { at < length self.now }
@@ -83,7 +84,16 @@ impl Cells {
         self.states[at].slot(self.values[at], self.extents[at])
     }
 
-    /// Puts another state into a cell in a block; whether it was waited for before.
+    /// Returns the base of a cell's block.
+    #[inline(always)]
+    pub(crate) fn base(&self, at: usize) -> u32
+        requires { IsSome (slot_at self.now at) }
+        ensures { result ≡ base_in (slot_at self.now at) }
+    {
+        self.extents[at].base
+    }
+
+    /// Puts another content into a cell in a block. Returns whether requests waited for it before.
     #[inline(always)]
     pub(crate) fn set(&mut self, at: usize, cell: Cell) -> bool
         requires { IsSome (slot_at self.old at) }
@@ -96,7 +106,7 @@ impl Cells {
         state.is_waiting()
     }
 
-    /// Makes the cells from one on, up to another one, the same.
+    /// Makes the cells `from` to `to - 1` what `unit` stands for.
     pub(crate) fn fill(&mut self, from: usize, to: usize, unit: Unit)
         requires order { from ≤ to }
         requires inside { to ≤ length self.old }

@@ -1,4 +1,4 @@
-//! How many cells of each block are waited for: the number of its first cell.
+//! The number of waited-for cells of each block. It is kept as the number of the block's first cell.
 ghost use Rattle.std.specs.Prelude.{◌≡◌, ℕ, ◌+◌, ◌<◌, ◌^◌, length, true, false, replicate, Some, None, slice_set, IsSome};
 ghost use Rattle.im_types.specs.Place.{fill};
 ghost use Rattle.im_holes.specs.Holes.{holder_at};
@@ -12,22 +12,20 @@ use crate::units::CellUnits;
 use im_holes::Holes;
 use im_types::{Block, Cell};
 
-// One more cell, or one less, of the block that an address lies in is waited for.
-#[inline(never)]
+// Adds 1 to the count of the block at an address, or takes 1 from it.
+#[inline(always)]
 fn recount(slots: &CellUnits, holes: &mut Holes, a: u32, more: bool)
     requires block { IsSome (slot_at slots.now a) }
     requires held { (n : ℕ) × (holder_at holes.old (base_in (slot_at slots.now a)) ≡ Some n) × CanMove more n }
     ensures { (n : ℕ) → holder_at holes.old (base_in (slot_at slots.now a)) ≡ Some n
         → holes.new ≡ slice_set holes.old (base_in (slot_at slots.now a)) (Some (moved more n)) }
 {
-    let Some(slot) = slots.slot(a) else {
-        return;
-    };
-    let base = slot.block.base;
+    let base = slots.base(a);
     let number = holes.number(base);
     holes.set_number(base, next_number(number, more));
 }
 
+#[inline(always)]
 fn next_number(number: u32, more: bool) -> u32
     requires { CanMove more number }
     ensures { result ≡ moved more number }
@@ -35,7 +33,7 @@ fn next_number(number: u32, more: bool) -> u32
     if more { number + 1 } else { number - 1 }
 }
 
-/// Puts another state into the cell at an address in a block.
+/// Puts another content into the cell at an address in a block.
 #[inline(always)]
 pub(crate) fn set_cell(slots: &mut CellUnits, holes: &mut Holes, a: u32, cell: Cell)
     requires table { IsTable slots.old holes.old }
@@ -59,7 +57,7 @@ fn waits(slots: &CellUnits, a: u32) -> bool
     is_waited_for(slot.cell)
 }
 
-// Counts a cell that is waited for, where those before it are counted.
+// Counts the cell at `a` if requests wait for it. The cells before it are already counted.
 fn count_cell(slots: &CellUnits, holes: &mut Holes, a: u32)
     requires few { length slots.now < 2 ^ 32 }
     requires blocks { HasBlocks slots.now }
@@ -73,7 +71,7 @@ fn count_cell(slots: &CellUnits, holes: &mut Holes, a: u32)
     }
 }
 
-/// Counts the cells that are waited for, where no cell has a count yet.
+/// Counts the cells that requests wait for. No cell has a count yet.
 pub(crate) fn count_waiting(slots: &CellUnits, holes: &mut Holes)
     requires few { length slots.now < 2 ^ 32 }
     requires blocks { HasBlocks slots.now }
@@ -86,7 +84,7 @@ pub(crate) fn count_waiting(slots: &CellUnits, holes: &mut Holes)
     }
 }
 
-// Whether there is a free cell.
+// Returns whether there is a free cell at an address.
 fn is_free_at(slots: &CellUnits, at: u32) -> bool
     ensures inside { result ≡ true → at < length slots.now }
     ensures free { result ≡ true → slot_at slots.now at ≡ None }
@@ -101,7 +99,7 @@ fn is_free_at(slots: &CellUnits, at: u32) -> bool
     }
 }
 
-// The first cell from one on that isn't free, or the end of the table.
+// Returns the first cell from `from` on that isn't free, or the end of the table.
 fn free_until(slots: &CellUnits, from: u32) -> u32
     requires few { length slots.now < 2 ^ 32 }
     requires inside { from < length slots.now }
@@ -114,7 +112,7 @@ fn free_until(slots: &CellUnits, from: u32) -> u32
     at
 }
 
-/// Makes the free cells holes, where each cell is held yet.
+/// Makes holes of the free cells. Each cell is still held.
 pub(crate) fn give_free(slots: &CellUnits, holes: &mut Holes)
     requires few { length slots.now < 2 ^ 32 }
     requires blocks { HasBlocks slots.now }
@@ -134,7 +132,7 @@ pub(crate) fn give_free(slots: &CellUnits, holes: &mut Holes)
     }
 }
 
-// Whether there is any.
+// Returns whether a number is more than 0.
 fn is_any(number: u32) -> bool
     ensures none { number ≡ 0 → result ≡ false }
     ensures some { 0 < number → result ≡ true }
@@ -142,7 +140,7 @@ fn is_any(number: u32) -> bool
     number > 0
 }
 
-/// Whether a cell of a block is waited for.
+/// Returns whether requests wait for a cell of a block.
 pub(crate) fn any_waiting(slots: &CellUnits, holes: &Holes, block: Block) -> bool
     requires table { IsTable slots.now holes.now }
     requires block { block_at slots.now block.base ≡ Some block }

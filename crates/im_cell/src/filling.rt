@@ -1,4 +1,4 @@
-//! Cells that are made the same: unit by unit, and by their own records where a unit is cut.
+//! Cells that are made alike: whole units at once, and cell by cell in a unit that is cut.
 ghost use Rattle.std.specs.Prelude.{◌≡◌, ◌≢◌, ℕ, ◌-◌, ◌*◌, ◌/◌, ◌%◌, ◌<◌, ◌≤◌, ◌^◌, false, length, slice_set, IsSome};
 ghost use Rattle.im_types.specs.Place.{fill};
 ghost use Rattle.im_cell.specs.Slots.{slot_at, with_cell, is_waiting};
@@ -6,10 +6,11 @@ ghost use Rattle.im_cell.specs.Cells.{IsFilled};
 ghost use Rattle.im_cell.specs.Units.{common_slot, is_own, unit_at, shown};
 
 use crate::cells::Cells;
+use crate::slots::Slot;
 use crate::unit::{UNIT, Unit};
 use im_types::Cell;
 
-/// What stands for the cells of a unit.
+/// Returns what stands for the cells of a unit.
 #[inline(always)]
 pub(crate) fn unit_of(units: &[Unit], j: usize) -> Unit
     requires { j < length units.now }
@@ -18,7 +19,7 @@ pub(crate) fn unit_of(units: &[Unit], j: usize) -> Unit
     units[j]
 }
 
-// Gives each cell of a unit the record that stands for it.
+// Gives each cell of a unit a record of its own, with what stood for the unit.
 #[inline(never)]
 fn write_out(units: &mut [Unit], cells: &mut Cells, at: usize)
     requires inside { at < length units.old }
@@ -37,7 +38,7 @@ fn write_out(units: &mut [Unit], cells: &mut Cells, at: usize)
     units[at] = Unit::Each;
 }
 
-// The same of the unit that a bound cuts, if it cuts one.
+// Does the same with the unit that a bound cuts, if it cuts one.
 fn write_out_cut(units: &mut [Unit], cells: &mut Cells, bound: usize)
     requires inside { bound ≤ length cells.old }
     requires room { length cells.old ≤ UNIT * length units.old }
@@ -51,7 +52,7 @@ fn write_out_cut(units: &mut [Unit], cells: &mut Cells, bound: usize)
     }
 }
 
-// Makes the units from one on, up to another one, the same.
+// Sets the units `from` to `to - 1` to one unit.
 fn fill_units(units: &mut [Unit], from: usize, to: usize, unit: Unit)
     requires { to ≤ length units.old }
     ensures { IsFilled Unit.Each units.old units.new from to unit }
@@ -61,7 +62,8 @@ fn fill_units(units: &mut [Unit], from: usize, to: usize, unit: Unit)
     }
 }
 
-// Makes the cells from one on, up to another one, the same, where no unit that a bound cuts has one record for all.
+// Makes the cells `base` to `end - 1` what `unit` stands for. A unit that a bound cuts must have a record for each
+// cell.
 fn fill_uncut(units: &mut [Unit], cells: &mut Cells, base: usize, end: usize, unit: Unit)
     requires order { base ≤ end }
     requires inside { end ≤ length cells.old }
@@ -79,7 +81,7 @@ fn fill_uncut(units: &mut [Unit], cells: &mut Cells, base: usize, end: usize, un
     fill_units(units, low / UNIT, high / UNIT, unit);
 }
 
-/// Makes the cells from one on, up to another one, the same.
+/// Makes the cells `base` to `end - 1` what `unit` stands for.
 pub(crate) fn fill_shown(units: &mut [Unit], cells: &mut Cells, base: usize, end: usize, unit: Unit)
     requires order { base ≤ end }
     requires inside { end ≤ length cells.old }
@@ -93,7 +95,35 @@ pub(crate) fn fill_shown(units: &mut [Unit], cells: &mut Cells, base: usize, end
     fill_uncut(units, cells, base, end, unit);
 }
 
-/// Puts another state into a cell of a unit with one record for all; whether it was waited for before.
+// Gives each cell of a unit its own record, unless it has one.
+#[inline(always)]
+fn give_records(units: &mut [Unit], cells: &mut Cells, at: usize)
+    requires inside { at < length units.old }
+    requires few { length units.old < 2 ^ 32 }
+    ensures own { unit_at units.new at ≡ Unit.Each }
+    ensures same { shown units.new cells.new ≡ shown units.old cells.old }
+{
+    let unit = unit_of(units, at);
+    if unit.is_own() {
+        return;
+    }
+    write_out(units, cells, at);
+}
+
+/// Returns the slot of a cell. The cell has its own record afterwards.
+#[inline(always)]
+pub(crate) fn own_slot(units: &mut [Unit], cells: &mut Cells, at: usize) -> Option<Slot>
+    requires inside { at < length cells.old }
+    requires room { length cells.old ≤ UNIT * length units.old }
+    requires few { length units.old < 2 ^ 32 }
+    ensures slot { result ≡ slot_at (shown units.old cells.old) at }
+    ensures same { shown units.new cells.new ≡ shown units.old cells.old }
+{
+    give_records(units, cells, at / UNIT);
+    cells.slot(at)
+}
+
+/// Puts another content into a cell of a unit with one record for all. Returns whether requests waited for it before.
 #[inline(never)]
 pub(crate) fn set_among_same(units: &mut [Unit], cells: &mut Cells, at: usize, cell: Cell) -> bool
     requires inside { at < length cells.old }

@@ -1,4 +1,4 @@
-//! What is kept of a cell in one byte, and where its block lies.
+//! The part of a cell that is kept in one byte, and the place of its block.
 ghost use Rattle.std.specs.Prelude.{◌≡◌, ℕ, Some};
 ghost use Rattle.im_cell.specs.Slots.{new_slot, is_waiting, is_waiting_cell, with_cell};
 ghost use Rattle.im_cell.specs.Cells.{block_of, state_slot, state_for, value_of, kind_of};
@@ -6,30 +6,30 @@ ghost use Rattle.im_cell.specs.Cells.{block_of, state_slot, state_for, value_of,
 use crate::slots::Slot;
 use im_types::{Block, Cell, Kind};
 
-/// That a cell is free, or what is in a cell of a block of either kind.
+/// Whether a cell is free, or else what it holds and the kind of its block.
 #[derive(Clone, Copy, Debug, PartialEq, Eq)]
 pub(crate) enum State {
-    /// A free cell.
+    /// The cell is free.
     Free,
-    /// A cell of an I block, with no value.
+    /// A cell of an I block without a value.
     EmptyI,
-    /// The same, and somebody waits for one.
+    /// A cell of an I block without a value. Requests wait for it.
     WaitingI,
-    /// A cell of an I block, with a value.
+    /// A cell of an I block with a value.
     FullI,
-    /// The same, which was written again.
+    /// A cell of an I block that was written while it was full.
     ClashedI,
-    /// A cell of an M block, with no value.
+    /// A cell of an M block without a value.
     EmptyM,
-    /// The same, and somebody waits for one.
+    /// A cell of an M block without a value. Requests wait for it.
     WaitingM,
-    /// A cell of an M block, with a value.
+    /// A cell of an M block with a value.
     FullM,
-    /// The same, which was written again.
+    /// A cell of an M block that was written while it was full.
     ClashedM,
 }
 
-/// Where a block lies.
+/// The place of a block: its base and its length.
 #[derive(Clone, Copy, Debug, PartialEq, Eq)]
 pub(crate) struct Extent {
     pub(crate) base: u32,
@@ -37,7 +37,7 @@ pub(crate) struct Extent {
 }
 
 impl Extent {
-    /// The block of a kind that lies there.
+    /// Returns the block of this kind at this place.
     #[inline(always)]
     pub(crate) fn block(self, kind: Kind) -> Block
         ensures { result ≡ block_of self kind }
@@ -47,12 +47,12 @@ impl Extent {
     }
 }
 
-/// That of no block.
+/// The extent of a cell that is in no block.
 pub(crate) const NOWHERE: Extent = Extent { base: 0, length: 0 };
 
 const _: () = prove!(size_of::<State>() <= 1);
 
-/// The state of a cell in a block of a kind.
+/// Returns the state of a cell in a block of this kind.
 #[inline(always)]
 pub(crate) fn state_of(kind: Kind, cell: Cell) -> State
     ensures { result ≡ state_for kind cell }
@@ -73,7 +73,7 @@ pub(crate) fn state_of(kind: Kind, cell: Cell) -> State
     }
 }
 
-/// The value in a cell; 0 of one that has none.
+/// Returns the value in a cell, or 0 if it has none.
 #[inline(always)]
 pub(crate) fn value_in(cell: Cell) -> u64
     ensures { result ≡ value_of cell }
@@ -84,7 +84,7 @@ pub(crate) fn value_in(cell: Cell) -> u64
     }
 }
 
-/// Whether somebody waits for a cell.
+/// Returns whether requests wait for a cell.
 #[inline(always)]
 pub(crate) fn is_waited_for(cell: Cell) -> bool
     ensures { result ≡ is_waiting_cell cell }
@@ -93,7 +93,7 @@ pub(crate) fn is_waited_for(cell: Cell) -> bool
 }
 
 impl State {
-    /// The kind of the cell's block; I of a free cell.
+    /// Returns the kind of the cell's block, or I for a free cell.
     #[inline(always)]
     pub(crate) fn kind(self) -> Kind
         ensures { result ≡ kind_of self }
@@ -104,7 +104,7 @@ impl State {
         }
     }
 
-    /// Whether somebody waits for the cell.
+    /// Returns whether requests wait for the cell.
     #[inline(always)]
     pub(crate) fn is_waiting(self) -> bool
         ensures { (value : ℕ) (extent : Extent) → result ≡ is_waiting (state_slot self value extent) }
@@ -112,7 +112,7 @@ impl State {
         matches!(self, State::WaitingI | State::WaitingM)
     }
 
-    /// The cell with this value, in a block that lies there.
+    /// Returns the slot of a cell with this state, in a block at this place. Returns `None` for a free cell.
     #[inline(always)]
     pub(crate) fn slot(self, value: u64, extent: Extent) -> Option<Slot>
         ensures { result ≡ state_slot self value extent }

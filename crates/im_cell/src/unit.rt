@@ -1,4 +1,4 @@
-//! Units of cells, in which one record may stand for all.
+//! Units of cells. One record may stand for all cells of a unit.
 ghost use Rattle.std.specs.Prelude.{◌≡◌, ℕ};
 ghost use Rattle.im_cell.specs.Cells.{state_slot};
 ghost use Rattle.im_cell.specs.Units.{common_slot, is_own};
@@ -7,13 +7,13 @@ use crate::slots::Slot;
 use crate::state::{Extent, NOWHERE, State, state_of};
 use im_types::{Block, Cell};
 
-/// How many cells a unit has.
+/// The number of cells in a unit.
 pub(crate) const UNIT: usize = 128;
 
 /// What stands for the cells of a unit.
 #[derive(Clone, Copy, Debug, PartialEq, Eq)]
 pub(crate) enum Unit {
-    /// For each cell the record of its own.
+    /// Each cell has a record of its own.
     Each,
     /// All of them are free.
     Free,
@@ -22,7 +22,7 @@ pub(crate) enum Unit {
 }
 
 impl Unit {
-    /// Whether each cell has its own record.
+    /// Returns whether each cell has its own record.
     #[inline(always)]
     pub(crate) fn is_own(self) -> bool
         ensures { result ≡ is_own self }
@@ -30,7 +30,7 @@ impl Unit {
         matches!(self, Unit::Each)
     }
 
-    /// The slot of each cell, where one record stands for all.
+    /// Returns the slot that stands for each cell of the unit, if it is in a block.
     pub(crate) fn slot(self) -> Option<Slot>
         ensures { result ≡ common_slot self }
     {
@@ -43,7 +43,7 @@ impl Unit {
         }
     }
 
-    /// The state of each cell, and where its block lies.
+    /// Returns the state of each cell, and the place of its block.
     pub(crate) fn parts(self) -> (State, Extent)
         ensures { (value : ℕ) → state_slot result.0 value result.1 ≡ common_slot self }
     {

@@ -2,16 +2,17 @@
 ghost use Rattle.std.specs.Prelude.{◌≡◌, ◌+◌, ◌-◌, ◌*◌, ◌/◌, ◌<◌, ◌≤◌, ◌^◌, false, length, replicate, slice_set, IsSome};
 ghost use Rattle.im_types.specs.Place.{fill};
 ghost use Rattle.im_cell.specs.Slots.{slot_at, with_cell, is_waiting};
+ghost use Rattle.im_cell.specs.Table.{base_in};
 ghost use Rattle.im_cell.specs.Units.{common_slot, is_own};
 
 use crate::cells::Cells;
-use crate::filling::{fill_shown, set_among_same, unit_of};
+use crate::filling::{fill_shown, own_slot, set_among_same, unit_of};
 use crate::slots::Slot;
 use crate::unit::{UNIT, Unit};
 use im_types::Cell;
 use std::marker::Model;
 
-/// The records of cells, and what stands for the cells of each unit. Contracts see the slots.
+/// The records of the cells, and what stands for the cells of each unit. Contracts see the slots.
 #[derive(Drop)]
 pub(crate) struct CellUnits {
     cells: Cells,
@@ -33,7 +34,7 @@ impl Model for CellUnits {
 }
 
 impl CellUnits {
-    /// These cells, each with its own record.
+    /// Makes units of these cells. Each cell has its own record.
     pub(crate) fn over(cells: Cells, units: Vec<Unit>) -> CellUnits
         requires few { length cells < 2 ^ 32 }
         requires units { units.items ≡ replicate ((length cells + (UNIT - 1)) / UNIT) Unit.Each }
@@ -42,7 +43,7 @@ impl CellUnits {
         CellUnits { cells, units }
     }
 
-    /// How many cells there are.
+    /// Returns the number of cells.
     #[inline(always)]
     pub(crate) fn len(&self) -> u32
         ensures { result ≡ length self.now }
@@ -50,7 +51,7 @@ impl CellUnits {
         self.cells.len() as u32
     }
 
-    /// The slot of the cell at an address; `None` in no block, and past the last cell.
+    /// Returns the slot of the cell at an address. Returns `None` if it is in no block, or past the last cell.
     #[inline(always)]
     pub(crate) fn slot(&self, a: u32) -> Option<Slot>
         ensures { result ≡ slot_at self.now a }
@@ -66,7 +67,34 @@ impl CellUnits {
         unit.slot()
     }
 
-    /// Puts another state into the cell at an address in a block; whether it was waited for before.
+    /// Returns the cell at an address, as `slot` does. The cell has its own record afterwards.
+    #[inline(always)]
+    pub(crate) fn slot_to_write(&mut self, a: u32) -> Option<Slot>
+        ensures slot { result ≡ slot_at self.old a }
+        ensures same { self.new ≡ self.old }
+    {
+        let at = a as usize;
+        if at >= self.cells.len() {
+            return None;
+        }
+        own_slot(self.units.as_mut_slice(), &mut self.cells, at)
+    }
+
+    /// Returns the base of the block at an address.
+    #[inline(always)]
+    pub(crate) fn base(&self, a: u32) -> u32
+        requires { IsSome (slot_at self.now a) }
+        ensures { result ≡ base_in (slot_at self.now a) }
+    {
+        let at = a as usize;
+        match unit_of(self.units.as_slice(), at / UNIT) {
+            Unit::Each => self.cells.base(at),
+            Unit::Free => 0,
+            Unit::Block(block) => block.base,
+        }
+    }
+
+    /// Puts another content into the cell at an address in a block. Returns whether requests waited for it before.
     #[inline(always)]
     pub(crate) fn set(&mut self, a: u32, cell: Cell) -> bool
         requires { IsSome (slot_at self.old a) }
@@ -80,7 +108,7 @@ impl CellUnits {
         set_among_same(self.units.as_mut_slice(), &mut self.cells, at, cell)
     }
 
-    /// Makes `n` cells from one on the same.
+    /// Makes `n` cells from `base` on what `unit` stands for.
     pub(crate) fn fill(&mut self, base: u32, n: u32, unit: Unit)
         requires inside { base + n ≤ length self.old }
         requires unit { is_own unit ≡ false }

@@ -1,5 +1,5 @@
-//! What commands change of the full I cells, and which are full: for a pane that shows them. Contracts name the
-//! definitions of `im_types`.
+//! The changes that commands make to the full I cells, and the cells that are full, for a pane that shows them.
+//! Contracts name the definitions of `im_types`.
 #![tactic(auto)]
 
 ghost use Rattle.std.specs.Prelude.{◌≡◌, ◌+◌, ◌≤◌, ◌++◌, Option, true, drop, take, length, option_map, OnOk, IfOk};
@@ -15,14 +15,14 @@ use im_memory::Memory;
 use im_types::{Block, Cell, Change, Command, Kind, Op};
 use std::alloc::{AllocError, Global};
 
-// Whether somebody waits for a cell.
+// Returns whether requests wait for a cell.
 fn is_waiting(cell: Option<Cell>) -> bool
     ensures { (held : Option Held) → cell ≡ presence_in held → result ≡ is_waiting_cell held }
 {
     matches!(cell, Some(Cell::Waiting))
 }
 
-// The value of a full I cell.
+// Returns the value of a full I cell, or `None` for any other cell.
 fn full_value(block: Option<Block>, cell: Option<Cell>) -> Option<u64>
     ensures { (held : Option Held) → block ≡ option_map (λ h. h.block) held → cell ≡ presence_in held
         → result ≡ full_in held }
@@ -39,7 +39,7 @@ fn full_value(block: Option<Block>, cell: Option<Cell>) -> Option<u64>
     }
 }
 
-// What a store changes.
+// Returns the change of a store.
 fn store_change(a: u32, value: u64, block: Option<Block>, cell: Option<Cell>) -> Change
     ensures { (held : Option Held) → block ≡ option_map (λ h. h.block) held → cell ≡ presence_in held
         → result ≡ store_change_in a value held }
@@ -59,7 +59,7 @@ fn store_change(a: u32, value: u64, block: Option<Block>, cell: Option<Cell>) ->
     }
 }
 
-// The block, if an address is its base.
+// Returns the block if the address is its base.
 fn with_base(a: u32, block: Option<Block>) -> Option<Block>
     ensures { (held : Option Held) → block ≡ option_map (λ h. h.block) held → result ≡ block_with_base a held }
 {
@@ -69,7 +69,7 @@ fn with_base(a: u32, block: Option<Block>) -> Option<Block>
     }
 }
 
-// Whether somebody waits for one of so many cells.
+// Returns whether requests wait for one of `count` cells from `base` on.
 fn is_one_waiting(memory: &Memory, base: u32, count: u32) -> bool
     requires { base + count ≤ length memory.now.contents.cells }
     ensures { result ≡ list_any is_waiting_cell (take count (drop base memory.now.contents.cells)) }
@@ -83,7 +83,7 @@ fn is_one_waiting(memory: &Memory, base: u32, count: u32) -> bool
     false
 }
 
-// What a release or a reset changes.
+// Returns the change of a release or a reset.
 fn emptying_change(memory: &Memory, a: u32) -> Change
     ensures { let cells = memory.now.contents.cells in
         result ≡ emptying_change cells a (block_with_base a (held_at cells a)) }
@@ -101,7 +101,7 @@ fn emptying_change(memory: &Memory, a: u32) -> Change
     }
 }
 
-// What an operation changes.
+// Returns the change of an operation.
 fn change_of(memory: &Memory, op: Op) -> Change
     ensures { result ≡ change_of memory.now.contents.cells op }
 {
@@ -116,8 +116,8 @@ fn change_of(memory: &Memory, op: Op) -> Change
     }
 }
 
-/// What a command would change of the full I cells, if it were accepted, by the memory before it. It is of the
-/// memory's own cells. It takes a step for each cell of a block that is released or reset, else none, and no memory.
+/// Returns the change that a command would make to the full I cells, if the memory accepted it. The change names only
+/// the memory's own cells. It takes one step for each cell of a block that is released or reset, and no memory.
 pub fn change_by(memory: &Memory, command: &Command) -> Change
     ensures change { result ≡ change_by memory.now.contents command.now }
     ensures below { is_below (length memory.now.contents.cells) result ≡ true }
@@ -132,7 +132,7 @@ pub fn change_by(memory: &Memory, command: &Command) -> Change
     }
 }
 
-// The change that fills a cell, behind these.
+// Adds the change that fills a cell, if the cell has a value.
 fn add_full(changes: &mut Vec<Change>, a: u32, value: Option<u64>) -> Result<(), AllocError>
     ensures { OnOk result (changes.new.items ≡ changes.old.items ++ fill_at a value) }
 {
@@ -145,8 +145,8 @@ fn add_full(changes: &mut Vec<Change>, a: u32, value: Option<u64>) -> Result<(),
     }
 }
 
-/// The full I cells of a memory, in the order of their addresses, as changes of cells of which none is full: 16 bytes
-/// for each. Refused where there isn't enough memory.
+/// Returns the full I cells of a memory, in the order of their addresses. It returns them as changes that start from
+/// cells of which none is full. They take 16 bytes each. Returns `AllocError` if that memory is refused.
 pub fn full_cells(alloc: Global, memory: &Memory) -> Result<Vec<Change>, AllocError>
     ensures opening { IfOk result (λ changes. changes.items ≡ opening memory.now.contents) }
     ensures below { IfOk result (λ changes.

@@ -1,4 +1,4 @@
--- Copies of pages, one behind another in the order in which they were made. (Own.)
+-- Copies of pages, in the order in which they were made. (Own.)
 use Rattle.std.specs.Prelude.{◌≡◌, ℕ, suc, ◌<◌, ◌≤◌, List, [], ◌∷◌, length, replicate, slice_index_or, Bool, true}
 use Rattle.std.specs.Prelude.{false}
 use Rattle.im_checkpoint.specs.declared.page_copies.Place.{Place}
@@ -8,7 +8,7 @@ use Rattle.im_types.specs.Pages.{Records}
 use Rattle.im_pages.specs.PageSets.{has}
 use Rattle.im_image.specs.Encoding.{IsAreaPage}
 
--- the page without a copy
+-- the bytes of a page without a copy
 abbrev pub blank : List ℕ
 blank = replicate page_bytes 0
 
@@ -38,7 +38,7 @@ pub record AreCopies (places : List Place) (pages : List (List ℕ)) (capacity :
   pub apart : (i j place : ℕ) → place_of places i ≡ At place → place_of places j ≡ At place → i ≡ j
   pub room : length places ≤ capacity
 
--- each page from this one on that is in two sets, and not in the third, has as its copy what these records show there
+-- each page from `from` on that is named, is left and hasn't changed lately has a copy, as these records show the page
 abbrev pub AreCopied : Sizes → Records → ℕ → List Bool → List Bool → List Bool → List (List ℕ) → Type 0
 AreCopied s r from named left recent copies = (page : ℕ) → from ≤ page → page < area_pages layout_in_use s
     → has named page ≡ true → has left page ≡ true → has recent page ≡ false → IsAreaPage s r page (copy_of copies page)

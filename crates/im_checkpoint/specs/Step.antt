@@ -1,4 +1,4 @@
--- How far a checkpoint has come. (Own.)
+-- The progress of a checkpoint. (Own.)
 use Rattle.std.specs.Prelude.{◌≡◌, ℕ, ◌+◌, ◌<◌, ◌≤◌, Bool, true, List, [], ◌∷◌, length}
 use Rattle.im_types.specs.declared.TheConstants.{LAST}
 use Rattle.im_types.specs.Layout.{layout_in_use, area_pages}
@@ -8,29 +8,30 @@ use Rattle.im_checkpoint.specs.declared.checkpoint.Step.{Step as Mark}
 use Rattle.im_checkpoint.specs.declared.checkpoint.Step.TheVariants.{NoCheckpoint as None_yet, PagesLeft as Some_left}
 use Rattle.im_checkpoint.specs.declared.checkpoint.Step.TheVariants.{PagesDone as All_written, Synced as On_disk}
 
--- no checkpoint; of the memory after so many commands, pages are left to be written; all are written; all are on the
--- disk, and the other header's gate is closed
+-- No checkpoint. Or, of the memory after this count of commands: these pages are left to be written, or all are
+-- written, or all are on the disk with the other header's gate closed.
 pub data Step : Type 0 where
   NoCheckpoint : Step
   PagesLeft : ℕ → List ℕ → Step
   PagesDone : ℕ → Step
   Synced : ℕ → Step
 
--- the header in force, and how far the next area has come
+-- the header in force, and the progress of the next area
 pub record CheckpointState : Type 0 where
   pub header : Header
   pub step : Step
 
--- a checkpoint with its pages: those that changed since the last checkpoint began, those that changed since the one
--- before it began and before the last one did, and copies of pages as they were
+-- A checkpoint with its pages: those that changed since the last checkpoint began, and copies of pages as they were.
+-- The older set has the pages that changed between the start of the checkpoint before the last one and the start of the
+-- last one.
 pub record PagedCheckpoint : Type 0 where
   pub state : CheckpointState
   pub recent : List Bool
   pub older : List Bool
   pub copies : List (List ℕ)
 
--- the pages that changed: those since the last checkpoint began, and those since the one before it began and before the
--- last one did
+-- The pages that changed since the last checkpoint began. The older set has those that changed between the start of the
+-- checkpoint before it and its own start.
 pub record Changed : Type 0 where
   pub recent : List Bool
   pub older : List Bool
@@ -39,7 +40,7 @@ pub record Changed : Type 0 where
 abbrev pub changed_in : PagedCheckpoint → Changed
 changed_in c = record { recent = c.recent; older = c.older }
 
--- the state once these pages are left
+-- the state with these pages left
 abbrev pub with_left : ℕ → List ℕ → Step
 with_left count [] = PagesDone count
 with_left count (page ∷ left) = PagesLeft count (page ∷ left)
@@ -51,7 +52,7 @@ IsUnderWay (PagesLeft count left) = Unit {0}
 IsUnderWay (PagesDone count) = Unit {0}
 IsUnderWay (Synced count) = Unit {0}
 
--- how many turns are left until the header of the other area is in force: one for each page, and two more
+-- the turns until the header of the other area is in force: one for each page that is left, and two more
 abbrev pub turns_left : Step → ℕ
 turns_left NoCheckpoint = 0
 turns_left (PagesLeft count left) = length left + 2
@@ -93,15 +94,15 @@ IsSynced (PagesLeft count left) = ⊥
 IsSynced (PagesDone count) = ⊥
 IsSynced (Synced count) = Unit {0}
 
--- a checkpoint under way leads to a generation that there may be
+-- a checkpoint under way leads to a generation that is possible
 abbrev pub HasNext : Header → Mark → Type 0
 HasNext h None_yet = Unit {0}
 HasNext h Some_left = h.generation < LAST
 HasNext h All_written = h.generation < LAST
 HasNext h On_disk = h.generation < LAST
 
--- the fields of a checkpoint: its area is one of two, each set is of an area's pages, the next page is one of those
--- left where there are any, and there is a place for a copy of each of them
+-- The fields of a checkpoint. Its area is one of two, and each set is of an area's pages. The next page is one of those
+-- left, if there are any. There is a place for a copy of each page.
 pub record IsCheckpoint (h : Header) (mark : Mark) (recent older left named : List Bool) (next : ℕ)
     (copies : List (List ℕ)) : Type 0 where
   pub number : h.area ≤ 1

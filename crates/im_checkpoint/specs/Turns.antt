@@ -22,11 +22,11 @@ use Rattle.im_memory.specs.Covering.{most_pages, IsOfBlock, IsAlone}
 use Rattle.im_checkpoint.specs.Step.{Step, NoCheckpoint, PagesLeft, PagesDone, Synced, CheckpointState}
 use Rattle.im_checkpoint.specs.Step.{PagedCheckpoint, Changed, with_left, turns_left, left_in}
 
--- there are commands since the header's count, and there may be a later generation
+-- there are commands since the header's count, and a later generation is possible
 abbrev pub is_due : Header → JournalState → Bool
 is_due h j = nat_lt h.count j.count && nat_lt h.generation LAST
 
--- the header of the other area, once it has what was taken
+-- the header of the other area, with this count of commands
 abbrev pub next_header : Header → ℕ → Header
 next_header h count = record {
   version = h.version;
@@ -40,33 +40,33 @@ next_header h count = record {
 abbrev pub begun_at : ℕ → JournalState → JournalState
 begun_at count j = record j { first = count }
 
--- no checkpoint, where all pages of both areas count as changed, or those of the other area alone
+-- no checkpoint; all pages of both areas count as changed, or only those of the other area
 pub record IsIdle (h : Header) (other_alone : Bool) (c : PagedCheckpoint) : Type 0 where
   pub state : c.state ≡ record { header = h; step = NoCheckpoint }
   pub recent : c.recent ≡ replicate (area_pages layout_in_use h.sizes) (not other_alone)
   pub older : c.older ≡ replicate (area_pages layout_in_use h.sizes) other_alone
 
--- a checkpoint as it begins: it is of the count as it is now, a set of the area's pages is left, to be written in
--- rising order, each once; and it comes to its end in at most a turn for each page of an area and two more
+-- A checkpoint at its start. It has the current count. A set of the area's pages is left, to be written in rising
+-- order, each once. It ends after at most one turn for each page of an area and two more.
 pub record Begins (h : Header) (count : ℕ) (new : CheckpointState) : Type 0 where
   pub changed : List Bool
   pub size : length changed ≡ area_pages layout_in_use h.sizes
   pub state : new ≡ record { header = h; step = with_left count (pages_from 0 changed) }
   pub turns : turns_left new.step ≤ area_pages layout_in_use h.sizes + 2
 
--- how many slots are swept with one sync, `most` at most: none while a checkpoint is under way
+-- the slots swept with one sync, `most` at most: none while a checkpoint is under way
 abbrev pub swept_at_once : Step → JournalState → ℕ → ℕ
 swept_at_once NoCheckpoint j most = min most (to_sweep j)
 swept_at_once (PagesLeft count left) j most = 0
 swept_at_once (PagesDone count) j most = 0
 swept_at_once (Synced count) j most = 0
 
--- how many device calls a sweep of these slots makes, `most` at most: one for each that is swept and a sync, and none
--- where there is none
+-- the device calls of a sweep of at most `most` of these slots: one for each swept slot and a sync, or none without
+-- slots
 abbrev pub calls_for_slots : ℕ → ℕ → ℕ
 calls_for_slots slots most = if slots == 0 then 0 else min most slots + 1
 
--- the same of the slots that are to be swept: none while a checkpoint is under way
+-- the device calls of a sweep of a journal: none while a checkpoint is under way
 abbrev pub calls_to_sweep : Step → JournalState → ℕ → ℕ
 calls_to_sweep NoCheckpoint j most = calls_for_slots (to_sweep j) most
 calls_to_sweep (PagesLeft count left) j most = 0
@@ -90,16 +90,16 @@ pub record Turned (old : CheckpointState) (j : JournalState) (answer : TurnDone)
       → (answer ≡ InForce) × (new ≡ record { header = next_header old.header count; step = NoCheckpoint })
       × (k ≡ begun_at count j)
 
--- What a turn does with the pages that changed, where this is how far the checkpoint has come then.
+-- What a turn does with the changed pages. `step` is the progress after it.
 pub record Moved (old : Changed) (answer : TurnDone) (step : Step) (new : Changed) : Type 0 where
-  -- a checkpoint that begins writes the pages that changed since the other area's last one began, in rising order and
-  -- no others, and none has changed since then
+  -- a checkpoint that begins writes, in rising order, exactly the pages that changed since the other area's last
+  -- checkpoint began; no page counts as changed since its own start
   pub begun : answer ≡ Began → (left_in step ≡ pages_from 0 (union old.older old.recent)) × (new.older ≡ old.recent)
       × (new.recent ≡ replicate (length old.older) false)
   -- any other turn leaves the pages
   pub stays : answer ≢ Began → (new.older ≡ old.older) × (new.recent ≡ old.recent)
 
--- What is added to the pages that changed: so many more at most, and none is taken out.
+-- At most this many pages are added to those that changed, and none is removed.
 pub record AddsAtMost (most : ℕ) (old new : Changed) : Type 0 where
   pub older : new.older ≡ old.older
   pub size : length new.recent ≡ length old.recent
@@ -111,17 +111,17 @@ abbrev pub HasOwn : Contents → Command → List Bool → Type 0
 HasOwn m (Asks r) set = has set (page_of_session (length m.cells) (length m.windows) r.element) ≡ true
 HasOwn m (Confirm element upto) set = has set (page_of_session (length m.cells) (length m.windows) element) ≡ true
 
--- What a command adds to them that this memory accepts.
+-- What an accepted command adds to the changed pages.
 pub record AddsPages (m : Contents) (command : Command) (old new : Changed) : Type 0 where
-  -- as many pages as it may change at most
+  -- at most as many pages as it may change
   pub most : AddsAtMost (most_pages m command) old new
   -- the page of its own session
   pub own : HasOwn m command new.recent
-  -- and by one on a block, by one whose cell isn't there, and by a confirmation just these
+  -- a command on a block, one whose cell isn't there, and a confirmation add just these
   pub block : IsOfBlock m command old.recent new.recent
   pub alone : IsAlone m command old.recent new.recent
 
--- at most so many device calls come before this answer: by what was done, and four before a refusal
+-- at most this many device calls come before this answer: by what was done, and four before a refusal
 abbrev pub most_calls : Result TurnDone Refusal → ℕ
 most_calls (Ok Idle) = 0
 most_calls (Ok Began) = 0
@@ -131,12 +131,12 @@ most_calls (Ok InForce) = 4
 most_calls (Ok Swept) = 4
 most_calls (Err refusal) = 4
 
--- A turn makes as many calls of the disk as its answer says at most. It fails where a call does.
+-- A turn makes at most the calls of the disk that its answer says. It fails if and only if a call does.
 abbrev pub MakesTurn : {D : Type 0} → Ghosts D → D → D → Result TurnDone Refusal → Type 0
 MakesTurn disk old new result =
     ObeysOrRefuses disk old new result (λ e. e ≡ Device) (CallsAtMost disk.past old new (most_calls result))
 
--- A sweep makes so many calls of the disk, or no more where it fails. It fails where a call does.
+-- A sweep makes this many calls of the disk, or no more if it fails. It fails if and only if a call does.
 abbrev pub MakesSweep : {D : Type 0} → Ghosts D → D → D → ℕ → Result ℕ Refusal → Type 0
 MakesSweep disk old new n result =
     ObeysOrRefuses disk old new result (λ e. e ≡ Device) (CallsBy disk.past old new n result)

@@ -55,24 +55,24 @@ use std::alloc::Global;
 use std::marker::Model;
 use std::mem::swap;
 
-/// What a turn did.
+/// The work that a turn did.
 #[derive(Clone, Copy, Debug, PartialEq, Eq)]
 pub enum TurnDone {
-    /// Nothing: there was nothing to do.
+    /// Nothing, because there was nothing to do.
     Idle,
-    /// It took the pages that changed, and the count as it is now.
+    /// It took the changed pages and the current count.
     Began,
     /// It wrote the page with this number.
     Page(u32),
-    /// It put the pages on the disk, and the other header's gate is closed.
+    /// It put the pages on the disk. The other header's gate is closed.
     Synced,
-    /// The header of the area that was written is in force now.
+    /// It put the header of the written area in force.
     InForce,
-    /// It closed the gates of slots whose commands the area in force holds.
+    /// It closed the gates of slots whose commands are held by the area in force.
     Swept,
 }
 
-// How far a checkpoint has come.
+// The progress of a checkpoint.
 #[derive(Clone, Copy, Debug, PartialEq, Eq)]
 enum Step {
     NoCheckpoint,
@@ -81,10 +81,10 @@ enum Step {
     Synced,
 }
 
-/// The header in force, how far the next area has come, and the pages that changed.
+/// The header in force, the progress of the next area, and the pages that changed.
 ///
-/// The sets of pages, and the space for copies of all pages of an area, are taken once, by [`Checkpoint::idle`]; the
-/// space isn't filled.
+/// [`Checkpoint::idle`] takes the memory once: for the sets of pages, and for copies of all pages of an area. It
+/// doesn't fill the space for copies.
 #[derive(Drop)]
 pub struct Checkpoint {
     header: Header,
@@ -92,14 +92,14 @@ pub struct Checkpoint {
     count: u64,
     // The pages that changed since the last checkpoint began.
     recent: PageSet,
-    // Those that changed since the one before it began, and before the last one did.
+    // The pages that changed between the start of the checkpoint before the last one and the start of the last one.
     older: PageSet,
-    // Of these the pages from the next one on are left.
+    // Of these pages, those from `next` on are left.
     left: PageSet,
     next: usize,
     // The pages that a command names.
     named: PageSet,
-    // Pages that are left and have changed, as they were.
+    // Copies of pages that are left and have changed since. A copy has the page as it was.
     copies: PageCopies,
 }
 
@@ -121,7 +121,7 @@ impl Model for Checkpoint {
         IsCheckpoint (seen c.header) c.step c.recent c.older c.left c.named c.next c.copies };
 }
 
-// All pages of an area, or none of them.
+// A set with all pages of an area, or with none.
 fn all_or_none(alloc: Global, limits: Limits, all: bool) -> Result<PageSet, Refusal>
     ensures set { IfOk result (λ set. set ≡ replicate (layout.area_pages layout_in_use (sizes_of limits)) all) }
     ensures only { IfErr result (λ e. e ≡ NoMemory) }
@@ -136,7 +136,7 @@ fn all_or_none(alloc: Global, limits: Limits, all: bool) -> Result<PageSet, Refu
     Ok(set)
 }
 
-// How far a checkpoint has come whose pages from this one on are left, and the first of them, if there is one.
+// The progress of a checkpoint whose pages from `from` on are left, and the first of those pages, if there is one.
 fn next_left(left: &PageSet, from: usize) -> (Step, usize)
     ensures step { (count : ℕ) → step_of result.0 count (pages_from result.1 left.now)
         ≡ with_left count (pages_from from left.now) }
@@ -149,7 +149,7 @@ fn next_left(left: &PageSet, from: usize) -> (Step, usize)
     }
 }
 
-// The bytes of a page that is left: its copy where it has changed, else the page as it is.
+// The bytes of a page that is left. It is the copy if the page has changed, and else the page of the memory.
 fn page_for(
     recent: &PageSet,
     copies: &PageCopies,
@@ -172,7 +172,7 @@ fn page_for(
     encode_page(memory, limits, i, page);
 }
 
-// Copies a page as it is, if it is left and hasn't changed since the checkpoint began.
+// Copies a page of the memory, if the page is left and hasn't changed since the checkpoint began.
 fn copy_page(
     memory: &Memory,
     limits: Limits,
@@ -203,7 +203,8 @@ fn copy_page(
     copies.put(i, &page);
 }
 
-// Copies each page from one on that a command names, is left, and hasn't changed since the checkpoint began.
+// Copies the pages from `from` on that a command names, if they are left and haven't changed since the checkpoint
+// began.
 fn copy_pages(
     memory: &Memory,
     limits: Limits,
@@ -229,7 +230,7 @@ fn copy_pages(
     }
 }
 
-// Closes the gates of the oldest slots that are to be swept, three at most.
+// Closes the gates of the oldest slots to be swept, three at most.
 fn sweep<D: Disk>(disk: &mut D, journal: &mut Journal) -> Result<TurnDone, Refusal>
     requires some { 0 < to_sweep journal.old }
     requires holds { D.honest disk.old → AllHold journal.old (D.now disk.old) }
@@ -240,14 +241,15 @@ fn sweep<D: Disk>(disk: &mut D, journal: &mut Journal) -> Result<TurnDone, Refus
         → StaysMeant D.Disk disk.old disk.new result c x c x m journal.old journal.new }
     ensures runs { MakesTurn D.Disk disk.old disk.new result }
 {
-    // The pages in force hold the commands of these slots: nobody reads them, whatever a stop leaves of their gates.
+    // The pages in force hold the commands of these slots. Nobody reads the slots, whatever a stop leaves of their
+    // gates.
     match journal.sweep_turn(disk) {
         Ok(_) => Ok(TurnDone::Swept),
         Err(refusal) => Err(refusal),
     }
 }
 
-// The same of so many at most, if there are any: how many they were.
+// Like `sweep`, for `most` slots at most. Returns their number.
 fn sweep_more<D: Disk>(disk: &mut D, journal: &mut Journal, most: u32) -> Result<u32, Refusal>
     requires holds { D.honest disk.old → AllHold journal.old (D.now disk.old) }
     ensures swept { IfOk result (λ n. (n ≡ min most (to_sweep journal.old))
@@ -265,9 +267,9 @@ fn sweep_more<D: Disk>(disk: &mut D, journal: &mut Journal, most: u32) -> Result
 }
 
 impl Checkpoint {
-    /// No checkpoint yet, with this header in force. All pages of both areas count as changed; where the image was just
-    /// formatted, those of the other area alone. It takes the sets of pages, and the space for an area: `NoMemory`
-    /// where that is refused.
+    /// Returns a state with no checkpoint under way and this header in force. All pages of both areas count as changed.
+    /// If the image was just formatted, only those of the other area do. It takes memory for the sets of pages and for
+    /// copies of an area, and returns `NoMemory` if that is refused.
     pub fn idle(alloc: Global, header: &Header, formatted: bool) -> Result<Checkpoint, Refusal>
         requires { header.now.area ≤ 1 }
         ensures idle { IfOk result (λ c. IsIdle (seen header.now) formatted c) }
@@ -302,14 +304,14 @@ impl Checkpoint {
         })
     }
 
-    /// The header in force.
+    /// Returns the header in force.
     pub fn header(&self) -> Header
         ensures { seen result ≡ self.now.state.header }
     {
         self.header // As it was put in force.
     }
 
-    // The same as `before`, while pages are left.
+    // Does the work of `before` while pages are left.
     fn copy_named(&mut self, memory: &Memory, command: &Command)
         requires step { IsPagesLeft self.old.state.step }
         requires sizes { HasSizes self.old.state.header.sizes memory.now.contents }
@@ -331,9 +333,10 @@ impl Checkpoint {
         self.recent.union_with(&self.named);
     }
 
-    /// To be called before a command that the memory accepts acts. Each page on which it may change a record counts as
-    /// changed in both areas from now on, and those of them that a checkpoint under way has still to write are copied
-    /// as they are, unless they were before. It takes no memory, and makes no call of the disk.
+    /// Prepares for a command. It must be called before a command that the memory accepts acts. From then on, each page
+    /// with a record that the command may change counts as changed in both areas. If a checkpoint under way still has
+    /// to write such a page, this copies it as it is, unless it was copied before. It takes no memory and makes no call
+    /// of the disk.
     pub fn before(&mut self, memory: &Memory, command: &Command)
         requires sizes { HasSizes self.old.state.header.sizes memory.now.contents }
         ensures { Prepares self.old memory.now command.now self.new }
@@ -361,7 +364,7 @@ impl Checkpoint {
         let mut bytes = [0; PAGE];
         page_for(&self.recent, &self.copies, memory, limits, page, &mut bytes);
         let at = area_at(limits, 1 - self.header.area as usize) + PAGE * page;
-        // Nobody reads the area that isn't in force: what a stop leaves of the page doesn't count.
+        // Nobody reads the area that isn't in force, so what a stop leaves of the page doesn't count.
         if let Err(_) = disk.write_at(at, &bytes) {
             return Err(Refusal::Device);
         }
@@ -382,7 +385,7 @@ impl Checkpoint {
             → TurnKeeps D.Disk disk.old disk.new result self.old self.new n m j j }
         ensures runs { MakesTurn D.Disk disk.old disk.new result }
     {
-        // A stop leaves the header in force, and nothing that it needs is written.
+        // A stop leaves the header in force, and has written nothing that this header needs.
         if let Err(_) = close_other(disk, &self.header) {
             return Err(Refusal::Device);
         }
@@ -390,7 +393,7 @@ impl Checkpoint {
         Ok(TurnDone::Synced)
     }
 
-    // Puts the header of the area that was written in force.
+    // Puts the header of the written area in force.
     fn put_in_force<D: Disk>(
         &mut self,
         disk: &mut D,
@@ -406,7 +409,7 @@ impl Checkpoint {
         ensures runs { MakesTurn D.Disk disk.old disk.new result }
     {
         let next = next_header(&self.header, self.count);
-        // A stop leaves the old header in force, or the new one: with either the image means the same.
+        // A stop leaves the old header in force, or the new one. The image means the same with either.
         if let Err(_) = open_next(disk, &next) {
             return Err(Refusal::Device);
         }
@@ -416,7 +419,7 @@ impl Checkpoint {
         Ok(TurnDone::InForce)
     }
 
-    // Takes the pages that changed, and the count as it is now.
+    // Takes the changed pages and the current count.
     fn begin(&mut self, memory: &Memory, journal: &Journal)
         requires step { self.old.state.step ≡ NoCheckpoint }
         requires later { self.old.state.header.generation < LAST }
@@ -427,7 +430,7 @@ impl Checkpoint {
             → IsKept self.old.state (paged self.old memory.now) memory.now.contents journal.now now
             → IsKept self.new.state (paged self.new memory.now) memory.now.contents journal.now now }
     {
-        // Nothing is copied: the memory's records are what is taken.
+        // Nothing is copied: the checkpoint takes the memory's records as they are.
         let _records = memory.records();
         self.left.clear();
         self.left.union_with(&self.older);
@@ -440,14 +443,14 @@ impl Checkpoint {
         self.next = next;
     }
 
-    // Whether there are commands since the header's count, and there may be a later generation.
+    // Returns whether there are commands since the header's count, and a later generation is possible.
     fn is_due(&self, journal: &Journal) -> bool
         ensures { result ≡ is_due self.now.state.header journal.now }
     {
         self.header.count < journal.count() && self.header.generation < LAST
     }
 
-    // A turn where no checkpoint is under way.
+    // A turn while no checkpoint is under way.
     fn rest<D: Disk>(
         &mut self,
         disk: &mut D,
@@ -475,13 +478,13 @@ impl Checkpoint {
         Ok(TurnDone::Idle)
     }
 
-    /// One turn, by what was done so far: it takes the pages that changed, writes one of them, puts them on the disk,
-    /// puts the header of their area in force, or closes the gates of slots whose commands the area in force holds,
-    /// three at most. `Idle` where there is none of it to do. It makes at most four device calls and takes no memory.
-    /// The memory and the journal are those that the header's image means.
+    /// Makes one turn, which continues from what was done before. It takes the changed pages, or writes one of them, or
+    /// puts them on the disk, or puts the header of their area in force, or closes gates. It closes at most three gates
+    /// of slots whose commands the area in force holds. Returns `Idle` if nothing is to be done. It makes at most four
+    /// device calls and takes no memory. The memory and the journal must be those that the header's image means.
     ///
-    /// `Device` where a call of the disk failed: the checkpoint and the journal are as they were, but the disk may be
-    /// further, so the image has to be opened again.
+    /// Returns `Device` if a call of the disk failed. The checkpoint and the journal are then as they were. The disk
+    /// may be further along, so the image has to be opened again.
     pub fn turn<D: Disk>(
         &mut self,
         disk: &mut D,
@@ -491,11 +494,12 @@ impl Checkpoint {
         requires fits { Fits self.old.state memory.now.contents journal.old }
         requires kept { D.honest disk.old
             → IsKept self.old.state (paged self.old memory.now) memory.now.contents journal.old (D.now disk.old) }
-        // What it answers, and what it comes to: the table of turns, and how far a checkpoint still has to go.
+        // The table of turns gives the answer and the next state, and how far a checkpoint still has to go.
         ensures turned { IfOk result (λ answer. ComesTo self.old journal.old memory.now.contents answer self.new
             journal.new) }
         ensures same { OnErr result ((self.new ≡ self.old) × (journal.new ≡ journal.old)) }
-        // Each file that a crash may leave, from the start on, and now, means the memory after all its commands.
+        // Each file that a crash may leave, from the start to the end of the turn, means the memory after all its
+        // commands.
         ensures keeps { D.honest disk.new
             → KeepsMeaning D.now D.past disk.old disk.new memory.now.contents journal.old result self.new.state
             (paged self.new memory.now) journal.new }
@@ -509,11 +513,12 @@ impl Checkpoint {
         }
     }
 
-    /// Closes the gates of the oldest slots whose commands the area in force holds, so many at most, by a device call
-    /// for each and a sync for all of them: how many they were. Where there are none, and while a checkpoint is under
-    /// way, it makes no call. It takes no memory.
+    /// Closes the gates of the oldest slots whose commands the area in force holds, `most` at most. It makes one device
+    /// call for each slot and one sync for all, and returns their number. It makes no call if there are no such slots,
+    /// or while a checkpoint is under way. It takes no memory.
     ///
-    /// `Device` where a call of the disk failed: the journal is as it was, and the image has to be opened again.
+    /// Returns `Device` if a call of the disk failed. The journal is then as it was, and the image has to be opened
+    /// again.
     pub fn sweep<D: Disk>(
         &self,
         disk: &mut D,
@@ -524,10 +529,10 @@ impl Checkpoint {
         ensures swept { IfOk result (λ n. (n ≡ swept_at_once self.now.state.step journal.old most)
             × (journal.new ≡ with_room journal.old n)) }
         ensures same { OnErr result (journal.new ≡ journal.old) }
-        // Each file that a crash may leave, from the start on, and now, means the memory after all its commands.
+        // Each file that a crash may leave, from the start to the end, means the memory after all its commands.
         ensures keeps { D.honest disk.new → (x : Paged) (m : Contents)
             → StaysMeant D.Disk disk.old disk.new result self.now.state x self.now.state x m journal.old journal.new }
-        // As many calls of the disk as slots are swept, and one; none where there is none of them.
+        // It makes one call of the disk for each slot and one more, or none if no slot is swept.
         ensures runs { MakesSweep D.Disk disk.old disk.new
             (calls_to_sweep self.now.state.step journal.old most) result }
     {

@@ -1,4 +1,4 @@
-//! What a checkpoint's turns write in the place of the header that isn't in force.
+//! The writes of a checkpoint's turns in the place of the header that isn't in force.
 ghost use Rattle.std.specs.Prelude.{◌≡◌, ◌+◌, ◌-◌, ◌*◌, ◌<◌, ◌≤◌, List, ℕ, length, OnOk};
 ghost use Rattle.im_types.specs.Contents.{Contents};
 ghost use Rattle.im_types.specs.Header.{Header as Seen};
@@ -16,7 +16,7 @@ use im_image::Header;
 use im_types::LAST;
 use im_types::layout::{CLOSED, OPEN, PAGE};
 
-/// The header of the other area, once it has so many commands.
+/// Returns the next header of the other area, with this count of commands.
 pub(crate) fn next_header(header: &Header, count: u64) -> Header
     requires area { header.now.area ≤ 1 }
     requires later { header.now.generation < LAST }
@@ -32,7 +32,7 @@ pub(crate) fn next_header(header: &Header, count: u64) -> Header
     }
 }
 
-/// Puts all that was written on the disk, and the other header's gate is closed then. All pages are written.
+/// Puts all that was written on the disk, with the other header's gate closed. All pages were written before.
 pub(crate) fn close_other<D: Disk>(disk: &mut D, header: &Header) -> Result<(), DeviceFault>
     requires area { header.now.area ≤ 1 }
     requires inside { D.honest disk.old → 8192 ≤ length (D.now disk.old).bytes }
@@ -49,11 +49,11 @@ pub(crate) fn close_other<D: Disk>(disk: &mut D, header: &Header) -> Result<(), 
         disk.write_at(at, &[CLOSED])?; // Of a lower generation: it isn't in force, whatever a stop leaves of its gate.
         return disk.sync(); // The same.
     }
-    // A closed gate isn't written: a stop within the write could open it, over what an earlier stop left of a header.
+    // A closed gate isn't written. A stop within the write could open it over what an earlier stop left of a header.
     disk.sync() // Nobody reads what was written since the last sync.
 }
 
-/// Writes the next header behind its closed gate, and then opens the gate.
+/// Writes the next header behind its closed gate and then opens the gate.
 pub(crate) fn open_next<D: Disk>(disk: &mut D, next: &Header) -> Result<(), DeviceFault>
     requires area { next.now.area ≤ 1 }
     requires closed { D.honest disk.old → IsClosed (4096 * next.now.area) 64 (D.now disk.old) }
@@ -67,7 +67,7 @@ pub(crate) fn open_next<D: Disk>(disk: &mut D, next: &Header) -> Result<(), Devi
     ensures runs { Obeys D.Disk disk.old disk.new result (CallsAtMost D.past disk.old disk.new 4) }
 {
     let bytes = next.spell();
-    // The pages are on the disk, and the gate is closed there: a stop leaves the old header in force, or the new one,
-    // which means the same. Once this is done the new header is in force for good.
+    // The pages are on the disk, and the gate is closed there. A stop leaves the old header in force, or the new one,
+    // which means the same. After this call the new header is in force for good.
     write_behind_gate(disk, PAGE * next.area as usize, &bytes)
 }

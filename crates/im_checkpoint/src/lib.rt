@@ -1,9 +1,8 @@
-//! Checkpoints: how the memory gets to the area that isn't in force, a turn at a time, and how that area comes into
-//! force.
+//! Checkpoints: how the memory gets to the area that isn't in force, turn by turn, and how that area comes into force.
 //!
-//! A turn makes at most four device calls. Between two turns the journal goes on: what was taken of the memory at the
-//! first turn stays as it was, and the commands since then stay in the journal. Stands on `im_image` for pages and
-//! headers, on `im_journal`, and on the laws of `im_meaning`, which say what each write leaves of an image.
+//! A turn makes at most four device calls. Between two turns the journal continues. The state that the first turn took
+//! stays as it was, and later commands stay in the journal. Stands on `im_image` for pages and headers, on
+//! `im_journal`, and on the laws of `im_meaning`, which say what each write leaves of an image.
 #![tactic(auto)]
 
 mod checkpoint;

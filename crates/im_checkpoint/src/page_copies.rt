@@ -1,4 +1,4 @@
-//! Copies of pages of an area, in space that is taken once and not filled.
+//! Copies of an area's pages. Their space is taken once and not filled.
 ghost use Rattle.std.specs.Prelude.{◌≡◌, ◌<◌, length, slice_set, IfOk};
 ghost use Rattle.im_checkpoint.specs.Copied.{blank, copy_of};
 
@@ -6,20 +6,20 @@ use im_types::layout::PAGE;
 use std::alloc::{AllocError, Global};
 use std::marker::Model;
 
-// Where the copy of a page stands.
+// The place of a page's copy.
 #[derive(Clone, Copy, Debug, PartialEq, Eq)]
 enum Place {
     Nowhere,
     At(usize),
 }
 
-/// Copies of pages of an area, by their numbers; contracts see zeros where a page was never copied.
+/// Copies of an area's pages, by page number. Contracts see zeros for a page that was never copied.
 ///
-/// A copy stands behind those that were made before, and stays in its place when the page is copied again. So no more
-/// of the space is touched than pages were ever copied: an opening, which takes it, touches none.
+/// A copy stands behind the earlier ones, and stays in its place when the page is copied again. So this uses only as
+/// much of the space as pages were ever copied. An opening takes the space and uses none of it.
 #[derive(Drop)]
 pub(crate) struct PageCopies {
-    // Of each page of an area: where its copy stands.
+    // The place of the copy of each page of an area.
     places: Vec<Place>,
     pages: Vec<[u8; PAGE]>,
 }
@@ -35,7 +35,7 @@ impl Model for PageCopies {
     ghost invariant = { λ c. AreCopies c.places.items c.pages.items (vec_capacity c.pages) };
 }
 
-// The page without a copy.
+// The bytes of a page without a copy.
 fn blank() -> [u8; PAGE]
     ensures { result ≡ blank }
 {
@@ -43,7 +43,8 @@ fn blank() -> [u8; PAGE]
 }
 
 impl PageCopies {
-    /// No copy yet, with space for one of each of so many pages. `AllocError` where it is refused.
+    /// Makes space for one copy of each of `pages` pages, without a copy yet. Returns `AllocError` if the space is
+    /// refused.
     pub(crate) fn new(alloc: Global, pages: usize) -> Result<PageCopies, AllocError>
         ensures { IfOk result (λ copies. length copies ≡ pages) }
     {
@@ -52,7 +53,7 @@ impl PageCopies {
         Ok(PageCopies { places, pages })
     }
 
-    /// The copy of a page.
+    /// Returns the copy of a page.
     pub(crate) fn copy(&self, i: usize) -> [u8; PAGE]
         requires { i < length self.now }
         ensures { result ≡ copy_of self.now i }

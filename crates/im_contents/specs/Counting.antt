@@ -1,4 +1,4 @@
--- Who waits, counted over all cells. (Own.)
+-- The requests that wait, counted over all cells. (Own.)
 use Rattle.std.specs.Prelude.{◌≡◌, ℕ, ◌+◌, ◌≤◌, List, [], ◌∷◌, true, Option, None, Some}
 use Rattle.im_types.specs.declared.operations.Waiter.{Waiter}
 use Rattle.im_types.specs.declared.operations.Kept.{Kept}
@@ -12,12 +12,12 @@ abbrev pub all_times : Waiter → List (Option Held) → ℕ
 all_times who [] = 0
 all_times who (cell ∷ cells) = times who (waiters_in cell) + all_times who cells
 
--- 1 where what is kept waits
+-- 1 if what is kept waits, else 0
 abbrev pub waiting : Option Kept → ℕ
 waiting None = 0
 waiting (Some kept) = bit (is_waiting kept)
 
--- who stands in a list waits for that cell; who waits stands once in all lists, and nobody else stands there
+-- A request in a list waits for that cell. A request that waits is in all lists together once, and no other is in any.
 pub record AgreeByCount (cells : List (Option Held)) (kept : Waiter → Option Kept) : Type 0 where
   pub each : (who : Waiter) (a : ℕ) → 1 ≤ times who (waiters_at cells a)
       → waits_in a (held_at cells a) (kept who) ≡ true

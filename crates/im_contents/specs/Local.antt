@@ -1,16 +1,16 @@
--- Whether cells lie in blocks, by a look at each cell in turn. (Own.)
+-- Whether cells lie in blocks, found by a look at each cell in turn. (Own.)
 use Rattle.std.specs.Prelude.{◌≡◌, ℕ, ◌+◌, ◌<◌, ◌≤◌, List, Option, None, Some, length, slice_index_or}
 use Rattle.im_types.specs.declared.TheConstants.{NONE}
 use Rattle.im_types.specs.declared.operations.Block.{Block}
 use Rattle.im_types.specs.declared.records.CellRecord.{CellRecord}
 use Rattle.im_types.specs.declared.records.CellRecord.TheVariants.{Free as FreeCell, Held as BlockCell}
 
--- the block that a record's cell lies in
+-- the block of a record's cell
 abbrev pub block_of : CellRecord → Option Block
 block_of (FreeCell hole next) = None
 block_of (BlockCell block tag) = Some block
 
--- the block that the cell at an address lies in
+-- the block of the cell at an address
 abbrev pub block_in : List CellRecord → ℕ → Option Block
 block_in cells a = block_of (slice_index_or cells a (FreeCell 0 NONE))
 
@@ -18,21 +18,21 @@ block_in cells a = block_of (slice_index_or cells a (FreeCell 0 NONE))
 abbrev pub AreIn : List CellRecord → ℕ → ℕ → Block → Type 0
 AreIn cells from to block = (a : ℕ) → from ≤ a → a < to → block_in cells a ≡ Some block
 
--- a block begins at a place, stands below the cell count, and each of its cells says that it lies in it
+-- a block begins at a place, ends within the cells, and each of its cells says that it lies in it
 pub record IsBlockAt (cells : List CellRecord) (a : ℕ) (block : Block) : Type 0 where
   pub from : block.base ≡ a
   pub to : a < block.base + block.length
   pub below : block.base + block.length ≤ length cells
   pub whole : AreIn cells block.base (block.base + block.length) block
 
--- the cell at an address is one of a block's, whose cells all say so, and which ends before or at a place
+-- the cell at an address lies in a block that ends at or before a place, and all cells of the block say so
 pub record EndsBefore (cells : List CellRecord) (place a : ℕ) (block : Block) : Type 0 where
   pub from : block.base ≤ a
   pub to : a < block.base + block.length
   pub end : block.base + block.length ≤ place
   pub whole : AreIn cells block.base (block.base + block.length) block
 
--- the cells below a place lie in blocks that end before or at it
+-- the cells below a place lie in blocks that end at or before it
 abbrev pub HaveBlocksBelow : List CellRecord → ℕ → Type 0
 HaveBlocksBelow cells place = (a : ℕ) (block : Block) → a < place → block_in cells a ≡ Some block
     → EndsBefore cells place a block

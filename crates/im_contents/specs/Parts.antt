@@ -1,4 +1,4 @@
--- What records must have to show a memory, beside lists of waiters. (Own.)
+-- What records need to show a memory, besides lists of waiters. (Own.)
 use Rattle.std.specs.Prelude.{◌≡◌, ℕ, List, Some, length, slice_get}
 use Rattle.im_types.specs.declared.operations.Waiter.{Waiter}
 use Rattle.im_types.specs.declared.records.CellRecord.{CellRecord}
@@ -10,7 +10,7 @@ use Rattle.im_types.specs.Pages.{cells_shown}
 abbrev pub AreWindows : List Window → Type 0
 AreWindows windows = (element : ℕ) (w : Window) → slice_get windows element ≡ Some w → IsWindow w
 
--- so many cells and windows; windows within their bounds; and whole blocks, whoever waits
+-- this many cells and windows, windows within their bounds, and whole blocks, whoever waits
 pub record HaveParts (count elements : ℕ) (cells : List CellRecord) (windows : List Window) : Type 0 where
   pub cell_count : length cells ≡ count
   pub window_count : length windows ≡ elements

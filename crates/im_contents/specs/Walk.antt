@@ -1,5 +1,4 @@
--- Following links from node to node, with a mark on each node that was visited. A walk ends, whatever the links are.
--- (Own.)
+-- Following links from node to node, with a mark on each visited node. A walk ends, whatever the links are. (Own.)
 use Rattle.std.specs.Prelude.{ℕ, zero, suc, List, [], ◌∷◌, ◌++◌, length, replicate, Bool, true, false, ◌&&◌, not}
 use Rattle.std.specs.Prelude.{Option, None, Some, ◌==◌, slice_index_or, slice_set, if◌then◌else◌, option_and_then}
 use Rattle.im_types.specs.declared.TheConstants.{NONE}
@@ -12,12 +11,12 @@ use Rattle.im_types.specs.declared.records.NodeRecord.{NodeRecord}
 use Rattle.im_types.specs.declared.records.NodeRecord.TheVariants.{Free as FreeNode, Listed as ListNode}
 use Rattle.im_types.specs.Chains.{is_listed}
 
--- the waiters that a walk has met, in their order, and the marks as it leaves them
+-- the waiters that a walk has met, in their order, and its marks
 pub record Walked : Type 0 where
   pub waiters : List Waiter
   pub marks : List Bool
 
--- what stands in a node that no walk has visited; a node that one has visited, or that isn't there, is as good as free
+-- the content of a node that no walk has visited; a node that was visited, or isn't there, counts as free
 abbrev pub fresh : List Bool → List NodeRecord → ℕ → NodeRecord
 fresh marks nodes at = if slice_index_or marks at true then FreeNode NONE else slice_index_or nodes at (FreeNode NONE)
 
@@ -26,26 +25,26 @@ abbrev pub next_of : NodeRecord → ℕ
 next_of (FreeNode next) = next
 next_of (ListNode next who) = next
 
--- what a walk has met, behind these waiters
+-- these waiters, and then those that a walk has met
 abbrev pub behind : List Waiter → Option Walked → Option Walked
 behind front None = None
 behind front (Some w) = Some (record { waiters = front ++ w.waiters; marks = w.marks })
 
--- a walk from a node on, by what stands there and what the walk from the next one on meets
+-- a walk from a node on: it depends on the node and on the walk from the next node on
 abbrev pub visit : ℕ → ℕ → List Bool → NodeRecord → Option Walked → Option Walked
 visit last at marks (FreeNode next) rest = None
 visit last at marks (ListNode next who) rest =
     if next == NONE then (if at == last then Some (record { waiters = who ∷ []; marks = marks }) else None)
     else behind (who ∷ []) rest
 
--- a walk from a node on to the last one, over so many nodes at the most
+-- a walk from a node on to the last one, over at most this many nodes
 abbrev pub walk : List NodeRecord → ℕ → ℕ → List Bool → ℕ → Option Walked
 walk nodes last zero marks at = None
 walk nodes last (suc most) marks at =
     visit last at (slice_set marks at true) (fresh marks nodes at)
     (walk nodes last most (slice_set marks at true) (next_of (fresh marks nodes at)))
 
--- the walk over the list of a cell; where nobody waits there is none
+-- the walk over the list of a cell; there is none if nobody waits
 unfoldable pub walk_cell : List NodeRecord → CellRecord → List Bool → Option Walked
 walk_cell nodes (FreeCell hole next) marks = Some (record { waiters = []; marks = marks })
 walk_cell nodes (BlockCell block TagEmpty) marks = Some (record { waiters = []; marks = marks })
@@ -74,12 +73,12 @@ walk_all nodes [] marks = Some (record { lists = []; marks = marks })
 walk_all nodes (cell ∷ cells) marks =
     option_and_then (λ w. with_list w.waiters (walk_all nodes cells w.marks)) (walk_cell nodes cell marks)
 
--- whether a mark is as it should be
+-- whether a mark is right
 abbrev pub same_mark : Bool → Bool → Bool
 same_mark true b = b
 same_mark false b = not b
 
--- whether the nodes that were visited are those of lists
+-- whether exactly the nodes that belong to lists were visited
 abbrev pub are_reached : List Bool → List NodeRecord → Bool
 are_reached [] nodes = true
 are_reached (mark ∷ marks) [] = true

@@ -1,4 +1,4 @@
-//! Whether the cells that were read lie in blocks.
+//! Checks whether the cells that were read lie in blocks.
 ghost use Rattle.std.specs.Prelude.{◌≡◌, ◌<◌, ◌↔◌, List, Some, IsTrue, length};
 ghost use Rattle.im_types.specs.declared.operations.Waiter.{Waiter};
 ghost use Rattle.im_types.specs.Contents.{HasBlocks};
@@ -8,7 +8,7 @@ ghost use Rattle.im_contents.specs.Local.{block_of, block_in, AreIn, IsBlockAt};
 use im_cell::CellRow;
 use im_types::{Block, CellRecord, Kind};
 
-// The block that a record's cell lies in.
+// The block of a record's cell.
 fn block_of(cell: &CellRecord) -> Option<Block>
     ensures { result ≡ block_of cell.now }
 {
@@ -18,7 +18,7 @@ fn block_of(cell: &CellRecord) -> Option<Block>
     }
 }
 
-// The block that the cell at an address lies in.
+// The block of the cell at an address.
 fn block_in(cells: &CellRow, at: usize) -> Option<Block>
     requires { at < length cells.now }
     ensures { result ≡ block_in cells.now at }
@@ -35,7 +35,7 @@ fn is_same_kind(kind: Kind, other: Kind) -> bool
     }
 }
 
-// Whether a cell lies in this block.
+// Returns whether a cell lies in this block.
 fn is_in(cells: &CellRow, cell: usize, block: &Block) -> bool
     ensures { IsTrue result ↔ (block_in cells.now cell ≡ Some block.now) }
 {
@@ -52,7 +52,7 @@ fn is_in(cells: &CellRow, cell: usize, block: &Block) -> bool
     }
 }
 
-// Whether the cells from one place up to another lie in this block.
+// Returns whether the cells from `from` up to `to` all lie in this block.
 fn are_in(cells: &CellRow, from: usize, to: usize, block: &Block) -> bool
     ensures { IsTrue result ↔ AreIn cells.now from to block.now }
 {
@@ -64,7 +64,7 @@ fn are_in(cells: &CellRow, from: usize, to: usize, block: &Block) -> bool
     true
 }
 
-// Whether a block, in which the cell at an address lies, begins there, stands below the number of cells, and is whole.
+// Returns whether a block begins at `at`, ends within the cells, and is whole. The cell at `at` lies in the block.
 fn is_block_at(cells: &CellRow, at: usize, block: &Block) -> bool
     requires { block_in cells.now at ≡ Some block.now }
     ensures { IsTrue result ↔ IsBlockAt cells.now at block.now }
@@ -74,8 +74,8 @@ fn is_block_at(cells: &CellRow, at: usize, block: &Block) -> bool
     base == at && at < end && end <= cells.len() && are_in(cells, at + 1, end, block)
 }
 
-/// Whether the cells lie in blocks: each block stands below the number of cells, and each of its cells says that it
-/// lies in it. This doesn't depend on who waits. It looks once at each cell.
+/// Returns whether the cells lie in blocks: each block ends within the cells, and each of its cells says that it lies
+/// in it. The result doesn't depend on who waits. This looks at each cell once.
 pub fn are_blocks(cells: &CellRow) -> bool
     ensures { (lists : List (List Waiter)) → (IsTrue result) ↔ (HasBlocks (cells_shown cells.now lists)) }
 {

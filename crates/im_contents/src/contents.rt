@@ -1,4 +1,4 @@
-//! Which memory records show.
+//! Says which memory a list of records shows.
 ghost use Rattle.std.specs.Prelude.{◌≡◌, ◌≤◌, ◌⊎◌, ◌↔◌, List, IfOk, IfErr, IsErrOf, IsTrue, length};
 ghost use Rattle.im_types.specs.declared.TheConstants.{NONE};
 ghost use Rattle.im_types.specs.Contents.{Contents};
@@ -17,7 +17,7 @@ use im_records::WindowRecord;
 use im_types::{LAST, Limits, NodeRecord, Refusal};
 use std::alloc::Global;
 
-// Whether a window is within its bounds. It never has too many entries.
+// Returns whether a window is within its bounds. Its type already limits the number of entries.
 fn is_window(window: &WindowRecord) -> bool
     ensures { IsTrue result ↔ IsWindow window.now }
 {
@@ -26,7 +26,7 @@ fn is_window(window: &WindowRecord) -> bool
     1 <= base && base <= LAST + 1 && base + count <= LAST + 1
 }
 
-// Whether each window is within its bounds.
+// Returns whether each window is within its bounds.
 fn are_windows(windows: &[WindowRecord]) -> bool
     ensures { IsTrue result ↔ AreWindows windows.now }
 {
@@ -38,7 +38,8 @@ fn are_windows(windows: &[WindowRecord]) -> bool
     true
 }
 
-// Whether there are as many cells and windows as there should be, whole blocks, and windows within their bounds.
+// Returns whether the numbers of cells and windows are right, the blocks are whole, and the windows are within their
+// bounds.
 fn have_parts(limits: Limits, cells: &CellRow, windows: &[WindowRecord]) -> bool
     ensures { IsTrue result ↔ HaveParts limits.cells limits.elements cells.now windows.now }
 {
@@ -51,11 +52,11 @@ fn have_parts(limits: Limits, cells: &CellRow, windows: &[WindowRecord]) -> bool
     are_windows(windows) && are_blocks(cells)
 }
 
-/// The lists of waiters of the memory that these records show: with them the cells' records stand for its cells, and
-/// the windows are its own.
+/// Returns the lists of waiters of the memory that these records show. With them, the cells' records stand for its
+/// cells, and the windows are the memory's own.
 ///
-/// `BadPage` where the records show no memory, `NoMemory` where there is no room for the lists. It takes a step for
-/// each record and each entry.
+/// Returns `BadPage` if the records show no memory, and `NoMemory` if there is no room for the lists. It takes a step
+/// for each record and each entry.
 pub fn read_contents(
     alloc: Global,
     limits: Limits,
@@ -87,7 +88,7 @@ pub fn read_contents(
     }
 }
 
-/// The same records show no two memories.
+/// The same records don't show two memories.
 pub fn one_memory_is_shown()
     ensures { (s : Sizes) (r : Records) (m other : Contents) → length r.nodes ≤ NONE → ShowsRecords s r m
         → ShowsRecords s r other → m ≡ other }

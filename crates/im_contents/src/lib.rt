@@ -1,4 +1,4 @@
-//! Which memory the records of an image show: lists of waiters in linked nodes, blocks, and who waits for what.
+//! The memory that the records of an image show: lists of waiters in linked nodes, blocks, and who waits for what.
 #![tactic(auto)]
 
 mod blocks;

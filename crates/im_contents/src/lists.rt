@@ -5,9 +5,9 @@ ghost use Rattle.std.specs.List.{sum_by};
 use im_types::Waiter;
 use std::marker::Model;
 
-/// Lists of waiters, one for each cell. Contracts see the lists, by cell.
+/// Lists of waiters, one for each cell. Contracts see the lists by cell.
 ///
-/// The waiters stand in one row, in order of their cells, so that lists of nobody take the room of a number each.
+/// The waiters stand in one row, in the order of their cells. So an empty list takes the room of one number.
 #[derive(Drop)]
 pub struct Lists {
     pub(crate) waiters: Vec<Waiter>,
@@ -27,21 +27,21 @@ impl Model for Lists {
 }
 
 impl Lists {
-    /// How many cells there are.
+    /// Returns the number of cells.
     pub fn len(&self) -> usize
         ensures { result ≡ length self.now }
     {
         self.ends.len()
     }
 
-    /// Whether nobody waits at any cell. It takes one step.
+    /// Returns whether nobody waits at any cell. It takes one step.
     pub fn has_nobody(&self) -> bool
         ensures { result ≡ (sum_by length self.now == 0) }
     {
         self.waiters.is_empty()
     }
 
-    /// Who waits at a cell, in their order. It takes one step.
+    /// Returns the waiters of a cell, in their order. It takes one step.
     pub fn at(&self, cell: usize) -> &[Waiter]
         requires { cell < length self.now }
         ensures { result.now ≡ slice_index_or self.now cell [] }
@@ -52,7 +52,7 @@ impl Lists {
     }
 }
 
-// Where a list begins: where the one before it ends.
+// A list begins where the list before it ends.
 fn start_of(ends: &[usize], cell: usize) -> usize
     requires { cell < length ends.now }
     ensures { result ≡ slice_index_or (0 ∷ ends.now) cell 0 }

@@ -1,4 +1,4 @@
-//! Whether who waits at the cells is who has a waiting entry.
+//! Compares who waits at the cells with the entries that wait.
 ghost use Rattle.std.specs.Prelude.{◌≡◌, ◌+◌, ◌*◌, ◌≤◌, ◌<◌, ◌↔◌, [], ℕ, Some, None, IfOk, IsSome, IsTrue, length};
 ghost use Rattle.std.specs.Prelude.{replicate, false, slice_index_or, if◌then◌else◌};
 ghost use Rattle.im_types.specs.Contents.{kept_under, kept_for};
@@ -14,10 +14,10 @@ use im_records::WindowRecord;
 use im_types::{CellRecord, Entry, Kept, Kind, Op, PresenceTag, WINDOW, Waiter};
 use std::alloc::{AllocError, Global};
 
-// How many entries a window keeps at the most.
+// The maximum number of entries in a window.
 const PLACES: usize = WINDOW as usize;
 
-// What is kept under a number, if it is.
+// The entry kept under a number, if there is one.
 fn kept_under(window: &WindowRecord, number: u64) -> Option<Kept>
     ensures { result ≡ kept_under window.now number }
 {
@@ -28,7 +28,7 @@ fn kept_under(window: &WindowRecord, number: u64) -> Option<Kept>
     window.kept().get((number - base) as usize).copied()
 }
 
-// What is kept for a request, if anything is.
+// The entry kept for a request, if there is one.
 fn kept_for(windows: &[WindowRecord], who: Waiter) -> Option<Kept>
     ensures { result ≡ kept_for windows.now who }
 {
@@ -39,7 +39,7 @@ fn kept_for(windows: &[WindowRecord], who: Waiter) -> Option<Kept>
     kept_under(&windows[element], who.number)
 }
 
-// Whether an entry waits.
+// Returns whether an entry waits.
 fn is_waiting(kept: &Kept) -> bool
     ensures { result ≡ is_waiting kept.now }
 {
@@ -49,7 +49,7 @@ fn is_waiting(kept: &Kept) -> bool
     }
 }
 
-// Whether an entry waits for a cell of this kind.
+// Returns whether an entry waits for this cell, of this kind.
 fn waits_for(kind: Kind, address: usize, kept: &Kept) -> bool
     ensures { result ≡ waits_for (awaiting kind address) (Some kept.now) }
 {
@@ -60,7 +60,7 @@ fn waits_for(kind: Kind, address: usize, kept: &Kept) -> bool
     }
 }
 
-// The place of a request's entry.
+// The place of a request's entry among the marks.
 fn place_of(windows: &[WindowRecord], who: Waiter) -> usize
     requires few { AreFew windows.now }
     requires kept { IsSome (kept_for windows.now who) }
@@ -71,7 +71,7 @@ fn place_of(windows: &[WindowRecord], who: Waiter) -> usize
     PLACES * element + (who.number - windows[element].base()) as usize
 }
 
-// Marks a request's entry, if it waits for this cell and isn't marked yet. Whether it is so.
+// Marks a request's entry. Returns whether it waits for this cell and wasn't marked before.
 fn mark(
     kind: Kind,
     address: usize,
@@ -98,7 +98,7 @@ fn mark(
     true
 }
 
-// Marks the entries of those who wait at a cell.
+// Marks the entries of the waiters of a cell.
 fn mark_list(
     kind: Kind,
     address: usize,
@@ -119,7 +119,7 @@ fn mark_list(
     true
 }
 
-// The same for a cell: only where its presence tag says so does someone wait.
+// Like `mark_list`, for a cell. Its waiters count only if its presence tag says that someone waits.
 fn mark_cell(
     address: usize,
     cell: &CellRecord,
@@ -143,7 +143,7 @@ fn mark_cell(
     }
 }
 
-// The same for all cells; where nobody waits at any, it takes one step.
+// Like `mark_cell`, for all cells. It takes one step if nobody waits at any cell.
 fn mark_all(cells: &CellRow, lists: &Lists, windows: &[WindowRecord], marks: &mut [bool]) -> bool
     requires few { AreFew windows.now }
     requires places { length marks.old ≡ WINDOW * length windows.now }
@@ -162,7 +162,7 @@ fn mark_all(cells: &CellRow, lists: &Lists, windows: &[WindowRecord], marks: &mu
     true
 }
 
-// Whether each waiting entry of a window is marked; the first entry's mark is at this place.
+// Returns whether each waiting entry of a window is marked. The first entry's mark is at `first`.
 fn is_marked(kept: &[Kept], first: usize, marks: &[bool]) -> bool
     requires { first + length kept.now ≤ length marks.now }
     ensures { IsTrue result ↔ ListMarked kept.now first marks.now }
@@ -175,7 +175,7 @@ fn is_marked(kept: &[Kept], first: usize, marks: &[bool]) -> bool
     true
 }
 
-// Whether each waiting entry is marked.
+// Returns whether each waiting entry is marked.
 fn are_marked(windows: &[WindowRecord], marks: &[bool]) -> bool
     requires few { AreFew windows.now }
     requires places { length marks.now ≡ WINDOW * length windows.now }
@@ -189,8 +189,8 @@ fn are_marked(windows: &[WindowRecord], marks: &[bool]) -> bool
     true
 }
 
-// Whether each request in a list has a waiting entry for its cell, none stands twice, and each waiting entry is of one
-// of them. No entry is marked yet.
+// Returns whether each request in a list has a waiting entry for its cell, no request stands twice, and each waiting
+// entry is of a request in a list. No entry is marked before.
 fn agree_by_marks(
     cells: &CellRow,
     lists: &Lists,
@@ -205,11 +205,12 @@ fn agree_by_marks(
     mark_all(cells, lists, windows, marks) && are_marked(windows, marks)
 }
 
-/// Whether who waits at the cells is who has a waiting entry: each request in a list has an entry that waits for that
-/// very cell, it stands once in all lists, and each entry that waits is that of a request in a list.
+/// Returns whether the waiters at the cells and the waiting entries agree. They agree on three conditions. Each request
+/// in a list has an entry that waits for that cell. It stands once in all lists. Each waiting entry is of a request in
+/// a list.
 ///
-/// `AllocError` where there is no room for a mark for each entry. It takes a step for each cell, each waiter and each
-/// entry.
+/// Returns `AllocError` if there is no room for a mark for each entry. It takes a step for each cell, each waiter and
+/// each entry.
 pub fn agree(
     alloc: Global,
     cells: &CellRow,

@@ -1,4 +1,4 @@
-//! Lists of waiters, read from linked nodes whatever the links are.
+//! Reads lists of waiters from linked nodes, whatever the links are.
 ghost use Rattle.std.specs.Prelude.{◌≡◌, ◌≤◌, ◌⊎◌, List, Option, Some, None, IfOk, IfErr, IsErrOf, length, replicate};
 ghost use Rattle.std.specs.Prelude.{false, if◌then◌else◌};
 ghost use Rattle.im_types.specs.declared.operations.Waiter.{Waiter};
@@ -12,7 +12,7 @@ use im_cell::CellRow;
 use im_types::{CellRecord, NONE, NodeRecord, PresenceTag, Refusal, Waiter};
 use std::alloc::{AllocError, Global};
 
-// What stands in a node that no walk has visited; a node that one has visited, or that isn't there, is as good as free.
+// The content of a node that no walk has visited. A node that was visited, or isn't there, counts as free.
 fn fresh(marks: &[bool], nodes: &[NodeRecord], at: u32) -> NodeRecord
     ensures { result ≡ fresh marks.now nodes.now at }
 {
@@ -24,8 +24,8 @@ fn fresh(marks: &[bool], nodes: &[NodeRecord], at: u32) -> NodeRecord
     }
 }
 
-// Follows the links from a first node to a last one, marks each node and keeps its waiter. Whether there is such a
-// list.
+// Follows the links from a first node to a last one, marks each node and keeps its waiter. Returns whether there is
+// such a list.
 fn walk(
     nodes: &[NodeRecord],
     first: u32,
@@ -52,7 +52,7 @@ fn walk(
     Ok(false)
 }
 
-// Keeps the waiters of a cell, if its list is in order.
+// Keeps the waiters of a cell if its list is in order.
 #[tactic(auto, unfolding(crate::specs::Walk::walk_cell))]
 fn walk_cell(
     nodes: &[NodeRecord],
@@ -73,7 +73,7 @@ fn walk_cell(
     }
 }
 
-// Whether a node is one of a list.
+// Returns whether a node belongs to a list.
 fn is_listed(node: &NodeRecord) -> bool
     ensures { result ≡ is_listed node.now }
 {
@@ -83,7 +83,7 @@ fn is_listed(node: &NodeRecord) -> bool
     }
 }
 
-// Whether the nodes that were visited are those of lists.
+// Returns whether exactly the nodes that belong to a list were visited.
 fn are_reached(marks: &[bool], nodes: &[NodeRecord]) -> bool
     requires { length marks.now ≡ length nodes.now }
     ensures { result ≡ are_reached marks.now nodes.now }
@@ -96,7 +96,7 @@ fn are_reached(marks: &[bool], nodes: &[NodeRecord]) -> bool
     true
 }
 
-// The lists of all cells, if each is in order and each node of a list is in one of them. No node is marked yet.
+// The lists of all cells, if each list is in order and each node of a list is in one of them. No node is marked before.
 fn find_lists(
     alloc: Global,
     nodes: &[NodeRecord],
@@ -121,10 +121,11 @@ fn find_lists(
     }
 }
 
-/// The lists of waiters that stand in the nodes of an image, a list for each cell: each begins and ends where its
-/// cell's presence tag says, and each node that is marked as one of a list stands once in one of them.
+/// Reads the lists of waiters from the nodes of an image, one list for each cell. Each list begins and ends where its
+/// cell's presence tag says. Each node that is marked as part of a list stands once in one of them.
 ///
-/// `BadPage` where there are no such lists, `NoMemory` where there is no room for them. It ends whatever the links are.
+/// Returns `BadPage` only if there are no such lists, and `NoMemory` if there is no room for them. It ends whatever the
+/// links are.
 pub fn read_lists(alloc: Global, nodes: &[NodeRecord], cells: &CellRow) -> Result<Lists, Refusal>
     requires { length nodes.now ≤ NONE }
     ensures found { IfOk result (λ lists. ShowLists nodes.now cells.now lists) }
@@ -143,7 +144,7 @@ pub fn read_lists(alloc: Global, nodes: &[NodeRecord], cells: &CellRow) -> Resul
     }
 }
 
-/// The same records show no two lists of waiters for a cell.
+/// The same records don't show two lists of waiters for a cell.
 pub fn one_list_is_shown()
     ensures { (nodes : List NodeRecord) (cells : List CellRecord) (lists others : List (List Waiter))
         → length nodes ≤ NONE

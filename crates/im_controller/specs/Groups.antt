@@ -1,4 +1,4 @@
--- Groups of requests under the lock: how they are taken out of the inbox, and what lending one does. (Own.)
+-- Groups of requests under the lock: how they are taken out of the inbox, and what lending a group does. (Own.)
 use Rattle.std.specs.Prelude.{◌≡◌, ℕ, ◌+◌, ◌-◌, ◌<◌, ◌≤◌, ◌==◌, min, List, [], ◌∷◌, ◌++◌, Bool, true, false, Option}
 use Rattle.std.specs.Prelude.{None, Some, Result, Ok, Err, length, map, slice_get, if◌then◌else◌}
 use Rattle.im_types.specs.declared.TheConstants.{LAST}
@@ -46,7 +46,7 @@ stored_at (Store a v) = Some a
 stored_at (Take a) = None
 stored_at (Put a v) = None
 
--- two operations don't store at one address
+-- these addresses, if both are there, differ
 abbrev pub are_apart_at : Option ℕ → Option ℕ → Bool
 are_apart_at None b = true
 are_apart_at (Some a) None = true
@@ -56,12 +56,12 @@ are_apart_at (Some a) (Some b) = if a == b then false else true
 abbrev pub are_together : Op → Op → Bool
 are_together earlier later = if is_social earlier then (if is_social later then are_apart_at (stored_at earlier) (stored_at later) else false) else false
 
--- an operation may stand in a group behind these requests
+-- an operation may stand in a group after these requests
 abbrev pub MayJoin : Op → List Request → Type 0
 MayJoin op [] = Unit {0}
 MayJoin op (r ∷ rs) = (are_together r.op op ≡ true) × MayJoin op rs
 
--- these may stand behind an operation
+-- these requests may stand in a group after an operation
 abbrev pub MayFollow : Op → List Request → Type 0
 MayFollow op [] = Unit {0}
 MayFollow op (r ∷ rs) = (are_together op r.op ≡ true) × MayFollow op rs
@@ -81,7 +81,7 @@ abbrev pub AreFreeFor : List (Option UnclaimedState) → List Request → Type 0
 AreFreeFor places [] = Unit {0}
 AreFreeFor places (r ∷ rs) = (slice_get places r.element ≡ Some None) × AreFreeFor places rs
 
--- a group of requests of elements below this one, whose answers have free places
+-- a group of requests of elements below this one; their answers have free places
 pub record Gathers (places : List (Option UnclaimedState)) (element : ℕ) (rs : List Request) : Type 0 where
   pub apart : AreApart rs
   pub free : AreFreeFor places rs
@@ -106,13 +106,13 @@ with_all_unclaimed l (r ∷ rs) (answer ∷ answers) = with_all_unclaimed (with_
 abbrev pub IsAnswerTo : Contents → Request → Result Outcome Refusal → Type 0
 IsAnswerTo m r answer = leaves_line answer ≡ true → answer ≡ answer_to m (Commands (Asks r))
 
--- so are these, each at the memory after those before it
+-- each of these answers is the memory's, at the memory after the answers before it
 abbrev pub AreAnswersTo : Contents → List Request → List (Result Outcome Refusal) → Type 0
 AreAnswersTo m [] answers = Unit {0}
 AreAnswersTo m (r ∷ rs) [] = ⊥
 AreAnswersTo m (r ∷ rs) (answer ∷ answers) = IsAnswerTo m r answer × AreAnswersTo (memory_after m (Commands (Asks r)) answer) rs answers
 
--- the memory after them
+-- the memory after these answers
 abbrev pub memory_after_all : Contents → List Request → List (Result Outcome Refusal) → Contents
 memory_after_all m [] answers = m
 memory_after_all m (r ∷ rs) [] = m
@@ -123,7 +123,8 @@ abbrev pub lines_left : List (Result Outcome Refusal) → ℕ
 lines_left [] = 0
 lines_left (answer ∷ answers) = (if leaves_line answer then 1 else 0) + lines_left answers
 
--- The members' answers, with room for so many lines: `TraceFull` where there is none, unless the engine has failed; else the engine's.
+-- The members' answers, given the lines that the trace has room for. They are `TraceFull` if it has room for none,
+-- unless the engine has failed, and else the engine's.
 pub record MembersAnswered {D : Type 0} (old : EngineState D) (room : ℕ) (members : List Request) (answers : List Served) (new : EngineState D) : Type 0 where
   pub full : old.failed ≡ false → room ≡ 0 → (answers ≡ all_refused TraceFull members) × (new ≡ old)
   pub dead : old.failed ≡ true → GroupAnswered old members answers new
@@ -131,11 +132,11 @@ pub record MembersAnswered {D : Type 0} (old : EngineState D) (room : ℕ) (memb
 
 -- ---- the members for whose changes the pane has room
 
--- how many commands an engine takes that has come so far: as many as the journal has room for, and none behind the last count that there is
+-- how many more commands an engine takes: as many as the journal has room for, but none after the last count
 abbrev pub places_left : {D : Type 0} → EngineState D → ℕ
 places_left e = if LAST - e.count == 0 then e.room else min e.room (LAST - e.count)
 
--- the same where it is alive and the trace has room for so many lines, and else none
+-- the same, and 0 if the engine has failed or the trace has room for no line
 abbrev pub places_with : {D : Type 0} → EngineState D → ℕ → ℕ
 places_with e room = if e.failed then 0 else if room == 0 then 0 else places_left e
 
@@ -146,7 +147,7 @@ those (b ∷ bs) [] = []
 those (true ∷ bs) (r ∷ rs) = r ∷ those bs rs
 those (false ∷ bs) (r ∷ rs) = those bs rs
 
--- each other one would be put on the disk, by the memory before the group and where there is room for so many
+-- Each member that isn't lent would be put on the disk, by the memory before the group, and while places are left.
 abbrev pub AreRoomless : Contents → ℕ → List Bool → List Request → Type 0
 AreRoomless m left [] rs = rs ≡ []
 AreRoomless m left (b ∷ bs) [] = ⊥
@@ -164,36 +165,38 @@ next_answer true [] = Unserved
 next_answer true (s ∷ ss) = s
 next_answer false ss = Refused NoMemory
 
--- the answers behind it
+-- the answers after it
 abbrev pub answers_left : Bool → List Served → List Served
 answers_left true [] = []
 answers_left true (s ∷ ss) = ss
 answers_left false ss = ss
 
--- the answers to all members, by those to the ones that are lent
+-- the answers to all members, given the answers to those that are lent
 abbrev pub spread : List Bool → List Served → List Served
 spread [] ss = []
 spread (b ∷ bs) ss = next_answer b ss ∷ spread bs (answers_left b ss)
 
--- A group that is lent to the engine: its members' commands lent one after another, but that their ports take the answers later, and count the lines then.
+-- A group that is lent to the engine: its members' commands are lent one after another. Their ports take the answers
+-- later, and count the lines then.
 pub record LendsGroup {D : Type 0} (s : SharedState D) (members : List Request) (roomy : List Bool) (s' : SharedState D) : Type 0 where
   pub answers : List Served
-  -- those for whose changes the pane has no room aren't lent, and are refused for want of memory
+  -- members for whose changes the pane has no room aren't lent, and are refused for want of memory
   pub lent : List Served
   pub spread_is : answers ≡ spread roomy lent
   pub roomless : AreRoomless s.engine.memory (places_with s.engine (s.log.limit - length s.log.trace)) roomy members
-  -- where the engine has failed or the trace is full, all are lent
+  -- if the engine has failed or the trace is full, all are lent
   pub all : places_with s.engine (s.log.limit - length s.log.trace) ≡ 0 → (those roomy members ≡ members) × (answers ≡ lent)
   pub full : s.engine.failed ≡ false → s.log.limit ≤ length s.log.trace → (lent ≡ all_refused TraceFull (those roomy members)) × (s'.engine ≡ s.engine)
   pub dead : s.engine.failed ≡ true → GroupAnswered s.engine (those roomy members) lent s'.engine
   pub served : length s.log.trace < s.log.limit → GroupAnswered s.engine (those roomy members) lent s'.engine
   pub log : s'.log ≡ with_all_unclaimed s.log members (map answer_in answers)
   pub servers : s'.servers ≡ s.servers
-  -- all that the group changed is shown then, and nothing where the engine has failed
+  -- all that the group changed is shown then, or nothing if the engine has failed
   pub shown : s'.engine.failed ≡ false → s'.shown ≡ s.shown ++ changes_put_all s.engine.memory (places_with s.engine (s.log.limit - length s.log.trace)) (those roomy members)
   pub hidden : s'.engine.failed ≡ true → s'.shown ≡ s.shown
 
--- what a port has of one holding of the lock: nothing yet, or the answer to its request, whose line is counted
+-- what a port gets while it holds the lock once: nothing yet, or the answer to its request, and then the line is
+-- counted
 abbrev pub Holds : (Line → Bool) → Counts → Request → Option (Result ReceiptState Refusal) → Counts → Type 0
 Holds marks t r None t' = t' ≡ t
 Holds marks t r (Some answer) t' = (t' ≡ counts_after marks t (lines_of (Commands (Asks r)) (plain answer))) × IsOf (Asks r) answer

@@ -1,4 +1,4 @@
--- What a crash leaves of an engine since a trace of its answers began. (Own.)
+-- What a crash leaves of an engine after a trace of its answers began. (Own.)
 use Rattle.std.specs.Prelude.{◌≡◌, ◌⊎◌, ℕ, ◌+◌, ◌≤◌, Bool, true, false, List, [], ◌++◌, length, take, Some}
 use Rattle.im_types.specs.declared.commands.Command.{Command}
 use Rattle.im_types.specs.declared.commands.Line.{Line}
@@ -10,7 +10,8 @@ use Rattle.im_disk.specs.Moment.{Moment, Rises}
 use Rattle.im_disk.specs.Since.{Leaves, LeavesNow}
 use Rattle.im_engine.specs.State.{EngineState}
 
--- an engine as its trace begins, without its memory: what is known of its disk, the count of all commands, and whether the disk has failed it
+-- an engine when its trace begins, without its memory: what is known of its disk, the count of all commands, and
+-- whether it has failed
 pub record Begun : Type 0 where
   pub now : Moment
   pub past : List Moment
@@ -18,7 +19,7 @@ pub record Begun : Type 0 where
   pub count : ℕ
   pub failed : Bool
 
--- the same of an engine, by what is known of its disk
+-- the same of an engine, given what is known of its disk
 abbrev pub begun_in : {D : Type 0} → (D → Moment) → (D → List Moment) → (D → ℕ) → EngineState D → Begun
 begun_in now past failures e = record { now = now e.disk; past = past e.disk; failures = failures e.disk; count = e.count; failed = e.failed }
 
@@ -26,11 +27,11 @@ begun_in now past failures e = record { now = now e.disk; past = past e.disk; fa
 abbrev pub accepted_in : Contents → List Line → List Command
 accepted_in m trace = accepted m (commands_of trace)
 
--- the file means the memory after so many of these commands
+-- the file means the memory after the given number of these commands
 abbrev pub MeansThrough : Contents → ℕ → List Command → ℕ → List ℕ → Type 0
 MeansThrough m count commands many file = Means (after m (take many commands)) (count + many) 0 file
 
--- the file means the memory after a beginning of these commands
+-- the file means the memory after a prefix of these commands
 abbrev pub MeansSome : Contents → ℕ → List Command → List ℕ → Type 0
 MeansSome m count commands file = (many : ℕ) × (many ≤ length commands) × MeansThrough m count commands many file
 
@@ -38,8 +39,9 @@ MeansSome m count commands file = (many : ℕ) × (many ≤ length commands) × 
 abbrev pub MeansAll : Contents → ℕ → List Command → List ℕ → Type 0
 MeansAll m count commands file = MeansThrough m count commands (length commands) file
 
--- Since the trace began these commands were acknowledged, and others are in doubt where a call of the disk has failed. A crash
--- leaves the memory after a beginning of them; and now it has all that were acknowledged, and all that are in doubt or none of these.
+-- Since the trace began these commands were acknowledged. If a call of the disk has failed, others are in doubt. A
+-- crash leaves the memory after a prefix of all of them. Now it has all acknowledged commands, and those in doubt all
+-- or none.
 pub record HasKept {D : Type 0} (now : D → Moment) (past : D → List Moment) (failures : D → ℕ) (b : Begun) (m : Contents) (told : List Command) (engine : EngineState D) : Type 0 where
   pub doubt : List Command
   pub sure : engine.failed ≡ false → doubt ≡ []
@@ -48,6 +50,6 @@ pub record HasKept {D : Type 0} (now : D → Moment) (past : D → List Moment) 
   pub count : engine.failed ≡ false → engine.count ≡ b.count + length told
   pub leaves : Leaves b.now (now engine.disk) b.past (past engine.disk) (MeansSome m b.count (told ++ doubt))
   pub last : LeavesNow (now engine.disk) (λ file. MeansAll m b.count told file ⊎ MeansAll m b.count (told ++ doubt) file)
-  -- the count of failures rose where the engine has failed, and else stayed
+  -- the count of failures rose if the engine has failed, and stayed if it hasn't
   pub rose : engine.failed ≡ true → Rises b.failures (failures engine.disk)
   pub stayed : engine.failed ≡ false → failures engine.disk ≡ b.failures

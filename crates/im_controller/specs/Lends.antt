@@ -31,12 +31,12 @@ use Rattle.im_controller.specs.Servers.{entry_at, is_answered, is_waiting, are_s
 use Rattle.im_controller.specs.Planned.{has_command}
 use Rattle.im_controller.specs.State.{SharedState, PortState}
 
--- the line of a call, if it leaves one, stands in the log; the servers stay
+-- a call's line, if it leaves one, is in the log; the servers stay
 pub record Leaves {D : Type 0} (s : SharedState D) (call : Call) (answer : Result Outcome Refusal) (s' : SharedState D) : Type 0 where
   pub log : s'.log ≡ with_line s.log call answer
   pub servers : s'.servers ≡ s.servers
 
--- whether a command is put on the disk, where there is room for so many
+-- whether a command is put on the disk, given how many commands there is room for
 abbrev pub is_taken : Contents → ℕ → Command → Bool
 is_taken m left command = is_accepted m command && nat_lt 0 left
 
@@ -44,33 +44,35 @@ is_taken m left command = is_accepted m command && nat_lt 0 left
 abbrev pub changes_put : Contents → ℕ → Command → List Change
 changes_put m left command = if is_taken m left command then change_by m command ∷ [] else []
 
--- what is shown of a command with this answer
+-- what is shown of a command that has this answer
 abbrev pub shows : Contents → Command → Result Outcome Refusal → List Change
 shows m command (Ok outcome) = changes_at m command
 shows m command (Err refusal) = []
 
--- the pane has no room for what a command changes that would be put on the disk: nothing is changed
+-- the pane has no room for the change of a command that would be put on the disk: nothing is changed
 pub record IsRoomless {D : Type 0} (s : SharedState D) (command : Command) (answer : Result ReceiptState Refusal) (s' : SharedState D) : Type 0 where
   pub accepted : is_taken s.engine.memory s.engine.room command ≡ true
   pub refused : answer ≡ Err NoMemory
   pub same : s' ≡ s
 
--- A command that is lent to the engine, by its answer. Refused first where the engine has failed, and then where the trace is full.
+-- A command that is lent to the engine, with its answer. It is refused first if the engine has failed, and then if the
+-- trace is full.
 pub record Lends {D : Type 0} (marks : Line → Bool) (plan : Option (List Request)) (s : SharedState D) (t : Counts) (command : Command) (answer : Result ReceiptState Refusal) (s' : SharedState D) (t' : Counts) : Type 0 where
   pub dead : s.engine.failed ≡ true → (answer ≡ Err Failed) × (s' ≡ s)
   pub full : s.engine.failed ≡ false → s.log.limit ≤ length s.log.trace → (answer ≡ Err TraceFull) × (s' ≡ s)
-  -- then where there is a plan that doesn't have its operation under its number
+  -- then if there is a plan that doesn't have its operation under its number
   pub off : s.engine.failed ≡ false → length s.log.trace < s.log.limit → has_command plan command ≡ false → (answer ≡ Err OffPlan) × (s' ≡ s)
-  -- else the engine answers it, and its line is left where it has an outcome or a refusal of numbers; or the pane has no room for its change
+  -- Else the engine answers it, and its line is left if the answer is an outcome or a refusal of numbers. Or the pane
+  -- has no room for its change.
   pub served : s.engine.failed ≡ false → length s.log.trace < s.log.limit → has_command plan command ≡ true →
       (Answered s.engine command (plain answer) s'.engine × Leaves s (Commands command) (plain answer) s') ⊎ IsRoomless s command answer s'
-  -- its port has counted the line, if there is one, and an outcome has the trace that ends in it
+  -- its port has counted the line, if there is one; an outcome has the trace that ends in the line
   pub tally : t' ≡ counts_after marks t (lines_of (Commands command) (plain answer))
-  -- the change of an accepted command is shown where it has an outcome, and the outcome has what is shown then
+  -- the change of an accepted command is shown if it has an outcome, and the outcome has what is shown then
   pub shown : s'.shown ≡ s.shown ++ shows s.engine.memory command (plain answer)
   pub receipt : answer ≡ receipt_for s'.log.trace s'.shown command (plain answer)
 
--- A collect, in the same order of refusals: the engine stays, and its line is left.
+-- A collect, with the refusals in the same order. The engine stays, and the line is left.
 pub record Looks {D : Type 0} (marks : Line → Bool) (s : SharedState D) (t : Counts) (element number : ℕ) (answer : Result Entry Refusal) (s' : SharedState D) (t' : Counts) : Type 0 where
   pub dead : s.engine.failed ≡ true → (answer ≡ Err Failed) × (s' ≡ s)
   pub full : s.engine.failed ≡ false → s.log.limit ≤ length s.log.trace → (answer ≡ Err TraceFull) × (s' ≡ s)
@@ -79,7 +81,8 @@ pub record Looks {D : Type 0} (marks : Line → Bool) (s : SharedState D) (t : C
   pub tally : t' ≡ counts_after marks t (lines_of (Collect element number) (told answer))
   pub shown : s'.shown ≡ s.shown
 
--- a turn of a checkpoint, as who lends it is told: there is nothing to do, though the journal is full
+-- a turn of a checkpoint, as its lender is told; it is `JournalFull` if there is nothing to do although the journal is
+-- full
 abbrev pub told_turn : ℕ → Result TurnDone Refusal → Result TurnDone Refusal
 told_turn room (Ok Idle) = if room == 0 then Err JournalFull else Ok Idle
 told_turn room answer = answer
@@ -101,23 +104,24 @@ pub record LendsTurn {D : Type 0} (s : SharedState D) (answer : Result TurnDone 
 abbrev pub standing_in : {D : Type 0} → SharedState D → Standing
 standing_in s = record { waits = count_by is_waiting s.servers; room = s.engine.room }
 
--- what lies under the lock, and an element's server, if it is active, does something else
+-- what lies under the lock after an element's server, if it is active or waits, does something else
 abbrev pub with_server_at : {D : Type 0} → SharedState D → ℕ → Server → SharedState D
 with_server_at s element server = record { engine = s.engine; log = s.log; servers = with_server s.servers element server; shown = s.shown }
 
--- An element's port is made exactly where its server had none yet: it was told no line, and the server is active. Else all is as it was.
+-- An element's port is made exactly if its server had none yet. It was told no line, and the server is active. Else all
+-- is as it was.
 pub record MakesPort {D : Type 0} (s : SharedState D) (element : ℕ) (answer : Result PortState Refusal) (s' : SharedState D) : Type 0 where
   pub made : slice_get s.servers element ≡ Some Unmade → answer ≡ Ok (record { element = element; told = record { lines = 0; marked = 0 } })
   pub active : slice_get s.servers element ≡ Some Unmade → s' ≡ record { engine = s.engine; log = s.log; servers = slice_set s.servers element Active; shown = s.shown }
   pub none : slice_get s.servers element ≢ Some Unmade → answer ≡ Err NoElement
   pub same : slice_get s.servers element ≢ Some Unmade → s' ≡ s
 
--- A server asks whether it may wait for an entry: it waits from then on exactly where it is told to.
+-- A server asks whether it may wait for an entry. It waits from then on exactly if it is told `Wait`.
 pub record BeginsWait {D : Type 0} (s : SharedState D) (element number : ℕ) (answer : Result Ask Refusal) (s' : SharedState D) : Type 0 where
   pub dead : s.engine.failed ≡ true → (answer ≡ Err Failed) × (s' ≡ with_server_at s element Active)
   pub refused : (refusal : Refusal) → s.engine.failed ≡ false → entry_at s.engine.memory element number ≡ Err refusal → (answer ≡ Err refusal) × (s' ≡ with_server_at s element Active)
   pub ready : s.engine.failed ≡ false → is_answered (entry_at s.engine.memory element number) ≡ true → (answer ≡ Ok Go) × (s' ≡ with_server_at s element Active)
-  -- each active server waits, the caller's too, and none of their entries is answered
+  -- each active server waits, the caller's included, and none of their entries is answered
   pub stalled : s.engine.failed ≡ false → entry_at s.engine.memory element number ≡ Ok Waiting → are_stuck s.engine.memory element 0 s.servers ≡ true
       → (answer ≡ Err Stalled) × (s' ≡ with_server_at s element Active)
   pub waits : s.engine.failed ≡ false → entry_at s.engine.memory element number ≡ Ok Waiting → are_stuck s.engine.memory element 0 s.servers ≡ false

@@ -1,4 +1,4 @@
--- The log: a trace with the answers that wait for their ports, and the receipts that go out of it. (Own.)
+-- The log: a trace with the answers that wait for their ports, and the receipts that are taken from it. (Own.)
 use Rattle.std.specs.Prelude.{◌≡◌, ℕ, ◌+◌, ◌≤◌, ◌++◌, List, [], Bool, Option, None, Some, Result, Ok, Err, length}
 use Rattle.std.specs.Prelude.{slice_get, slice_set, count_by, sum_by}
 use Rattle.std.specs.List.{AllByRecursion}
@@ -18,14 +18,14 @@ use Rattle.im_types.specs.declared.changes.Change.{Change}
 use Rattle.im_types.specs.Changes.{shown_by}
 use Rattle.im_controller.specs.Lines.{EndsIn, Counts, line_of, lines_of, counts_after}
 
--- what a command came to, the trace that its line ends, and what was shown by the time that it was told
+-- a command, its outcome, the trace that ends in its line, and what was shown when its port was told
 pub record ReceiptState : Type 0 where
   pub command : Command
   pub outcome : Outcome
   pub history : List Line
   pub told : List Change
 
--- what was kept under a number, and the trace that the line of this collect ends
+-- what was kept under a number, and the trace that ends in the line of this collect
 pub record FoundState : Type 0 where
   pub element : ℕ
   pub number : ℕ
@@ -49,12 +49,12 @@ abbrev pub plain : Result ReceiptState Refusal → Result Outcome Refusal
 plain (Ok receipt) = Ok receipt.outcome
 plain (Err refusal) = Err refusal
 
--- an answer with its receipt, which has this trace and was told so much
+-- an answer with its receipt, which has this trace and these shown changes
 abbrev pub receipt_for : List Line → List Change → Command → Result Outcome Refusal → Result ReceiptState Refusal
 receipt_for history shown command (Ok outcome) = Ok (record { command = command; outcome = outcome; history = history; told = shown })
 receipt_for history shown command (Err refusal) = Err refusal
 
--- what was shown begins with the full cells that were opened and the changes of this trace
+-- the full cells that were opened, followed by the changes of this trace, are a prefix of what was shown
 abbrev pub IsToldOf : Contents → List Line → List Change → Type 0
 IsToldOf m history shown = IsPrefix (shown_by m history) shown
 
@@ -63,12 +63,12 @@ abbrev pub IsProof : Contents → Call → Result Outcome Refusal → List Line 
 IsProof m call (Ok outcome) history = IsLegal m history × EndsIn history (line_of call (Ok outcome))
 IsProof m call (Err refusal) history = Unit {0}
 
--- the lines that an answer left which waits in a place
+-- the lines that an answer in a place left
 abbrev pub unclaimed_lines : Option UnclaimedState → List Line
 unclaimed_lines None = []
 unclaimed_lines (Some waiting) = lines_of (Commands (Asks waiting.request)) waiting.answer
 
--- the log after the line of a call, whose port was told
+-- the log after the line of a call; its port was told
 abbrev pub with_line : LogState → Call → Result Outcome Refusal → LogState
 with_line l call answer = record l { trace = l.trace ++ lines_of call answer }
 
@@ -82,18 +82,19 @@ with_unclaimed l r answer =
 abbrev pub without_unclaimed : LogState → ℕ → LogState
 without_unclaimed l element = record l { places = slice_set l.places element None }
 
--- an answer that waits in a place has a beginning of the trace, legal and with its line at the end
+-- an answer that waits in a place has a prefix of the trace, which is legal and ends in its line
 abbrev pub IsProofIn : Contents → List Line → Option UnclaimedState → Type 0
 IsProofIn m trace None = Unit {0}
 IsProofIn m trace (Some waiting) = IsProof m (Commands (Asks waiting.request)) waiting.answer waiting.history × IsPrefix waiting.history trace
 
--- A legal trace with no more lines than it may have. The books count each line that its port was told: all but those whose answers wait.
+-- A legal trace with no more lines than it may have. The books count each line that its port was told: all but those of
+-- answers that wait.
 pub record IsLog (m : Contents) (marks : Line → Bool) (l : LogState) (books : Counts) : Type 0 where
   pub legal : IsLegal m l.trace
   pub few : length l.trace ≤ l.limit
   pub lines : books.lines + sum_by (λ p. length (unclaimed_lines p)) l.places ≡ length l.trace
   pub marked : books.marked + sum_by (λ p. count_by marks (unclaimed_lines p)) l.places ≡ count_by marks l.trace
-  -- and each answer that waits has a beginning of the trace, legal and with its line at the end
+  -- each answer that waits has a prefix of the trace, which is legal and ends in its line
   pub proofs : AllByRecursion (IsProofIn m l.trace) l.places
 
 -- a receipt is of this command
@@ -106,13 +107,14 @@ abbrev pub Takes : List (Option UnclaimedState) → ℕ → Request → Option U
 Takes places element r None others = others ≡ places
 Takes places element r (Some w) others = (slice_get places element ≡ Some (Some w)) × (w.request ≡ r) × (others ≡ slice_set places element None)
 
--- A port looks for the answer to its request in its element's place: there is none; or it takes it, and its line is counted.
+-- A port looks for the answer to its request in its element's place. There is none, or it takes it, and its line is
+-- counted.
 abbrev pub Claims : (Line → Bool) → LogState → Counts → ℕ → Request → Option (Result ReceiptState Refusal) → LogState → Counts → Type 0
 Claims marks l t element r None l' t' = (l' ≡ l) × (t' ≡ t)
 Claims marks l t element r (Some answer) l' t' =
     (l' ≡ without_unclaimed l element) × (t' ≡ counts_after marks t (lines_of (Commands (Asks r)) (plain answer))) × IsOf (Asks r) answer
 
--- an outcome has a beginning of the trace, legal and with its line at the end
+-- an outcome has a prefix of the trace, which is legal and ends in its line
 abbrev pub IsOfTrace : Contents → List Line → Result ReceiptState Refusal → Type 0
 IsOfTrace m trace (Ok r) = IsPrefix r.history trace × IsProof m (Commands r.command) (Ok r.outcome) r.history
 IsOfTrace m trace (Err refusal) = Unit {0}

@@ -1,4 +1,4 @@
--- Planned runs under the lock: what a plan has, and what each answer is by it. (Own.)
+-- Planned runs under the lock: what a plan has, and what each answer is by the plan. (Own.)
 use Rattle.std.specs.Prelude.{◌≡◌, List, [], ◌∷◌, Option, None, Some, Bool, true, Result, Ok, Err}
 use Rattle.im_types.specs.declared.operations.Entry.{Entry}
 use Rattle.im_types.specs.declared.operations.Entry.TheVariants.{Waiting}
@@ -21,22 +21,22 @@ use Rattle.im_planning.specs.Making.{op_under, is_op}
 use Rattle.im_controller.specs.Lines.{line_of}
 use Rattle.im_controller.specs.Log.{ReceiptState, FoundState}
 
--- whether the plan has a request: this operation, under this number; without a plan any may come
+-- whether the plan has a request: this operation, under this number; without a plan any request may come
 abbrev pub has_request : Option (List Request) → Request → Bool
 has_request None r = true
 has_request (Some plan) r = is_op r.op (op_under (r.element, r.number) plan)
 
--- the same of a command: a confirmation may be any
+-- the same of a command; any confirmation may come
 abbrev pub has_command : Option (List Request) → Command → Bool
 has_command plan (Asks r) = has_request plan r
 has_command plan (Confirm element upto) = true
 
--- a call of which the plan has the request, if it is one
+-- if a call is a request, the plan has it
 abbrev pub IsOnPlan : Option (List Request) → Call → Type 0
 IsOnPlan None call = Unit {0}
 IsOnPlan (Some plan) call = IsPlannedCall plan call
 
--- so is each of these requests
+-- the plan has each of these requests
 abbrev pub AreOnPlan : Option (List Request) → List Request → Type 0
 AreOnPlan plan [] = Unit {0}
 AreOnPlan plan (r ∷ rs) = IsOnPlan plan (Commands (Asks r)) × AreOnPlan plan rs
@@ -51,17 +51,17 @@ abbrev pub KeepsTo : Contents → Option (List Request) → List Line → Type 0
 KeepsTo m None trace = Unit {0}
 KeepsTo m (Some plan) trace = Starts m plan × IsPlannedRun plan trace
 
--- the plan has the request of this call, and what is told of it with this outcome is its result by the plan, if it is answered
+-- the plan has the request of this call, and an answer that this outcome tells is the request's result by the plan
 abbrev pub TellsBy : Contents → Option (List Request) → Call → Outcome → Type 0
 TellsBy m None call outcome = Unit {0}
 TellsBy m (Some plan) call outcome = IsPlannedCall plan call × TellsResults m plan (line_of call (Ok outcome))
 
--- so is what a receipt tells
+-- the same of what a receipt tells
 abbrev pub TellsOf : Contents → Option (List Request) → Result ReceiptState Refusal → Type 0
 TellsOf m plan (Ok r) = TellsBy m plan (Commands r.command) r.outcome
 TellsOf m plan (Err refusal) = Unit {0}
 
--- and what was found under a number
+-- the same of what was found under a number
 abbrev pub TellsFound : Contents → Option (List Request) → Result FoundState Refusal → Type 0
 TellsFound m plan (Ok f) = TellsBy m plan (Collect f.element f.number) (Tells f.entry)
 TellsFound m plan (Err refusal) = Unit {0}
@@ -72,12 +72,12 @@ pub record EndsAsPlanned (m : Contents) (plan : List Request) (end : Contents) :
   pub starts : Starts m plan
   -- what is kept for a planned request is its result, if it is answered
   pub results : (r : Request) (entry : Entry) → IsInPlan plan r → ask end.windows (asker r) ≡ Ok entry → IsResultOrWaits (result_of m.cells plan r.op) entry
-  -- a fetch that has none stays waiting
+  -- a fetch that has no result stays waiting
   pub waits : (r : Request) (entry : Entry) → IsInPlan plan r → result_of m.cells plan r.op ≡ None → ask end.windows (asker r) ≡ Ok entry → entry ≡ Waiting
   -- once all of the plan was served, the memory at the start and the plan alone say what is kept
   pub one : (r : Request) (entry : Entry) → HasServed end.windows plan → IsInPlan plan r → ask end.windows (asker r) ≡ Ok entry → entry ≡ entry_for (result_of m.cells plan r.op)
 
--- the same where there is a plan
+-- the same, if there is a plan
 abbrev pub EndsBy : Contents → Option (List Request) → Contents → Type 0
 EndsBy m None end = Unit {0}
 EndsBy m (Some plan) end = EndsAsPlanned m plan end

@@ -14,7 +14,7 @@ use Rattle.im_controller.specs.declared.servers.Server.TheVariants.{Unmade, Acti
 abbrev pub entry_at : Contents → ℕ → ℕ → Result Entry Refusal
 entry_at m element number = ask m.windows (record { element = element; number = number })
 
--- whether what was asked for is there and is no longer waited for
+-- whether the entry is there and answered
 abbrev pub is_answered : Result Entry Refusal → Bool
 is_answered (Ok (Answered reply)) = true
 is_answered (Ok Waiting) = false
@@ -42,7 +42,7 @@ is_unmade Active = false
 is_unmade (Waits number) = false
 is_unmade Retired = false
 
--- whether a server, if it is active, waits for an entry that isn't answered
+-- whether a server isn't active, or waits for an entry that isn't answered
 abbrev pub is_stuck : Contents → ℕ → Server → Bool
 is_stuck m element Unmade = true
 is_stuck m element Active = false
@@ -54,22 +54,22 @@ abbrev pub are_stuck : Contents → ℕ → ℕ → List Server → Bool
 are_stuck m caller element [] = true
 are_stuck m caller element (server ∷ servers) = ((element == caller) || is_stuck m element server) && are_stuck m caller (suc element) servers
 
--- an active server waits for an entry, and that isn't answered
+-- a server isn't active, or waits for an entry that isn't answered
 abbrev pub IsStuck : Contents → ℕ → Server → Type 0
 IsStuck m element Unmade = Unit {0}
 IsStuck m element Active = ⊥
 IsStuck m element (Waits number) = (reply : Reply) → entry_at m element number ≢ Ok (Answered reply)
 IsStuck m element Retired = Unit {0}
 
--- so does each but the caller's
+-- the same of each server but the caller's
 abbrev pub AllStuckBut : Contents → ℕ → List Server → Type 0
 AllStuckBut m caller servers = (element : ℕ) (server : Server) → slice_get servers element ≡ Some server → element ≢ caller → IsStuck m element server
 
--- the servers after an element's server, if it is active, does something else
+-- the servers after an element's server, if it is active or waits, does something else
 abbrev pub with_server : List Server → ℕ → Server → List Server
 with_server servers element server = if is_active (slice_get servers element) then slice_set servers element server else servers
 
--- the servers after an element's server is made, where there is one that wasn't made before
+-- the servers after an element's server is made; it is made if there is one that wasn't made before
 abbrev pub Makes : List Server → ℕ → Bool → List Server → Type 0
 Makes servers element true servers' = (slice_get servers element ≡ Some Unmade) × (servers' ≡ slice_set servers element Active)
 Makes servers element false servers' = (slice_get servers element ≢ Some Unmade) × (servers' ≡ servers)

@@ -1,4 +1,4 @@
--- What a port is told of one holding of the lock. (Own.)
+-- What a port is told while it holds the lock once. (Own.)
 use Rattle.std.specs.Prelude.{◌≡◌, ◌≢◌, ℕ, ◌<◌, ◌≤◌, Bool, true, false, Option, None, Some, Result, Ok, Err, length}
 use Rattle.im_types.specs.declared.operations.Entry.{Entry}
 use Rattle.im_types.specs.declared.operations.Entry.TheVariants.{Waiting}
@@ -27,7 +27,7 @@ abbrev pub IsAwaited : Result FoundState Refusal → Type 0
 IsAwaited (Ok found) = is_answered (Ok found.entry) ≡ true
 IsAwaited (Err refusal) = Unit {0}
 
--- one holding of the lock by a port that awaits an answer: nothing is told yet, or the answer, and its line is counted
+-- a port that awaits an answer holds the lock once: it is told nothing yet, or the answer, and then the line is counted
 abbrev pub Awaits : (Line → Bool) → Counts → ℕ → ℕ → Option (Result FoundState Refusal) → Counts → Type 0
 Awaits marks t element number None t' = t' ≡ t
 Awaits marks t element number (Some answer) t' =
@@ -38,11 +38,11 @@ abbrev pub entry_told : Option (Result FoundState Refusal) → Option (Result En
 entry_told None = None
 entry_told (Some answer) = Some (entry_of answer)
 
--- why it is told that, by what lay under the lock before
+-- why it is told that, given what lay under the lock before
 pub record IsTold {D : Type 0} (s : SharedState D) (element number : ℕ) (answer : Option (Result FoundState Refusal)) : Type 0 where
   pub dead : s.engine.failed ≡ true → answer ≡ Some (Err Failed)
   pub stalled : s.engine.failed ≡ false → entry_at s.engine.memory element number ≡ Ok Waiting → are_stuck s.engine.memory element 0 s.servers ≡ true → answer ≡ Some (Err Stalled)
   pub waits : s.engine.failed ≡ false → entry_at s.engine.memory element number ≡ Ok Waiting → are_stuck s.engine.memory element 0 s.servers ≡ false → answer ≡ None
-  -- else the entry is answered or there is none, and that is told, with its line
+  -- else the entry is answered or there is none; that is told, with its line
   pub full : s.engine.failed ≡ false → entry_at s.engine.memory element number ≢ Ok Waiting → s.log.limit ≤ length s.log.trace → answer ≡ Some (Err TraceFull)
   pub found : s.engine.failed ≡ false → entry_at s.engine.memory element number ≢ Ok Waiting → length s.log.trace < s.log.limit → entry_told answer ≡ Some (entry_at s.engine.memory element number)

@@ -1,5 +1,6 @@
-//! Bells beside the lock. Who waits reads one while it holds the lock, lets the lock go, and sleeps until it was rung
-//! since; who changes what lies under the lock rings it after that. So no wake-up is lost.
+//! Bells beside the lock. A thread that waits reads its bell while it holds the lock, releases the lock, and sleeps
+//! until the bell has been rung since. A thread that changes what lies under the lock rings after that. So no wake-up
+//! is lost.
 use std::alloc::{AllocError, Global};
 use std::sync::{Condvar, Mutex, Wait};
 
@@ -17,7 +18,7 @@ impl Bell {
         }
     }
 
-    // How often it was rung, wrapping.
+    // Returns how often it was rung, wrapping.
     pub(crate) fn read<R: Wait>(&self, rt: &R) -> u64 {
         *self.rung.lock(rt)
     }
@@ -29,7 +30,7 @@ impl Bell {
         self.wakes.notify_all();
     }
 
-    // Sleeps until it was rung since it was read.
+    // Sleeps until it has been rung since it was read.
     pub(crate) fn wait_past<R: Wait>(&self, rt: &R, seen: u64) {
         drop(
             self.wakes
@@ -53,7 +54,7 @@ impl Bells {
         Ok(Bells { all })
     }
 
-    // How often an element's was rung, wrapping.
+    // Returns how often an element's bell was rung, wrapping.
     pub(crate) fn read<R: Wait>(&self, rt: &R, element: u16) -> u64 {
         match self.all.get(element as usize) {
             Some(bell) => bell.read(rt),
@@ -75,7 +76,7 @@ impl Bells {
         }
     }
 
-    // Sleeps until an element's was rung since it was read.
+    // Sleeps until an element's bell has been rung since it was read.
     pub(crate) fn wait_past<R: Wait>(&self, rt: &R, element: u16, seen: u64) {
         if let Some(bell) = self.all.get(element as usize) {
             bell.wait_past(rt, seen);

@@ -1,4 +1,4 @@
-//! The books that count the lines of a trace, and the ports' shares in them.
+//! The books that count the lines of a trace, and the shares that ports have in them.
 ghost use Rattle.std.specs.Prelude.{◌≡◌, ◌+◌, ◌<◌, [], ◌∷◌, ℕ, count_by};
 ghost use Rattle.im_controller.specs.Lines.{counts_after};
 
@@ -7,7 +7,7 @@ use im_types::Line;
 use std::marker::Model;
 use std::sync::ledger::{Book, Ledger, Share};
 
-/// The counts of all lines and of the marked ones, over all ports.
+/// How many lines there are over all ports, and how many of them are marked.
 #[derive(Drop)]
 pub struct Books<K: Name> {
     pub(crate) lines: Book<Lines<K>>,
@@ -22,8 +22,8 @@ impl<K: Name> Model for Books<K> {
     ghost view = { λ b. record { lines = b.lines.total; marked = b.marked.total } };
 }
 
-/// How many lines a port was told, and how many of these are marked. No two ports have the same share, so the books'
-/// counts are those of all tallies together.
+/// How many lines a port was told, and how many of these are marked. No two ports have the same share, so the counts of
+/// the books are the sum of all tallies.
 #[derive(Drop)]
 pub struct Tally<K: Name> {
     pub(crate) lines: Share<Lines<K>>,
@@ -41,7 +41,7 @@ impl<K: Name> Model for Tally<K> {
     ghost invariant = { λ t. (t.lines.parts ≡ 1) × (t.marked.parts ≡ 1) };
 }
 
-// The shares for which no port was given out yet.
+// The shares of the ports that weren't given out yet.
 #[derive(Drop)]
 pub(crate) struct Reserve<K: Name> {
     pub(crate) lines: Share<Lines<K>>,
@@ -62,7 +62,7 @@ impl<K: Name> Model for Reserve<K> {
 }
 
 impl<K: Name> Reserve<K> {
-    // A tally for one more port: one has to be left.
+    // Takes a tally for one more port, from the shares that are left.
     pub(crate) fn take(&mut self) -> Tally<K>
         requires some { 0 < self.old }
         ensures none { result ≡ record { lines = 0; marked = 0 } }
@@ -81,7 +81,7 @@ impl<K: Name> Reserve<K> {
     }
 }
 
-// Counts so much in the book and in the share, though no code knows how much: contracts alone know which lines are
+// Counts the given amount in the book and in the share. No code knows the amount: contracts alone know which lines are
 // marked.
 fn note<L: Ledger>(book: &mut Book<L>, share: &mut Share<L>)
     ghost plus: { ℕ }
@@ -104,7 +104,7 @@ fn note_line<K: Name>(book: &mut Book<Marked<K>>, share: &mut Share<Marked<K>>, 
 }
 
 impl<K: Name> Books<K> {
-    /// Counts a line that the tally's port was told.
+    /// Counts a line that the port of this tally was told.
     pub(crate) fn count(&mut self, tally: &mut Tally<K>, line: &Line)
         ensures books { self.new ≡ counts_after K.marks self.old (line.now ∷ []) }
         ensures tally { tally.new ≡ counts_after K.marks tally.old (line.now ∷ []) }

@@ -29,13 +29,13 @@ use im_glass::Glance;
 use im_types::{Command, Refusal, Request};
 use std::sync::{Mutex, MutexGuard, Wait};
 
-/// The lock round an engine and its trace, the queue before the lock, the inbox with a lock of its own, and bells: one
-/// for each port that waits for an answer, one for the thread that keeps checkpoints.
+/// The lock round an engine and its trace, with the queue before the lock and an inbox that has a lock of its own. It
+/// has a bell for each port that waits for an answer, and one for the thread that keeps checkpoints.
 ///
-/// The lock is taken in the queue's order, is never held while the queue or a bell is waited for, and a bell is rung
-/// after the lock was let go. The inbox's lock is never held while another is asked for.
+/// Threads take the lock in the queue's order. No thread holds it while it waits for the queue or for a bell, and a
+/// bell is rung after the lock is released. No thread asks for another lock while it holds the inbox's lock.
 ///
-/// It is ended by [`finish`](crate::finish), never dropped.
+/// [`finish`](crate::finish) ends it; it is never dropped.
 pub struct Controller<D: Disk, K: Name> {
     pub(crate) shared: Mutex<Shared<D, K>>,
     pub(crate) inbox: Mutex<Inbox>,
@@ -45,7 +45,6 @@ pub struct Controller<D: Disk, K: Name> {
 }
 
 impl<D: Disk, K: Name> Controller<D, K> {
-    // A controller over these.
     pub(crate) fn over(
         shared: Shared<D, K>,
         inbox: Inbox,
@@ -61,8 +60,9 @@ impl<D: Disk, K: Name> Controller<D, K> {
         }
     }
 
-    /// An element's port, which was told no line yet; its server is active from now on. `NoElement` as by
-    /// [`make_port`](crate::make_port): exactly where there is no such element, and where it has its port.
+    /// Makes an element's port, which has been told no line yet. Its server is active from now on. As
+    /// [`make_port`](crate::make_port), it returns `NoElement` exactly if there is no such element or it already has
+    /// its port.
     pub fn port<R: Wait>(&self, rt: &R, element: u16) -> Result<Port<K>, Refusal>
         ensures found { IfOk result (λ p. (p.element ≡ element) × (p.told ≡ record { lines = 0; marked = 0 })) }
         ensures refused { IfErr result (λ e. e ≡ NoElement) }
@@ -73,8 +73,8 @@ impl<D: Disk, K: Name> Controller<D, K> {
         port
     }
 
-    /// An element's glance, which has seen the full cells of the memory that was opened. It reads the full cells, and
-    /// waits for nobody. `NoElement` where there is no such element, and where it has its glance.
+    /// Makes an element's glance, which has seen the full cells of the memory that was opened. A glance reads the full
+    /// cells and waits for nobody. Returns `NoElement` if there is no such element or it already has its glance.
     pub fn glance<R: Wait>(&self, rt: &R, element: u16) -> Result<Glance<Shown<K>>, Refusal>
         ensures found { IfOk result (λ g. IsPrefix (opening K.memory) g) }
         ensures refused { IfErr result (λ e. e ≡ NoElement) }
@@ -96,19 +96,22 @@ impl<D: Disk, K: Name> Controller<D, K> {
         self.work.ring(rt);
     }
 
-    /// The loop of the thread that keeps checkpoints: one turn for each holding of the lock, asleep while there is
-    /// nothing to do, until the controller ends. It goes last in the queue, so that its turns are made while no port
-    /// asks; where the journal has less room than there are elements, whoever is about to lend the engine makes room
-    /// in its place, and where it had its turn already it keeps that. `Device` where a call of the disk failed in its
-    /// turn, and `Failed` where an earlier one did.
+    /// The loop of the thread that keeps checkpoints. It makes one turn each time it holds the lock, sleeps while there
+    /// is nothing to do, and returns when the controller ends.
+    ///
+    /// It goes last in the queue, so it makes its turns while no port asks. If the journal has less room than there are
+    /// elements, whoever is about to lend the engine makes room in its place. If the keeper has its turn in the queue
+    /// then, it keeps that turn.
+    ///
+    /// Returns `Device` if a call of the disk failed in its turn, and `Failed` if an earlier one did.
     pub fn keep_checkpoints<R: Wait>(&self, rt: &R) -> Result<(), Refusal>
         ensures only { IfErr result IsTurnFault }
     {
         self.keep_checkpoints_and_tell(rt, &mut Silent)
     }
 
-    /// The same, and tells how things stand after each turn before which the teller listened, but for turns after which
-    /// the keeper keeps its place.
+    /// Does what [`Controller::keep_checkpoints`] does, and also tells the teller how things stand. It tells after each
+    /// turn before which the teller listened, except after one after which the keeper keeps its turn in the queue.
     pub fn keep_checkpoints_and_tell<T: Teller, R: Wait>(
         &self,
         rt: &R,
@@ -147,7 +150,7 @@ impl<D: Disk, K: Name> Controller<D, K> {
         unreachable!()
     }
 
-    // Wakes those that sleep.
+    // Wakes the sleepers.
     pub(crate) fn wake<R: Wait>(&self, rt: &R, sleepers: Sleepers) {
         if sleepers.keeper {
             self.work.ring(rt);
@@ -155,7 +158,7 @@ impl<D: Disk, K: Name> Controller<D, K> {
         self.answers.ring(rt, sleepers.ports.as_slice());
     }
 
-    // Lends the engine to a command of a port, in the queue's order.
+    // Lends the engine to a port's command, in the queue's order.
     pub(crate) fn serve<R: Wait>(
         &self,
         rt: &R,
@@ -184,7 +187,8 @@ impl<D: Disk, K: Name> Controller<D, K> {
         self.inbox.lock(rt).ask(request);
     }
 
-    // Holds the lock once for a port that has asked, in the queue's order: the answer to its request, if it has one.
+    // Holds the lock once, in the queue's order, for a port that has asked. Returns the answer to its request, if there
+    // is one.
     pub(crate) fn serve_all<R: Wait>(
         &self,
         rt: &R,

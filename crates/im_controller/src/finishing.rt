@@ -16,30 +16,30 @@ use im_engine::Engine;
 use std::sync::Wait;
 use std::sync::ledger::Share;
 
-/// What a controller comes to.
+/// What is left of a controller after its end.
 #[derive(Drop)]
 pub struct Finished<D: Disk> {
     /// The engine.
     pub engine: Engine<D>,
     /// Each call that had an outcome or a refusal of numbers, with that answer, in the order of the lock.
     pub trace: Vec<Traced>,
-    /// All ports came that were given out.
+    /// Whether as many ports came back as were given out.
     pub came: bool,
-    /// No answer waits for a port that didn't take it.
+    /// Whether each port took its answer: no answer waits in a place.
     pub claimed: bool,
 }
 
-/// Ends a controller, with the ports that were given out, and waits for its readers: each glance is `PaneGone` from
-/// then on. The trace is legal from the memory that was opened, and ends in the engine's memory. Where all ports came
-/// and no answer waits, the trace has each line as often as a port was given that answer to that call: K's marks may be
-/// any.
+/// Ends a controller, given the ports that were given out, and waits for its readers. From then on each glance is told
+/// `PaneGone`. The trace is legal from the memory that was opened, and it ends in the engine's memory. If all ports
+/// came back and no answer waits, the trace has each line as often as a port was given that answer to that call. This
+/// holds for whatever K marks.
 ///
-/// Each file that a crash has left since the trace began means the memory that was opened after a beginning of the
-/// trace's accepted commands; and each that it may leave now, after all of them. Where a call of the disk has failed,
-/// the commands that it left in doubt may be there too, all of them or none.
+/// Each file that a crash may have left since the trace began means the memory that was opened, after a prefix of the
+/// trace's accepted commands. Each file that a crash may leave now means it after all of them. If a call of the disk
+/// has failed, the commands that it left in doubt may be there too, all of them or none.
 ///
-/// Under a plan what is kept for a planned request is its result by the plan, if it is answered; and once all of the plan
-/// was served, the memory that was opened and the plan alone say what is kept, whatever the threads did.
+/// Under a plan, an answered entry of a planned request has its result by the plan. Once the whole plan is served, the
+/// memory that was opened and the plan alone say what is kept, whatever the threads did.
 pub fn finish<D: Disk, K: Name, R: Wait>(
     rt: &R,
     controller: Controller<D, K>,
@@ -104,7 +104,7 @@ pub fn finish<D: Disk, K: Name, R: Wait>(
     }
 }
 
-// The shares of all ports, together with these.
+// Merges the shares of all ports into these.
 fn merge_all<K: Name>(
     lines: &mut Share<Lines<K>>,
     marked: &mut Share<Marked<K>>,

@@ -1,4 +1,4 @@
-//! Groups of requests that the engine is lent to, and whose answers wait for their ports.
+//! Groups of requests that the engine is lent to. Their answers wait for their ports.
 ghost use Rattle.std.specs.Prelude.{◌≡◌, ◌<◌, ◌≤◌, ◌+◌, ◌-◌, ◌++◌, [], ◌∷◌, false, length, map, IfSome, if◌then◌else◌};
 ghost use Rattle.im_types.specs.Trace.{end_of};
 ghost use Rattle.im_types.specs.Groups.{AreApart};
@@ -27,7 +27,7 @@ use im_planning::Plan;
 use im_types::{Outcome, Refusal, Request, Served};
 use std::sync::{Mutex, Wait};
 
-// What a member was answered.
+// Returns what a member was answered.
 fn answer_in(served: Served) -> Result<Outcome, Refusal>
     ensures { result ≡ answer_in served }
 {
@@ -38,7 +38,7 @@ fn answer_in(served: Served) -> Result<Outcome, Refusal>
     }
 }
 
-// Keeps the members' answers for their ports, one after another.
+// Keeps the answers of the members for their ports, in order.
 fn keep_all<K: Name>(log: &mut Log<K>, members: &[Request], served: &[Served])
     requires whole { length served.now ≡ length members.now }
     requires are_so { AreAnswersTo (end_of K.memory log.old.trace) members.now (map answer_in served.now) }
@@ -54,7 +54,7 @@ fn keep_all<K: Name>(log: &mut Log<K>, members: &[Request], served: &[Served])
     }
 }
 
-// Refuses all members alike.
+// Refuses all members with the same refusal.
 fn refuse_alike(refusal: Refusal, members: &[Request], served: &mut ArrayVec<Served, 16>)
     requires fits { length members.now ≤ 16 }
     requires empty { served.old.items ≡ [] }
@@ -65,7 +65,7 @@ fn refuse_alike(refusal: Refusal, members: &[Request], served: &mut ArrayVec<Ser
     }
 }
 
-// What the members are answered, where the trace has room for so many lines.
+// Serves the members, if the trace has room for more lines. If it has none, each is refused with `TraceFull`.
 fn serve_members<D: Disk>(
     engine: &mut Engine<D>,
     room: usize,
@@ -90,11 +90,12 @@ fn serve_members<D: Disk>(
     if !engine.failed() && room == 0 {
         return refuse_alike(Refusal::TraceFull, members.as_slice(), served);
     }
-    // A stop in it leaves all that the group puts on the disk, or nothing of it: no answer is given before.
+    // A crash in this call leaves on the disk all that the group puts there, or nothing of it. No answer is given
+    // before.
     engine.serve_group(members, served);
 }
 
-// The next answer, for a member that is lent or isn't.
+// Returns the next answer, for a member that was lent or for one that wasn't.
 fn next_answer(lent: bool, rest: &[Served]) -> Served
     ensures { result ≡ next_answer lent rest.now }
 {
@@ -107,7 +108,7 @@ fn next_answer(lent: bool, rest: &[Served]) -> Served
     }
 }
 
-// The answers behind it.
+// Returns the answers after it.
 fn answers_left(lent: bool, rest: &[Served]) -> &[Served]
     ensures { result.now ≡ answers_left lent rest.now }
 {
@@ -120,7 +121,7 @@ fn answers_left(lent: bool, rest: &[Served]) -> &[Served]
     }
 }
 
-// The answers to all members, by those to the ones that were lent.
+// Returns the answers to all members, given the answers to those that were lent.
 fn spread(roomy: &[bool], served: &[Served], answers: &mut ArrayVec<Served, 16>)
     requires fits { length roomy.now ≤ 16 }
     requires empty { answers.old.items ≡ [] }
@@ -147,7 +148,7 @@ fn lend_members<D: Disk, K: Name, R: Wait>(
     requires planned { shared.old.engine.failed ≡ false → length shared.old.log.trace < shared.old.log.limit
         → AreOnPlan K.plan members.now.items }
     ensures lends { LendsGroup shared.old members.now.items result.items shared.new }
-    // What the disk is left with, as by the engine alone.
+    // What the disk is left with is as after the engine's own call.
     ensures few { D.honest shared.new.engine.disk → CallsAtMost D.past shared.old.engine.disk shared.new.engine.disk
         (calls_for_group (length (group_put shared.old.engine (those result.items members.now.items)))) }
     ensures faults { GroupFaults shared.old.engine.failed shared.new.engine.failed
@@ -183,7 +184,7 @@ fn lend_members<D: Disk, K: Name, R: Wait>(
     roomy
 }
 
-// Puts a request behind these, if it is picked.
+// Puts a request at the end of these, if it is picked.
 fn push_if(chosen: &mut ArrayVec<Request, 16>, is_picked: bool, request: Request)
     requires room { length chosen.old.items < 16 }
     ensures { chosen.new.items ≡ chosen.old.items ++ (if is_picked then request ∷ [] else []) }
@@ -193,7 +194,8 @@ fn push_if(chosen: &mut ArrayVec<Request, 16>, is_picked: bool, request: Request
     }
 }
 
-// Whether a member is picked: those that the plan has are wanted, if it is asked, or the others.
+// Returns whether a member is picked. If the plan is asked, `wanted` picks the members that it has, and `!wanted` the
+// others. If it isn't asked, `wanted` picks all members, and `!wanted` none.
 fn is_picked(plan: &Option<Plan>, asked: bool, wanted: bool, member: &Request) -> bool
     ensures { result ≡ is_picked plan.now asked wanted member.now }
 {
@@ -222,7 +224,7 @@ fn pick(
     }
 }
 
-// Whether a plan is asked: not where all are refused for another reason.
+// Returns whether the plan is asked. It isn't if all members are refused for another reason.
 fn is_asked<D: Disk, K: Name>(shared: &Shared<D, K>) -> bool
     ensures asked { result ≡ is_asked shared.now }
     ensures few { length shared.now.log.trace ≤ shared.now.log.limit }
@@ -234,8 +236,8 @@ fn is_asked<D: Disk, K: Name>(shared: &Shared<D, K>) -> bool
     0 < room
 }
 
-// The members that are lent: those that the plan has, where the engine lives and the trace has room. The refusals of the
-// others wait for their ports.
+// Returns the members that are lent. If the engine lives and the trace has room, these are the members that the plan
+// has. The refusals of the others wait for their ports.
 fn admit<D: Disk, K: Name>(
     shared: &mut Shared<D, K>,
     members: &[Request],
@@ -258,15 +260,20 @@ fn admit<D: Disk, K: Name>(
     keep_all(&mut shared.log, off.as_slice(), refused.as_slice());
 }
 
-/// Lends the engine to the requests of a group: what [`lend`](crate::lend) of each would answer, one after another, but
-/// that the answers wait for their ports, and their lines are counted when the ports take them. What they change is
-/// shown once, after all of them were put on the disk. Tells of each member, but for those that are off the plan, whether
-/// the pane has room for what it changes: else it isn't lent, and is refused with `NoMemory`.
+/// Lends the engine to the requests of a group. Each gets what [`lend`](crate::lend) would answer, one after another.
+/// The answers wait for their ports, and their lines are counted when the ports take them. What the members change is
+/// shown once, after all of them are on the disk.
 ///
-/// `Failed` for all where the engine has failed, `TraceFull` for all where the trace has no room left, `OffPlan` for
-/// those that a plan doesn't have with their operation under their number, and then what [`Engine::serve_group`] answers
-/// each: a refusal of numbers; `JournalFull`; `Device` for all that are lent, with no line, after which the engine has
-/// failed, and nothing more is shown.
+/// It returns, for each member that isn't off the plan, whether the pane has room for what that member changes. A
+/// member without that room isn't lent, and is refused with `NoMemory`.
+///
+/// Errors, in this order:
+///
+/// - `Failed` for all members if the engine has failed.
+/// - `TraceFull` for all members if the trace has no room left.
+/// - `OffPlan` for each member that a plan doesn't have with its operation under its number.
+/// - What [`Engine::serve_group`] answers each: a refusal of numbers, `JournalFull`, or `Device` for all that are lent.
+///   `Device` leaves no line. After it the engine has failed, and nothing more is shown.
 pub fn lend_group<D: Disk, K: Name, R: Wait>(
     rt: &R,
     shared: &mut Shared<D, K>,
@@ -279,7 +286,7 @@ pub fn lend_group<D: Disk, K: Name, R: Wait>(
         → length shared.old.log.trace + length members.now.items ≤ shared.old.log.limit }
     ensures lends { LendsGroup (with_refused_off K.plan shared.old members.now.items)
         (admitted K.plan shared.old members.now.items) result.items shared.new }
-    // What the disk is left with, as by the engine alone.
+    // What the disk is left with is as after the engine's own call.
     ensures few { D.honest shared.new.engine.disk → CallsAtMost D.past shared.old.engine.disk shared.new.engine.disk
         (calls_for_group (length (group_put shared.old.engine
         (those result.items (admitted K.plan shared.old members.now.items))))) }
@@ -300,7 +307,8 @@ pub fn lend_group<D: Disk, K: Name, R: Wait>(
     lend_members(rt, shared, &lent)
 }
 
-// Serves all that is asked and whose answer has a free place, group by group, once there is room for all elements.
+// Makes room for all elements. Then serves, group by group, each request that is asked and has a free place for its
+// answer.
 fn serve_asked<D: Disk, K: Name, R: Wait>(rt: &R, shared: &mut Shared<D, K>, inbox: &Mutex<Inbox>) {
     make_room(shared);
     let mut from = 0;
@@ -318,8 +326,8 @@ fn serve_asked<D: Disk, K: Name, R: Wait>(rt: &R, shared: &mut Shared<D, K>, inb
     }
 }
 
-// One holding of the lock by a port that has asked: the answer to its request, where that waits, and else once all that
-// is asked was served.
+// Holds the lock once for a port that has asked. Returns the answer to its request if it waits; if it doesn't, serves
+// all that is asked and looks again.
 pub(crate) fn hold<D: Disk, K: Name, R: Wait>(
     rt: &R,
     shared: &mut Shared<D, K>,

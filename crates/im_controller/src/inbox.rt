@@ -1,4 +1,4 @@
-//! Requests that ask to be served: a place for each element, under a lock of its own.
+//! Requests that ask to be served. Each element has a place, under a lock of its own for all places.
 ghost use Rattle.std.specs.Prelude.{◌≡◌, ◌≤◌, ◌<◌, ◌+◌, true, length, IfSome};
 ghost use Rattle.im_types.specs.Groups.{AreApart};
 ghost use Rattle.im_controller.specs.Groups.{is_social, stored_at, are_apart_at, are_together, MayJoin, IsCut};
@@ -10,7 +10,7 @@ use arrayvec::ArrayVec;
 use im_types::{Op, Request};
 use std::alloc::{AllocError, Global};
 
-// What an element asks; the element is the place's.
+// What an element asks. The place says which element.
 #[derive(Clone, Copy)]
 struct Asked {
     number: u64,
@@ -30,7 +30,7 @@ pub(crate) struct NextGroup {
     pub(crate) next: u16,
 }
 
-// Whether an operation is served with others.
+// Returns whether an operation is served with others.
 fn is_social(op: Op) -> bool
     ensures { result ≡ is_social op }
 {
@@ -45,7 +45,7 @@ fn is_social(op: Op) -> bool
     }
 }
 
-// The address that an operation stores at.
+// Returns the address that an operation stores at.
 fn stored_at(op: Op) -> Option<u32>
     ensures { result ≡ stored_at op }
 {
@@ -60,7 +60,7 @@ fn stored_at(op: Op) -> Option<u32>
     }
 }
 
-// Whether these aren't one address.
+// Returns whether these addresses, if both are there, differ.
 fn are_apart_at(earlier: Option<u32>, later: Option<u32>) -> bool
     ensures { result ≡ are_apart_at earlier later }
 {
@@ -73,7 +73,7 @@ fn are_apart_at(earlier: Option<u32>, later: Option<u32>) -> bool
     }
 }
 
-// Whether an operation may be served in one group with an earlier one.
+// Returns whether an operation may be served in one group with an earlier one.
 fn are_together(earlier: Op, later: Op) -> bool
     ensures { result ≡ are_together earlier later }
 {
@@ -83,7 +83,7 @@ fn are_together(earlier: Op, later: Op) -> bool
     false
 }
 
-// Whether an operation may stand in a group behind these requests.
+// Returns whether an operation may stand in a group after these requests.
 fn may_join(op: Op, members: &[Request]) -> bool
     ensures { result ≡ true → MayJoin op members.now }
 {
@@ -96,7 +96,7 @@ fn may_join(op: Op, members: &[Request]) -> bool
 }
 
 impl Inbox {
-    // Places for so many elements, of which none asks.
+    // Makes places for the given number of elements, none of which asks.
     pub(crate) fn new(alloc: Global, elements: u16) -> Result<Inbox, AllocError> {
         let mut places = Vec::with_capacity(alloc, elements as usize)?;
         for _ in 0..elements {
@@ -127,8 +127,8 @@ impl Inbox {
         })
     }
 
-    // Adds what an element asks to a group, where its answer has a free place, and says whether the group may go on:
-    // not where the request has to wait for the next one.
+    // Adds what an element asks to a group, if its answer has a free place. Returns false if the request has to wait
+    // for the next group.
     #[tactic(auto, using(crate::proofs::Gathering::gathers_weaker, crate::proofs::Gathering::gathers_push))]
     fn gather<K: Name>(
         &mut self,
@@ -155,8 +155,8 @@ impl Inbox {
         true
     }
 
-    // Takes out the next group, of so many members at most: what is asked from an element on, in the elements' order,
-    // as far as its answers have free places.
+    // Takes out the next group, with at most `most` members. It looks at the elements in order, from `from` on, and
+    // leaves out those whose answers have no free place.
     pub(crate) fn next_group<K: Name>(&mut self, log: &Log<K>, from: u16, most: usize) -> NextGroup
         ensures apart { AreApart result.members.items }
         ensures free { AreFreeFor log.now.places result.members.items }

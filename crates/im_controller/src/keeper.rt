@@ -11,7 +11,7 @@ use im_types::Refusal;
 // More turns than a checkpoint of the largest image takes, with all slots that it closes.
 const TURNS: u32 = 65_536;
 
-// So many slots are closed with one sync where room is made: as many as there may be elements.
+// The number of slots that one sync closes when room is made: as many as there may be elements.
 const SWEEP: u32 = 64;
 
 // What the thread that keeps checkpoints does.
@@ -23,7 +23,7 @@ pub(crate) enum Keeper {
     Ended,
 }
 
-// What the checkpointing thread comes to in one holding of the lock.
+// What the checkpointing thread did while it held the lock once.
 #[derive(Clone, Copy)]
 pub(crate) enum Kept {
     Ended,
@@ -32,14 +32,15 @@ pub(crate) enum Kept {
     Idle,
 }
 
-// Whether the journal has less room than there are elements.
+// Returns whether the journal has less room than there are elements.
 fn is_pressed<D: Disk, K: Name>(shared: &Shared<D, K>) -> bool {
     shared.engine.room() < shared.log.elements() as u32
 }
 
-// Makes room in the keeper's place, by whoever is about to lend the engine, until all elements have some: so no thread
-// has to wait for another one between a group and the next. Slots that are to be swept are closed together, and any other
-// turn is made as the keeper would. Without a keeper, or where it has found nothing to do, nothing is done.
+// Makes room in the keeper's place until all elements have some. Whoever is about to lend the engine calls it, so no
+// thread has to wait for another one between a group and the next. It closes the slots that are to be swept together,
+// and makes any other turn as the keeper would. It does nothing if there is no keeper, or if the keeper has found
+// nothing to do.
 pub(crate) fn make_room<D: Disk, K: Name>(shared: &mut Shared<D, K>) {
     if !matches!(shared.keeper, Keeper::Works) {
         return;
@@ -51,12 +52,12 @@ pub(crate) fn make_room<D: Disk, K: Name>(shared: &mut Shared<D, K>) {
     }
 }
 
-// Closes slots that are to be swept, or makes one turn where there are none: whether it did anything.
+// Closes the slots that are to be swept, or makes one turn if there are none. Returns whether it did anything.
 fn is_room_nearer<D: Disk, K: Name>(shared: &mut Shared<D, K>) -> bool {
     is_swept(shared) || is_turn_made(shared)
 }
 
-// Closes slots that are to be swept, and whether there were any.
+// Closes the slots that are to be swept. Returns whether there were any.
 fn is_swept<D: Disk, K: Name>(shared: &mut Shared<D, K>) -> bool {
     match lend_sweep(shared, SWEEP) {
         Ok(swept) => swept > 0,
@@ -64,7 +65,7 @@ fn is_swept<D: Disk, K: Name>(shared: &mut Shared<D, K>) -> bool {
     }
 }
 
-// One turn, and whether it did anything.
+// Makes one turn. Returns whether it did anything.
 fn is_turn_made<D: Disk, K: Name>(shared: &mut Shared<D, K>) -> bool {
     match lend_turn(shared) {
         Ok(TurnDone::Idle) => false,
@@ -73,7 +74,7 @@ fn is_turn_made<D: Disk, K: Name>(shared: &mut Shared<D, K>) -> bool {
     }
 }
 
-// One holding of the lock by the checkpointing thread: one turn, unless the controller has ended.
+// Makes one turn for the checkpointing thread while it holds the lock once, unless the controller has ended.
 pub(crate) fn keep_once<D: Disk, K: Name>(shared: &mut Shared<D, K>) -> Result<Kept, Refusal>
     ensures { IfErr result IsTurnFault }
 {
@@ -98,7 +99,7 @@ pub(crate) fn keep_once<D: Disk, K: Name>(shared: &mut Shared<D, K>) -> Result<K
     }
 }
 
-// There is nothing to do: whoever lends next wakes the checkpointing thread.
+// Puts the checkpointing thread to sleep. Whoever lends next wakes it.
 fn fall_asleep<D: Disk, K: Name>(shared: &mut Shared<D, K>) -> Kept {
     shared.keeper = Keeper::Sleeps;
     Kept::Idle
@@ -109,7 +110,7 @@ pub(crate) fn mark_ended<D: Disk, K: Name>(shared: &mut Shared<D, K>) {
     shared.keeper = Keeper::Ended;
 }
 
-// Whether the keeper sleeps: then it is to work.
+// Returns whether the keeper sleeps. If so, it is to work from now on.
 pub(crate) fn wake_keeper(keeper: &mut Keeper) -> bool {
     match *keeper {
         Keeper::Sleeps => {

@@ -1,8 +1,8 @@
-//! One lock round the engine and its trace: ports of elements that go through it, the thread that keeps checkpoints,
+//! One lock round the engine and its trace: the ports by which elements reach it, the thread that keeps checkpoints,
 //! and what a caller knows of the trace at the end.
 //!
-//! Stands on `im_engine`. Contracts see what lies under the lock by `specs/State.antt`, and traces by the definitions
-//! of `im_types`.
+//! The crate stands on `im_engine`. Contracts see what lies under the lock by `specs/State.antt`, and traces by the
+//! definitions of `im_types`.
 #![tactic(auto)]
 
 mod bell;

@@ -38,7 +38,7 @@ impl Model for Unclaimed {
     ghost view = { λ u. record { request = u.request; answer = u.answer; history = u.history.value.items } };
 }
 
-// The trace. Of its lines the books count those that a port was told.
+// The trace, with books that count those of its lines that a port was told.
 #[derive(Drop)]
 pub(crate) struct Log<K: Name> {
     pub(crate) trace: Vec<Traced>,
@@ -60,7 +60,7 @@ impl<K: Name> Model for Log<K> {
         × (l.limit ≤ vec_capacity l.trace) };
 }
 
-// Whether an answer leaves a line.
+// Returns whether an answer leaves a line.
 pub(crate) fn leaves_line(answer: Result<Outcome, Refusal>) -> bool
     ensures { result ≡ leaves_line answer }
 {
@@ -71,7 +71,7 @@ pub(crate) fn leaves_line(answer: Result<Outcome, Refusal>) -> bool
 }
 
 impl<K: Name> Log<K> {
-    // How many more lines there is room for.
+    // Returns how many more lines there is room for.
     pub(crate) fn room(&self) -> usize
         ensures room { result ≡ self.now.limit - length self.now.trace }
         ensures few { length self.now.trace ≤ self.now.limit }
@@ -79,12 +79,12 @@ impl<K: Name> Log<K> {
         self.limit - self.trace.len()
     }
 
-    // How many elements have a place: there are no more than 65,535.
+    // Returns how many elements have a place: at most 65,535.
     pub(crate) fn elements(&self) -> u16 {
         min(self.places.len(), 65535) as u16
     }
 
-    // Whether an element has a place in which no answer waits.
+    // Returns whether an element has a place in which no answer waits.
     pub(crate) fn is_free(&self, element: u16) -> bool
         ensures { result ≡ true → slice_get self.now.places element ≡ Some None }
     {
@@ -94,7 +94,7 @@ impl<K: Name> Log<K> {
         }
     }
 
-    // The elements whose answers wait for their ports.
+    // Returns the elements that have an answer waiting for their port.
     pub(crate) fn answered(&self) -> ArrayVec<u16, 64> {
         let mut answered = ArrayVec::new();
         for element in 0..self.elements() {
@@ -105,7 +105,7 @@ impl<K: Name> Log<K> {
         answered
     }
 
-    // Leaves the line of a call whose port is told the answer at once, if the answer leaves one.
+    // Leaves a call's line, if its answer leaves one. The port is told the answer at once.
     pub(crate) fn leave(
         &mut self,
         tally: &mut Tally<K>,
@@ -122,7 +122,7 @@ impl<K: Name> Log<K> {
         push_line(&mut self.trace, call, answer);
     }
 
-    // The answer to a command, with the trace that its line ends, and what is shown.
+    // Returns the answer to a command, with the trace that ends in its line, and with what is shown.
     pub(crate) fn receipt(
         &self,
         told: Told<Shown<K>>,
@@ -137,7 +137,7 @@ impl<K: Name> Log<K> {
         receipt_of(Snapshot::of(&self.trace), told, command, answer)
     }
 
-    // What is kept under a number, with the trace that the line of this collect ends.
+    // Returns what is kept under a number, with the trace that ends in this collect's line.
     pub(crate) fn found(&self, element: u16, number: u64, entry: Entry) -> Found<K>
         requires { EndsIn self.now.trace (line_of (Collect element number) (Ok (Tells entry))) }
         ensures found { result ≡ record {
@@ -157,7 +157,8 @@ impl<K: Name> Log<K> {
         }
     }
 
-    // Keeps the answer to a request for its port, with its line, which is counted when the port takes it.
+    // Keeps the answer to a request for its port, and leaves its line. The line is counted when the port takes the
+    // answer.
     pub(crate) fn keep(&mut self, request: &Request, answer: Result<Outcome, Refusal>)
         requires free { slice_get self.old.places request.now.element ≡ Some None }
         requires room { leaves_line answer ≡ true → length self.old.trace < self.old.limit }
@@ -182,8 +183,8 @@ impl<K: Name> Log<K> {
         );
     }
 
-    // Gives a port the answer to its request, where that waits in the element's place, and counts its line. What is
-    // shown goes with it.
+    // Gives a port the answer to its request, if that waits in the element's place, and counts its line. What is shown
+    // goes with it.
     pub(crate) fn claim(
         &mut self,
         told: Told<Shown<K>>,
@@ -204,7 +205,7 @@ impl<K: Name> Log<K> {
     }
 }
 
-// The line of a call, if it leaves one, at the end of the trace.
+// Puts a call's line at the end of the trace, if it leaves one.
 fn push_line(trace: &mut Vec<Traced>, call: Call, answer: Result<Outcome, Refusal>)
     requires { leaves_line answer ≡ true → vec_len trace.old < vec_capacity trace.old }
     ensures items { trace.new.items ≡ trace.old.items ++ lines_of call answer }
@@ -215,7 +216,7 @@ fn push_line(trace: &mut Vec<Traced>, call: Call, answer: Result<Outcome, Refusa
     }
 }
 
-// The line of a call, if it leaves one, in the books and in its port's tally.
+// Counts a call's line in the books and in its port's tally, if it leaves one.
 fn count_line<K: Name>(
     books: &mut Books<K>,
     tally: &mut Tally<K>,
@@ -230,7 +231,7 @@ fn count_line<K: Name>(
     }
 }
 
-// An answer with the trace that its line ends.
+// Returns an answer with the trace that ends in its line.
 fn receipt_of<K: Name>(
     history: Snapshot<Vec<Traced>>,
     told: Told<Shown<K>>,
@@ -253,7 +254,7 @@ fn receipt_of<K: Name>(
     }
 }
 
-// An answer, into its element's place.
+// Puts an answer into its element's place.
 fn put_in(places: &mut Vec<Option<Unclaimed>>, answer: Unclaimed)
     requires { slice_get places.old.items answer.request.element ≡ Some None }
     ensures { places.new.items ≡ slice_set places.old.items answer.request.element (Some answer) }
@@ -262,7 +263,7 @@ fn put_in(places: &mut Vec<Option<Unclaimed>>, answer: Unclaimed)
     places[element] = Some(answer);
 }
 
-// The answer to a request out of its element's place, if it waits there.
+// Takes the answer to a request out of its element's place, if it waits there.
 fn take_from(
     places: &mut Vec<Option<Unclaimed>>,
     element: u16,
@@ -277,7 +278,7 @@ fn take_from(
     places[at].take()
 }
 
-// Whether the answer that waits in a place is that to a request.
+// Returns whether the answer that waits in a place is the answer to this request.
 fn is_of(place: &Option<Unclaimed>, request: &Request) -> bool
     ensures { result ≡ true → MatchOption place.now ⊥ (λ w. w.request ≡ request.now) }
 {
@@ -287,7 +288,7 @@ fn is_of(place: &Option<Unclaimed>, request: &Request) -> bool
     }
 }
 
-// So many places, all of them free.
+// Makes the given number of places, all of them free.
 pub(crate) fn free_places(
     alloc: Global,
     elements: u16,
@@ -301,7 +302,7 @@ pub(crate) fn free_places(
     Ok(places)
 }
 
-// Whether all these places are free.
+// Returns whether all these places are free.
 pub(crate) fn are_free(places: &[Option<Unclaimed>]) -> bool
     ensures { result ≡ true → AreFree places.now }
 {

@@ -3,8 +3,8 @@ use im_glass::PaneName;
 use std::marker::{Brand, PhantomData};
 use std::sync::ledger::Ledger;
 
-/// What all parts of one controller agree on. Contracts alone see it: a caller's function has it as a type parameter,
-/// and each of its members is picked where that function is called.
+/// What all parts of one controller agree on. Contracts alone see it. A caller's function has it as a type parameter,
+/// and each call of that function picks its members.
 pub trait Name {
     ghost use Rattle.std.specs.Prelude.{ℕ, Bool, List, Option};
     ghost use Rattle.im_types.specs.declared.commands.Request.{Request};
@@ -31,13 +31,13 @@ pub trait Name {
     /// How many ports there are.
     ghost ports: { ℕ };
 
-    /// The book of what is shown.
+    /// The book of the changes that are shown.
     ghost book: { Book };
 
     /// What was known of the engine when the trace began.
     ghost begun: { Begun };
 
-    /// That its disk was honest then.
+    /// What holds if its disk was honest then.
     ghost honest: { Type 0 };
 }
 

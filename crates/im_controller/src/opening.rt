@@ -33,8 +33,8 @@ use std::marker::Model;
 use std::sync::Wait;
 use std::sync::ledger::Blank;
 
-/// An engine with room for its trace, its servers and its ledgers, and a pane on which its full cells are shown: a
-/// controller but for its name.
+/// An engine with room for its trace, its servers and its ledgers, and with a pane that shows its full cells. It is a
+/// controller that has no name yet.
 pub struct Opening<D: Disk> {
     engine: Engine<D>,
     parts: Parts,
@@ -84,7 +84,7 @@ struct Parts {
     ports: u64,
 }
 
-// Room for so many lines, and for so many elements.
+// Makes room for the given numbers of lines and of elements.
 fn make_parts(alloc: Global, trace_room: usize, elements: u16) -> Result<Parts, AllocError>
     ensures numbers { IfOk result (λ p. (p.limit ≡ trace_room) × (p.ports ≡ elements)) }
     ensures unmade { IfOk result (λ p. p.ports ≡ count_by is_unmade p.servers) }
@@ -104,7 +104,7 @@ fn make_parts(alloc: Global, trace_room: usize, elements: u16) -> Result<Parts, 
     })
 }
 
-// So many elements that have no glance yet.
+// Makes marks for the given number of elements, none of which has a glance yet.
 fn unwatched(alloc: Global, elements: u16) -> Result<Vec<bool>, AllocError> {
     let mut watched = Vec::with_capacity(alloc, elements as usize)?;
     for _ in 0..elements {
@@ -113,7 +113,7 @@ fn unwatched(alloc: Global, elements: u16) -> Result<Vec<bool>, AllocError> {
     Ok(watched)
 }
 
-// A pane on which the full cells of a memory are shown.
+// Makes a pane that shows the full cells of a memory.
 fn make_pane<R: Wait>(rt: &R, alloc: Global, memory: &Memory) -> Result<Unnamed, Refusal>
     ensures { IfOk result (λ p. (p.shown ≡ opening memory.now.contents)
         × (p.cells ≡ length memory.now.contents.cells)) }
@@ -127,9 +127,9 @@ fn make_pane<R: Wait>(rt: &R, alloc: Global, memory: &Memory) -> Result<Unnamed,
     }
 }
 
-/// Makes room for a trace of so many lines, 48 bytes each, for the server, the request and the answer of each element,
-/// and for the ledgers that count the lines; and shows the full cells on a pane with a reader for each element.
-/// `NoMemory`, with the engine as it was, where `alloc` refuses it.
+/// Makes room for a trace of `trace_room` lines, 48 bytes each, for the server, the request and the answer of each
+/// element, and for the ledgers that count the lines. It shows the full cells on a pane with a reader for each element.
+/// Returns `NoMemory`, with the engine as it was, if `alloc` refuses the memory.
 pub fn start<D: Disk + Drop, R: Wait>(
     rt: &R,
     alloc: Global,
@@ -158,7 +158,7 @@ pub fn start<D: Disk + Drop, R: Wait>(
     }
 }
 
-// Whether a plan fits a memory: then a run under it may start from there.
+// Returns whether a plan fits a memory. If it does, a run under it may start from there.
 fn may_start(plan: &Plan, memory: &Memory) -> bool
     ensures starts { result ≡ true → Starts memory.now.contents plan.now }
     ensures fits { IsTrue result ↔ FitsPlan memory.now.contents plan.now }
@@ -168,9 +168,11 @@ fn may_start(plan: &Plan, memory: &Memory) -> bool
     fits(plan, memory)
 }
 
-/// The same as [`start`], under a plan: a request that the plan doesn't have with its operation under its number is
-/// refused with `OffPlan` from then on. `BadPlan`, with the engine as it was, exactly where the plan doesn't fit its
-/// memory, and else `NoMemory` as `start`; the plan is dropped then.
+/// Does what [`start`] does, under a plan. From then on a request is refused with `OffPlan` if the plan doesn't have it
+/// with its operation under its number.
+///
+/// Returns `BadPlan` exactly if the plan doesn't fit the engine's memory, and else `NoMemory` as [`start`] does. The
+/// engine is then as it was, and the plan is dropped.
 pub fn start_planned<D: Disk + Drop, R: Wait>(
     rt: &R,
     alloc: Global,
@@ -193,7 +195,7 @@ pub fn start_planned<D: Disk + Drop, R: Wait>(
 }
 
 impl<D: Disk> Opening<D> {
-    // The same under a plan that fits.
+    // Puts a plan that fits on it.
     fn under(self, plan: Plan) -> Opening<D>
         requires starts { Starts self.engine.memory plan }
         ensures { result ≡ record self { plan = Some plan } }
@@ -216,7 +218,7 @@ impl<D: Disk> Opening<D> {
         }
     }
 
-    /// The controller, under the name that its caller's functions have for it. It takes no memory.
+    /// Makes the controller, under the name that its caller's functions have for it. It takes no memory.
     pub fn named<K: Name>(self) -> Controller<D, K>
         requires memory { self.engine.memory ≡ K.memory }
         requires lines { self.lines_name ≡ K.lines_name }
@@ -257,7 +259,7 @@ impl<D: Disk> Opening<D> {
             },
             places,
         };
-        // So that it is known what the files left at the start mean.
+        // The call makes known what the files left at the start mean.
         let _failed = engine.failed();
         let reserve = Reserve {
             lines,

@@ -1,4 +1,4 @@
-//! What is put ahead on the pane before the engine is lent, and shown after it.
+//! Changes are put ahead on the pane before the engine is lent, and shown after it.
 ghost use Rattle.std.specs.Prelude.{◌≡◌, ◌<◌, ◌≤◌, ◌++◌, [], true, false, length, IfOk, OnOk, OnErr};
 ghost use Rattle.im_types.specs.declared.commands.Command.TheVariants.{Request as Asks};
 ghost use Rattle.im_types.specs.declared.commands.Request.{Request};
@@ -17,7 +17,7 @@ use im_types::{Command, LAST, Refusal, Request};
 use std::cmp::min;
 use std::sync::Wait;
 
-// Whether a command is put on the disk, where there is room for so many.
+// Returns whether a command is put on the disk, given how many commands there is room for.
 fn is_taken(memory: &Memory, left: u64, command: &Command) -> bool
     ensures { result ≡ is_taken memory.now.contents left command.now }
 {
@@ -27,8 +27,8 @@ fn is_taken(memory: &Memory, left: u64, command: &Command) -> bool
     }
 }
 
-// Puts ahead what a command changes, where it is put on the disk, and says whether it is. `NoMemory` where the pane has
-// no room for the change.
+// Puts ahead what a command changes, if the command is put on the disk, and returns whether it is. Returns `NoMemory`
+// if the pane has no room for the change.
 pub(crate) fn put_ahead<J: PaneName>(
     pane: &mut Pane<J>,
     memory: &Memory,
@@ -50,7 +50,7 @@ pub(crate) fn put_ahead<J: PaneName>(
     Ok(true)
 }
 
-// Shows what was put ahead, if there is anything and the engine hasn't failed; and what is shown then.
+// Shows what was put ahead, if there is anything and the engine hasn't failed. Returns what is shown then.
 pub(crate) fn show_put<J: PaneName, R: Wait>(
     rt: &R,
     pane: &mut Pane<J>,
@@ -74,7 +74,7 @@ pub(crate) fn show_put<J: PaneName, R: Wait>(
     pane.show(rt)
 }
 
-// How many commands an engine takes.
+// Returns how many commands an engine takes.
 fn places_left<D: Disk>(engine: &Engine<D>) -> u64
     ensures { result ≡ places_left engine.now }
 {
@@ -85,7 +85,7 @@ fn places_left<D: Disk>(engine: &Engine<D>) -> u64
     min(u64::from(engine.room()), gap)
 }
 
-// The same where it is alive and the trace has room.
+// Returns how many commands an engine takes, and 0 if it has failed or the trace has no room.
 pub(crate) fn places_with<D: Disk>(engine: &Engine<D>, room: usize) -> u64
     ensures { result ≡ places_with engine.now room }
 {
@@ -98,7 +98,7 @@ pub(crate) fn places_with<D: Disk>(engine: &Engine<D>, room: usize) -> u64
     places_left(engine)
 }
 
-// The places that are left behind a request.
+// Returns the places that are left after a request.
 fn left_with(taken: bool, left: u64) -> u64
     ensures { (m : Contents) (r : Request) → taken ≡ is_taken m left (Asks r) → result ≡ left_with m left r }
 {

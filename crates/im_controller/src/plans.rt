@@ -1,11 +1,11 @@
-//! Which commands the plan has, where there is one.
+//! Which commands the plan has, if there is one.
 ghost use Rattle.std.specs.Prelude.{◌≡◌};
 ghost use Rattle.im_controller.specs.Planned.{has_request, has_command};
 
 use im_planning::Plan;
 use im_types::{Command, Request};
 
-// Whether the plan has a request, with its operation, under its number; without a plan any may come.
+// Returns whether the plan has a request, with its operation, under its number. Without a plan any request may come.
 pub(crate) fn has_request(plan: &Option<Plan>, request: &Request) -> bool
     ensures { result ≡ has_request plan.now request.now }
 {
@@ -15,7 +15,7 @@ pub(crate) fn has_request(plan: &Option<Plan>, request: &Request) -> bool
     }
 }
 
-// The same of a command: a confirmation may be any.
+// Returns the same of a command. Any confirmation may come.
 pub(crate) fn has_command(plan: &Option<Plan>, command: &Command) -> bool
     ensures { result ≡ has_command plan.now command.now }
 {

@@ -1,4 +1,4 @@
-//! Ports: one element's way to the lock.
+//! Ports: the way of one element to the lock.
 ghost use Rattle.std.specs.Prelude.{◌≡◌, ◌⊎◌, Ok, IfOk, IfErr};
 ghost use Rattle.im_types.specs.declared.commands.Call.TheVariants.{Command as Commands, Collect};
 ghost use Rattle.im_types.specs.declared.commands.Command.TheVariants.{Request as Asks, Confirm};
@@ -22,7 +22,7 @@ use im_types::{Command, Op, Refusal, Request};
 use std::marker::Model;
 use std::sync::{MutexGuard, Wait};
 
-/// One element's way to the lock. Contracts see how many lines it was told, and how many of these were marked.
+/// The way of one element to the lock. Contracts see how many lines it was told, and how many of these were marked.
 #[derive(Drop)]
 pub struct Port<K: Name> {
     pub(crate) element: u16,
@@ -37,16 +37,19 @@ impl<K: Name> Model for Port<K> {
     ghost view = { λ p. record { element = p.element; told = p.tally } };
 }
 
-// The number for which a port sleeps, if it does.
+// Returns the number for which a port sleeps, if it sleeps.
 fn awaited(number: u64, sleeps: bool) -> Option<u64> {
     if sleeps { Some(number) } else { None }
 }
 
 impl<K: Name> Port<K> {
-    /// Asks for an operation under a number of this element, and waits until it is answered, by this port or by another
-    /// that serves it in a group. Refused as by [`lend_group`](crate::lend_group): `Failed`, `TraceFull`, `OffPlan`, a
-    /// refusal of numbers, `JournalFull`, `Device`. Under a plan the receipt tells what the plan says, in whatever order
-    /// its requests are served. Where it serves while the journal is short of room, it makes room in the keeper's place.
+    /// Asks for an operation under a number of this element, and waits until it is answered. This port serves it, or
+    /// another port serves it in a group. If this port serves while the journal is short of room, it makes room in the
+    /// keeper's place.
+    ///
+    /// It is refused as by [`lend_group`](crate::lend_group): `Failed`, `TraceFull`, `OffPlan`, a refusal of numbers,
+    /// `JournalFull`, `Device`. Under a plan the receipt tells what the plan says, in whatever order its requests are
+    /// served.
     pub fn submit<D: Disk, R: Wait>(
         &mut self,
         rt: &R,
@@ -78,7 +81,7 @@ impl<K: Name> Port<K> {
         unreachable!()
     }
 
-    /// Confirms this element's entries below a number, which are forgotten. Refused as by [`lend`](crate::lend):
+    /// Confirms this element's entries below a number: they are forgotten. It is refused as by [`lend`](crate::lend):
     /// `Failed`, `TraceFull`, `NoElement`, `Gap`, `NotAnswered`, `JournalFull`, `Device`.
     pub fn confirm<D: Disk, R: Wait>(
         &mut self,
@@ -104,8 +107,8 @@ impl<K: Name> Port<K> {
         )
     }
 
-    /// What is kept under a number of this element. Refused as by [`look`](crate::look): `Failed`, `TraceFull`,
-    /// `NoElement`, `Forgotten`, `Gap`.
+    /// Returns what is kept under a number of this element. It is refused as by [`look`](crate::look): `Failed`,
+    /// `TraceFull`, `NoElement`, `Forgotten`, `Gap`.
     pub fn collect<D: Disk, R: Wait>(
         &mut self,
         rt: &R,
@@ -129,11 +132,13 @@ impl<K: Name> Port<K> {
         found
     }
 
-    /// What is kept under a number of this element, once it is answered: its server waits until then. Refused with
-    /// `Stalled`, with no line, where each active server waits and none of their entries is answered; else as
-    /// [`Port::collect`]. A port that was retired waits as any other, and its server is active no more for it. Of two
-    /// that are stuck the first to ask is told so, and is active again from then on; the other is told once the first
-    /// has retired, and sleeps until then.
+    /// Waits until the entry under a number of this element is answered, and returns it. The element's server counts as
+    /// waiting until then. It is refused with `Stalled`, which leaves no line, if each active server waits and none of
+    /// their entries is answered. Any other refusal is as by [`Port::collect`].
+    ///
+    /// A retired port may wait as any other, and that doesn't make its server active again. If two servers are stuck,
+    /// the first to ask is told so, and is active again from then on. The other is told once the first has retired, and
+    /// sleeps until then.
     pub fn await_answer<D: Disk, R: Wait>(
         &mut self,
         rt: &R,
@@ -167,8 +172,8 @@ impl<K: Name> Port<K> {
         unreachable!()
     }
 
-    /// Makes one turn of a checkpoint. Refused as by [`lend_turn`](crate::lend_turn): `Failed`, `Device`, and
-    /// `JournalFull` where there is nothing to do though the journal has no room.
+    /// Makes one turn of a checkpoint. It is refused as by [`lend_turn`](crate::lend_turn): `Failed`, `Device`, and
+    /// `JournalFull` if there is nothing to do although the journal has no room.
     pub fn help<D: Disk, R: Wait>(
         &mut self,
         rt: &R,
@@ -187,8 +192,10 @@ impl<K: Name> Port<K> {
         done
     }
 
-    /// Its server has ended: it counts no longer as one that could answer those that wait. A port that is dropped and
-    /// wasn't retired stays active, so those that wait for what nobody stores are never told `Stalled`, and sleep.
+    /// Says that this element's server has ended. It no longer counts as one that could answer those that wait.
+    ///
+    /// A port that is dropped without this call stays active. Then those that wait for an entry that nobody answers are
+    /// never told `Stalled`, and sleep.
     pub fn retire<D: Disk, R: Wait>(&mut self, rt: &R, controller: &Controller<D, K>)
         ensures same { self.new ≡ self.old }
     {

@@ -1,4 +1,4 @@
-//! What goes out of the lock: an answer, with the trace that its line ends.
+//! What goes out of the lock: an answer, with the trace that ends in its line.
 ghost use Rattle.std.specs.Prelude.{◌≡◌, Ok};
 ghost use Rattle.im_types.specs.declared.commands.Call.TheVariants.{Command as Commands, Collect};
 ghost use Rattle.im_types.specs.declared.commands.Outcome.TheVariants.{Entry as Tells};
@@ -13,8 +13,8 @@ use im_types::{Command, Entry, Outcome};
 use std::marker::{Model, PhantomData};
 use std::snapshot::Snapshot;
 
-/// What a command came to. Contracts see the command beside it, the controller's trace up to its line: a legal one
-/// from the memory that was opened; and what was shown by then.
+/// The outcome of a command. Contracts see with it the command, what was shown by then, and the controller's trace up
+/// to the command's line. That trace is legal from the memory that was opened.
 #[derive(Drop)]
 pub struct Receipt<K: Name> {
     pub(crate) outcome: Outcome,
@@ -43,7 +43,7 @@ impl<K: Name> Model for Receipt<K> {
 }
 
 impl<K: Name> Receipt<K> {
-    /// What the command came to.
+    /// Returns the outcome of the command.
     pub fn outcome(&self) -> Outcome
         ensures outcome { result ≡ self.now.outcome }
         ensures legal { IsLegal K.memory self.now.history }
@@ -52,8 +52,8 @@ impl<K: Name> Receipt<K> {
         self.outcome
     }
 
-    /// What was shown when the command was answered: the full cells of the memory that was opened, then the changes of
-    /// the accepted commands of its trace, in their order, and then maybe more.
+    /// Returns what was shown when the command was answered: the full cells of the memory that was opened, then the
+    /// changes of the accepted commands of its trace, in order. There may be more after these.
     pub fn told(&self) -> &Told<Shown<K>>
         ensures told { result.now ≡ self.now.told }
         ensures holds { IsToldOf K.memory self.now.history result.now }
@@ -62,8 +62,8 @@ impl<K: Name> Receipt<K> {
     }
 }
 
-/// What is kept under a number. Contracts see the element and the number beside it, and the controller's trace up to
-/// the line of this collect: a legal one from the memory that was opened.
+/// What is kept under a number. Contracts see with it the element, the number, and the controller's trace up to the
+/// line of this collect. That trace is legal from the memory that was opened.
 #[derive(Drop)]
 pub struct Found<K: Name> {
     pub(crate) entry: Entry,
@@ -93,7 +93,7 @@ impl<K: Name> Model for Found<K> {
 }
 
 impl<K: Name> Found<K> {
-    /// What is kept.
+    /// Returns the entry that is kept.
     pub fn entry(&self) -> Entry
         ensures entry { result ≡ self.now.entry }
         ensures legal { IsLegal K.memory self.now.history }

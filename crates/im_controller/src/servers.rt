@@ -1,4 +1,4 @@
-//! The servers of the elements, which of them wait, and whose ports sleep.
+//! The servers of the elements: what each one does, and which ports sleep.
 ghost use Rattle.std.specs.Prelude.{◌≡◌, ◌↔◌, ◌≤◌, ◌+◌, ◌||◌, ◌==◌, ℕ, List, true, false, length, count_by, if◌then◌else◌, IfOk};
 ghost use Rattle.im_types.specs.Contents.{Contents};
 ghost use Rattle.im_controller.specs.Servers.{is_waiting, is_unmade, is_stuck, are_stuck, with_server, Makes, AllStuckBut};
@@ -22,7 +22,7 @@ pub enum Server {
     Retired,
 }
 
-/// What a server is told that asks to wait.
+/// What a server is told when it asks to wait.
 #[derive(Clone, Copy, Debug, PartialEq, Eq)]
 pub enum Ask {
     /// Its entry is answered.
@@ -31,7 +31,7 @@ pub enum Ask {
     Wait,
 }
 
-// The servers of all elements, and for which entry each port sleeps: those of servers that have ended too.
+// The servers of all elements, and the entry for which each port sleeps. Ports of ended servers count too.
 #[derive(Drop)]
 pub(crate) struct Servers {
     all: Vec<Server>,
@@ -49,7 +49,7 @@ impl Model for Servers {
     ghost invariant = { λ s. length s.all.items ≤ 65536 };
 }
 
-// One for a server that waits for an entry.
+// Returns 1 for a server that waits for an entry, else 0.
 fn one_waiting(server: Server) -> u32
     ensures { result ≡ (if is_waiting server then 1 else 0) }
 {
@@ -61,7 +61,7 @@ fn one_waiting(server: Server) -> u32
     }
 }
 
-// How many of them wait for an entry.
+// Returns how many of these servers wait for an entry.
 fn count_waiting(servers: &[Server]) -> u32
     requires { length servers.now ≤ 65536 }
     ensures { result ≡ count_by is_waiting servers.now }
@@ -73,7 +73,7 @@ fn count_waiting(servers: &[Server]) -> u32
     waits
 }
 
-// Whether a server, if it is active, waits for an entry that isn't answered.
+// Returns false exactly if the server is active or waits for an answered entry.
 fn is_stuck(memory: &Memory, element: u16, server: Server) -> bool
     ensures { result ≡ is_stuck memory.now.contents element server }
 {
@@ -89,14 +89,14 @@ fn is_stuck(memory: &Memory, element: u16, server: Server) -> bool
     }
 }
 
-// The same of any but the caller's.
+// Returns the same of another server, and true of the caller's.
 fn is_past(memory: &Memory, caller: u16, element: u16, server: Server) -> bool
     ensures { result ≡ ((element == caller) || is_stuck memory.now.contents element server) }
 {
     element == caller || is_stuck(memory, element, server)
 }
 
-// The same of all but the caller's.
+// Returns whether all servers but the caller's are stuck.
 fn are_stuck(memory: &Memory, caller: u16, servers: &[Server]) -> bool
     requires { length servers.now ≤ 65536 }
     ensures { result ≡ are_stuck memory.now.contents caller 0 servers.now }
@@ -109,7 +109,7 @@ fn are_stuck(memory: &Memory, caller: u16, servers: &[Server]) -> bool
     true
 }
 
-// So many ports, none of which sleeps.
+// Makes the given number of ports, none of which sleeps.
 fn awake(alloc: Global, elements: u16) -> Result<Vec<Option<u64>>, AllocError> {
     let mut asleep = Vec::with_capacity(alloc, elements as usize)?;
     for _ in 0..elements {
@@ -118,7 +118,7 @@ fn awake(alloc: Global, elements: u16) -> Result<Vec<Option<u64>>, AllocError> {
     Ok(asleep)
 }
 
-// Whether a port sleeps, and need not any more: its entry isn't waited for.
+// Returns whether a port sleeps for an entry that is no longer waiting.
 fn is_answered(memory: &Memory, element: u16, asleep: Option<u64>) -> bool {
     match asleep {
         Some(number) => !matches!(memory.collect(element, number), Ok(Entry::Waiting)),
@@ -127,7 +127,7 @@ fn is_answered(memory: &Memory, element: u16, asleep: Option<u64>) -> bool {
 }
 
 impl Servers {
-    // So many, none of which is made yet, and none asleep.
+    // Makes the given number of servers, none of which is made yet or asleep.
     pub(crate) fn new(alloc: Global, elements: u16) -> Result<Servers, AllocError>
         ensures count { IfOk result (λ s. length s ≡ elements) }
         ensures unmade { IfOk result (λ s. count_by is_unmade s ≡ elements) }
@@ -140,7 +140,7 @@ impl Servers {
         Ok(Servers { all, asleep })
     }
 
-    // Makes a server, and says whether there is one that wasn't made before.
+    // Makes a server. Returns whether there is one that wasn't made before.
     pub(crate) fn make(&mut self, element: u16) -> bool
         ensures makes { Makes self.old element result self.new }
         ensures unmade { result ≡ true
@@ -161,7 +161,7 @@ impl Servers {
         }
     }
 
-    // What a server does from now on, if it is active.
+    // Sets what a server does from now on, if it is active or waits.
     pub(crate) fn change(&mut self, element: u16, server: Server)
         ensures state { self.new ≡ with_server self.old element server }
         ensures unmade { is_unmade server ≡ false
@@ -179,21 +179,21 @@ impl Servers {
         }
     }
 
-    // Whether each active server but the caller's waits for an entry that isn't answered.
+    // Returns whether all servers but the caller's are stuck: none is active, and none waits for an answered entry.
     pub(crate) fn are_stuck(&self, memory: &Memory, caller: u16) -> bool
         ensures { result ≡ are_stuck memory.now.contents caller 0 self.now }
     {
         are_stuck(memory, caller, self.all.as_slice())
     }
 
-    // How many of them wait.
+    // Returns how many of them wait.
     pub(crate) fn waiting(&self) -> u32
         ensures { result ≡ count_by is_waiting self.now }
     {
         count_waiting(self.all.as_slice())
     }
 
-    // Notes for which entry an element's port sleeps from now on, if it does.
+    // Notes for which entry an element's port sleeps from now on, if it sleeps.
     pub(crate) fn note(&mut self, element: u16, number: Option<u64>)
         ensures same { self.new ≡ self.old }
     {
@@ -203,7 +203,7 @@ impl Servers {
         }
     }
 
-    // For which entry an element's port sleeps, if it does.
+    // Returns the number for which an element's port sleeps, if it sleeps.
     fn awaited(&self, element: usize) -> Option<u64> {
         match self.asleep.get(element) {
             Some(number) => *number,
@@ -211,7 +211,7 @@ impl Servers {
         }
     }
 
-    // The elements whose ports sleep.
+    // Returns the elements of the ports that sleep.
     pub(crate) fn asleep(&self) -> ArrayVec<u16, 64> {
         let mut sleepers = ArrayVec::new();
         for i in 0..self.all.len() {
@@ -222,7 +222,7 @@ impl Servers {
         sleepers
     }
 
-    // Those of them whose entries aren't waited for any more.
+    // Returns the elements of the ports that sleep for an entry that is no longer waiting.
     pub(crate) fn answered(&self, memory: &Memory) -> ArrayVec<u16, 64> {
         let mut sleepers = ArrayVec::new();
         for i in 0..self.all.len() {
@@ -234,7 +234,7 @@ impl Servers {
     }
 }
 
-/// The test of all servers, one after another, says of each that it is stuck, and of no other list.
+/// The test that goes through all servers is true exactly if each server but the caller's is stuck.
 pub fn stuck_is_each()
     ensures { (m : Contents) (caller : ℕ) (servers : List Server)
         → (are_stuck m caller 0 servers ≡ true) ↔ AllStuckBut m caller servers }

@@ -1,4 +1,4 @@
-//! What lies under the lock, and what is done there.
+//! What lies under the lock, and the functions that work on it.
 ghost use Rattle.std.specs.Prelude.{◌≡◌, ◌⊎◌, ◌<◌, true, false, length, Ok, Err, IfOk, IfErr, IfSome, IsErrOf};
 ghost use mathlib.Core.List.{IsPrefix};
 ghost use Rattle.im_types.specs.Trace.{IsLegal, told};
@@ -37,14 +37,17 @@ use std::marker::Model;
 use std::sync::Wait;
 
 /// What lies under the lock: the engine; the trace of all that was answered from it, with books that count its lines;
-/// what each element's server does; the shares of ports that weren't given out yet; and the pane that shows the full
-/// cells.
+/// what each element's server does; the shares of the ports that weren't given out yet; and the pane that shows the
+/// full cells.
 ///
-/// The trace is legal from the memory that was opened, and its end is the engine's memory. What is shown is the full
-/// cells of the memory that was opened, and then the changes of the trace. Each file that a crash has left since then
-/// means the memory that was opened after a beginning of the trace's accepted commands, and of those that are in doubt
-/// where a call of the disk has failed; and each that it may leave now has all those of the trace. Where there is a plan,
-/// it has each request of the trace.
+/// The trace is legal from the memory that was opened, and it ends in the engine's memory. The pane shows the full
+/// cells of the memory that was opened, followed by the changes of the trace.
+///
+/// Each file that a crash may have left since then means the memory that was opened, after a prefix of the accepted
+/// commands. These are the trace's accepted commands and, if a call of the disk has failed, those that the failure left
+/// in doubt. Each file that a crash may leave now has all accepted commands of the trace.
+///
+/// If there is a plan, it has each request of the trace.
 pub struct Shared<D: Disk, K: Name> {
     pub(crate) engine: Engine<D>,
     pub(crate) log: Log<K>,
@@ -85,13 +88,19 @@ impl<D: Disk, K: Name> Model for Shared<D, K> {
         × (s.plan ≡ K.plan) × KeepsTo K.memory K.plan s.log.trace };
 }
 
-/// Lends the engine to a command, for the port whose tally this is: its line is left in the trace and counted where it
-/// has an outcome or a refusal of numbers. What it changes is shown after it was put on the disk, and never before.
+/// Lends the engine to a command, for the port of this tally. If the answer is an outcome or a refusal of numbers, the
+/// trace gets its line and the tally counts it. The pane shows what the command changes after it is on the disk, and
+/// never before.
 ///
-/// In this order: `Failed` where the engine has failed, `TraceFull` where the trace has no room left, `OffPlan` where
-/// there is a plan that doesn't have its operation under its number, and then what [`Engine::serve`] answers: a refusal of numbers; `JournalFull`; `Device`, after which no line is left and the engine
-/// has failed, and nothing more is shown. `NoMemory` before `Device`, where the pane has no room for what the command
-/// changes: then all is as it was.
+/// Errors, in this order:
+///
+/// - `Failed` if the engine has failed.
+/// - `TraceFull` if the trace has no room left.
+/// - `OffPlan` if there is a plan that doesn't have the command's operation under its number.
+/// - A refusal of numbers or `JournalFull`, as [`Engine::serve`] returns it.
+/// - `NoMemory` if the pane has no room for what the command changes. Then all is as it was.
+/// - `Device`, as [`Engine::serve`] returns it. After it no line is left, the engine has failed, and nothing more is
+///   shown.
 pub fn lend<D: Disk, K: Name, R: Wait>(
     rt: &R,
     shared: &mut Shared<D, K>,
@@ -101,7 +110,7 @@ pub fn lend<D: Disk, K: Name, R: Wait>(
     ensures lends { Lends K.marks K.plan shared.old tally.old command.now result shared.new tally.new }
     ensures planned { TellsOf K.memory K.plan result }
     ensures legal { IfOk result (λ r. IsLegal K.memory r.history) }
-    // What the disk is left with, as by the engine alone.
+    // What the disk is left with is as after the engine's own call.
     ensures calls { D.honest shared.new.engine.disk
         → CallsBy D.past shared.old.engine.disk shared.new.engine.disk
         (calls_for shared.old.engine.memory command.now) result }
@@ -138,7 +147,7 @@ pub fn lend<D: Disk, K: Name, R: Wait>(
     }
 }
 
-// An entry that was asked for, as an outcome.
+// Returns the answer for an entry as an outcome.
 fn as_outcome(answer: Result<Entry, Refusal>) -> Result<Outcome, Refusal>
     ensures { result ≡ told answer }
 {
@@ -148,11 +157,11 @@ fn as_outcome(answer: Result<Entry, Refusal>) -> Result<Outcome, Refusal>
     }
 }
 
-/// Looks up what is kept under an element's number, for the port whose tally this is: its line is left and counted. It
-/// makes no call of the disk and takes no memory.
+/// Looks up what is kept under an element's number, for the port of this tally. The trace gets a line and the tally
+/// counts it. It makes no call of the disk and takes no memory.
 ///
-/// In this order: `Failed` where the engine has failed, `TraceFull` where the trace has no room left, and then with
-/// their lines `NoElement`, `Forgotten`, and `Gap` where the number isn't used yet.
+/// Errors, in this order: `Failed` if the engine has failed; `TraceFull` if the trace has no room left; and then, each
+/// with its line, `NoElement`, `Forgotten`, and `Gap` if the number isn't used yet.
 pub fn look<D: Disk, K: Name>(
     shared: &mut Shared<D, K>,
     tally: &mut Tally<K>,
@@ -174,7 +183,7 @@ pub fn look<D: Disk, K: Name>(
     answer
 }
 
-// A turn, as who lends it is told.
+// Returns what the lender of a turn is told about it.
 fn told_turn(room: u32, done: Result<TurnDone, Refusal>) -> Result<TurnDone, Refusal>
     ensures { result ≡ told_turn room done }
 {
@@ -189,16 +198,16 @@ fn told_turn(room: u32, done: Result<TurnDone, Refusal>) -> Result<TurnDone, Ref
     }
 }
 
-/// Lends the engine to one turn of a checkpoint, which leaves the memory, the trace and the servers. It takes no
+/// Lends the engine to one turn of a checkpoint. The memory, the trace and the servers stay as they are. It takes no
 /// memory.
 ///
-/// `Failed` exactly where the engine has failed, `Device` where a call of the disk failed, and `JournalFull` where
-/// there is nothing to do though the journal has no room.
+/// Returns `Failed` exactly if the engine has failed, `Device` if a call of the disk failed, and `JournalFull` if there
+/// is nothing to do although the journal has no room.
 pub fn lend_turn<D: Disk, K: Name>(shared: &mut Shared<D, K>) -> Result<TurnDone, Refusal>
     ensures lends { LendsTurn shared.old result shared.new }
     ensures only { IfErr result (λ e. IsTurnFault e ⊎ (e ≡ JournalFull)) }
     ensures full { IsErrOf result JournalFull → (shared.new.engine.room ≡ 0) × (shared.new.engine.failed ≡ false) }
-    // What the disk is left with, as by the engine alone.
+    // What the disk is left with is as after the engine's own call.
     ensures few { D.honest shared.new.engine.disk
         → CallsAtMost D.past shared.old.engine.disk shared.new.engine.disk 4 }
     ensures faults { Faults (λ e. Unit {0}) result (D.failures shared.old.engine.disk)
@@ -216,22 +225,22 @@ pub fn lend_turn<D: Disk, K: Name>(shared: &mut Shared<D, K>) -> Result<TurnDone
     told_turn(shared.engine.room(), done)
 }
 
-// Lends the engine to a sweep of so many slots at most, which leaves the memory, the trace and the servers: how many there
-// were. It takes no memory.
+// Lends the engine to a sweep of at most `most` slots, and returns how many it swept. The memory, the trace and the
+// servers stay as they are. It takes no memory.
 pub(crate) fn lend_sweep<D: Disk, K: Name>(
     shared: &mut Shared<D, K>,
     most: u32,
 ) -> Result<u32, Refusal> {
-    // A stop in it leaves the memory as it is.
+    // A crash in this call leaves the memory as it is.
     shared.engine.sweep(most)
 }
 
-/// Whether an element's server may wait for the entry of a number. It is `Go` exactly where that is answered, and else
-/// the server waits from now on, until its next call that answers otherwise.
+/// Asks whether an element's server may wait for the entry of a number. It returns `Go` if the entry is answered. On
+/// `Wait` the server waits from now on, until its next call that returns something else.
 ///
-/// In this order: `Failed` where the engine has failed; `NoElement`, `Forgotten` and `Gap` of the number; `Stalled`
-/// where each active server waits, the caller's too, and none of their entries is answered. It makes no call of the
-/// disk, leaves no line and takes no memory.
+/// Errors, in this order: `Failed` if the engine has failed; `NoElement`, `Forgotten` and `Gap` of the number;
+/// `Stalled` if each active server waits, the caller's included, and none of their entries is answered. It makes no
+/// call of the disk, leaves no line and takes no memory.
 pub fn begin_wait<D: Disk, K: Name>(
     shared: &mut Shared<D, K>,
     element: u16,
@@ -263,7 +272,7 @@ pub fn begin_wait<D: Disk, K: Name>(
     }
 }
 
-// What is kept under an element's number, with the trace that its line ends.
+// Returns what is kept under an element's number, with the trace that ends in this call's line.
 pub(crate) fn find<D: Disk, K: Name>(
     shared: &mut Shared<D, K>,
     tally: &mut Tally<K>,
@@ -280,7 +289,7 @@ pub(crate) fn find<D: Disk, K: Name>(
     }
 }
 
-// One holding of the lock by a port that awaits an answer: nothing yet, or the answer.
+// Holds the lock once for a port that awaits an answer. Returns the answer, or none if the port is to wait.
 pub(crate) fn ask_once<D: Disk, K: Name>(
     shared: &mut Shared<D, K>,
     tally: &mut Tally<K>,
@@ -303,7 +312,7 @@ pub(crate) fn ask_once<D: Disk, K: Name>(
     }
 }
 
-/// How things stand.
+/// Returns how things stand.
 pub fn stands<D: Disk, K: Name>(shared: &Shared<D, K>) -> Standing
     ensures stands { result ≡ standing_in shared.now }
 {
@@ -313,7 +322,7 @@ pub fn stands<D: Disk, K: Name>(shared: &Shared<D, K>) -> Standing
     }
 }
 
-// The same for whoever listens.
+// Returns how things stand if the caller listens.
 pub(crate) fn stands_for<D: Disk, K: Name>(
     shared: &Shared<D, K>,
     listens: bool,
@@ -324,8 +333,8 @@ pub(crate) fn stands_for<D: Disk, K: Name>(
     Some(stands(shared))
 }
 
-// Notes for which entry a port sleeps from now on, if it does: also where its server has ended, so that whoever answers
-// it rings.
+// Notes for which entry a port sleeps from now on, if it sleeps. It does so even if the port's server has ended, so
+// that whoever answers the entry rings.
 pub(crate) fn note_sleep<D: Disk, K: Name>(
     shared: &mut Shared<D, K>,
     element: u16,
@@ -343,7 +352,8 @@ pub(crate) struct Sleepers {
     pub(crate) ports: ArrayVec<u16, 64>,
 }
 
-// Who sleeps and has something to do now: ports whose entries are answered, or all where the engine has failed.
+// Returns the sleepers that have something to do now: the ports of answered entries, or all ports if the engine has
+// failed.
 pub(crate) fn who_sleeps<D: Disk, K: Name>(shared: &mut Shared<D, K>) -> Sleepers {
     let keeper = wake_keeper(&mut shared.keeper);
     let ports = if shared.engine.failed() {
@@ -354,7 +364,7 @@ pub(crate) fn who_sleeps<D: Disk, K: Name>(shared: &mut Shared<D, K>) -> Sleeper
     Sleepers { keeper, ports }
 }
 
-// The same behind a retirement, by which those that sleep may be stuck.
+// Returns who is to be woken after a retirement: all sleeping ports, since they may be stuck now.
 pub(crate) fn who_may_be_stuck<D: Disk, K: Name>(shared: &mut Shared<D, K>) -> Sleepers {
     Sleepers {
         keeper: wake_keeper(&mut shared.keeper),
@@ -362,13 +372,13 @@ pub(crate) fn who_may_be_stuck<D: Disk, K: Name>(shared: &mut Shared<D, K>) -> S
     }
 }
 
-// The elements whose answers wait for their ports.
+// Returns the elements that have an answer waiting for their port.
 pub(crate) fn who_is_answered<D: Disk, K: Name>(shared: &Shared<D, K>) -> ArrayVec<u16, 64> {
     shared.log.answered()
 }
 
-/// Makes an element's port, which was told no line yet; its server is active from now on. `NoElement`, with all as it
-/// was, exactly where there is no such element, and where it has its port. It takes no memory.
+/// Makes an element's port, which has been told no line yet. Its server is active from now on. It takes no memory.
+/// Returns `NoElement`, and leaves all as it was, exactly if there is no such element or it already has its port.
 pub fn make_port<D: Disk, K: Name>(
     shared: &mut Shared<D, K>,
     element: u16,
@@ -386,7 +396,7 @@ pub fn make_port<D: Disk, K: Name>(
     })
 }
 
-// Gives out an element's glance, where it has none yet.
+// Gives out an element's glance, if it has none yet.
 pub(crate) fn make_glance<D: Disk, K: Name>(
     shared: &mut Shared<D, K>,
     element: u16,
@@ -399,7 +409,7 @@ pub(crate) fn make_glance<D: Disk, K: Name>(
     shared.pane.glance()
 }
 
-// Marks an element that has no mark yet, and says whether it did.
+// Marks an element that has no mark yet, and returns whether it did.
 fn mark_watched(watched: &mut Vec<bool>, element: u16) -> bool {
     let i = element as usize;
     if i >= watched.len() || watched[i] {
@@ -409,7 +419,7 @@ fn mark_watched(watched: &mut Vec<bool>, element: u16) -> bool {
     true
 }
 
-// An element's server has ended: nobody waits for it any more.
+// Records that an element's server has ended: nobody waits for it any longer.
 pub(crate) fn retire<D: Disk, K: Name>(shared: &mut Shared<D, K>, element: u16)
     ensures { shared.new ≡ with_server_at shared.old element Server.Retired }
 {

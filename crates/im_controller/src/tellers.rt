@@ -1,4 +1,4 @@
-//! Who is told how things stand.
+//! Tellers: who is told how things stand.
 
 /// How things stand under the lock.
 #[derive(Clone, Copy, Debug, PartialEq, Eq)]
@@ -11,10 +11,10 @@ pub struct Standing {
 
 /// Who wants to know how things stand while checkpoints are kept.
 pub trait Teller {
-    /// Whether it wants to be told after the next turn. It is asked before each, and with no lock held.
+    /// Returns whether it wants to be told after the next turn. It is asked before each turn, with no lock held.
     fn listens(&mut self) -> bool;
 
-    /// Is told how things stood at that turn's end. No lock is held.
+    /// Takes in how things stood at the end of that turn. No lock is held.
     fn tell(&mut self, standing: Standing);
 }
 

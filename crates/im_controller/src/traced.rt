@@ -23,11 +23,11 @@ pub(crate) enum Said {
     Refused(Refusal),
 }
 
-/// A line of the trace, in 48 bytes: a call beside its answer takes 88, as each of their layers has a tag of its own.
-/// Contracts see the [`Line`].
+/// A line of the trace, in 48 bytes. A call beside its answer would take 88, since each of their layers has a tag of
+/// its own. Contracts see the [`Line`].
 #[derive(Drop)]
 pub struct Traced {
-    number: u64, // Up to which is confirmed, where nothing is asked for.
+    number: u64, // Of a confirmation, the number below which entries are confirmed.
     op: Op, // Of a request alone.
     reply: Reply, // Of an answer alone.
     element: u16,
@@ -47,7 +47,7 @@ impl Model for Traced {
     } };
 }
 
-// What a call asks, of which element, under which number, and which operation.
+// Returns what a call asks, its element, its number and its operation.
 fn parts_of(call: Call) -> (Asked, u16, u64, Op)
     ensures { call_with result.0 result.1 result.2 result.3 ≡ call }
 {
@@ -62,7 +62,7 @@ fn parts_of(call: Call) -> (Asked, u16, u64, Op)
     }
 }
 
-// What an answer says, and its reply.
+// Returns what an answer says, and its reply.
 fn said_of(answer: Result<Outcome, Refusal>) -> (Said, Reply)
     ensures { answer_with result.0 result.1 ≡ answer }
 {
@@ -105,7 +105,7 @@ fn answer_with(said: Said, reply: Reply) -> Result<Outcome, Refusal>
 }
 
 impl Traced {
-    // The line of a call with its answer.
+    // Returns the line of a call and its answer.
     pub(crate) fn new(call: Call, answer: Result<Outcome, Refusal>) -> Traced
         ensures { result ≡ line_of call answer }
     {
@@ -121,7 +121,7 @@ impl Traced {
         }
     }
 
-    /// The call, and what it was answered.
+    /// Returns the call and its answer.
     pub fn line(&self) -> Line
         ensures line { result ≡ self.now }
     {

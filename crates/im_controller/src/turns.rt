@@ -1,22 +1,25 @@
-//! First come, first served: a queue in front of the lock. A lock that isn't fair is taken again by whoever lets it go,
-//! before those that it wakes, and then no group gets large. Those for whom an answer waits go past the queue together,
-//! as they have but to take it, and nobody else before the last of them has gone on: by then most ask again, and are
-//! served by one group. The thread that keeps checkpoints goes where nobody else waits, or once so many others have gone
-//! before it in their turn. No clause speaks of it: `models/lock.pml` is searched for what comes of it.
+//! A queue in front of the lock: first come, first served. A lock that isn't fair is taken again by whoever releases
+//! it, before those that it wakes, and then no group gets large.
+//!
+//! Threads whose answers wait go past the queue together, as they only have to take them. Nobody else goes before the
+//! last of them has left the lock. By then most of them ask again, and one group serves them.
+//!
+//! The thread that keeps checkpoints goes if nobody else waits, or after so many others have gone before it. No clause
+//! speaks of this queue; `models/lock.pml` is searched for what comes of it.
 use arrayvec::ArrayVec;
 use std::alloc::{AllocError, Global};
 use std::sync::{Condvar, Mutex, Wait};
 
-// How many others go before the keeper in their turn at most, once it is first. Those whose answers wait go past it too,
-// and aren't counted: they lend nothing.
+// How many others at most go before the keeper in their turn, once it is first. Those that go past it because their
+// answers wait aren't counted: they lend nothing.
 const PATIENCE: u32 = 16;
 
 #[derive(Drop)]
 struct Queue {
-    within: usize, // How many are past it, and haven't gone on.
-    together: ArrayVec<usize, 65>, // Who was called past it last.
+    within: usize, // How many are past it, and have not left the lock yet.
+    together: ArrayVec<usize, 65>, // Those that were last called past it.
     waiting: ArrayVec<usize, 65>, // The places of 64 elements, and the keeper's.
-    bypassed: u32, // How many others went before the keeper in their turn, since it is first.
+    bypassed: u32, // How many others went before the keeper in their turn while it was first.
 }
 
 #[derive(Drop)]
@@ -32,11 +35,11 @@ pub(crate) struct Turns {
     places: Vec<Place>,
 }
 
-// Whether it was waited for in the queue.
+// True if the thread went through the queue.
 #[derive(Clone, Copy)]
 pub(crate) struct Turn(bool);
 
-// Whether a place is that of one of these elements.
+// Returns whether a place is that of one of these elements.
 fn is_among(place: usize, elements: &[u16]) -> bool {
     for element in elements {
         if *element as usize == place {
@@ -46,7 +49,7 @@ fn is_among(place: usize, elements: &[u16]) -> bool {
     false
 }
 
-// Whether a place is one of these.
+// Returns whether a place is one of these.
 fn is_one_of(place: usize, places: &[usize]) -> bool {
     for other in places {
         if *other == place {
@@ -57,13 +60,15 @@ fn is_one_of(place: usize, places: &[usize]) -> bool {
 }
 
 impl Queue {
-    // Whether a place is let past for its answer, by a list of the elements whose answers wait. Of those who were past
-    // the queue together each may have taken its answer since another one made the list, and wait for its next turn.
+    // Returns whether a place is let past because its answer waits, given the elements that have an answer waiting.
+    // Those that were last past the queue together aren't: each of them may have taken its answer after the list was
+    // made, and may wait for its next turn.
     fn is_let_past(&self, place: usize, elements: &[u16]) -> bool {
         is_among(place, elements) && !is_one_of(place, self.together.as_slice())
     }
 
-    // Where in a list of those who wait the next one is: the first, but for a keeper that lets others go before it.
+    // Returns the index of the next one in a list of those who wait. It is the first, unless that is the keeper and it
+    // lets another go before it.
     fn next_of(&mut self, waiting: &[usize], keeper: usize) -> usize {
         if waiting.first() != Some(&keeper) {
             return 0;
@@ -76,7 +81,7 @@ impl Queue {
         0
     }
 
-    // Takes out who goes past it next: all of these elements that wait in it, or else the next one.
+    // Takes out who goes past the queue next: all of these elements that wait in it, or else the next one.
     fn take_next(&mut self, elements: &[u16], keeper: usize) -> ArrayVec<usize, 65> {
         let mut next = ArrayVec::new();
         let mut rest = ArrayVec::new();
@@ -122,7 +127,7 @@ impl Turns {
         })
     }
 
-    // The place of the thread that keeps checkpoints, behind those of the elements.
+    // The place of the thread that keeps checkpoints, after those of the elements.
     fn keeper(&self) -> usize {
         self.places.len().saturating_sub(1)
     }
@@ -132,7 +137,7 @@ impl Turns {
         self.wait(rt, self.keeper())
     }
 
-    // Waits until it is this thread's turn. Where the queue is full, it goes past it.
+    // Waits until it is this thread's turn. If the queue is full, the thread goes past it.
     pub(crate) fn wait<R: Wait>(&self, rt: &R, place: usize) -> Turn {
         let Some(mine) = self.places.get(place) else {
             return Turn(false);
@@ -155,7 +160,7 @@ impl Turns {
         Turn(true)
     }
 
-    // Tells who waits at a place that its turn has come.
+    // Tells the thread that waits at a place that its turn has come.
     fn call<R: Wait>(&self, rt: &R, place: usize) {
         if let Some(place) = self.places.get(place) {
             let mut called = place.called.lock(rt);
@@ -165,8 +170,8 @@ impl Turns {
         }
     }
 
-    // Passes the turn on: to the first in the queue, or to all of these elements that wait in it, for whom there are
-    // answers. The last of those who were called together does so.
+    // Passes the turn on, once the last of those that were called together does so. It goes to all of these elements
+    // that wait in the queue, whose answers are there, or else to the next one in the queue.
     pub(crate) fn pass_on<R: Wait>(&self, rt: &R, turn: Turn, answered: &[u16]) {
         if !turn.0 {
             return;

@@ -1,5 +1,5 @@
-//! Where an image is damaged, for a person to read. That it is refused, and why, is proved where it is read; the place
-//! is looked for afterwards, and no more than tested.
+//! Describes where an image is damaged, for a person to read. That an image is refused, and why, is proved where it is
+//! read. The place is searched for afterwards, and only tested.
 
 use byteorder::{ByteOrder, LittleEndian};
 use im_cell::CellRow;
@@ -13,26 +13,26 @@ use im_types::{
 use std::fmt;
 use std::fmt::{Display, Formatter};
 
-/// A field of a header, with what stands there.
+/// A field of a header, with its content.
 #[derive(Clone, Copy, Debug, PartialEq, Eq)]
 pub enum HeaderField {
-    /// The area that it is the header of, which is its own number.
+    /// The area of the header. It has to be the header's own number.
     Area(u8),
     /// The version of the layout.
     Version(u16),
     /// The letters IMEM.
     Letters,
-    /// How many areas were written so far, 1 to [`LAST`].
+    /// The number of areas written so far, 1 to [`LAST`].
     Generation(u64),
-    /// How many commands the area has, 0 to [`LAST`].
+    /// The number of commands that the area holds, 0 to [`LAST`].
     Count(u64),
-    /// The number of cells, of elements or of slots: one of them is out of its range.
+    /// The numbers of cells, of elements and of slots. One of them is out of its range.
     Limits(u32, u16, u32),
-    /// The bytes that no field has.
+    /// The bytes outside all fields.
     Rest,
 }
 
-/// What a record of a page is of.
+/// The thing that a record of a page describes.
 #[derive(Clone, Copy, Debug, PartialEq, Eq)]
 pub enum RecordOf {
     /// The cell at an address.
@@ -46,53 +46,54 @@ pub enum RecordOf {
 /// What is wrong with a slot of the journal.
 #[derive(Clone, Copy, Debug, PartialEq, Eq)]
 pub enum SlotFault {
-    /// In the run the command of this number stands here, and the bytes spell none.
+    /// The command of this number stands here in the run, and the bytes spell none.
     Unspelled(u64),
-    /// The command of this number leads a group here, and the slot counts so many commands, not 1 to [`MAX_GROUP`].
+    /// The command of this number leads a group here. The slot counts this many commands, which isn't 1 to
+    /// [`MAX_GROUP`].
     Counts(u64, u8),
-    /// The command of this number leads a group here, and so many commands go more than once round the ring, or past
-    /// [`LAST`].
+    /// The command of this number leads a group here. A group of this many commands goes more than once round the ring,
+    /// or past [`LAST`].
     TooLong(u64, u8),
-    /// The command of the first number follows in a group here, and the slot has the second.
+    /// The command of the first number belongs here, within a group. The slot has the second number.
     NotNext(u64, u64),
-    /// The command of this number follows in a group here, and the slot counts so many commands, not 0.
+    /// The command of this number belongs here, within a group. The slot counts this many commands instead of 0.
     LeadsWithin(u64, u8),
-    /// The command of this number stands here, and the memory reached before it doesn't accept it.
+    /// The command of this number stands here, and the memory before it doesn't accept it.
     Refused(u64),
-    /// It lies behind the run with the first number, where only numbers below the second may stand.
+    /// The slot lies behind the run and has the first number. Only numbers below the second may stand there.
     NotStale(u64, u64),
 }
 
-/// Where an image is damaged. Its text is for a person.
+/// The place where an image is damaged. Its text is for a person.
 #[derive(Clone, Copy, Debug, PartialEq, Eq)]
 pub enum Damage {
-    /// The place wasn't found: the refusal alone says what is wrong.
+    /// The place wasn't found. Only the refusal says what is wrong.
     Unknown,
-    /// The file has the first number of bytes, where its header wants the second.
+    /// The file has the first number of bytes. Its header wants the second.
     Length(usize, usize),
-    /// The file has so many bytes, which is shorter than each image.
+    /// The file has this many bytes, which is shorter than any image.
     Short(usize),
-    /// Both headers are open under one generation.
+    /// Both headers are open with this same generation.
     Twice(u64),
-    /// Neither header is open, and nothing else is there that an image has once it was made: it is no image, or its
-    /// making was never ended.
+    /// Neither header is open, and the file has nothing else of a finished image. It is no image, or its making never
+    /// ended.
     Unmade,
-    /// Neither header is open, and more is there than a making that was never ended leaves.
+    /// Neither header is open, and the file has more than an unfinished making leaves.
     Closed,
-    /// A field of the header in force, which is this one.
+    /// A field of the header in force. The number is the header's.
     Header(u8, HeaderField),
-    /// A record on a page of the area in force isn't spelled as it should be, or leads past the last one: the page,
-    /// from 0 in the area, and the record.
+    /// A record on a page of the area in force isn't spelled as it should be, or leads past the last record. The page
+    /// counts from 0 in the area.
     Record(usize, RecordOf),
-    /// Behind the last record of a kind a byte of this page isn't zero.
+    /// A byte of this page, behind the last record of a kind, isn't zero.
     Padding(usize),
-    /// A cell's record, on this page, isn't that of the block in which it lies.
+    /// The record of a cell, on this page, doesn't agree with the block that the cell lies in.
     Blocks(usize, usize),
-    /// The list of those who wait at a cell, on this page, leads astray.
+    /// The list of waiters of a cell, on this page, leads astray.
     List(usize, usize),
-    /// Those who wait at the cells aren't those who wait by the windows.
+    /// The waiters at the cells aren't the waiters of the windows.
     Waiters,
-    /// A slot of the journal.
+    /// A fault of a slot of the journal.
     Slot(usize, SlotFault),
 }
 
@@ -227,7 +228,7 @@ impl Display for Damage {
     }
 }
 
-// The limits that stand in a header, if they are in range.
+// The limits in a header, if they are in range.
 fn limits_in(header: &[u8; 64]) -> Option<Limits> {
     Limits::new(
         LittleEndian::read_u32(&header[24..28]),
@@ -236,7 +237,7 @@ fn limits_in(header: &[u8; 64]) -> Option<Limits> {
     )
 }
 
-// The first field of a header of this number that isn't as it has to be.
+// The first faulty field of a header with this number.
 fn field_in(header: &[u8; 64], number: u8) -> HeaderField {
     let version = LittleEndian::read_u16(&header[2..4]);
     let generation = LittleEndian::read_u64(&header[8..16]);
@@ -260,7 +261,7 @@ fn field_in(header: &[u8; 64], number: u8) -> HeaderField {
     }
 }
 
-// The generation of a header, where its gate is open.
+// The generation of a header, if its gate is open.
 fn generation_in(header: &[u8; 64]) -> Option<u64> {
     if header[0] == OPEN {
         Some(LittleEndian::read_u64(&header[8..16]))
@@ -269,7 +270,7 @@ fn generation_in(header: &[u8; 64]) -> Option<u64> {
     }
 }
 
-/// The number of the header in force of these two.
+/// Returns the number of the header in force of these two.
 pub fn in_force(zero: &[u8; 64], one: &[u8; 64]) -> u8 {
     match (generation_in(zero), generation_in(one)) {
         (Some(first), Some(second)) if first < second => 1,
@@ -278,7 +279,7 @@ pub fn in_force(zero: &[u8; 64], one: &[u8; 64]) -> u8 {
     }
 }
 
-/// What is wrong with the header in force of these two.
+/// Returns what is wrong with the header in force of these two.
 pub fn of_headers(zero: &[u8; 64], one: &[u8; 64]) -> Damage {
     match (generation_in(zero), generation_in(one)) {
         (Some(first), Some(second)) if first == second => return Damage::Twice(first),
@@ -291,24 +292,24 @@ pub fn of_headers(zero: &[u8; 64], one: &[u8; 64]) -> Damage {
     )
 }
 
-// Whether nothing stands in the place of a header.
+// Returns whether the place of a header is empty.
 fn is_blank(header: &[u8; 64]) -> bool {
     header.iter().all(|byte| *byte == 0)
 }
 
-// Whether a closed header 0 is one that a making leaves: blank, or of the first generation and no command.
+// Returns whether a closed header 0 is one that a making leaves: empty, or of the first generation without commands.
 fn is_first(header: &[u8; 64]) -> bool {
     is_blank(header)
         || LittleEndian::read_u64(&header[8..16]) == 1
             && LittleEndian::read_u64(&header[16..24]) == 0
 }
 
-/// Whether two closed headers are as a making leaves them that was never ended.
+/// Returns whether two closed headers are as an unfinished making leaves them.
 pub fn are_unmade(zero: &[u8; 64], one: &[u8; 64]) -> bool {
     is_first(zero) && is_blank(one)
 }
 
-/// Whether a gate is open in the last slots of a file, by these bytes of it.
+/// Returns whether a gate is open among these last bytes of a file.
 pub fn has_open_gate(ring: &[u8]) -> bool {
     ring.chunks(SLOT).any(is_open)
 }
@@ -317,7 +318,7 @@ fn is_link(count: usize, link: u32) -> bool {
     link == NONE || (link as usize) < count
 }
 
-// Whether the links of a cell's record lead anywhere.
+// Returns whether a cell's record is within its bounds: its hole or its block, and its links.
 fn leads(cell: CellRecord, cells: usize, nodes: usize) -> bool {
     match cell {
         CellRecord::Free { hole, next } => hole as usize <= cells && is_link(cells, next),
@@ -349,7 +350,8 @@ fn is_node(bytes: &[u8], nodes: usize) -> bool {
     }
 }
 
-/// The first cell of this part of an area whose record isn't spelled as it should be, or leads past the last one.
+/// Returns the first cell of this part of an area whose record isn't spelled as it should be, or leads past the last
+/// record.
 pub fn bad_cell(part: &[u8], cells: usize, nodes: usize) -> Option<usize> {
     for (at, bytes) in part.chunks(CELL_RECORD).enumerate() {
         if at < cells && !is_cell(bytes, cells, nodes) {
@@ -359,7 +361,8 @@ pub fn bad_cell(part: &[u8], cells: usize, nodes: usize) -> Option<usize> {
     None
 }
 
-/// The first waiter node of this part whose record isn't.
+/// Returns the first waiter node of this part whose record isn't spelled as it should be, or leads past the last
+/// record.
 pub fn bad_node(part: &[u8], nodes: usize) -> Option<usize> {
     for (at, bytes) in part.chunks(NODE_RECORD).enumerate() {
         if at < nodes && !is_node(bytes, nodes) {
@@ -369,7 +372,7 @@ pub fn bad_node(part: &[u8], nodes: usize) -> Option<usize> {
     None
 }
 
-/// The first element of this part whose window isn't.
+/// Returns the first element of this part whose window isn't spelled as it should be.
 pub fn bad_window(version: Version, part: &[u8], elements: usize) -> Option<usize> {
     for (at, bytes) in part.chunks(version.session_record()).enumerate() {
         if at < elements && read_session(version, bytes).is_none() {
@@ -379,7 +382,7 @@ pub fn bad_window(version: Version, part: &[u8], elements: usize) -> Option<usiz
     None
 }
 
-/// The page of this part that has a byte that isn't zero behind so many bytes of records.
+/// Returns the page of this part with the first nonzero byte behind `records` bytes of records.
 pub fn bad_padding(part: &[u8], records: usize) -> Option<usize> {
     for (at, byte) in part.iter().enumerate() {
         if at >= records && *byte != 0 {
@@ -389,7 +392,7 @@ pub fn bad_padding(part: &[u8], records: usize) -> Option<usize> {
     None
 }
 
-// The block of a cell, where it lies in one.
+// The block of a cell, if it lies in one.
 fn block_of(cell: CellRecord) -> Option<Block> {
     match cell {
         CellRecord::Held { block, .. } => Some(block),
@@ -397,13 +400,13 @@ fn block_of(cell: CellRecord) -> Option<Block> {
     }
 }
 
-// Whether the cell at an address lies in this block.
+// Returns whether the cell at an address lies in this block.
 fn is_within(block: Block, address: usize) -> bool {
     let base = block.base as usize;
     base <= address && address - base < block.length as usize
 }
 
-/// The first cell that doesn't lie in the block that its record or its neighbour's says.
+/// Returns the first cell that isn't in the block named by its record or by its neighbour's.
 pub fn bad_block(cells: &CellRow) -> Option<usize> {
     let mut current: Option<Block> = None;
     for address in 0..cells.len() {
@@ -424,7 +427,7 @@ pub fn bad_block(cells: &CellRow) -> Option<usize> {
     None
 }
 
-// Whether the list that begins in one node ends in another, and leads nowhere else.
+// Returns whether the list from the first node ends in the last one and leads nowhere else.
 fn is_list(nodes: &[NodeRecord], first: u32, last: u32) -> bool {
     let mut at = first;
     for _node in nodes {
@@ -441,7 +444,7 @@ fn is_list(nodes: &[NodeRecord], first: u32, last: u32) -> bool {
     false
 }
 
-/// The first cell whose list of those who wait leads astray.
+/// Returns the first cell whose list of waiters leads astray.
 pub fn bad_list(cells: &CellRow, nodes: &[NodeRecord]) -> Option<usize> {
     for address in 0..cells.len() {
         if let CellRecord::Held {
@@ -471,15 +474,15 @@ fn is_open(slot: &[u8]) -> bool {
     slot.first() == Some(&OPEN)
 }
 
-// How many commands a slot counts for a group.
+// The group count of a slot.
 fn count_in(slot: &[u8]) -> u8 {
     slot.get(1).copied().unwrap_or(0)
 }
 
-// The command that a slot spells, whatever its gate and its count are.
+// The command that a slot spells. Its gate and its group count don't matter.
 fn command_in(slot: &[u8]) -> Option<Command> {
     let mut bytes = *slot.as_array::<64>()?;
-    bytes[1] = 1; // The count of a group is looked at apart.
+    bytes[1] = 1; // The group count is checked elsewhere.
     im_journal::read(&bytes)
 }
 
@@ -498,12 +501,12 @@ fn slot_in(ring: &[u8], slots: usize, sequence: u64) -> &[u8] {
     ring.get(at..at.saturating_add(SLOT)).unwrap_or(&[])
 }
 
-// Where a slot of a journal stands.
+// The part of a journal that a slot is in.
 #[derive(Clone, Copy, Debug, PartialEq, Eq)]
 enum Part {
-    // In the run, and leads a group.
+    // In the run. The slot leads a group.
     Leads,
-    // In the run, and follows in a group, of which so many slots are due from this one on.
+    // In the run, within a group. This many slots of the group are still to come, with this one.
     Follows(u8),
     // In the room behind the run.
     Room,
@@ -511,7 +514,7 @@ enum Part {
     Rest,
 }
 
-// How many followers are due behind a slot that stands there.
+// How many slots of a group are still to come behind a slot in this part.
 fn due_behind(part: Part, slot: &[u8]) -> u8 {
     match part {
         Part::Leads => count_in(slot).saturating_sub(1),
@@ -520,12 +523,12 @@ fn due_behind(part: Part, slot: &[u8]) -> u8 {
     }
 }
 
-// Whether the run goes on with a slot that leads.
+// Returns whether the run continues with this slot as the first of a group.
 fn goes_on(slot: &[u8], sequence: u64) -> bool {
     is_open(slot) && sequence_in(slot) == sequence && sequence < LAST
 }
 
-// Where a slot stands behind one that stood there, where so many followers are due.
+// The part of a slot, by the part of the slot before it and the number of group slots still to come.
 fn part_of(before: Part, due: u8, slot: &[u8], sequence: u64) -> Part {
     match before {
         Part::Leads | Part::Follows(_) if due > 0 => Part::Follows(due),
@@ -539,7 +542,7 @@ fn part_of(before: Part, due: u8, slot: &[u8], sequence: u64) -> Part {
     }
 }
 
-// What is wrong with the count of a slot that leads, where so many slots are left of the ring.
+// What is wrong with the count of a slot that leads a group. `left` slots of the ring are left.
 fn of_leader(slot: &[u8], sequence: u64, left: usize) -> Option<SlotFault> {
     let count = count_in(slot);
     if count == 0 || count as usize > MAX_GROUP {
@@ -551,7 +554,7 @@ fn of_leader(slot: &[u8], sequence: u64, left: usize) -> Option<SlotFault> {
     }
 }
 
-// What is wrong with the count or the number of a slot that follows.
+// What is wrong with the count or the number of a later slot of a group.
 fn of_follower(slot: &[u8], sequence: u64) -> Option<SlotFault> {
     let number = sequence_in(slot);
     let count = count_in(slot);
@@ -564,7 +567,7 @@ fn of_follower(slot: &[u8], sequence: u64) -> Option<SlotFault> {
     }
 }
 
-// What is wrong with the command of a slot of the run. The memory takes the command.
+// What is wrong with the command of a slot of the run. The memory serves the command.
 fn take_slot(memory: &mut Memory, slot: &[u8], sequence: u64) -> Option<SlotFault> {
     let Some(command) = command_in(slot) else {
         return Some(SlotFault::Unspelled(sequence));
@@ -576,7 +579,7 @@ fn take_slot(memory: &mut Memory, slot: &[u8], sequence: u64) -> Option<SlotFaul
     None
 }
 
-// What is wrong with a slot that stands there, with so many left of the ring, itself among them. The memory takes the
+// What is wrong with a slot in this part. `left` slots of the ring are left, including this one. The memory serves the
 // command of a slot of the run.
 fn of_slot(
     part: Part,
@@ -605,15 +608,15 @@ fn of_slot(
     }
 }
 
-/// A slot of the journal that stands open outside the run, with a command that so many slots can't hold any more: a
-/// count that was lost or changed explains it, and nothing else does.
+/// A slot outside the run that stands open, with a command so old that the ring can't hold it any longer. Only a header
+/// that was lost or changed explains it.
 #[derive(Clone, Copy, Debug, PartialEq, Eq)]
 pub struct Older {
-    /// The slot.
+    /// The number of the slot.
     pub slot: usize,
     /// The sequence number of its command.
     pub sequence: u64,
-    /// The least one that may stand open there.
+    /// The smallest sequence number that may stand open there.
     pub least: u64,
 }
 
@@ -632,7 +635,7 @@ impl Display for Older {
     }
 }
 
-// How many commands the run has, by its slots, from the sequence number of its first one on.
+// The number of commands in the run. `first` is the sequence number of its first one.
 fn run_in(ring: &[u8], slots: usize, first: u64) -> usize {
     let mut part = Part::Leads;
     let mut due = 0;
@@ -647,8 +650,9 @@ fn run_in(ring: &[u8], slots: usize, first: u64) -> usize {
     slots
 }
 
-/// The first slot outside the run that stands open with a command which the ring can't hold any more, by the slots and
-/// the sequence number of the run's first command. A slot that follows in a group counts none, and isn't one.
+/// Returns the first slot outside the run that stands open with a command so old that the ring can't hold it any
+/// longer. `first` is the sequence number of the run's first command. A later slot of a group counts 0 commands, so it
+/// is never the one.
 pub fn older_slot(ring: &[u8], slots: u32, first: u64) -> Option<Older> {
     let slots = slots as usize;
     let run = run_in(ring, slots, first);
@@ -669,8 +673,8 @@ pub fn older_slot(ring: &[u8], slots: u32, first: u64) -> Option<Older> {
     None
 }
 
-/// What is wrong with a journal, by its slots, the memory before its run, and the sequence number of the run's first
-/// command.
+/// Returns what is wrong with a journal. `memory` is the memory before its run, and `first` is the sequence number of
+/// the run's first command.
 pub fn of_journal(ring: &[u8], memory: &mut Memory, slots: u32, first: u64) -> Damage {
     let slots = slots as usize;
     let mut part = Part::Leads;

@@ -1,4 +1,4 @@
-//! The place of an image's damage, which is looked for on the disk once the image is refused, by reads alone.
+//! Finds the place of an image's damage. After the image was refused, it searches the disk by reads alone.
 ghost use Rattle.im_disk.specs.Runs.{ReadsAlone};
 
 use crate::damage::{
@@ -12,7 +12,7 @@ use im_types::layout::{CELL_RECORD, NODE_RECORD, SLOT, Version, cell_bytes};
 use im_types::{Limits, MAX_SLOTS, Refusal};
 use std::alloc::Global;
 
-// Reads a part of a file, if it lies in it and can be read.
+// Reads a part of a file, if the file has it and it can be read.
 fn read_part<D: Disk>(alloc: Global, disk: &mut D, at: usize, len: usize) -> Option<Vec<u8>>
     ensures reads { ReadsAlone D.Disk disk.old disk.new }
 {
@@ -39,7 +39,7 @@ struct Places {
     one: [u8; 64],
 }
 
-// Reads the places of the two headers, where the file has them.
+// Reads the places of the two headers, if the file has them.
 fn read_headers<D: Disk>(alloc: Global, disk: &mut D) -> Option<Places>
     ensures reads { ReadsAlone D.Disk disk.old disk.new }
 {
@@ -68,7 +68,7 @@ fn of_length<D: Disk>(alloc: Global, disk: &mut D) -> Damage
     }
 }
 
-// The length that the header in force wants, beside the one that was found.
+// The damage of a file whose length isn't the one that its header in force wants.
 fn length_by(places: &Places, found: usize) -> Damage {
     let header = if in_force(&places.zero, &places.one) == 1 {
         Header::read(&places.one, 1)
@@ -91,7 +91,7 @@ fn of_places<D: Disk>(alloc: Global, disk: &mut D) -> Damage
     }
 }
 
-// The last bytes of a file, as many as the longest journal has, behind the places of the headers.
+// Reads the last bytes of a file, as many as the longest journal has, behind the places of the headers.
 fn read_tail<D: Disk>(alloc: Global, disk: &mut D) -> Option<Vec<u8>>
     ensures reads { ReadsAlone D.Disk disk.old disk.new }
 {
@@ -103,8 +103,8 @@ fn read_tail<D: Disk>(alloc: Global, disk: &mut D) -> Option<Vec<u8>>
     read_part(alloc, disk, length.saturating_sub(size), size)
 }
 
-// What a file is of which neither header is open. Its slots are looked for at its end, as no header tells how many it
-// has.
+// The damage of a file with neither header open. It looks for slots at the end, because no header says how many there
+// are.
 fn of_closed<D: Disk>(alloc: Global, disk: &mut D) -> Damage
     ensures reads { ReadsAlone D.Disk disk.old disk.new }
 {
@@ -123,7 +123,7 @@ fn of_closed<D: Disk>(alloc: Global, disk: &mut D) -> Damage
     }
 }
 
-// The area of a header.
+// Reads the area of a header.
 fn read_pages<D: Disk>(alloc: Global, disk: &mut D, header: &Header) -> Option<Vec<u8>>
     ensures reads { ReadsAlone D.Disk disk.old disk.new }
 {
@@ -171,7 +171,7 @@ fn of_slots<D: Disk>(alloc: Global, disk: &mut D) -> Damage
     }
 }
 
-// The slots of a journal.
+// Reads the slots of a journal.
 fn read_ring<D: Disk>(alloc: Global, disk: &mut D, header: &Header) -> Option<Vec<u8>>
     ensures reads { ReadsAlone D.Disk disk.old disk.new }
 {
@@ -184,8 +184,9 @@ fn read_ring<D: Disk>(alloc: Global, disk: &mut D, header: &Header) -> Option<Ve
     )
 }
 
-/// A slot of an image that was opened or told, which stands open outside the run with a command that the ring can't
-/// hold any more, if there is one. `None` too where a call of the disk fails or `alloc` refuses the room for it.
+/// Finds a slot outside the run that stands open, with a command so old that the ring can't hold it any longer. The
+/// image was opened or inspected before. Returns `None` if there is no such slot, a call of the disk fails, or `alloc`
+/// refuses the room.
 pub fn find_older<D: Disk>(alloc: Global, disk: &mut D) -> Option<Older>
     ensures reads { ReadsAlone D.Disk disk.old disk.new }
 {
@@ -198,7 +199,7 @@ pub fn find_older<D: Disk>(alloc: Global, disk: &mut D) -> Option<Older>
     }
 }
 
-// What is wrong with the slots of a ring, behind this area.
+// What is wrong with the slots of a ring, after the memory of this area.
 fn of_ring(alloc: Global, area: &[u8], ring: &[u8], header: &Header) -> Damage {
     let (version, limits) = (header.layout(), header.limits);
     if area.len() != PAGE * version.area_pages(limits) {
@@ -210,8 +211,8 @@ fn of_ring(alloc: Global, area: &[u8], ring: &[u8], header: &Header) -> Damage {
     }
 }
 
-// What is wrong with a part of an area that begins at this page: a record, so many pages behind it, or a byte behind
-// all.
+// What is wrong with a part of an area that begins at this page: a record some pages behind it, or else a byte behind
+// the records.
 fn of_part(
     page: usize,
     record: Option<(usize, RecordOf)>,
@@ -254,7 +255,7 @@ fn of_windows(version: Version, part: &[u8], limits: Limits) -> Option<Damage> {
     of_part(page, record, bad_padding(part, size * elements))
 }
 
-// What is wrong with the records of an area, each for itself.
+// What is wrong with the records of an area, each by itself.
 fn of_records(version: Version, area: &[u8], limits: Limits) -> Option<Damage> {
     let (cells, behind) = area.split_at_checked(cell_bytes(limits))?;
     let (nodes, windows) = behind.split_at_checked(version.node_bytes(limits))?;
@@ -287,8 +288,8 @@ fn of_area(alloc: Global, version: Version, area: &[u8], limits: Limits) -> Dama
     }
 }
 
-/// Where an image is damaged that was refused so: its place is looked for by reading it again. `Unknown` where a call
-/// of the disk fails, where `alloc` refuses the room for it, or where no place is to be found.
+/// Finds where an image is damaged that was refused with this refusal, by reading it again. Returns `Unknown` if a call
+/// of the disk fails, `alloc` refuses the room, or no place is found.
 pub fn find_damage<D: Disk>(alloc: Global, disk: &mut D, refusal: Refusal) -> Damage
     ensures reads { ReadsAlone D.Disk disk.old disk.new }
 {

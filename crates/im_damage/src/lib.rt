@@ -1,4 +1,4 @@
-//! Where an image is damaged that was refused, for a person to read.
+//! Finds where a refused image is damaged, for a person to read.
 #![tactic(auto)]
 
 mod damage;

@@ -1,4 +1,4 @@
--- The line that each answer of a dialogue is. (Own.)
+-- The line of each answer of a dialogue. (Own.)
 use Rattle.std.specs.Prelude.{ℕ, List, [], ◌++◌, codes, decimal, Result, Ok, Err}
 use Rattle.im_types.specs.declared.operations.Entry.{Entry}
 use Rattle.im_types.specs.declared.operations.Kept.{Kept as KeptEntry}
@@ -43,7 +43,7 @@ recalled_line element number name (Err refusal) = request_refused element number
 abbrev pub confirmed_line : ℕ → ℕ → List ℕ
 confirmed_line element upto = decimal element ++ codes " confirmed " ++ decimal upto ++ line_feed
 
--- the line of a command: no request is answered as a confirmation is, and no confirmation as a request is
+-- the line of a command; no request is answered as a confirmation is, and no confirmation as a request is
 abbrev pub served_line : List ℕ → Command → Result Outcome Refusal → List ℕ
 served_line name (Asks r) (Ok (Tells entry)) = kept_line r.element r.number name (Ok entry)
 served_line name (Asks r) (Ok Confirmed) = []
@@ -68,7 +68,7 @@ elements_said a = codes " elements " ++ decimal a.elements ++ codes " slots " ++
 abbrev pub progress_said : About → List ℕ
 progress_said a = codes " count " ++ decimal a.count ++ codes " room " ++ decimal a.room ++ line_feed
 
--- what is told about an image
+-- what `about` says of an image
 abbrev pub about_line : About → List ℕ
 about_line a = codes "about " ++ cells_said a ++ elements_said a ++ progress_said a
 
@@ -85,8 +85,7 @@ turn_text Swept = codes "turn swept"
 abbrev pub wrong_line : ℕ → List ℕ → List ℕ
 wrong_line number words = codes "error " ++ decimal number ++ codes ": " ++ words ++ line_feed
 
--- the line of an answer, with this name where it is a refusal, and with these words where the line that was asked isn't in the
--- grammar
+-- the line of an answer; the words are the name of its refusal, or where a line that isn't in the grammar goes wrong
 abbrev pub answer_text : List ℕ → Answer → List ℕ
 answer_text name (Served command outcome) = served_line name command outcome
 answer_text name (Kept who answer) = kept_line who.element who.number name answer

@@ -1,4 +1,4 @@
--- What a line of a dialogue asks, by its bytes. (Own.)
+-- What a line of a dialogue asks for, given its bytes. (Own.)
 use Rattle.std.specs.Prelude.{ℕ, ◌==◌, List, [], ◌∷◌, Option, Some, None, if◌then◌else◌, codes}
 use Rattle.std.specs.List.{slice_split}
 use Rattle.std.specs.Option.{option_map, option_and_then, option_or}
@@ -21,11 +21,11 @@ element_of word = number_up_to 65535 word
 abbrev pub number_of : List ℕ → Option ℕ
 number_of word = number_up_to 18446744073709551615 word
 
--- an element and a number, by their words
+-- an element and a number, given their words
 abbrev pub waiter_in : List ℕ → List ℕ → Option Waiter
 waiter_in element number = option_and_then (λ e. option_map (λ n. record { element = e; number = n }) (number_of number)) (element_of element)
 
--- an element and a number, by the parts of a word between its dots
+-- an element and a number, given the parts of a word between its dots
 abbrev pub waiter_by : List (List ℕ) → Option Waiter
 waiter_by (element ∷ number ∷ []) = waiter_in element number
 waiter_by _ = None
@@ -34,7 +34,7 @@ waiter_by _ = None
 abbrev pub waiter_of : List ℕ → Option Waiter
 waiter_of word = waiter_by (slice_split (λ byte. byte == 46) word)
 
--- a request of a script with addresses alone, as it stands behind E.N
+-- a request of a script with addresses alone, as it stands after E.N
 abbrev pub op_in : List (List ℕ) → Option Op
 op_in words = option_and_then (op_of []) (action_of [] words)
 
@@ -61,7 +61,7 @@ asked_by_three word element upto = if bytes_eq word (codes "confirm")
 abbrev pub request_by : List ℕ → List (List ℕ) → Option Asked
 request_by first rest = option_and_then (λ who. option_map (λ op. Serve (Asks (record { element = who.element; number = who.number; op = op }))) (op_in rest)) (waiter_of first)
 
--- what a line asks by its words
+-- what a line asks for, given its words
 abbrev pub asked_in : List (List ℕ) → Option Asked
 asked_in (word ∷ []) = asked_by_one word
 asked_in (word ∷ what ∷ []) = asked_by_two word what
@@ -69,6 +69,6 @@ asked_in (word ∷ first ∷ second ∷ []) = option_or (asked_by_three word fir
 asked_in (word ∷ first ∷ second ∷ third ∷ []) = request_by word (first ∷ second ∷ third ∷ [])
 asked_in _ = None
 
--- what a line asks, which has to be ASCII and not too long; none where it isn't in the grammar
+-- what a line asks for, which has to be ASCII and not too long; none if it isn't in the grammar
 abbrev pub asked_of : List ℕ → Option Asked
 asked_of line = if is_line line then asked_in (words_of line) else None

@@ -33,28 +33,28 @@ use Rattle.im_dialogue.specs.Watching.{watch_text}
 
 -- ---- what was said
 
--- a line that was asked, without its line feed, or the first 4,097 bytes of a longer one; what it was answered; and the name of the
--- refusal, where it was refused, or the words for where it goes wrong
+-- a line that was asked, without its line feed, or the first 4,097 bytes of a longer one; its answer; and the name of
+-- the refusal, or the words for where the line goes wrong
 pub record Exchange : Type 0 where
   pub line : List ℕ
   pub answer : Answer
   pub name : List ℕ
 
--- what an answer tells of a command: what it comes to on this memory, or that the journal has no room for it
+-- what an answer says of a command: its result on this memory, or that the journal has no room for it
 abbrev pub IsOf : Contents → Command → Result Outcome Refusal → Type 0
 IsOf m command answer = (answer ≡ (step m command).answer) ⊎ ((is_accepted m command ≡ true) × (answer ≡ Err JournalFull))
 
--- what is kept for a request with its operation; where nothing is, why, as for `collect`, by the bounds of the window
+-- what is kept for a request with its operation, or why nothing is kept, as for `collect`, by the bounds of the window
 abbrev pub recalled : ℕ → Result (ℕ × ℕ) Refusal → Option KeptEntry → Result KeptEntry Refusal
 recalled number (Err refusal) kept = Err refusal
 recalled number (Ok (base, next)) (Some kept) = Ok kept
 recalled number (Ok (base, next)) None = Err (if nat_lt number base then Forgotten else Gap)
 
--- what was asked by a request and is kept for it, or why nothing is
+-- a request and what is kept for it, or why nothing is kept
 abbrev pub recall : List WindowOf → Waiter → Result KeptEntry Refusal
 recall windows who = recalled who.number (bounds windows who.element) (kept_for windows who)
 
--- what is told about an image with this memory and so many slots after so many commands, with this room
+-- what `about` says of an image with this memory, this many slots, this many accepted commands and this room
 abbrev pub about_of : Contents → ℕ → ℕ → ℕ → About
 about_of m slots commands room = record {
   version = layout_in_use.version;
@@ -65,7 +65,7 @@ about_of m slots commands room = record {
   room = room;
 }
 
--- the answer to what is asked, on this memory after so many commands
+-- the answer to what is asked, on this memory, after this many commands
 abbrev pub Answers : Contents → ℕ → Option Asked → Answer → Type 0
 Answers m commands (Some (asks.Serve command)) answer = (outcome : Result Outcome Refusal) × (answer ≡ Served command outcome) × IsOf m command outcome
 Answers m commands (Some (asks.Collect who)) answer = answer ≡ Kept who (ask m.windows who)
@@ -83,7 +83,7 @@ abbrev pub put_by : Contents → Answer → List Command
 put_by m (Served command outcome) = put_by_command m command outcome
 put_by m answer = []
 
--- the commands that were put on the disk, by what was said, the last first
+-- the commands that were put on the disk, given what was said, the last first
 abbrev pub put_of : Contents → List Exchange → List Command
 put_of m [] = []
 put_of m (x ∷ xs) = put_of m xs ++ put_by (after m (put_of m xs)) x.answer
@@ -93,8 +93,8 @@ abbrev pub AreAnswered : Contents → ℕ → List Exchange → Type 0
 AreAnswered m commands [] = Unit {0}
 AreAnswered m commands (x ∷ xs) = Answers (after m (put_of m xs)) (commands + length (put_of m xs)) (asked_of x.line) x.answer × AreAnswered m commands xs
 
--- the lines that were answered on this memory, one below the other; where it is watched, behind each those of the requests
--- whose answers it brought
+-- the lines that were answered on this memory, one below the other; if the dialogue is watched, each is followed by the
+-- lines of the requests that it answered
 abbrev pub texts_of : Bool → Contents → List Exchange → List ℕ
 texts_of watch m [] = []
 texts_of watch m (x ∷ xs) = texts_of watch m xs ++ (answer_text x.name x.answer ++ watch_text watch (after m (put_of m xs)) x.answer)
@@ -105,9 +105,10 @@ is_end Device = true
 is_end Failed = true
 is_end refusal = false
 
--- ---- what it comes to on the disk
+-- ---- what is on the disk
 
--- All that was said was done: the memory is that after all commands that were put, and every file that a crash leaves means it.
+-- All that was said was done. The memory is the one after all commands that were put, and every file that a crash
+-- leaves means it.
 pub record IsAt {D : Type 0} (now : D → Moment) (past : D → List Moment) (start engine : EngineState D) (said : List Exchange) : Type 0 where
   pub answered : AreAnswered start.memory start.count said
   pub works : engine.failed ≡ false
@@ -115,13 +116,13 @@ pub record IsAt {D : Type 0} (now : D → Moment) (past : D → List Moment) (st
   pub leaves : Leaves (now start.disk) (now engine.disk) (past start.disk) (past engine.disk) (MeansBeginning start (put_of start.memory said))
   pub kept : LeavesNow (now engine.disk) (MeansState engine)
 
--- the file means what the engine is after all commands that were put by what was said, and after those in doubt all together or
--- not at all
+-- the file means the engine's state after all commands that were put by what was said, with those in doubt all together
+-- or not at all
 abbrev pub MeansSaid : {D : Type 0} → EngineState D → List Exchange → List Command → List ℕ → Type 0
 MeansSaid s said doubt file = (many : ℕ) × ((many ≡ length (put_of s.memory said)) ⊎ (many ≡ length (put_of s.memory said ++ doubt))) × MeansAfter s (put_of s.memory said ++ doubt) many file
 
--- All that was said was done, and it was ended, by commands in doubt or without any: what was said is in every file that a
--- crash leaves.
+-- All that was said was done, and the dialogue was ended, by commands in doubt or without any. What was said is in
+-- every file that a crash leaves.
 pub record HasEnded {D : Type 0} (now : D → Moment) (past : D → List Moment) (start : EngineState D) (disk : D) (said : List Exchange) (doubt : List Command) : Type 0 where
   pub answered : AreAnswered start.memory start.count said
   pub leaves : Leaves (now start.disk) (now disk) (past start.disk) (past disk) (MeansBeginning start (put_of start.memory said ++ doubt))
@@ -143,7 +144,7 @@ GoesOn {D} now past honest old new = (start : EngineState D) (said : List Exchan
 abbrev pub Halts : {D : Type 0} → (D → Moment) → (D → List Moment) → (D → Type 0) → EngineState D → EngineState D → Type 0
 Halts {D} now past honest old new = (start : EngineState D) (said : List Exchange) → Going now past honest start old said → Ended now past honest start new.disk said
 
--- this was asked and answered, where a line asks so
+-- this was asked and answered, if a line asks so
 abbrev pub Says : {D : Type 0} → (D → Moment) → (D → List Moment) → (D → Type 0) → EngineState D → EngineState D → Option Asked → Answer → Type 0
 Says {D} now past honest old new asked answer = (start : EngineState D) (said : List Exchange) (line name : List ℕ) → asked_of line ≡ asked → Going now past honest start old said
     → Going now past honest start new (record { line = line; answer = answer; name = name } ∷ said)
@@ -154,7 +155,7 @@ Says {D} now past honest old new asked answer = (start : EngineState D) (said : 
 abbrev pub Talking : {D : Type 0} → Bool → (D → Moment) → (D → List Moment) → (D → Type 0) → EngineState D → Option (List ℕ) → EngineState D → Option (List ℕ) → Type 0
 Talking watch now past honest start was engine is = honest engine.disk → honest start.disk × ((said : List Exchange) × (IsAt now past start engine said × Appends was is (texts_of watch start.memory said)))
 
--- what was said, of which a beginning was printed, and the commands in doubt, if there are some
+-- what was said, a prefix of which was printed, and the commands in doubt, if there are some
 pub record Silent {D : Type 0} (watch : Bool) (now : D → Moment) (past : D → List Moment) (start : EngineState D) (was : Option (List ℕ)) (disk : D) (is : Option (List ℕ)) : Type 0 where
   pub said : List Exchange
   pub doubt : List Command

@@ -1,4 +1,4 @@
--- What those that watch are told: a request that waited, when its answer comes. (Own.)
+-- What those that watch are told: which request that waited is answered, and how. (Own.)
 use Rattle.std.specs.Prelude.{◌≡◌, ℕ, Bool, true, false, List, [], ◌∷◌, ◌++◌, Option, None, Some, Ok, if◌then◌else◌}
 use Rattle.im_types.specs.declared.operations.Op.{Op}
 use Rattle.im_types.specs.declared.operations.Op.TheVariants.{Store, Put}
@@ -22,17 +22,17 @@ use Rattle.im_dialogue.specs.declared.answers.Answer.TheVariants.{Served}
 abbrev pub told_now : Waiter × Reply → List ℕ
 told_now resumed = now_line (Some (record { element = resumed.0.element; number = resumed.0.number; entry = Answered resumed.1 }))
 
--- the lines of those that were resumed, in their order
+-- the lines of the requests that were resumed, in order
 abbrev pub nows_text : List (Waiter × Reply) → List ℕ
 nows_text [] = []
 nows_text (resumed ∷ others) = told_now resumed ++ nows_text others
 
--- those that wait and that a command resumes, with their answers: none where it isn't accepted
+-- the waiting requests that a command resumes, with their answers; none if it isn't accepted
 abbrev pub resumed_by : Contents → Command → List (Waiter × Reply)
 resumed_by m (Asks r) = if is_accepted m (Asks r) then (act m.cells (asker r) r.op).resumed else []
 resumed_by m (Confirm element upto) = []
 
--- what is told behind the answer to a line, where it is watched
+-- what is told after the answer to a line, if the dialogue is watched
 abbrev pub watch_text : Bool → Contents → Answer → List ℕ
 watch_text watch m (Served command (Ok outcome)) = if watch then nows_text (resumed_by m command) else []
 watch_text watch m answer = []
@@ -55,7 +55,7 @@ abbrev pub told_by : Bool → Contents → Option Asked → List ℕ
 told_by watch m (Some (asks.Serve command)) = if watch then nows_text (resumed_by m command) else []
 told_by watch m asked = []
 
--- so much of it is told, by what the line is answered
+-- how much of it is told, given the line's answer
 abbrev pub told_with : Answer → List ℕ → List ℕ
 told_with (Served command (Ok outcome)) nows = nows
 told_with answer nows = []

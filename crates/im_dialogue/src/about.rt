@@ -1,6 +1,6 @@
-//! What is told about an image as a whole.
+//! What a dialogue says about an image as a whole.
 
-/// What `about` tells: what an image is, and how far it has come.
+/// The answer to `about`: what an image is, and how far it has come.
 #[derive(Clone, Copy, Debug, PartialEq, Eq)]
 pub struct About {
     /// The version of its layout.
@@ -13,6 +13,6 @@ pub struct About {
     pub slots: u32,
     /// How many commands were accepted since it was formatted.
     pub count: u64,
-    /// For so many more commands its journal has room.
+    /// How many more commands its journal has room for.
     pub room: u32,
 }

@@ -1,4 +1,4 @@
-//! What a line is answered.
+//! The answers to lines.
 ghost use Rattle.std.specs.Prelude.{◌≡◌, ◌++◌, OnOk, string_bytes};
 ghost use Rattle.im_text.specs.Printing.{refused_line, told_line};
 ghost use Rattle.im_dialogue.specs.Answers.{about_line, answer_text, cells_said, confirmed_line, element_refused};
@@ -12,31 +12,31 @@ use im_text::{add_entry, add_op};
 use im_types::{Command, Entry, Kept, Outcome, Refusal, Waiter};
 use std::alloc::AllocError;
 
-/// What a line of a dialogue is answered.
+/// The answer to a line of a dialogue.
 #[derive(Clone, Copy, Debug, PartialEq, Eq)]
 pub enum Answer {
-    /// To a command: what it comes to.
+    /// To a command: its outcome or its refusal.
     Served(Command, Result<Outcome, Refusal>),
     /// To `collect E.N`: what is kept.
     Kept(Waiter, Result<Entry, Refusal>),
-    /// To `entry E.N`: what was asked, and what is kept for it.
+    /// To `entry E.N`: the request, and what is kept for it.
     Entry(Waiter, Result<Kept, Refusal>),
     /// To `window E`: the first number that is kept, and the next one.
     Window(u16, Result<(u64, u64), Refusal>),
-    /// To `room`: for so many more commands there is room.
+    /// To `room`: how many more commands there is room for.
     Room(u32),
     /// To `turn`: what was done.
     Turned(TurnDone),
-    /// To `count`: so many commands were accepted.
+    /// To `count`: how many commands were accepted.
     Count(u64),
     /// To `about`: what the image is, and how far it has come.
     About(About),
-    /// To the line with this number, from 1, which isn't in the grammar: where it goes wrong.
+    /// To a line that isn't in the grammar: its number, from 1, and where it goes wrong.
     Wrong(u64, LineFault),
 }
 
 impl Answer {
-    /// The refusal that it is, if it is one.
+    /// Returns the refusal of the answer, if it is one.
     pub fn refusal(&self) -> Option<Refusal> {
         match *self {
             Answer::Served(_, Err(refusal)) => Some(refusal),
@@ -96,7 +96,7 @@ fn add_told(out: &mut String, who: Waiter, entry: Entry) -> Result<(), AllocErro
     out.push_str("\n")
 }
 
-// Adds what is kept for a request, or why nothing is.
+// Adds what is kept for a request, or why nothing is kept.
 fn add_kept(
     out: &mut String,
     who: Waiter,
@@ -185,7 +185,7 @@ fn add_cells(out: &mut String, about: About) -> Result<(), AllocError>
     write!(out, "version {version} cells {cells}")
 }
 
-// Adds what is told about an image.
+// Adds what `about` says about an image.
 fn add_about(out: &mut String, about: About) -> Result<(), AllocError>
     ensures { OnOk result (string_bytes out.new ≡ string_bytes out.old ++ about_line about) }
 {
@@ -213,15 +213,15 @@ fn add_turn(out: &mut String, done: TurnDone) -> Result<(), AllocError>
     }
 }
 
-// Adds `error LINE: ` and where it goes wrong.
+// Adds `error LINE: ` and the words for where the line goes wrong.
 fn add_wrong(out: &mut String, number: u64, words: &str) -> Result<(), AllocError>
     ensures { OnOk result (string_bytes out.new ≡ string_bytes out.old ++ wrong_line number words.now) }
 {
     write!(out, "error {number}: {words}\n")
 }
 
-/// Adds the line of an answer. The name is that of the refusal, where it is one, and where the line isn't in the
-/// grammar the words for where it goes wrong. At an error a part of the line may be there.
+/// Adds the line of an answer. `name` is the name of the refusal, if the answer is one. If the line isn't in the
+/// grammar, it is the words for where the line goes wrong. At an error, a part of the line may have been added.
 pub fn add_answer(out: &mut String, answer: Answer, name: &str) -> Result<(), AllocError>
     ensures { OnOk result (string_bytes out.new ≡ string_bytes out.old ++ answer_text name.now answer) }
 {

@@ -1,4 +1,4 @@
-//! What a line asks.
+//! What a line asks for.
 ghost use Rattle.std.specs.Prelude.{◌≡◌, ◌==◌, ◌∷◌, [], IfOk};
 ghost use Rattle.im_types.specs.declared.commands.Command.TheVariants.{Request as Asks};
 ghost use Rattle.im_dialogue.specs.declared.asking.Asked.TheVariants.{Collect, Entry, Serve, Window};
@@ -13,14 +13,14 @@ use im_types::{Command, Op, Request, Waiter};
 use indexmap::IndexSet;
 use std::alloc::{AllocError, Global};
 
-/// What a line of a dialogue asks.
+/// What a line of a dialogue asks for.
 #[derive(Clone, Copy, Debug, PartialEq, Eq)]
 pub enum Asked {
     /// `E.N` and a request, or `confirm E UPTO`: a command is served.
     Serve(Command),
     /// `collect E.N`: what is kept for a request.
     Collect(Waiter),
-    /// `entry E.N`: what was asked, and what is kept for it.
+    /// `entry E.N`: the request, and what is kept for it.
     Entry(Waiter),
     /// `window E`: the first number that an element keeps, and its next one.
     Window(u16),
@@ -36,7 +36,7 @@ pub enum Asked {
     Quit,
 }
 
-// An element's number.
+// Reads an element's number.
 pub(crate) fn read_element(word: &[u8]) -> Option<u16>
     ensures { result ≡ element_of word.now }
 {
@@ -46,7 +46,7 @@ pub(crate) fn read_element(word: &[u8]) -> Option<u16>
     }
 }
 
-// An element and a number, by their words.
+// Reads an element and a number, given their words.
 fn read_pair(element: &[u8], number: &[u8]) -> Option<Waiter>
     ensures { result ≡ waiter_in element.now number.now }
 {
@@ -56,14 +56,14 @@ fn read_pair(element: &[u8], number: &[u8]) -> Option<Waiter>
     })
 }
 
-// The parts of a word between its dots.
+// Splits a word at its dots.
 fn split_dots<'a>(alloc: Global, word: &'a [u8]) -> Result<Vec<&'a [u8]>, AllocError>
     ensures { IfOk result (λ parts. texts parts.items ≡ slice_split (λ byte. byte == 46) word.entry.now) }
 {
     word.split(|byte| *byte == b'.').collect(alloc)
 }
 
-// An element and a number, by the parts of a word.
+// Reads an element and a number, given the parts of a word.
 fn read_parts(parts: &[&[u8]]) -> Option<Waiter>
     ensures { result ≡ waiter_by (texts parts.now) }
 {
@@ -73,7 +73,7 @@ fn read_parts(parts: &[&[u8]]) -> Option<Waiter>
     }
 }
 
-// E.N
+// Reads E.N.
 pub(crate) fn read_waiter(alloc: Global, word: &[u8]) -> Result<Option<Waiter>, AllocError>
     ensures { IfOk result (λ who. who ≡ waiter_of word.now) }
 {
@@ -81,7 +81,7 @@ pub(crate) fn read_waiter(alloc: Global, word: &[u8]) -> Result<Option<Waiter>, 
     Ok(read_parts(parts.as_slice()))
 }
 
-// A request as it stands behind E.N.
+// Reads a request as it stands after E.N.
 fn read_op(alloc: Global, words: &[&[u8]]) -> Option<Op>
     ensures { result ≡ op_in (texts words.now) }
 {
@@ -89,7 +89,7 @@ fn read_op(alloc: Global, words: &[&[u8]]) -> Option<Op>
     read_action(&names, words)?.op(&[])
 }
 
-// A line of one word.
+// Reads a line of one word.
 pub(crate) fn read_one(word: &[u8]) -> Option<Asked>
     ensures { result ≡ asked_by_one word.now }
 {
@@ -108,7 +108,7 @@ pub(crate) fn read_one(word: &[u8]) -> Option<Asked>
     }
 }
 
-// The window of an element.
+// Asks for the window of an element.
 fn read_window(element: &[u8]) -> Option<Asked>
     ensures { result ≡ option_map Window (element_of element.now) }
 {
@@ -118,7 +118,7 @@ fn read_window(element: &[u8]) -> Option<Asked>
     }
 }
 
-// What is kept for a request.
+// Asks what is kept for a request.
 fn ask_collect(who: Option<Waiter>) -> Option<Asked>
     ensures { result ≡ option_map Collect who }
 {
@@ -128,7 +128,7 @@ fn ask_collect(who: Option<Waiter>) -> Option<Asked>
     }
 }
 
-// What was asked by a request, and what is kept for it.
+// Asks for a request, and what is kept for it.
 fn ask_entry(who: Option<Waiter>) -> Option<Asked>
     ensures { result ≡ option_map Entry who }
 {
@@ -138,7 +138,7 @@ fn ask_entry(who: Option<Waiter>) -> Option<Asked>
     }
 }
 
-// A line of two words.
+// Reads a line of two words.
 fn read_two(alloc: Global, word: &[u8], what: &[u8]) -> Result<Option<Asked>, AllocError>
     ensures { IfOk result (λ asked. asked ≡ asked_by_two word.now what.now) }
 {
@@ -155,7 +155,7 @@ fn read_two(alloc: Global, word: &[u8], what: &[u8]) -> Result<Option<Asked>, Al
     }
 }
 
-// A confirmation.
+// Reads a confirmation.
 fn read_confirm(word: &[u8], element: &[u8], upto: &[u8]) -> Option<Asked>
     ensures { result ≡ asked_by_three word.now element.now upto.now }
 {
@@ -167,7 +167,7 @@ fn read_confirm(word: &[u8], element: &[u8], upto: &[u8]) -> Option<Asked>
     Some(Asked::Serve(Command::Confirm { element, upto }))
 }
 
-// A request by who asks, and what for.
+// Asks for a request, given who asks and the operation.
 fn ask_request(who: Option<Waiter>, op: Option<Op>) -> Option<Asked>
     ensures { result ≡ option_and_then (λ w. option_map (λ o. Serve (Asks (record {
       element = w.element;
@@ -184,7 +184,7 @@ fn ask_request(who: Option<Waiter>, op: Option<Op>) -> Option<Asked>
     })))
 }
 
-// A request.
+// Reads a request.
 fn read_request(alloc: Global, first: &[u8], rest: &[&[u8]]) -> Result<Option<Asked>, AllocError>
     ensures { IfOk result (λ asked. asked ≡ request_by first.now (texts rest.now)) }
 {
@@ -192,7 +192,7 @@ fn read_request(alloc: Global, first: &[u8], rest: &[&[u8]]) -> Result<Option<As
     Ok(ask_request(who, read_op(alloc, rest)))
 }
 
-// A line of three words.
+// Reads a line of three words.
 fn read_three(
     alloc: Global,
     word: &[u8],
@@ -208,7 +208,7 @@ fn read_three(
     }
 }
 
-// A line, by its words.
+// Reads a line, given its words.
 fn read_words(alloc: Global, words: &[&[u8]]) -> Result<Option<Asked>, AllocError>
     ensures { IfOk result (λ asked. asked ≡ asked_in (texts words.now)) }
 {
@@ -223,8 +223,8 @@ fn read_words(alloc: Global, words: &[&[u8]]) -> Result<Option<Asked>, AllocErro
     }
 }
 
-/// What a line asks, which has no line feed; `None` where it isn't in the grammar, or has more than 4,096 bytes. A
-/// growth that `alloc` refused is the one error, and nothing is left of it.
+/// Reads what a line, given without its line feed, asks for. Returns `None` if the line isn't in the grammar or has
+/// more than 4,096 bytes. The only error is a growth that `alloc` refused; nothing is left of it.
 pub fn read_asked(alloc: Global, line: &[u8]) -> Result<Option<Asked>, AllocError>
     ensures { IfOk result (λ asked. asked ≡ asked_of line.now) }
 {

@@ -14,16 +14,19 @@ use std::alloc::Global;
 use std::io::{BufRead, Write};
 
 /// Opens the image of a disk, serves a dialogue on it as [`serve_lines`] does, and gives the disk back. While nothing
-/// is there to be read it takes turns of a checkpoint if there is room for less than half of what the journal holds.
+/// is there to be read, it takes turns of a checkpoint if there is room for less than half of what the journal holds.
 ///
-/// The status is 0, or 1 where something ended the dialogue: the image was refused at opening; a call of the disk
-/// failed; the input can't be read, or the output can't be written; or there was not enough memory. The observer is
-/// told why, and `refused N NAME` is printed as the last line, but for an output that can't be written.
+/// The status is 0, or 1 if something ended the dialogue: the image was refused at opening; a call of the disk failed;
+/// the input can't be read; the output can't be written; or there was not enough memory. The observer is told why.
+/// `refused N NAME` is printed as the last line, unless the output can't be written.
 ///
-/// Where the image isn't opened, a crash leaves nothing that it couldn't leave before. From the opening on, a crash
-/// leaves the memory after a beginning of the commands that were put on the image, and at the end after all that were
-/// answered, and where a call of the disk failed perhaps after those of the line or group that it was for. What was
-/// printed is a beginning of the answers, then of the refusal; and where the status is 0, all answers and nothing else.
+/// If the image isn't opened, a crash leaves nothing that it couldn't leave before. From the opening on, a crash leaves
+/// the memory after a prefix of the commands that were put on the image. At the end it leaves the memory after all
+/// commands that were answered. If a call of the disk failed, the commands of the line or group that it was for may be
+/// there too.
+///
+/// What was printed is a prefix of the answers, followed by the refusal. If the status is 0, it is all answers and
+/// nothing else.
 pub fn dialogue_on<D: Disk, R: BufRead + Ear, W: Write, N: Observer>(
     alloc: Global,
     disk: D,
@@ -50,7 +53,7 @@ pub fn dialogue_on<D: Disk, R: BufRead + Ear, W: Write, N: Observer>(
     }
 }
 
-// Serves a dialogue on an engine, and gives its disk back.
+// Serves a dialogue on an engine. Returns the status and the engine's disk.
 fn talk_on<D: Disk, R: BufRead + Ear, W: Write, N: Observer>(
     alloc: Global,
     mut engine: Engine<D>,

@@ -1,4 +1,4 @@
-//! Where a line that asks nothing goes wrong.
+//! Finds where a line that isn't in the grammar goes wrong.
 ghost use Rattle.std.specs.Prelude.{◌≡◌, IfOk, false, not};
 ghost use Rattle.im_script.specs.Faults.{is_of_length};
 ghost use Rattle.im_script.specs.Grammar.{is_short};
@@ -10,7 +10,8 @@ use im_script::{
 };
 use std::alloc::{AllocError, Global};
 
-// What a line has behind its first word. `None` where none begins with the word, or it may be E.N.
+// Returns what a line has after its first word. Returns `None` if no line starts with this word, or if the word may be
+// E.N.
 fn behind(word: &[u8]) -> Option<&'static [Expected]> {
     if read_one(word).is_some() {
         return Some(&[]);
@@ -26,7 +27,8 @@ fn behind(word: &[u8]) -> Option<&'static [Expected]> {
     }
 }
 
-// What is expected of a word where a script would have this: no place has a name here.
+// Returns what is expected of a word, given what a script expects of it. No place has a name here, so an address stands
+// for a place.
 fn expected_here(expected: Expected) -> Expected {
     match expected {
         Expected::Place => Expected::Address,
@@ -34,7 +36,7 @@ fn expected_here(expected: Expected) -> Expected {
     }
 }
 
-// Whether a word is what is expected of it.
+// Returns whether a word is what is expected of it.
 fn fits(alloc: Global, word: &[u8], expected: Expected) -> Result<bool, AllocError> {
     Ok(match expected {
         Expected::Waiter => read_waiter(alloc, word)?.is_some(),
@@ -46,7 +48,7 @@ fn fits(alloc: Global, word: &[u8], expected: Expected) -> Result<bool, AllocErr
     })
 }
 
-// Where the words behind the first one, or behind E.N and its request's word, go wrong.
+// Finds where the words after the first one go wrong, or those after E.N and the request's word.
 fn rest_fault(
     alloc: Global,
     words: &[&[u8]],
@@ -69,7 +71,7 @@ fn rest_fault(
     }
 }
 
-// Where a request goes wrong, by the words behind E.N.
+// Finds where a request goes wrong, given the words after E.N.
 fn request_fault(alloc: Global, words: &[&[u8]]) -> Result<LineFault, AllocError>
     ensures { IfOk result (λ fault. is_of_length fault ≡ false) }
 {
@@ -82,12 +84,12 @@ fn request_fault(alloc: Global, words: &[&[u8]]) -> Result<LineFault, AllocError
     }
 }
 
-// Whether a word begins with a digit, as E.N does.
+// Returns whether a word starts with a digit, as E.N does.
 fn begins_with_digit(word: &[u8]) -> bool {
     word.first().is_some_and(|byte| byte.is_ascii_digit())
 }
 
-// Where a line goes wrong that begins with none of the words for what is only asked.
+// Finds where a line goes wrong, given that its first word can only be E.N.
 fn first_fault(alloc: Global, word: &[u8], rest: &[&[u8]]) -> Result<LineFault, AllocError>
     ensures { IfOk result (λ fault. is_of_length fault ≡ false) }
 {
@@ -102,7 +104,7 @@ fn first_fault(alloc: Global, word: &[u8], rest: &[&[u8]]) -> Result<LineFault, 
     Ok(LineFault::Word(Quoted::of(word), expected))
 }
 
-// Where a line goes wrong by its words.
+// Finds where a line goes wrong, given its words.
 fn words_fault(alloc: Global, words: &[&[u8]]) -> Result<LineFault, AllocError>
     ensures { IfOk result (λ fault. is_of_length fault ≡ false) }
 {
@@ -118,8 +120,8 @@ fn words_fault(alloc: Global, words: &[&[u8]]) -> Result<LineFault, AllocError>
     }
 }
 
-/// Where a line goes wrong that isn't in the grammar: it is too long, exactly where it has more than 4,096 bytes; or
-/// at the first word that isn't what is expected there.
+/// Finds where a line that isn't in the grammar goes wrong. It is too long exactly if it has more than 4,096 bytes.
+/// Otherwise the fault is the first word that isn't what is expected there.
 pub(crate) fn explain(alloc: Global, line: &[u8]) -> Result<LineFault, AllocError>
     ensures { IfOk result (λ fault. is_of_length fault ≡ not (is_short line.now)) }
 {

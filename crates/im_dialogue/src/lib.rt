@@ -1,4 +1,4 @@
-//! A dialogue over an image: a line asked, a line answered.
+//! A dialogue over an image: each line that is asked gets one line as its answer.
 #![tactic(auto)]
 
 mod about;

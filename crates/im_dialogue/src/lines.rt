@@ -1,4 +1,4 @@
-//! Lines as they are read, of which no more than a bound is kept.
+//! Reads lines, and keeps at most a bound of each.
 ghost use Rattle.std.specs.Prelude.{◌≡◌, ◌≤◌, ◌++◌, length, take, OnOk};
 
 use im_script::MAX_LINE;
@@ -6,7 +6,8 @@ use im_text::Reason;
 use std::alloc::AllocError;
 use std::io::{BufRead, ErrorKind};
 
-/// The most bytes of a line that are kept: one more than it may have, by which a longer one is known.
+/// The most bytes of a line that are kept. It is one more than a line may have, so that a longer line is known to be
+/// one.
 pub(crate) const KEPT: usize = MAX_LINE + 1;
 
 // What was read of a line.
@@ -14,13 +15,13 @@ pub(crate) const KEPT: usize = MAX_LINE + 1;
 enum Part {
     // Bytes of it, and more may come.
     More,
-    // Its line feed too.
+    // The rest of it, with its line feed.
     Last,
     // Nothing: the input is at its end.
     None,
 }
 
-// Keeps more bytes of a line, as far as its bound.
+// Keeps more bytes of a line, up to its bound.
 #[tactic(auto, using(crate::proofs::LineLemmas::kept_some))]
 fn keep(line: &mut Vec<u8>, part: &[u8]) -> Result<(), AllocError>
     requires few { length line.old.items ≤ KEPT }
@@ -35,7 +36,7 @@ fn keep(line: &mut Vec<u8>, part: &[u8]) -> Result<(), AllocError>
     }
 }
 
-// How many bytes of a text stand before its first line feed: all, where it has none.
+// Returns how many bytes of a text stand before its first line feed, or all if it has none.
 fn line_len(text: &[u8]) -> usize
     ensures { result ≤ length text.now }
 {
@@ -45,12 +46,12 @@ fn line_len(text: &[u8]) -> usize
     }
 }
 
-/// Why the input of a dialogue can't be read.
+/// Returns the reason for an input that can't be read.
 pub(crate) fn unread(kind: ErrorKind) -> Reason {
     Reason::Input(kind)
 }
 
-// Reads what there is of a line, up to its line feed.
+// Reads what is there of a line, up to its line feed.
 fn read_part<R: BufRead>(input: &mut R, line: &mut Vec<u8>) -> Result<Part, Reason>
     requires few { length line.old.items ≤ KEPT }
     ensures few { length line.new.items ≤ KEPT }
@@ -80,9 +81,9 @@ fn read_part<R: BufRead>(input: &mut R, line: &mut Vec<u8>) -> Result<Part, Reas
     })
 }
 
-/// Reads the next line, without its line feed. Of one that is longer than [`MAX_LINE`] only the first [`KEPT`] bytes
-/// are kept, and it is read to its line feed. None is left at the end, and none of a line that ends without one: what
-/// was cut off isn't asked.
+/// Reads the next line, without its line feed. If the line is longer than [`MAX_LINE`], it keeps only the first
+/// [`KEPT`] bytes, and reads on to the line feed. Returns false at the end of the input. A line that ends without a
+/// line feed is no line: what was cut off isn't asked.
 pub(crate) fn next_line<R: BufRead>(input: &mut R, line: &mut Vec<u8>) -> Result<bool, Reason>
     ensures few { length line.new.items ≤ KEPT }
 {

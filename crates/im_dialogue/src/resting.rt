@@ -12,7 +12,8 @@ use im_types::layout::{SLOT, image_length};
 use im_types::{Limits, MAX_SLOTS, MIN_SLOTS, Refusal};
 use std::alloc::Global;
 
-// How many slots the journal of an image of this many bytes has, where one with these limits has the least journal.
+// Returns how many slots the journal of an image of this many bytes has. The limits are those of its cells and elements
+// with the least journal.
 fn slots_in(bytes: usize, least: Limits) -> u32
     ensures { (slots : ℕ) → slots ≤ MAX_SLOTS → least.slots ≤ slots
         → bytes ≡ length_of_image layout_in_use (record { cells = least.cells; elements = least.elements; slots = slots })
@@ -22,14 +23,14 @@ fn slots_in(bytes: usize, least: Limits) -> u32
     least.slots + more.min((MAX_SLOTS - least.slots) as usize) as u32
 }
 
-/// Half of what a journal of so many slots holds: with less room turns are taken while nobody asks.
+/// Returns half of what a journal of `slots` slots holds. With less room, turns are taken while nobody asks.
 pub(crate) fn half_of(slots: u32) -> u32
     ensures { result ≡ slots / 2 }
 {
     slots / 2
 }
 
-// How many slots the journal of an image of so many bytes has.
+// Returns how many slots the journal of an image of `bytes` bytes has.
 fn slots_of<D: Disk>(engine: &Engine<D>, bytes: usize) -> u32
     ensures { (slots : ℕ) → AreLimits (length engine.now.memory.cells) (length engine.now.memory.windows) slots
         → bytes ≡ length_of_image layout_in_use (record {
@@ -46,7 +47,7 @@ fn slots_of<D: Disk>(engine: &Engine<D>, bytes: usize) -> u32
     }
 }
 
-/// Opens the image of a disk. With the engine comes how many slots its journal has.
+/// Opens the image of a disk. Returns the engine, and how many slots its journal has.
 pub(crate) fn open_with_slots<D: Disk>(
     alloc: Global,
     mut disk: D,
@@ -59,7 +60,7 @@ pub(crate) fn open_with_slots<D: Disk>(
     ensures honest { MatchResult result (λ r. D.honest r.0.disk → D.honest disk) (λ e. D.honest e.1 → D.honest disk) }
 {
     let bytes = disk.len().unwrap_or(0);
-    // A stop in it leaves what a stop before it leaves: an opening writes nothing.
+    // A crash in this call leaves what a crash before it leaves: an opening writes nothing.
     match Engine::open(alloc, disk) {
         Ok(engine) => {
             let slots = slots_of(&engine, bytes);

@@ -1,4 +1,4 @@
-//! A dialogue, line by line.
+//! Serves a dialogue, line by line.
 ghost use Rattle.std.specs.Prelude.{◌≡◌, ◌++◌, Bool, List, ℕ, Some, None, OnOk, MatchResult, string_bytes};
 ghost use Rattle.std.specs.Io.KnownBytes.{Appends};
 ghost use Rattle.im_text.specs.Printing.{Begins};
@@ -25,7 +25,8 @@ use im_types::{MAX_GROUP, Request};
 use std::alloc::{AllocError, Global};
 use std::io::{BufRead, Write};
 
-/// The name of the refusal that an answer is, if it is one, or the words for where a line goes wrong.
+/// Returns the name of the refusal that an answer is, or the words for where a line goes wrong. It is empty for any
+/// other answer.
 pub(crate) fn name_of(alloc: Global, answer: Answer) -> Result<String, AllocError> {
     let mut name = String::new(alloc);
     if let Answer::Wrong(_, fault) = answer {
@@ -37,7 +38,7 @@ pub(crate) fn name_of(alloc: Global, answer: Answer) -> Result<String, AllocErro
     Ok(name)
 }
 
-// Makes the line of an answer, and those that are told behind it.
+// Makes the line of an answer, followed by the lines for those that watch.
 fn make_text(alloc: Global, text: &mut String, answer: Answer, nows: &str) -> Result<(), AllocError>
     ensures { OnOk result ((name : List ℕ) × (string_bytes text.new ≡ answer_text name answer ++ nows.now)) }
 {
@@ -47,7 +48,7 @@ fn make_text(alloc: Global, text: &mut String, answer: Answer, nows: &str) -> Re
     text.push_str(nows)
 }
 
-// Prints the line of an answer with those that are told behind it, and has the writer put them through.
+// Prints the line of an answer, followed by the lines for those that watch, and has the writer put them through.
 fn say<W: Write>(
     alloc: Global,
     text: &mut String,
@@ -65,27 +66,27 @@ fn say<W: Write>(
     }
 }
 
-/// How a dialogue is held.
+/// The setting of a dialogue.
 #[derive(Clone, Copy, Debug, PartialEq, Eq)]
 pub struct Setting {
-    /// It is watched: who waited is told when its answer comes.
+    /// Whether it is watched: a request that waited is told when its answer comes.
     pub watch: bool,
     /// How many slots the journal of the image has.
     pub slots: u32,
 }
 
-// What is made anew for each line, in memory that is kept from line to line.
+// Texts that are made anew for each line, in memory that is kept from line to line.
 #[derive(Drop)]
 struct Drafts {
     // A line that was read.
     line: Vec<u8>,
     // The line of its answer.
     text: String,
-    // Those that are told behind it.
+    // The lines for those that watch, which follow it.
     nows: String,
 }
 
-// Does what a line asks, and prints the answer. Answers whether the dialogue goes on.
+// Does what a line asks, and prints the answer. Returns whether the dialogue continues.
 fn serve_asked<D: Disk, W: Write>(
     alloc: Global,
     engine: &mut Engine<D>,
@@ -101,13 +102,13 @@ fn serve_asked<D: Disk, W: Write>(
         (λ _. TalkEnds setting.watch D.now D.past D.honest
         engine.old (W.contents out.old) engine.new (W.contents out.new)) }
 {
-    // Who waits is looked up before the command acts: then they are resumed.
+    // The waiting requests are looked up before the command acts, since it resumes them.
     if let Err(_) = make_nows(nows, engine.memory(), asked, setting.watch) {
         return Err(Reason::Memory);
     }
     match answer(engine, setting.slots, asked) {
         Ok(None) => Ok(false),
-        // The command is on the disk before its line is printed: a stop between them leaves it to be asked again.
+        // The command is on the disk before its line is printed. After a crash between the two it can be asked again.
         Ok(Some(answer)) => match say(alloc, text, answer, told_with(answer, nows.as_str()), out) {
             Ok(()) => Ok(true),
             Err(reason) => Err(reason),
@@ -116,7 +117,7 @@ fn serve_asked<D: Disk, W: Write>(
     }
 }
 
-// Tells where a line that isn't in the grammar goes wrong. Nothing changes.
+// Answers a line that isn't in the grammar by where it goes wrong. Nothing changes.
 fn refuse_line<D: Disk, W: Write>(
     alloc: Global,
     engine: &Engine<D>,
@@ -137,7 +138,7 @@ fn refuse_line<D: Disk, W: Write>(
     }
 }
 
-// Looks where a line that isn't in the grammar goes wrong, and tells it.
+// Finds where a line that isn't in the grammar goes wrong, and answers it.
 fn explain_line<D: Disk, W: Write>(
     alloc: Global,
     engine: &Engine<D>,
@@ -157,7 +158,7 @@ fn explain_line<D: Disk, W: Write>(
     }
 }
 
-// Serves a line, and answers whether the dialogue goes on.
+// Serves a line. Returns whether the dialogue continues.
 fn serve_line<D: Disk, W: Write>(
     alloc: Global,
     engine: &mut Engine<D>,
@@ -184,8 +185,8 @@ fn serve_line<D: Disk, W: Write>(
     }
 }
 
-// Serves the lines that stand in the reader's buffer together as one group, where they are two or more and there is
-// room for their commands. How many they were, or none.
+// Serves the lines that stand together in the reader's buffer as one group, if there are two or more and room for their
+// commands. Returns how many it served, or 0.
 fn serve_together<D: Disk, R: BufRead, W: Write>(
     alloc: Global,
     engine: &mut Engine<D>,
@@ -222,7 +223,7 @@ fn serve_together<D: Disk, R: BufRead, W: Write>(
     }
 }
 
-// Reads a line and serves it by itself. One, or none where the dialogue is at its end.
+// Reads a line and serves it by itself. Returns 1, or 0 if the dialogue is at its end.
 fn serve_alone<D: Disk, R: BufRead, W: Write>(
     alloc: Global,
     engine: &mut Engine<D>,
@@ -260,7 +261,7 @@ fn serve_alone<D: Disk, R: BufRead, W: Write>(
     }
 }
 
-// Serves what is read next: lines that stand together, or one. How many, or none where the dialogue is at its end.
+// Serves what is read next: lines that stand together, or one. Returns how many, or 0 if the dialogue is at its end.
 fn serve_next<D: Disk, R: BufRead, W: Write>(
     alloc: Global,
     engine: &mut Engine<D>,
@@ -283,8 +284,8 @@ fn serve_next<D: Disk, R: BufRead, W: Write>(
     }
 }
 
-// Takes turns while nothing is there to be read and there is room for less than half of what the journal holds, and
-// serves what is read next. How many lines, or none where the dialogue is at its end.
+// Takes turns while nothing is there to be read and there is room for less than half of what the journal holds. Then
+// serves what is read next. Returns how many lines, or 0 if the dialogue is at its end.
 fn serve_rested<D: Disk, R: BufRead + Ear, W: Write>(
     alloc: Global,
     engine: &mut Engine<D>,
@@ -300,7 +301,7 @@ fn serve_rested<D: Disk, R: BufRead + Ear, W: Write>(
         (λ _. TalkEnds setting.watch D.now D.past D.honest
         engine.old (W.contents out.old) engine.new (W.contents out.new)) }
 {
-    // All that was asked is answered by now: nobody waits for these turns.
+    // All that was asked is answered by now, so nobody waits for these turns.
     if let Err(refusal) = turn_while_quiet(engine, input, half_of(setting.slots)) {
         return Err(Reason::Image(refusal, Damage::Unknown));
     }
@@ -308,25 +309,26 @@ fn serve_rested<D: Disk, R: BufRead + Ear, W: Write>(
 }
 
 /// Serves a dialogue on an engine, until the input ends or `quit` is asked. Each line of the input is answered by one
-/// line, in their order, which is written and put through once what it tells is on the disk. A line that isn't in the
-/// grammar is answered by where it goes wrong, and changes nothing; one of more than 4,096 bytes is such a line, and no
-/// more of it is kept. The end of the input without a line feed is no line.
+/// line, in order. The answer is written and put through after what it tells is on the disk.
 ///
-/// Up to 16 requests of elements that differ, whose lines stand in the reader's buffer one behind the other, are served
-/// as one group, and their answers written together: they are those that the lines would have by themselves. No line
-/// waits for another. All other lines are answered before the next one is read.
+/// A line that isn't in the grammar is answered by where it goes wrong, and changes nothing. A line of more than 4,096
+/// bytes is such a line, and no more of it is kept. An end of the input without a line feed before it is no line.
 ///
-/// While nothing is there to be read, as the reader tells, turns of a checkpoint are taken if there is room for less
-/// than half as many commands as the journal has slots.
+/// Up to 16 requests of different elements are served as one group, if their lines follow each other in the reader's
+/// buffer. Their answers are written together, and are those that the lines would have by themselves. No line waits for
+/// another. All other lines are answered before the next one is read.
 ///
-/// Where it is watched, the line of a request is followed by a line `E.N now REPLY` for each request that
-/// waited and is answered by it, in the order in which they came. A request that may bring such lines is then served by
+/// The reader tells whether something is there to be read. While nothing is, turns of a checkpoint are taken if there
+/// is room for less than half as many commands as the journal has slots.
+///
+/// If the dialogue is watched, lines `E.N now REPLY` follow the answer to a request: one for each request that waited
+/// and is answered by it, in the order in which they came. A request that may bring such lines is then served by
 /// itself.
 ///
-/// A refusal is an answer, but for `Device` and `Failed`, where a call of the disk failed: they end it, as do an input
-/// that can't be read, an output that can't be written, and want of memory. What was printed is then a beginning of the
-/// answers, and each command that was answered is in every file that a crash leaves; those of a group that wasn't
-/// answered are there all together or not at all.
+/// A refusal is an answer, except for `Device` and `Failed`, which say that a call of the disk failed. They end the
+/// dialogue, as do an input that can't be read, an output that can't be written, and want of memory. What was printed
+/// is then a prefix of the answers. Each command that was answered is in every file that a crash leaves. The commands
+/// of a group that wasn't answered are there all together or not at all.
 pub fn serve_lines<D: Disk, R: BufRead + Ear, W: Write>(
     alloc: Global,
     engine: &mut Engine<D>,

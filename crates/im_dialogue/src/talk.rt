@@ -1,4 +1,4 @@
-//! What is asked, done on an engine.
+//! Does on an engine what is asked.
 ghost use Rattle.std.specs.Prelude.{◌≡◌, ◌≤◌, true, Some, None, MatchOption, MatchResult};
 ghost use Rattle.im_dialogue.specs.declared.asking.Asked.TheVariants.{Collect, Count, Quit, Room};
 ghost use Rattle.im_dialogue.specs.declared.asking.Asked.TheVariants.{Serve, Turn, Window};
@@ -27,14 +27,14 @@ fn take_turn<D: Disk>(engine: &mut Engine<D>) -> Result<TurnDone, Refusal>
         (λ _. Halts D.now D.past D.honest engine.old engine.new) }
     ensures honest { D.honest engine.new.disk → D.honest engine.old.disk }
 {
-    // A stop in it leaves the memory as it is.
+    // A crash in this call leaves the memory as it is.
     match engine.turn() {
         Ok(done) => Ok(done),
         Err(refusal) => Err(refusal),
     }
 }
 
-/// What hears nothing.
+/// An ear that hears nothing.
 #[derive(Drop)]
 struct Deaf;
 
@@ -44,9 +44,9 @@ impl Ear for Deaf {
     }
 }
 
-/// Takes turns of a checkpoint while nothing is heard, there is room for less than so many commands, and something is
-/// left to do. `Device`, where a call of the disk failed, or `Failed`, where one had failed before: what was said
-/// stays. Where there is room for so many, or where a read never waits, nothing is done.
+/// Takes turns of a checkpoint while nothing is heard, there is room for fewer than `least` commands, and something is
+/// left to do. It does nothing if there is room for `least` commands, or if a read never waits. Returns `Device` if a
+/// call of the disk failed, or `Failed` if one had failed before. What was said before stays.
 pub(crate) fn turn_while_quiet<D: Disk, E: Ear>(
     engine: &mut Engine<D>,
     ear: &mut E,
@@ -63,7 +63,7 @@ pub(crate) fn turn_while_quiet<D: Disk, E: Ear>(
         if engine.room() >= least || !ear.is_quiet() {
             return Ok(());
         }
-        // A stop in it leaves the memory as it is.
+        // A crash in this call leaves the memory as it is.
         let done = match take_turn(engine) {
             Ok(done) => done,
             Err(refusal) => return Err(refusal),
@@ -75,8 +75,8 @@ pub(crate) fn turn_while_quiet<D: Disk, E: Ear>(
     Ok(())
 }
 
-/// Takes turns of a checkpoint while there is room for less than so many commands, and something is left to do.
-/// `Device`, where a call of the disk failed, or `Failed`, where one had failed before: what was said stays.
+/// Takes turns of a checkpoint while there is room for fewer than `least` commands and something is left to do. Returns
+/// `Device` if a call of the disk failed, or `Failed` if one had failed before. What was said before stays.
 pub fn make_room<D: Disk>(engine: &mut Engine<D>, least: u32) -> Result<(), Refusal>
     ensures goes { MatchResult result
         (λ _. GoesOn D.now D.past D.honest engine.old engine.new)
@@ -86,21 +86,21 @@ pub fn make_room<D: Disk>(engine: &mut Engine<D>, least: u32) -> Result<(), Refu
     turn_while_quiet(engine, &mut Deaf, least)
 }
 
-// Whether a refusal ends the dialogue: a call of the disk has failed.
+// Returns whether a refusal ends the dialogue, because a call of the disk has failed.
 fn ends(refusal: Refusal) -> bool
     ensures { result ≡ is_end refusal }
 {
     matches!(refusal, Refusal::Device | Refusal::Failed)
 }
 
-// Serves a command for which there is room, if there can be.
+// Serves a command, with room for it if there can be.
 fn serve<D: Disk>(engine: &mut Engine<D>, command: Command) -> Result<Answer, Refusal>
     ensures answered { MatchResult result
         (λ answer. Says D.now D.past D.honest engine.old engine.new (Some (Serve command)) answer)
         (λ _. Halts D.now D.past D.honest engine.old engine.new) }
     ensures honest { D.honest engine.new.disk → D.honest engine.old.disk }
 {
-    // A stop in it leaves the memory with the command, or without it: it isn't answered yet.
+    // A crash in this call leaves the memory with the command, or without it. It isn't answered yet.
     match engine.serve(&command) {
         Ok(outcome) => Ok(Answer::Served(command, Ok(outcome))),
         Err(refusal) => {
@@ -126,7 +126,7 @@ fn serve_with_room<D: Disk>(engine: &mut Engine<D>, command: Command) -> Result<
     }
 }
 
-// Takes a turn, and answers what was done.
+// Takes a turn, and returns what it did as an answer.
 fn turn<D: Disk>(engine: &mut Engine<D>) -> Result<Answer, Refusal>
     ensures answered { MatchResult result
         (λ answer. Says D.now D.past D.honest engine.old engine.new (Some Turn) answer)
@@ -139,15 +139,15 @@ fn turn<D: Disk>(engine: &mut Engine<D>) -> Result<Answer, Refusal>
     }
 }
 
-// Answers what is kept for a request.
+// Returns what is kept for a request, as an answer.
 fn collect<D: Disk>(engine: &Engine<D>, who: Waiter) -> Answer
     ensures { Says D.now D.past D.honest engine.now engine.now (Some (Collect who)) result }
 {
     Answer::Kept(who, engine.collect(who.element, who.number))
 }
 
-// What was asked by a request and is kept for it: refused with `NoElement`, with `Forgotten` below the window, and with
-// `Gap` where the number isn't used yet.
+// Returns a request and what is kept for it. It is refused with `NoElement`, with `Forgotten` below the window, and
+// with `Gap` if the number isn't used yet.
 fn recall(memory: &Memory, who: Waiter) -> Result<Kept, Refusal>
     ensures { result ≡ recall memory.now.contents.windows who }
 {
@@ -164,28 +164,28 @@ fn recall(memory: &Memory, who: Waiter) -> Result<Kept, Refusal>
     }
 }
 
-// Answers what was asked by a request, and what is kept for it.
+// Returns a request and what is kept for it, as an answer.
 fn entry<D: Disk>(engine: &Engine<D>, who: Waiter) -> Answer
     ensures { result ≡ answer.Entry who (recall engine.now.memory.windows who) }
 {
     Answer::Entry(who, recall(engine.memory(), who))
 }
 
-// Answers an element's window.
+// Returns an element's window, as an answer.
 fn window<D: Disk>(engine: &Engine<D>, element: u16) -> Answer
     ensures { Says D.now D.past D.honest engine.now engine.now (Some (Window element)) result }
 {
     Answer::Window(element, engine.window(element))
 }
 
-// Answers how many commands were accepted.
+// Returns how many commands were accepted, as an answer.
 fn count<D: Disk>(engine: &Engine<D>) -> Answer
     ensures { Says D.now D.past D.honest engine.now engine.now (Some Count) result }
 {
     Answer::Count(engine.count())
 }
 
-// Answers for how many more commands there is room.
+// Returns how many more commands there is room for, as an answer.
 fn room<D: Disk>(engine: &Engine<D>) -> Answer
     ensures answered { Says D.now D.past D.honest engine.now engine.now (Some Room) result }
     ensures room { result ≡ answer.Room engine.now.room }
@@ -193,7 +193,7 @@ fn room<D: Disk>(engine: &Engine<D>) -> Answer
     Answer::Room(engine.room())
 }
 
-// Answers what the image is, whose journal has so many slots, and how far it has come.
+// Returns what the image is and how far it has come, as an answer. `slots` is how many slots its journal has.
 fn about<D: Disk>(engine: &Engine<D>, slots: u32) -> Answer
     ensures { result ≡ answer.About (about_of engine.now.memory slots engine.now.count engine.now.room) }
 {
@@ -208,7 +208,7 @@ fn about<D: Disk>(engine: &Engine<D>, slots: u32) -> Answer
     })
 }
 
-/// Answers the line with this number, which isn't in the grammar: where it goes wrong.
+/// Returns the answer to a line that isn't in the grammar: its number, and where it goes wrong.
 pub fn wrong<D: Disk>(engine: &Engine<D>, number: u64, fault: LineFault) -> Answer
     ensures answered { Says D.now D.past D.honest engine.now engine.now None result }
     ensures answer { result ≡ answer.Wrong number fault }
@@ -216,11 +216,11 @@ pub fn wrong<D: Disk>(engine: &Engine<D>, number: u64, fault: LineFault) -> Answ
     Answer::Wrong(number, fault)
 }
 
-/// Does on an engine what is asked, and answers it; `None` where that is the end of the dialogue. Before a command
-/// turns of a checkpoint are taken while there is no room for one. `slots` is how many the journal has.
+/// Does on an engine what is asked, and returns the answer. Returns `None` if that ends the dialogue. Before a command,
+/// turns of a checkpoint are taken while there is no room for one. `slots` is how many slots the journal has.
 ///
-/// `Device` or `Failed`, where a call of the disk failed: then a command is in doubt, at most, and what was said before
-/// stays. Any other refusal is an answer.
+/// Returns `Device` or `Failed` if a call of the disk failed. Then at most this command is in doubt, and what was said
+/// before stays. Any other refusal is an answer.
 pub fn answer<D: Disk>(
     engine: &mut Engine<D>,
     slots: u32,

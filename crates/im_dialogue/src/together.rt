@@ -1,4 +1,4 @@
-//! Lines that stand in the reader's buffer together, served as one group.
+//! Lines that stand together in the reader's buffer are served as one group.
 ghost use Rattle.std.specs.Prelude.{◌≡◌, ◌↔◌, ◌+◌, ◌<◌, ◌≤◌, [], length, true, IfOk, IfSome, IsTrue, MatchResult, OnOk, Some, List, ℕ, string_bytes, ◌++◌};
 ghost use Rattle.im_types.specs.declared.commands.Command.TheVariants.{Request as Asks};
 ghost use Rattle.im_types.specs.Groups.{AreApart, AreOthers};
@@ -27,7 +27,8 @@ use std::io::{BufRead, ErrorKind, Write};
 
 // ---- which lines
 
-// The first line of a text without its line feed, and the text behind it; none where no line feed stands in it.
+// Returns the first line of a text without its line feed, and the text after it. Returns none if the text has no line
+// feed.
 fn split_line(text: &[u8]) -> Option<(&[u8], &[u8])>
     ensures { IfSome result (λ parts. length parts.0.now + 1 + length parts.1.now ≡ length text.now) }
 {
@@ -39,7 +40,7 @@ fn split_line(text: &[u8]) -> Option<(&[u8], &[u8])>
     None
 }
 
-// Whether none of the requests is this element's.
+// Returns whether none of the requests is this element's.
 fn are_others(element: u16, members: &[Request]) -> bool
     ensures { IsTrue result ↔ AreOthers element members.now }
 {
@@ -51,8 +52,8 @@ fn are_others(element: u16, members: &[Request]) -> bool
     true
 }
 
-// The request that a line asks, if it may be served with others. Where it is watched, that is none by which a request
-// that waits is answered.
+// Returns the request that a line asks for, if it may be served with others. If the dialogue is watched, a request that
+// may answer waiting ones may not.
 fn member_of(asked: Option<Asked>, watch: bool) -> Option<Request>
     ensures asked { IfSome result (λ r. asked ≡ Some (Serve (Asks r))) }
     ensures quiet { IfSome result (λ r. watch ≡ true → is_quiet r.op ≡ true) }
@@ -69,7 +70,7 @@ fn member_of(asked: Option<Asked>, watch: bool) -> Option<Request>
     }
 }
 
-// Takes a line among the members of a group, and answers whether it could be.
+// Takes a line's request as a member of a group, if it may be one. Returns whether it did.
 fn take_line(
     alloc: Global,
     line: &[u8],
@@ -98,8 +99,8 @@ fn take_line(
     }
 }
 
-// Takes the requests of the first lines that stand in a text whole, each of another element, and so many at most. How
-// many bytes these lines have, with their line feeds.
+// Takes the requests of the first whole lines of a text: at most `most`, each of another element. Returns how many
+// bytes these lines have, with their line feeds.
 fn take_lines(
     alloc: Global,
     text: &[u8],
@@ -128,8 +129,8 @@ fn take_lines(
     Ok(text.len() - rest.len())
 }
 
-/// Takes the requests of the first lines that a reader has in its buffer whole, waiting for some where it has nothing.
-/// How many bytes these lines have; they stay in the buffer.
+/// Takes the requests of the first whole lines in a reader's buffer. It waits for more if the buffer is empty. Returns
+/// how many bytes these lines have; they stay in the buffer.
 pub(crate) fn gather<R: BufRead>(
     alloc: Global,
     input: &mut R,
@@ -156,7 +157,7 @@ pub(crate) fn gather<R: BufRead>(
 
 // ---- their answers
 
-// What a member was answered.
+// Returns what a member was answered.
 fn result_of(served: Served) -> Result<Outcome, Refusal>
     ensures { result ≡ result_of served }
 {
@@ -199,11 +200,11 @@ fn make_lines(
     Ok(())
 }
 
-/// Serves the requests of lines that stand together as one group, and prints their answers in the lines' order. Where
-/// it is watched, they are none by which a request that waits is answered.
+/// Serves the requests of lines that stand together as one group, and prints their answers in the order of the lines.
+/// If the dialogue is watched, none of them answers a request that waits.
 ///
-/// A member that finds no room is answered `JournalFull`. Where a call of the disk fails, the dialogue is ended: then
-/// the commands of the group are on the disk all together or not at all, and none is answered.
+/// A member that finds no room is answered `JournalFull`. If a call of the disk fails, the dialogue ends. Then the
+/// commands of the group are on the disk all together or not at all, and none is answered.
 pub(crate) fn serve_members<D: Disk, W: Write>(
     alloc: Global,
     engine: &mut Engine<D>,
@@ -221,7 +222,8 @@ pub(crate) fn serve_members<D: Disk, W: Write>(
 {
     let requests = members.as_slice();
     let mut served = ArrayVec::new();
-    // A stop in it leaves all that the group puts on the disk, or nothing of it: no answer is given before.
+    // A crash in this call leaves on the disk all that the group puts there, or nothing of it. No answer is given
+    // before.
     engine.serve_group(members, &mut served);
     if engine.failed() {
         return Err(Reason::Image(Refusal::Device, Damage::Unknown));

@@ -1,4 +1,4 @@
-//! What those that watch are told behind an answer: the requests that waited, and whose answers the line brought.
+//! The lines for those that watch. They follow an answer, and tell which waiting requests the line answered.
 ghost use Rattle.std.specs.Prelude.{◌≡◌, ◌++◌, OnOk, string_bytes};
 ghost use Rattle.im_types.specs.declared.operations.Kind.TheVariants.{I, M};
 ghost use Rattle.im_types.specs.declared.operations.Reply.TheVariants.{Value};
@@ -14,7 +14,7 @@ use im_text::add_entry;
 use im_types::{Command, Entry, Kind, Op, Reply, Request, Waiter};
 use std::alloc::AllocError;
 
-/// Whether no request that waits is answered by such an operation.
+/// Returns whether such an operation never answers a request that waits.
 pub(crate) fn is_quiet(op: Op) -> bool
     ensures { result ≡ is_quiet op }
 {
@@ -32,7 +32,7 @@ fn add_now(out: &mut String, who: Waiter, value: u64) -> Result<(), AllocError>
     out.push_str("\n")
 }
 
-// Whether a cell is one of a block of this kind.
+// Returns whether a cell is in a block of this kind.
 fn is_of_kind(memory: &Memory, a: u32, kind: Kind) -> bool
     ensures { result ≡ is_of_kind kind (held_at memory.now.contents.cells a) }
 {
@@ -42,7 +42,7 @@ fn is_of_kind(memory: &Memory, a: u32, kind: Kind) -> bool
     }
 }
 
-// Adds the lines of the readers that wait at a cell, of which a store of this value resumes all.
+// Adds the lines of the readers that wait at a cell. A store of this value resumes all of them.
 fn add_readers(out: &mut String, memory: &Memory, a: u32, value: u64) -> Result<(), AllocError>
     ensures { let cells = memory.now.contents.cells in OnOk result (string_bytes out.new
         ≡ string_bytes out.old ++ nows_text (at_cell I (store value) cells a (held_at cells a)).resumed) }
@@ -56,7 +56,7 @@ fn add_readers(out: &mut String, memory: &Memory, a: u32, value: u64) -> Result<
     Ok(())
 }
 
-// Adds the line of the first taker that waits at a cell, the only one that a put of this value resumes.
+// Adds the line of the first taker that waits at a cell. A put of this value resumes only that one.
 fn add_taker(out: &mut String, memory: &Memory, a: u32, value: u64) -> Result<(), AllocError>
     ensures { let cells = memory.now.contents.cells in OnOk result (string_bytes out.new
         ≡ string_bytes out.old ++ nows_text (at_cell M (put value) cells a (held_at cells a)).resumed) }
@@ -70,7 +70,7 @@ fn add_taker(out: &mut String, memory: &Memory, a: u32, value: u64) -> Result<()
     }
 }
 
-// Adds the lines of those that a new request resumes.
+// Adds the lines of the requests that a new request resumes.
 fn add_resumed(out: &mut String, memory: &Memory, request: &Request) -> Result<(), AllocError>
     ensures { OnOk result (string_bytes out.new ≡ string_bytes out.old
         ++ nows_text (act memory.now.contents.cells (asker request.now) request.now.op).resumed) }
@@ -82,7 +82,7 @@ fn add_resumed(out: &mut String, memory: &Memory, request: &Request) -> Result<(
     }
 }
 
-// Whether a memory would accept a command.
+// Returns whether a memory would accept a command.
 fn accepts(memory: &Memory, command: &Command) -> bool
     ensures { result ≡ is_accepted memory.now.contents command.now }
 {
@@ -92,7 +92,7 @@ fn accepts(memory: &Memory, command: &Command) -> bool
     }
 }
 
-// Adds the lines of those that a command resumes.
+// Adds the lines of the requests that a command resumes.
 fn add_by_command(out: &mut String, memory: &Memory, command: &Command) -> Result<(), AllocError>
     ensures { OnOk result (string_bytes out.new
         ≡ string_bytes out.old ++ nows_text (resumed_by memory.now.contents command.now)) }
@@ -109,8 +109,8 @@ fn add_by_command(out: &mut String, memory: &Memory, command: &Command) -> Resul
     }
 }
 
-/// Makes the lines of those that wait on this memory, and that what is asked resumes if it is put on the disk; none
-/// where it isn't watched.
+/// Makes the lines of the requests that wait on this memory and that what is asked resumes, if it is put on the disk.
+/// Makes none if the dialogue isn't watched.
 pub(crate) fn make_nows(
     nows: &mut String,
     memory: &Memory,
@@ -132,7 +132,8 @@ pub(crate) fn make_nows(
     }
 }
 
-/// So much of these lines is told, by what a line is answered: all where a command was done, and else nothing.
+/// Returns how much of these lines is told, given the line's answer: all of them if a command was done, and else
+/// nothing.
 pub(crate) fn told_with<'a>(answer: Answer, nows: &'a str) -> &'a str
     ensures { result.now ≡ told_with answer nows.entry.now }
 {

@@ -1,4 +1,4 @@
--- What an honest file would have come to, had it given the answers that a real one gave.
+-- What an honest file would have come to, if it had given the answers of a real one.
 use Rattle.std.specs.Prelude.{ℕ, zero, suc, ◌+◌, nat_lt, nat_le, Bool, true, false, not, ◌&&◌, ◌||◌, ◌==◌}
 use Rattle.std.specs.Prelude.{if◌then◌else◌, List, [], ◌∷◌, length, take, drop, replicate, slice_index, bytes_eq}
 use Rattle.std.specs.Prelude.{IsTrue}
@@ -6,24 +6,24 @@ use Rattle.im_disk.specs.Moment.{Moment, overlaid, written, synced}
 
 -- what is known of a file from its calls and their answers
 pub record Account : Type 0 where
-  -- the file now, and the moments before it, the newest first
+  -- the file now, and the moments before it, newest first
   pub now : Moment
   pub past : List Moment
-  -- What the failing calls to come leave, the next one first. Like the first moment, a `Start` tells it.
+  -- What the failing calls still to come leave, in their order. A `Start` gives it, like the first moment.
   pub outcomes : List (List ℕ)
-  -- each answer so far was that of an honest file
+  -- each answer so far was one of an honest file
   pub agrees : Bool
 
 -- the answers so far are those of an honest file
 abbrev pub IsHonest : Account → Type 0
 IsHonest a = IsTrue a.agrees
 
--- what the next call that failed came to
+-- what the next failing call comes to
 abbrev pub first_outcome : List (List ℕ) → List ℕ
 first_outcome [] = []
 first_outcome (o ∷ os) = o
 
--- what the calls that failed after it came to
+-- what the failing calls after it come to
 abbrev pub later_outcomes : List (List ℕ) → List (List ℕ)
 later_outcomes [] = []
 later_outcomes (o ∷ os) = os
@@ -33,28 +33,28 @@ abbrev pub is_inside : List (ℕ × ℕ) → ℕ → Bool
 is_inside [] i = false
 is_inside (r ∷ rs) i = (nat_le r.0 i && nat_lt i (r.0 + r.1)) || is_inside rs i
 
--- The files, of which these are the bytes from i on, are of one length, and the same outside the ranges.
+-- Two files have the same length, and the same bytes outside the ranges. These are their bytes from i on.
 abbrev pub are_same_outside : List (ℕ × ℕ) → ℕ → List ℕ → List ℕ → Bool
 are_same_outside rs i [] [] = true
 are_same_outside rs i [] (d ∷ ds) = false
 are_same_outside rs i (c ∷ cs) [] = false
 are_same_outside rs i (c ∷ cs) (d ∷ ds) = (c == d || is_inside rs i) && are_same_outside rs (i + 1) cs ds
 
--- after a write of so many bytes that failed: its range holds the outcome
+-- after a failed write of n bytes: its range holds the outcome
 abbrev pub torn_by : ℕ → ℕ → List ℕ → Moment → Moment
 torn_by at n outcome m = record {
   bytes = if length outcome == n then overlaid m.bytes at outcome else m.bytes;
   ranges = (at, n) ∷ m.ranges;
 }
 
--- after a sync that failed: the ranges hold what they hold in the outcome
+-- after a failed sync: the ranges hold what they hold in the outcome
 abbrev pub shaken_by : List ℕ → Moment → Moment
 shaken_by outcome m = record {
   bytes = if are_same_outside m.ranges 0 outcome m.bytes then outcome else m.bytes;
   ranges = m.ranges;
 }
 
--- after a write that was answered so
+-- after a write, by whether it succeeded
 abbrev pub after_write : Bool → ℕ → List ℕ → Account → Account
 after_write true at bytes a = record {
   now = written at bytes a.now;
@@ -69,7 +69,7 @@ after_write false at bytes a = record {
   agrees = a.agrees;
 }
 
--- after a sync that was answered so
+-- after a sync, by whether it succeeded
 abbrev pub after_sync : Bool → Account → Account
 after_sync true a = record { now = synced a.now; past = a.now ∷ a.past; outcomes = a.outcomes; agrees = a.agrees }
 after_sync false a = record {
@@ -79,7 +79,7 @@ after_sync false a = record {
   agrees = a.agrees;
 }
 
--- After a call, by its number: the file was made anew, measured, read, written, synced. A call may always fail.
+-- After a call, by its number: the file was made anew, measured, read, written or synced. Each call may fail.
 abbrev pub after_call : ℕ → ℕ → Bool → List ℕ → Account → Account
 after_call zero len ok bytes a = record {
   now = record { bytes = replicate len 0; ranges = [] };
@@ -109,7 +109,7 @@ pub record Event : Type 0 where
   pub ok : Bool
   pub bytes : List ℕ
 
--- the call that is noted by these numbers: which call, an offset or a length, and 1 for success
+-- the call with these numbers: which call, an offset or a length, and 1 for success
 abbrev pub event_of : List ℕ → List ℕ → Event
 event_of numbers bytes = record {
   call = slice_index numbers 0;
@@ -118,18 +118,18 @@ event_of numbers bytes = record {
   bytes = bytes;
 }
 
--- a file with this first moment, whose failing calls come to these outcomes, after these calls, the newest first
+-- a file with this first moment after these calls, newest first; its failing calls come to these outcomes
 abbrev pub replay : Moment → List (List ℕ) → List Event → Account
 replay first outcomes [] = record { now = first; past = []; outcomes = outcomes; agrees = true }
 replay first outcomes (e ∷ earlier) = after_call e.call e.at e.ok e.bytes (replay first outcomes earlier)
 
--- No sync has failed. After one has, nothing more is asked of the file: what was written may be lost with no further
--- error.
+-- No sync has failed. After a failed sync nothing more is asked of the file, because what was written may be lost
+-- without another error.
 abbrev pub is_usable : List Event → Bool
 is_usable [] = true
 is_usable (e ∷ earlier) = (e.ok || not (e.call == 4)) && is_usable earlier
 
--- The length was asked for and answered since the last sync, and so before whatever was written since.
+-- The length was asked for and answered since the last sync, and so before any later write.
 abbrev pub is_measured : List Event → Bool
 is_measured [] = false
 is_measured (e ∷ earlier) = (e.call == 1 && e.ok) || (not (e.call == 4) && is_measured earlier)

@@ -1,9 +1,9 @@
--- What is told of a file whose calls have failed.
+-- The failure that is reported of a file.
 use Rattle.std.specs.Prelude.{Bool, true, false, Option, Some, None}
 use Rattle.im_disk.specs.declared.failure.Failure.{Failure}
 use Rattle.im_disk.specs.declared.failure.Failure.TheVariants.{Length, Read, Write, Sync}
 
--- this is told of a sync that failed
+-- a failed sync is reported
 abbrev pub is_of_sync : Option Failure → Bool
 is_of_sync None = false
 is_of_sync (Some (Sync kind)) = true

@@ -1,4 +1,4 @@
--- A file of the operating system, as the account of its calls has it.
+-- A file of the operating system, by the account of its calls.
 use Rattle.std.specs.Prelude.{◌≡◌, ℕ, Bool, not, List}
 use Rattle.im_disk.specs.declared.file.FileDisk.{FileDisk}
 use Rattle.im_disk.specs.declared.start.Start.{Ghosts}
@@ -14,7 +14,7 @@ module _ {S : Type 0} where
   abbrev pub has_failed_sync : (start : Ghosts S) → FileDisk S start → Bool
   has_failed_sync start f = not (is_usable f.ledger.events)
 
-  -- The file is as it was, and was honest where it is.
+  -- If the file is honest, it was honest before, and it is as it was.
   abbrev pub IsAsBefore : (start : Ghosts S) → FileDisk S start → FileDisk S start → Type 0
   IsAsBefore start old new = IsHonest (account_of start new) → IsHonest (account_of start old)
       × (((account_of start new).now ≡ (account_of start old).now)
@@ -26,7 +26,7 @@ module _ {S : Type 0} where
       → Ticks (λ m n. n ≡ written at bytes m) (account_of start old).now (account_of start new).now
       (account_of start old).past (account_of start new).past
 
-  -- A range of this length may hold anything, and the file was honest where it is.
+  -- If the file is honest, it was honest before, and a range of this length may hold anything.
   abbrev pub HasTorn : (start : Ghosts S) → ℕ → ℕ → FileDisk S start → FileDisk S start → Type 0
   HasTorn start at n old new = IsHonest (account_of start new) → IsHonest (account_of start old)
       × MayTick (Torn at n) (account_of start old).now (account_of start new).now

@@ -12,7 +12,7 @@ pub record Fused : Type 0 where
   pub mode : Mode
   pub calls : ℕ
 
--- whether the call after so many fails
+-- whether the call after this many others fails
 abbrev pub fails_in : Mode → ℕ → ℕ → Bool
 fails_in Stop passes calls = nat_le passes calls
 fails_in Once passes calls = nat_eq calls passes
@@ -28,10 +28,10 @@ scar_of Stop = None
 scar_of Once = None
 scar_of (Scar byte) = Some byte
 
--- A fuse over this disk that has seen no call.
+-- a fuse over this disk, before any call
 abbrev pub fresh : Recording → ℕ → Mode → Fused
 fresh disk passes mode = record { disk = disk; passes = passes; mode = mode; calls = 0 }
 
--- one call more, which made this of the disk
+-- one more call, with this disk after it
 abbrev pub counted : Recording → Fused → Fused
 counted disk f = record { disk = disk; passes = f.passes; mode = f.mode; calls = min (f.calls + 1) LAST }

@@ -1,4 +1,4 @@
--- The moments of a disk in memory, from its bytes and the record of its calls. The newest call comes first.
+-- The moments of a disk in memory, from its bytes and the record of its calls, newest first.
 use Rattle.std.specs.Prelude.{ℕ, ◌+◌, ◌-◌, ◌≤◌, List, [], ◌∷◌, length, take, replicate, reverse}
 use Rattle.im_disk.specs.declared.record.Call.{Call}
 use Rattle.im_disk.specs.declared.record.Call.TheVariants.{Other, Wrote, Synced}
@@ -20,14 +20,14 @@ before Other bytes = bytes
 before (Wrote at old) bytes = overlaid bytes at old.items
 before Synced bytes = bytes
 
--- the bytes as at the last sync: the writes since then undone, the newest first
+-- the bytes at the last sync: the writes since then are undone, newest first
 abbrev pub settled_of : List ℕ → List Call → List ℕ
 settled_of bytes [] = bytes
 settled_of bytes (Other ∷ calls) = settled_of bytes calls
 settled_of bytes (Wrote at old ∷ calls) = settled_of (overlaid bytes at old.items) calls
 settled_of bytes (Synced ∷ calls) = bytes
 
--- this byte all over each of the ranges
+-- the bytes with this byte over each of the ranges
 abbrev pub filled : ℕ → List ℕ → List (ℕ × ℕ) → List ℕ
 filled byte bytes [] = bytes
 filled byte bytes (r ∷ rs) = filled byte (overlaid bytes r.0 (replicate r.1 byte)) rs
@@ -38,7 +38,7 @@ left_by Kept bytes calls = bytes
 left_by Lost bytes calls = settled_of bytes calls
 left_by (Byte byte) bytes calls = filled byte bytes (ranges_of calls)
 
--- the moment that bytes and a record of calls stand for
+-- the moment given by bytes and a record of calls
 abbrev pub moment_of : List ℕ → List Call → Moment
 moment_of bytes calls = record { bytes = bytes; ranges = ranges_of calls }
 
@@ -52,7 +52,7 @@ abbrev pub LieWithin : ℕ → List (ℕ × ℕ) → Type 0
 LieWithin size [] = Unit {0}
 LieWithin size (r ∷ rs) = (r.0 + r.1 ≤ size) × LieWithin size rs
 
--- What a disk in memory shows. Of its calls, here the oldest first, the first `begun` came before its last crash.
+-- What a disk in memory shows. Its calls come oldest first here. The first `begun` of them came before its last crash.
 abbrev pub shown : List ℕ → List Call → ℕ → ℕ → Recording
 shown bytes calls begun failures = record {
   moment = moment_of bytes (reverse calls);
@@ -61,7 +61,7 @@ shown bytes calls begun failures = record {
   failures = failures;
 }
 
--- a record of calls that may stand beside these bytes
+-- a record of calls that can stand beside these bytes
 pub record IsSound (bytes : List ℕ) (calls : List Call) (begun : ℕ) : Type 0 where
   pub within : LieWithin (length bytes) (ranges_of (reverse calls))
   pub begun_among : begun ≤ length calls

@@ -20,31 +20,31 @@ impl From<DeviceFault> for Refusal {
 
 /// One file of fixed length.
 ///
-/// Its clauses tell the bytes, what a crash may leave, and when a call failed. All of them but the count of failures
-/// speak of a disk that is honest at the end of the call. A disk that was honest then was honest at the start, so a
-/// run of calls that ends on an honest disk may be read from its end back to its first call.
+/// The clauses say what the bytes are, what a crash may leave, and when a call failed. All of them, except the count of
+/// failures, need a disk that is honest at the end of the call. A disk that is honest then was honest at the start too.
+/// So a run of calls that ends on an honest disk can be read from its end back to its first call.
 pub trait Disk {
     /// The bytes, and the ranges written since the last sync that succeeded.
     ghost now: { Self → Moment };
 
-    /// The moments before this one, the newest first. Their number is the clock: it ticks once for each call of
-    /// `read`, `write_at` and `sync`.
+    /// The moments before this one, newest first. Their number is the clock. It ticks once for each call of `read`,
+    /// `write_at` and `sync`.
     ghost past: { Self → List Moment };
 
-    /// How often a call has failed. The count stays at the top of a `u64`.
+    /// How often a call has failed. The count stops at the top of a `u64`.
     ghost failures: { Self → ℕ };
 
-    /// The calls so far have kept what this contract says. No contract can promise it of a real file.
+    /// All calls so far have kept this contract. No contract can promise this of a real file.
     ghost honest: { Self → Type 0 };
 
-    /// The length of the file in bytes. It never changes.
+    /// Returns the length of the file in bytes. It never changes.
     fn len(&mut self) -> Result<usize, DeviceFault>
         ensures len { IfOk result (λ n. honest self.new → n ≡ length (now self.old).bytes) }
         ensures same { honest self.new → (now self.new ≡ now self.old) × (past self.new ≡ past self.old) }
         ensures honest { honest self.new → honest self.old }
         ensures failures { Counts result (failures self.old) (failures self.new) };
 
-    /// Reads the bytes from `at` on into the whole buffer. The range lies inside the file. After a fault the buffer may
+    /// Fills the whole buffer with the bytes from `at` on. The range lies inside the file. After a fault the buffer may
     /// hold anything.
     fn read(&mut self, at: usize, buf: &mut [u8]) -> Result<(), DeviceFault>
         requires { honest self.old → at + length buf.old ≤ length (now self.old).bytes }
@@ -56,7 +56,7 @@ pub trait Disk {
         ensures honest { honest self.new → honest self.old }
         ensures failures { Counts result (failures self.old) (failures self.new) };
 
-    /// Writes the bytes from `at` on. The range lies inside the file. After a fault the range may hold any bytes.
+    /// Writes the bytes at `at`. The range lies inside the file. After a fault the range may hold any bytes.
     fn write_at(&mut self, at: usize, bytes: &[u8]) -> Result<(), DeviceFault>
         requires { honest self.old → at + length bytes.now ≤ length (now self.old).bytes }
         ensures tick { OnOk result (honest self.new → Ticks (λ m n. n ≡ written at bytes.now m)
@@ -66,8 +66,8 @@ pub trait Disk {
         ensures honest { honest self.new → honest self.old }
         ensures failures { Counts result (failures self.old) (failures self.new) };
 
-    /// Puts all bytes on the disk. After a fault the ranges written since the last sync that succeeded may hold any
-    /// bytes, and they still count as written.
+    /// Puts all bytes on the disk. After a fault, the ranges written since the last successful sync may hold any bytes.
+    /// They still count as written.
     fn sync(&mut self) -> Result<(), DeviceFault>
         ensures tick { OnOk result (honest self.new → Ticks (λ m n. n ≡ synced m)
             (now self.old) (now self.new) (past self.old) (past self.new)) }

@@ -1,4 +1,4 @@
-//! Which call of the system failed first, beside how often one did.
+//! Counts the failed calls of the system, and keeps the one to report.
 ghost use Rattle.std.specs.Prelude.{◌≡◌, ◌≤◌, true, false, nat_lt, Some, is_some};
 ghost use Rattle.im_disk.specs.Failing.{is_of_sync};
 ghost use Rattle.im_disk.specs.Moment.{Rises};
@@ -7,7 +7,7 @@ use crate::record::fault;
 use crate::{DeviceFault, Failure};
 use std::io::ErrorKind;
 
-// How often a call has failed, and what is told of it: a sync that failed, or else the first.
+// How often a call has failed, and which failure is reported: the last failed sync, or else the first failure.
 #[derive(Drop)]
 pub(crate) struct Failing {
     pub(crate) failures: u64,
@@ -34,7 +34,7 @@ impl Failing {
         self.first
     }
 
-    // Counts a failure, which is told where none was before.
+    // Counts a failure. It is the one to report if none came before it.
     pub(crate) fn fail(&mut self, failure: Failure) -> DeviceFault
         requires { is_of_sync (Some failure) ≡ false }
         ensures failures { Rises self.old.failures self.new.failures × (self.old.failures ≤ self.new.failures) }
@@ -46,7 +46,7 @@ impl Failing {
         fault(&mut self.failures)
     }
 
-    // Counts a sync that failed, which is told whatever failed before.
+    // Counts a failed sync. It is reported whatever failed before it.
     pub(crate) fn lose(&mut self, kind: ErrorKind) -> DeviceFault
         ensures failures { Rises self.old.failures self.new.failures × (self.old.failures ≤ self.new.failures) }
         ensures first { is_of_sync self.new.first ≡ true }

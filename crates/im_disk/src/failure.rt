@@ -1,17 +1,17 @@
-//! What may fail of a file.
+//! The failures of a file.
 
 use std::io::ErrorKind;
 
-/// What failed of a file, and how the system names it.
+/// What failed on a file, and the system's name for the failure.
 #[derive(Clone, Copy, Debug, PartialEq, Eq)]
 pub enum Failure {
-    /// Its length wasn't to be had, or was found to be another than at the opening, or a range was asked for that isn't
-    /// in it.
+    /// The length could not be read or differs from the length at the opening, or a call asked for a range outside the
+    /// file.
     Length,
-    /// Bytes weren't read.
+    /// A read failed.
     Read(ErrorKind),
-    /// Bytes weren't written, or in part.
+    /// A write failed, or wrote only a part.
     Write(ErrorKind),
-    /// A sync failed: any of what was written since the last good one may be lost, whatever the next sync answers.
+    /// A sync failed. Anything written since the last good sync may be lost, whatever the next sync returns.
     Sync(ErrorKind),
 }

@@ -16,21 +16,20 @@ use std::rt::Files;
 
 /// A file of the operating system.
 ///
-/// What its clauses say of bytes and crashes has honesty as its premise, as on any [`Disk`], and nothing promises that
-/// a real file is honest. Its members are read off the list of its calls with their answers, which clauses alone read,
-/// and off `S`, which says what the file held when it was opened and what its failing calls came to: the file is honest
-/// as long as each answer was one that an honest file with that start could have given. What is proved over any
-/// `S: Start` is proved for each of them, and so for the real one. For the list to be that of the real file, nobody
-/// else writes it, its length stays, and a sync that answers `Ok` has put the bytes down: docs/CRASH.md tells all that
-/// is assumed.
+/// Its clauses about bytes and crashes need honesty, as on any [`Disk`]. Nothing promises that a real file is honest.
+/// The members come from two sources: the list of the file's calls and their answers, which only clauses read, and `S`.
+/// `S` says what the file held when it was opened, and what its failing calls came to. The file is honest as long as an
+/// honest file with that start could have given each answer. A proof over any `S: Start` holds for each of them, and so
+/// for the real one. The list describes the real file on three conditions: nobody else writes the file, its length
+/// stays, and a sync that returns `Ok` has put the bytes on the disk. docs/CRASH.md lists all assumptions.
 #[derive(Drop)]
 pub struct FileDisk<S: Start> {
     file: File,
-    /// The length that it had when it was opened.
+    /// The length at the opening.
     len: u64,
-    /// No sync has failed, and each length was that one. Else each call fails, and asks nothing of the file.
+    /// No sync has failed, and each length read was `len`. Otherwise each call fails without asking the file.
     usable: bool,
-    /// Its length was looked at since the last sync. Else nothing is written.
+    /// The length was checked since the last sync. Otherwise nothing is written.
     measured: bool,
     failing: Failing,
     ledger: Ledger,
@@ -44,12 +43,12 @@ impl<S: Start> FileDisk<S> {
     ghost use Rattle.im_disk.specs.File.{HasTorn, HasWritten, IsAsBefore, account_of, has_failed_sync};
     ghost use Rattle.im_disk.specs.Moment.{Counts};
 
-    /// Makes a file of so many zero bytes at the path, also over one that is there, and puts it and its name on the
-    /// disk. It is locked before a byte is changed, for as long as the disk lives.
+    /// Makes a file of `len` zero bytes at the path, also over a file that is there. It puts the file and its name on
+    /// the disk. The file is locked before any byte changes, and stays locked as long as the disk lives.
     ///
-    /// `InUse` where another opening has its lock for longer than the start waits, and `NotFile` where what is there
-    /// is no regular file: then nothing is changed. `System` where a call of the system fails, and what is at the path
-    /// may then be any file. That the bytes are zero and none is in doubt is what an honest file would have.
+    /// Returns `InUse` if another opening holds the lock for longer than the start waits, and `NotFile` if the path
+    /// names something other than a regular file. Both change nothing. Returns `System` if a call of the system fails.
+    /// The path may then hold any file. The clauses say what an honest file has: zero bytes, none of them in doubt.
     pub fn create<R: Files<File = File>>(
         rt: &R,
         path: &str,
@@ -67,11 +66,11 @@ impl<S: Start> FileDisk<S> {
         Ok(noted(over(file, len as u64, start), len))
     }
 
-    /// Makes a file as [`create`](FileDisk::create) does where nothing is at the path, no link either.
+    /// Makes a file as [`create`](FileDisk::create) does, but only if nothing is at the path, not even a link.
     ///
-    /// `Exists` where something is: then nothing is changed. `System` where a call of the system fails: then the path
-    /// is free again, unless taking the name away failed too. `InUse` where another program has locked the file right
-    /// after it was made: then it is there, empty.
+    /// Returns `Exists` if something is there, and changes nothing. Returns `System` if a call of the system fails. The
+    /// path is then free again, unless removing the name failed too. Returns `InUse` if another program locked the new
+    /// file first. The file then stays there, empty.
     pub fn create_new<R: Files<File = File>>(
         rt: &R,
         path: &str,
@@ -88,10 +87,10 @@ impl<S: Start> FileDisk<S> {
         Ok(noted(over(file, len as u64, start), len))
     }
 
-    /// Opens the file at the path to read and write it, and puts it on the disk. It is locked for as long as the disk
-    /// lives. `InUse` where another opening has its lock for longer than the start waits, `NotFile` where it is no
-    /// regular file, `Sync` where putting it on the disk fails, `System` where another call of the system does. Its
-    /// bytes aren't changed, and none is read.
+    /// Opens the file at the path for reading and writing, and puts it on the disk. The file stays locked as long as
+    /// the disk lives. This changes no byte of the file and reads none. Returns `InUse` if another opening holds the
+    /// lock for longer than the start waits, and `NotFile` if it is no regular file. Returns `Sync` if putting it on
+    /// the disk fails, and `System` if another call of the system fails.
     pub fn open<R: Files<File = File>>(
         rt: &R,
         path: &str,
@@ -107,9 +106,9 @@ impl<S: Start> FileDisk<S> {
         Ok(over(file, len, start))
     }
 
-    /// Opens the file at the path to read it alone: each write to it fails. Others may read it at the same time.
-    /// `InUse` where one that writes it has its lock for longer than the start waits, `NotFile` where it is no regular
-    /// file, `System` where a call of the system fails. No byte is read.
+    /// Opens the file at the path only for reading: each write to it fails. Others may read it at the same time. This
+    /// reads no byte. Returns `InUse` if a writer holds the lock for longer than the start waits, `NotFile` if it is no
+    /// regular file, and `System` if a call of the system fails.
     pub fn open_to_read<R: Files<File = File>>(
         rt: &R,
         path: &str,
@@ -125,8 +124,8 @@ impl<S: Start> FileDisk<S> {
         Ok(over(file, len, start))
     }
 
-    /// What failed first since the opening: there is one exactly where the count of failures isn't 0. A sync that
-    /// failed is told instead of what failed before it, as what was written may be lost with no further error.
+    /// Returns the first failure since the opening. There is one exactly if the count of failures isn't 0. A failed
+    /// sync takes the place of earlier failures, because written bytes may be lost without another error.
     pub fn failure(&self) -> Option<Failure>
         ensures some { is_some result ≡ nat_lt 0 (⟦<FileDisk<S> as Disk>⟧.failures self.now) }
         ensures sync { is_of_sync result ≡ has_failed_sync S.Start self.now }
@@ -134,7 +133,7 @@ impl<S: Start> FileDisk<S> {
         self.failing.first()
     }
 
-    // Looks whether the length is that of the opening. Where it isn't, each later call fails.
+    // Checks that the length is still that of the opening. If it isn't, each later call fails.
     fn look(&mut self) -> Result<(), DeviceFault>
         ensures len { IfOk result (λ _. IsHonest (account_of S.Start self.new)
             → self.new.len ≡ length (account_of S.Start self.old).now.bytes) }
@@ -162,7 +161,7 @@ impl<S: Start> FileDisk<S> {
         }
     }
 
-    // Looks at the length where that wasn't done since the last sync: a file that was cut isn't written behind its end.
+    // Checks the length unless done since the last sync, so that nothing is written past the end of a cut file.
     fn measure(&mut self) -> Result<(), DeviceFault>
         ensures measured { IsOk result → IsTrue (is_measured self.new.ledger.events) }
         ensures same { IsAsBefore S.Start self.old self.new }
@@ -180,7 +179,6 @@ impl<S: Start> FileDisk<S> {
         }
     }
 
-    // Writes the bytes from `at` on.
     fn put(&mut self, at: usize, bytes: &[u8]) -> Result<(), DeviceFault>
         requires measured { IsTrue (is_measured self.old.ledger.events) }
         requires inside { IsHonest (account_of S.Start self.old)
@@ -204,14 +202,14 @@ impl<S: Start> FileDisk<S> {
         }
     }
 
-    /// Takes the name at the path away, where it is this file's, and puts that on the disk. `Exists` where another
-    /// file has that name: then nothing is changed. `System` where a call of the system fails.
+    /// Removes the name at the path if it still belongs to this file, and puts that on the disk. Returns `Exists` if
+    /// another file has that name, and changes nothing. Returns `System` if a call of the system fails.
     pub fn remove<R: Files<File = File>>(self, rt: &R, path: &str) -> Result<(), OpenFault> {
         removed(rt, path, &self.file)
     }
 }
 
-// The disk over a file that was opened. One value of a start is used up for each.
+// The disk over a file that was just opened. It uses up one value of the start.
 fn over<S: Start>(file: File, len: u64, _start: S) -> FileDisk<S>
     ensures failures { ⟦<FileDisk<S> as Disk>⟧.failures result ≡ 0 }
     ensures events { result.ledger.events ≡ [] }
@@ -227,7 +225,7 @@ fn over<S: Start>(file: File, len: u64, _start: S) -> FileDisk<S>
     }
 }
 
-// The disk over a file that was made with this length.
+// The disk over a file that was just made with this length.
 fn noted<S: Start>(disk: FileDisk<S>, len: usize) -> FileDisk<S>
     requires failures { ⟦<FileDisk<S> as Disk>⟧.failures disk ≡ 0 }
     requires events { disk.ledger.events ≡ [] }

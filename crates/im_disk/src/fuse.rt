@@ -1,4 +1,4 @@
-//! A disk in memory that passes so many calls, and then fails.
+//! A disk in memory that passes a given number of calls and then fails.
 ghost use Rattle.std.specs.Prelude.{◌≡◌, ◌+◌, ◌≤◌, length, take, drop, min, true, false, Ok, OnOk, IsErr};
 ghost use Rattle.im_types.specs.declared.TheConstants.{LAST};
 
@@ -6,18 +6,19 @@ use crate::{DeviceFault, Disk, MemDisk};
 use im_types::LAST;
 use std::marker::Model;
 
-/// What a fuse does once it has passed its calls.
+/// What a fuse does after it has passed its calls.
 #[derive(Clone, Copy, Debug, PartialEq, Eq)]
 pub enum Mode {
-    /// Each later call fails. A write leaves its range's bytes.
+    /// Each later call fails. A failed write leaves its range's bytes.
     Stop,
-    /// The next call fails, and all later ones pass. A write leaves its range's bytes.
+    /// The next call fails, and all later ones pass. A failed write leaves its range's bytes.
     Once,
-    /// The next call fails, and all later ones pass. A write puts this byte all over its range.
+    /// The next call fails, and all later ones pass. A failed write fills its range with this byte.
     Scar(u8),
 }
 
-/// A disk in memory whose calls of `read`, `write_at` and `sync` fail as told, always honest. `len` always passes.
+/// A disk in memory whose calls of `read`, `write_at` and `sync` fail as its fuse says. It is always honest. `len`
+/// always passes.
 #[derive(Drop)]
 pub struct FuseDisk {
     disk: MemDisk,
@@ -42,7 +43,7 @@ impl Model for FuseDisk {
 impl Mode {
     ghost use Rattle.im_disk.specs.Fuse.{fails_in, scar_of};
 
-    // Whether the call after so many fails.
+    // Returns whether the call after `calls` others fails.
     fn fails(self, passes: u64, calls: u64) -> bool
         ensures { result ≡ fails_in self passes calls }
     {
@@ -63,7 +64,6 @@ impl Mode {
     }
 }
 
-// One call more.
 fn one_more(calls: u64) -> u64
     requires { calls ≤ LAST }
     ensures { result ≡ min (calls + 1) LAST }
@@ -74,7 +74,7 @@ fn one_more(calls: u64) -> u64
 impl FuseDisk {
     ghost use Rattle.im_disk.specs.Fuse.{fresh};
 
-    /// Passes so many calls, and then fails as the mode says.
+    /// Makes a disk that passes `passes` calls and then fails as the mode says.
     pub fn new(disk: MemDisk, passes: u64, mode: Mode) -> FuseDisk
         ensures fresh { result ≡ fresh disk passes mode }
         ensures honest { ⟦<FuseDisk as Disk>⟧.honest result }
@@ -87,7 +87,8 @@ impl FuseDisk {
         }
     }
 
-    /// The number of calls of `read`, `write_at` and `sync` so far, failed ones included. It stays at [`LAST`].
+    /// Returns the number of calls of `read`, `write_at` and `sync` so far, including failed ones. It stops at
+    /// [`LAST`].
     pub fn calls(&self) -> u64
         ensures calls { result ≡ self.now.calls }
         ensures last { result ≤ LAST }
@@ -95,7 +96,7 @@ impl FuseDisk {
         self.calls
     }
 
-    /// The disk without the fuse.
+    /// Returns the disk without the fuse.
     pub fn into_inner(self) -> MemDisk
         ensures { result ≡ self.disk }
     {

@@ -8,10 +8,10 @@ ghost use Rattle.im_disk.specs.Gate.{IsClosed, MayWrite, MayOpen};
 use crate::{DeviceFault, Disk};
 use im_types::layout::OPEN;
 
-/// Syncs, opens the gate at `at` by writing its byte, and syncs. What stands behind the gate was written before.
+/// Syncs, opens the gate at `at` by writing its byte, and syncs again. The bytes behind the gate were written before.
 ///
-/// A crash at any moment of it leaves a file that could be left before, or the one that a read gives, but for the byte
-/// of the gate. Once it has answered `Ok`, the gate is open for good, over all that was written.
+/// A crash during the run leaves a file that could be left before, or the one that a read gives with any byte in the
+/// place of the gate. After `Ok` the gate is open for good, over all that was written.
 pub fn open_gate<D: Disk>(disk: &mut D, at: usize) -> Result<(), DeviceFault>
     requires inside { D.honest disk.old → at + 1 ≤ length (D.now disk.old).bytes }
     ensures runs { Runs D.Disk disk.old disk.new result 3 (MayOpen at (D.now disk.old)) }
@@ -23,10 +23,11 @@ pub fn open_gate<D: Disk>(disk: &mut D, at: usize) -> Result<(), DeviceFault>
     disk.sync() // The same. Once this is done the gate is open for good.
 }
 
-/// Writes bytes, the first of them an open gate, where the gate is closed: those behind it, a sync, the gate, a sync.
+/// Writes bytes whose first byte is an open gate to a place where the gate is closed. The order is: the bytes behind
+/// the gate, a sync, the gate, a sync.
 ///
-/// A crash at any moment of it leaves a file whose gate is closed, or open over all of the bytes; elsewhere it is one
-/// that could be left before. Once it has answered `Ok`, the bytes are on the disk.
+/// A crash during the run leaves a file whose gate is closed, or open over all the bytes. Elsewhere it is a file that
+/// could be left before. After `Ok` the bytes are on the disk.
 pub fn write_behind_gate<D: Disk>(disk: &mut D, at: usize, bytes: &[u8]) -> Result<(), DeviceFault>
     requires below { at < usize.MAX }
     requires gate { slice_index bytes.now 0 ≡ open_gate }

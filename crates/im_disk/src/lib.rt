@@ -1,6 +1,7 @@
-//! One file of fixed length: what may be read from it, and what a crash at each moment may leave. [`Disk`] is the
-//! contract, [`MemDisk`] a disk in memory that can be made to crash, [`FuseDisk`] one whose calls fail on demand, and
-//! [`FileDisk`] a file of the operating system. docs/CRASH.md tells the model and what it assumes of a real file.
+//! One file of fixed length: what can be read from it, and what a crash at each moment may leave. [`Disk`] is the
+//! contract. [`MemDisk`] is a disk in memory that can be made to crash. [`FuseDisk`] is one whose calls fail on demand.
+//! [`FileDisk`] is a file of the operating system. docs/CRASH.md describes the model and what it assumes of a real
+//! file.
 #![tactic(auto)]
 
 mod account;

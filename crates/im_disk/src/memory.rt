@@ -1,4 +1,4 @@
-//! A disk in memory. It keeps a record of its calls, by which each past moment is known.
+//! A disk in memory. It keeps a record of its calls, which gives each past moment.
 ghost use Rattle.std.specs.Prelude.{◌≡◌, ◌+◌, ◌≤◌, ◌∷◌, [], length, take, drop, Ok, IfOk, IfErr, OnOk};
 
 use crate::record::{Call, add, fault, fill, leave, note, put};
@@ -7,25 +7,36 @@ use im_types::Refusal;
 use std::alloc::Global;
 use std::marker::Model;
 
-/// What a crash leaves of the bytes written since the last sync that succeeded.
+/// What a crash leaves of the bytes written since the last successful sync.
 #[derive(Clone, Copy, Debug, PartialEq, Eq)]
 pub enum Crash {
-    /// The bytes as they were written.
+    /// The bytes as written.
     Kept,
-    /// The bytes as at the last sync that succeeded.
+    /// The bytes as at the last successful sync.
     Lost,
-    /// This byte, wherever a range was written since.
+    /// This byte, in each range written since.
     Byte(u8),
 }
 
-/// A disk in memory, always honest. Its calls fail only where the record of calls cannot grow.
-#[derive(Drop)]
+/// A disk in memory, always honest. Its calls fail only if the record of calls cannot grow.
 pub struct MemDisk {
     bytes: Vec<u8>,
     calls: Vec<Call>,
-    /// How many of the calls came before the last crash. They still tell which ranges are in doubt.
+    /// How many of the calls came before the last crash. They still say which ranges are in doubt.
     begun: usize,
     failures: u64,
+}
+
+// By one call, so that whoever owns a disk isn't proved to let go each of its fields wherever it may end.
+impl Drop for MemDisk {
+    fn drop(self) {
+        let MemDisk {
+            bytes: _,
+            calls: _,
+            begun: _,
+            failures: _,
+        } = self;
+    }
 }
 
 impl Model for MemDisk {
@@ -43,7 +54,7 @@ impl Model for MemDisk {
 impl MemDisk {
     ghost use Rattle.im_disk.specs.Recording.{blank};
 
-    /// A file of so many zero bytes, all of them on the disk. Refused `NoMemory` where there is not room for them.
+    /// Makes a file of `len` zero bytes, all of them on the disk. Returns `NoMemory` if there is no room for them.
     pub fn new(alloc: Global, len: usize) -> Result<MemDisk, Refusal>
         ensures blank { IfOk result (λ disk. disk ≡ blank len) }
         ensures honest { IfOk result (λ disk. ⟦<MemDisk as Disk>⟧.honest disk) }
@@ -128,8 +139,8 @@ impl MemDisk {
     ghost use Rattle.im_disk.specs.Moment.{Left, Torn, MayTick, Rises};
     ghost use Rattle.im_disk.specs.Recording.{Fails, scarred, LeftBy, crashed};
 
-    /// The disk after a crash of this kind. Which ranges are in doubt, and what they held, stays as it was until a sync
-    /// succeeds: a second crash before it may still lose them. The record of calls begins anew.
+    /// Returns the disk after a crash of this kind. The ranges in doubt, and what they held, stay the same until a sync
+    /// succeeds. A second crash before that may still lose them. A new record of calls begins.
     pub fn crash(mut self, crash: Crash) -> MemDisk
         ensures left { Left self.moment result.moment.bytes }
         ensures kind { LeftBy crash self result.moment.bytes }
@@ -141,8 +152,8 @@ impl MemDisk {
         self
     }
 
-    /// A write of `len` bytes that fails. It leaves the bytes of its range, or puts this byte all over it. The range
-    /// lies inside the file.
+    /// A write of `len` bytes that fails. It leaves the bytes of its range, or fills the range with this byte. The
+    /// range lies inside the file.
     pub fn fail_write(&mut self, at: usize, len: usize, byte: Option<u8>) -> DeviceFault
         requires { at + len ≤ length self.old.moment.bytes }
         ensures record { Fails (scarred at len byte self.old.moment) self.old self.new }

@@ -1,4 +1,5 @@
-//! How a file of the operating system is made or opened: which files, under which lock, and what is then on the disk.
+//! Makes or opens a file of the operating system: which files are accepted, under which lock, and what is then on the
+//! disk.
 ghost use Rattle.std.specs.Prelude.{◌≡◌, true};
 ghost use Rattle.std.specs.Fs.{asks_create_new};
 
@@ -10,22 +11,22 @@ use std::os::unix::fs::{MetadataExt, OpenOptionsExt};
 use std::path::Path;
 use std::rt::Files;
 
-// Who may use a file that is made: its owner, to read and write it.
+// The owner alone may read and write a file that is made.
 const MODE: u32 = 0o600;
 
 /// Why a file wasn't made or opened.
 #[derive(Clone, Copy, Debug, PartialEq, Eq)]
 pub enum OpenFault {
-    /// Another opening of the file has its lock. Nothing was changed.
+    /// Another opening of the file holds the lock. Nothing changed.
     InUse,
-    /// A new file was asked for, and something has that name. Nothing was changed.
+    /// A new file was asked for, and something already has that name. Nothing changed.
     Exists,
-    /// It is no regular file: a folder, a device, a FIFO. Nothing was changed.
+    /// It is no regular file: a folder, a device, a FIFO. Nothing changed.
     NotFile,
-    /// It is there, and the sync with which an opening begins failed so: what was written to it before may be lost,
-    /// whatever the next sync answers.
+    /// The sync at the start of the opening failed with this kind. The file is there, but bytes written before may be
+    /// lost, whatever the next sync returns.
     Sync(ErrorKind),
-    /// Another call of the system failed so.
+    /// Another call of the system failed with this kind.
     System(ErrorKind),
 }
 
@@ -54,7 +55,7 @@ impl From<OpenFault> for Refusal {
     }
 }
 
-// Looked at before the file is opened, as a FIFO would be waited for.
+// The check comes before the opening, because opening a FIFO would wait.
 fn check_path<R: Files<File = File>>(rt: &R, path: &str) -> Result<(), OpenFault> {
     if fs::metadata(rt, path)?.is_file() {
         Ok(())
@@ -63,7 +64,7 @@ fn check_path<R: Files<File = File>>(rt: &R, path: &str) -> Result<(), OpenFault
     }
 }
 
-// The length of an opened file, which has to be a regular one.
+// Returns the length of an opened file, which has to be a regular one.
 fn check_file(file: &File) -> Result<u64, OpenFault> {
     let data = file.metadata()?;
     if data.is_file() {
@@ -73,12 +74,12 @@ fn check_file(file: &File) -> Result<u64, OpenFault> {
     }
 }
 
-// Whether it is still to be tried: another opening has the file's lock, and the start waits for it.
+// Returns whether to try again: another opening holds the lock, and the start waits for it.
 fn is_awaited<T, S: Start>(opened: &Result<T, OpenFault>, start: &mut S) -> bool {
     matches!(opened, Err(OpenFault::InUse)) && start.tries_again()
 }
 
-// Makes the file, or takes the one that is there. It is locked before a byte is changed.
+// Makes the file, or takes the one that is there. It is locked before any byte changes.
 fn taken_now<R: Files<File = File>>(rt: &R, path: &str) -> Result<File, OpenFault> {
     match check_path(rt, path) {
         Ok(()) | Err(OpenFault::System(ErrorKind::NotFound)) => {}
@@ -95,7 +96,7 @@ fn taken_now<R: Files<File = File>>(rt: &R, path: &str) -> Result<File, OpenFaul
     Ok(file)
 }
 
-// The same, where the lock is waited for as long as the start does.
+// Like `taken_now`, but waits for the lock as long as the start does.
 fn taken<R: Files<File = File>, S: Start>(
     rt: &R,
     path: &str,
@@ -110,7 +111,7 @@ fn taken<R: Files<File = File>, S: Start>(
     Err(OpenFault::InUse)
 }
 
-// How a file is opened that has to be new.
+// The options for opening a file that has to be new.
 fn exclusively() -> OpenOptions
     ensures { asks_create_new result ≡ true }
 {
@@ -122,7 +123,7 @@ fn exclusively() -> OpenOptions
     options
 }
 
-// Makes the file, locked, where nothing has that name.
+// Makes the file and locks it, only if nothing has that name.
 fn taken_new<R: Files<File = File>>(rt: &R, path: &str) -> Result<File, OpenFault> {
     let file = match exclusively().open(rt, path) {
         Ok(file) => file,
@@ -133,7 +134,7 @@ fn taken_new<R: Files<File = File>>(rt: &R, path: &str) -> Result<File, OpenFaul
     Ok(file)
 }
 
-// The folder in which the path has its name.
+// The folder that holds the path's name.
 fn folder_of<R: Files<File = File>>(rt: &R, path: &str) -> io::Result<File> {
     let folder = match Path::new(path).parent() {
         Some(parent) => parent.as_str(),
@@ -142,7 +143,7 @@ fn folder_of<R: Files<File = File>>(rt: &R, path: &str) -> io::Result<File> {
     File::open(rt, if folder.is_empty() { "." } else { folder })
 }
 
-// Gives an open file so many zero bytes, and puts it and its name on the disk.
+// Gives an open file `len` zero bytes, and puts it and its name on the disk.
 fn fill<R: Files<File = File>>(
     rt: &R,
     path: &str,
@@ -156,8 +157,8 @@ fn fill<R: Files<File = File>>(
     Ok(())
 }
 
-/// Makes a file of so many zero bytes, also over one that is there, locked. It and its name are on the disk. The lock
-/// is waited for as long as the start does.
+/// Makes and locks a file of `len` zero bytes, also over one that is there. The file and its name are on the disk. This
+/// waits for the lock as long as the start does.
 pub(crate) fn made<R: Files<File = File>, S: Start>(
     rt: &R,
     path: &str,
@@ -169,7 +170,7 @@ pub(crate) fn made<R: Files<File = File>, S: Start>(
     Ok(file)
 }
 
-/// The same where nothing has that name. Where it isn't made whole, its name is taken away again.
+/// Like `made`, but only if nothing has that name. If making it fails part of the way, this removes its name again.
 pub(crate) fn made_new<R: Files<File = File>>(
     rt: &R,
     path: &str,
@@ -185,7 +186,7 @@ pub(crate) fn made_new<R: Files<File = File>>(
     }
 }
 
-/// Takes the name of an open file away, where it is still that file's, and puts that on the disk.
+/// Removes the name of an open file if it still belongs to that file, and puts that on the disk.
 pub(crate) fn removed<R: Files<File = File>>(
     rt: &R,
     path: &str,
@@ -200,7 +201,7 @@ pub(crate) fn removed<R: Files<File = File>>(
     Ok(())
 }
 
-// Opens a file to read and write it, locked and synced; and its length.
+// Opens a file for reading and writing, locks and syncs it, and returns it with its length.
 fn settled_now<R: Files<File = File>>(rt: &R, path: &str) -> Result<(File, u64), OpenFault> {
     check_path(rt, path)?;
     let file = OpenOptions::new().read(true).write(true).open(rt, path)?;
@@ -213,8 +214,8 @@ fn settled_now<R: Files<File = File>>(rt: &R, path: &str) -> Result<(File, u64),
     Ok((file, len))
 }
 
-/// Opens a file to read and write it, locked and synced; and its length. The lock is waited for as long as the start
-/// does: each time the path is opened anew, since another file may have its name by then.
+/// Opens a file for reading and writing, locks and syncs it, and returns it with its length. This waits for the lock as
+/// long as the start does. Each try opens the path anew, because another file may have its name by then.
 pub(crate) fn settled<R: Files<File = File>, S: Start>(
     rt: &R,
     path: &str,
@@ -229,7 +230,7 @@ pub(crate) fn settled<R: Files<File = File>, S: Start>(
     Err(OpenFault::InUse)
 }
 
-// Opens a file to read it, with a lock that others who read it may have too; and its length.
+// Opens a file for reading, under a lock that other readers may share, and returns it with its length.
 fn readable_now<R: Files<File = File>>(rt: &R, path: &str) -> Result<(File, u64), OpenFault> {
     check_path(rt, path)?;
     let file = OpenOptions::new().read(true).open(rt, path)?;
@@ -238,7 +239,7 @@ fn readable_now<R: Files<File = File>>(rt: &R, path: &str) -> Result<(File, u64)
     Ok((file, len))
 }
 
-/// The same, where the lock is waited for as long as the start does.
+/// Like `readable_now`, but waits for the lock as long as the start does.
 pub(crate) fn readable<R: Files<File = File>, S: Start>(
     rt: &R,
     path: &str,

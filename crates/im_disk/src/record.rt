@@ -1,4 +1,4 @@
-//! The record of a disk in memory: each call, with what it takes to undo it.
+//! The record of a disk in memory: each call, with what undoes it.
 ghost use Rattle.std.specs.Prelude.{◌≡◌, ◌+◌, ◌-◌, ◌^◌, ◌≤◌, ◌++◌, ◌∷◌, [], length, min, replicate, reverse};
 ghost use Rattle.std.specs.Prelude.{OnOk, OnErr};
 ghost use Rattle.im_disk.specs.Moment.{Rises, overlaid};
@@ -9,11 +9,11 @@ use std::alloc::AllocError;
 
 #[derive(Drop)]
 pub(crate) enum Call {
-    /// A read, or a call that failed and changed nothing.
+    /// A read, or a failed call that changed nothing.
     Other,
-    /// A write at this offset over these bytes.
+    /// A write at this offset. These are the bytes that it replaced.
     Wrote(usize, Vec<u8>),
-    /// A sync that succeeded.
+    /// A successful sync.
     Synced,
 }
 
@@ -48,7 +48,7 @@ pub(crate) fn note(calls: &mut Vec<Call>, failures: &mut u64, call: Call) -> Res
     }
 }
 
-/// Puts the bytes there.
+/// Puts `part` at this offset.
 pub(crate) fn put(bytes: &mut Vec<u8>, at: usize, part: &[u8])
     requires { at + length part.now ≤ length bytes.old.items }
     ensures { bytes.new.items ≡ overlaid bytes.old.items at part.now }
@@ -56,7 +56,7 @@ pub(crate) fn put(bytes: &mut Vec<u8>, at: usize, part: &[u8])
     bytes[at..at + part.len()].copy_from_slice(part);
 }
 
-/// Puts the byte all over the range.
+/// Fills the range with the byte.
 pub(crate) fn fill(bytes: &mut Vec<u8>, at: usize, len: usize, byte: u8)
     requires { at + len ≤ length bytes.old.items }
     ensures { bytes.new.items ≡ overlaid bytes.old.items at (replicate len byte) }
@@ -80,7 +80,7 @@ fn undo(bytes: &mut Vec<u8>, calls: &[Call])
     }
 }
 
-/// Puts the byte over each range written since the last sync.
+/// Fills each range written since the last sync with the byte.
 fn fill_all(bytes: &mut Vec<u8>, calls: &[Call], byte: u8)
     requires { LieWithin (length bytes.old.items) (ranges_of (reverse calls.now)) }
     ensures { bytes.new.items ≡ filled byte bytes.old.items (ranges_of (reverse calls.now)) }
@@ -96,7 +96,7 @@ fn fill_all(bytes: &mut Vec<u8>, calls: &[Call], byte: u8)
     }
 }
 
-/// Makes of the bytes what a crash of this kind leaves.
+/// Turns the bytes into what a crash of this kind leaves.
 pub(crate) fn leave(bytes: &mut Vec<u8>, calls: &[Call], crash: Crash)
     requires { LieWithin (length bytes.old.items) (ranges_of (reverse calls.now)) }
     ensures { bytes.new.items ≡ left_by crash bytes.old.items (reverse calls.now) }

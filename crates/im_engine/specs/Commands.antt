@@ -14,7 +14,7 @@ use Rattle.im_groups.specs.Commands.{places, answers_with, contents_after, comma
 use Rattle.im_engine.specs.State.{EngineState, MeansState}
 use Rattle.im_engine.specs.Groups.{GroupCalls, GroupFaults, calls_for_group}
 
--- those of the commands that are put on the disk, each judged behind those before it
+-- the commands that are put on the disk, each judged after those before it
 abbrev pub commands_put : {D : Type 0} → EngineState D → List Command → List Command
 commands_put s members = commands_at s.memory (places s.count s.room) members
 
@@ -27,19 +27,19 @@ after_commands s members = let n = length (commands_put s members) in record s {
   room = room_after s.count n s.room;
 }
 
--- the file means what the engine is before the group, or after all of it
+-- the file means what the engine is before the group, or after the whole group
 abbrev pub MeansCommands : {D : Type 0} → EngineState D → List Command → List ℕ → Type 0
 MeansCommands s members file = MeansState s file ⊎ MeansState (after_commands s members) file
 
--- each command is refused alike
+-- each command gets this refusal
 abbrev pub each_refused : Refusal → List Command → List Served
 each_refused refusal members = map (λ _. Refused refusal) members
 
--- what the commands would be answered one after another
+-- the answers to the commands, one after another
 abbrev pub answers_in_turn : {D : Type 0} → EngineState D → List Command → List Served
 answers_in_turn s members = map as_served (answers_with s.memory (places s.count s.room) members)
 
--- an engine's answers to a group of commands, and what it comes to, on any disk
+-- an engine's answers to a group of commands, and the engine after it, on any disk
 pub record CommandsAnswered {D : Type 0} (old : EngineState D) (members : List Command) (answers : List Served) (new
     : EngineState D) : Type 0 where
   pub dead : old.failed ≡ true → (answers ≡ each_refused Failed members) × (new ≡ old)
@@ -48,13 +48,13 @@ pub record CommandsAnswered {D : Type 0} (old : EngineState D) (members : List C
       ((answers ≡ answers_in_turn old members)
       × (new ≡ record (after_commands old members) { disk = new.disk; pages = new.pages }))
       ⊎ ((answers ≡ each_refused Device members) × (new ≡ record old { disk = new.disk; failed = true }))
-  -- the pages that those may change which are put on the disk are added to those that changed
+  -- the pages that the commands on the disk may change are added to those that changed
   pub pages : old.failed ≡ false → new.failed ≡ false
       → AddsAtMost (most_pages_with old.memory (places old.count old.room) members) old.pages new.pages
 
 module _ {D : Type 0} (disk : Ghosts D) (old new : EngineState D) where
-  -- What a group of commands does to the disk: a call for each command that is put there, and three more; none where
-  -- there is none. Each file that a crash may leave, from the start on, and now, is as before the group or as after it.
+  -- The calls of the disk for a group of commands: one for each command that is put there, and three more, or none if
+  -- no command is. Each file that a crash may leave, from the start to the end, is as before the group or as after it.
   pub record ServesCommands (members : List Command) : Type 0 where
     pub honest : disk.honest new.disk → disk.honest old.disk
     pub calls : disk.honest new.disk → GroupCalls disk.past old.disk new.disk new.failed

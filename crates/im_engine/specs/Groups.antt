@@ -29,7 +29,7 @@ reached_in s = record { contents = s.memory; count = s.count; room = s.room }
 abbrev pub after_group : {D : Type 0} → EngineState D → List Request → EngineState D
 after_group s members = let r = reached_by_all (reached_in s) members in record s { memory = r.contents; count = r.count; room = r.room }
 
--- the most pages on which the members may change a record, one after another
+-- the maximum number of pages with a record that the members may change, one after another
 abbrev pub most_pages_in : Reached → List Request → ℕ
 most_pages_in s [] = 0
 most_pages_in s (r ∷ rs) =
@@ -39,19 +39,19 @@ most_pages_in s (r ∷ rs) =
 abbrev pub group_put : {D : Type 0} → EngineState D → List Request → List Command
 group_put s members = puts_of (reached_in s) members
 
--- the file means what the engine is before the group, or after all of it
+-- the file means what the engine is before the group, or after the whole group
 abbrev pub MeansGroup : {D : Type 0} → EngineState D → List Request → List ℕ → Type 0
 MeansGroup s members file = MeansState s file ⊎ MeansState (after_group s members) file
 
--- each member is refused alike
+-- each member gets this refusal
 abbrev pub all_refused : Refusal → List Request → List Served
 all_refused refusal members = map (λ _. Refused refusal) members
 
--- what the members would be answered one after another
+-- the answers to the members, one after another
 abbrev pub answers_in : {D : Type 0} → EngineState D → List Request → List Served
 answers_in s members = map as_served (answers_of (reached_in s) members)
 
--- an engine's answers to a group, and what it comes to, on any disk
+-- an engine's answers to a group, and the engine after it, on any disk
 pub record GroupAnswered {D : Type 0} (old : EngineState D) (members : List Request) (answers : List Served) (new : EngineState D) : Type 0 where
   pub dead : old.failed ≡ true → (answers ≡ all_refused Failed members) × (new ≡ old)
   pub none : old.failed ≡ false → group_put old members ≡ [] → (answers ≡ answers_in old members) × (new ≡ old)
@@ -59,11 +59,12 @@ pub record GroupAnswered {D : Type 0} (old : EngineState D) (members : List Requ
       ((answers ≡ answers_in old members)
       × (new ≡ record (after_group old members) { disk = new.disk; pages = new.pages }))
       ⊎ ((answers ≡ all_refused Device members) × (new ≡ record old { disk = new.disk; failed = true }))
-  -- the pages that those may change which are put on the disk are added to those that changed
+  -- the pages that the commands on the disk may change are added to those that changed
   pub pages : old.failed ≡ false → new.failed ≡ false
       → AddsAtMost (most_pages_in (reached_in old) members) old.pages new.pages
 
--- how many calls of the disk it takes to put so many commands there as one group: a write for each, one for the gate, and two syncs
+-- the calls of the disk that put this many commands there as one group: a write for each, one for the gate, and two
+-- syncs
 abbrev pub calls_for_group : ℕ → ℕ
 calls_for_group many = if many == 0 then 0 else many + 3
 
@@ -74,23 +75,23 @@ pub record FitsGroup (j : JournalState) (commands : List Command) : Type 0 where
   pub room : length commands ≤ j.room
   pub last : j.count + length commands ≤ LAST
 
--- The calls that putting commands on the disk as one group makes: just so many, or fewer at a refusal. Where there are no
--- commands there is nothing to fail, and the disk is as it was.
+-- The calls that put commands on the disk as one group: this exact number, or no more at a refusal. If there are no
+-- commands, nothing can fail, and the disk is as it was.
 pub record GroupPut {D : Type 0} (past : D → List Moment) (honest : Type 0) (old new : D) (commands : List Command) (result : Result (Unit {0}) Refusal) : Type 0 where
   pub made : honest → CallsBy past old new (calls_for_group (length commands)) result
   pub none : commands ≡ [] → (result ≡ Ok tt) × (new ≡ old)
 
--- no more calls than these, and just so many while the disk hasn't failed
+-- no more calls than these, and exactly these if the engine hasn't failed
 pub record GroupCalls {D : Type 0} (past : D → List Moment) (old new : D) (failed : Bool) (many : ℕ) : Type 0 where
   pub exactly : failed ≡ false → Calls past old new many
   pub most : CallsAtMost past old new many
 
--- a checkpoint goes no further, and so many pages more count as changed at most
+-- the checkpoint's state stays, and at most `most` more pages count as changed
 pub record StaysBut (most : ℕ) (old new : PagedCheckpoint) : Type 0 where
   pub state : new.state ≡ old.state
   pub pages : AddsAtMost most (changed_in old) (changed_in new)
 
--- the count of failures rises exactly where the engine fails now
+-- the count of failures rises exactly if the engine fails now
 pub record GroupFaults (before after : Bool) (old new : ℕ) : Type 0 where
   pub failed : before ≡ false → after ≡ true → Rises old new × (old ≤ new)
   pub steady : after ≡ before → new ≡ old

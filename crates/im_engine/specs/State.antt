@@ -13,8 +13,8 @@ use Rattle.im_memory.specs.State.{MemoryState, empty_records}
 use Rattle.im_image.specs.Fresh.{new_header}
 use Rattle.im_checkpoint.specs.Step.{Step, NoCheckpoint, CheckpointState, PagedCheckpoint, Changed, changed_in}
 
--- an engine: its disk, the header in force and how far the next one has come, the pages that changed, the memory, the
--- count of all commands, the room for more, and whether the disk has failed it
+-- an engine: its disk, the header in force, the progress of the next one, the pages that changed, the memory, the count
+-- of all commands, the room for more, and whether the disk has failed it
 pub record EngineState (D : Type 0) : Type 0 where
   pub disk : D
   pub header : Header
@@ -25,7 +25,7 @@ pub record EngineState (D : Type 0) : Type 0 where
   pub room : ℕ
   pub failed : Bool
 
--- an engine by its parts
+-- an engine made of its parts
 abbrev pub engine_of : {D : Type 0} → D → PagedCheckpoint → MemoryState → JournalState → Bool → EngineState D
 engine_of d c m j failed = record {
   disk = d;
@@ -42,11 +42,11 @@ engine_of d c m j failed = record {
 abbrev pub IsEmptyMemory : Limits → MemoryState → Type 0
 IsEmptyMemory limits m = (m.contents ≡ empty_contents limits.cells limits.elements) × (m.records ≡ empty_records limits.cells limits.elements)
 
--- the file means what the engine is, with its room at the least
+-- the file means what the engine is, with at least its room
 abbrev pub MeansState : {D : Type 0} → EngineState D → List ℕ → Type 0
 MeansState s file = Means s.memory s.count s.room file
 
--- the engine with an accepted command more
+-- the engine with one more accepted command
 abbrev pub with_command : {D : Type 0} → EngineState D → Command → EngineState D
 with_command s command = record s { memory = (step s.memory command).contents; count = s.count + 1; room = room_after s.count 1 s.room }
 
@@ -66,21 +66,21 @@ journal_in s = journal_of s.header s.count s.room
 abbrev pub checkpoint_in : {D : Type 0} → EngineState D → CheckpointState
 checkpoint_in s = record { header = s.header; step = s.step }
 
--- the pages that count as changed at first: where the image was just formatted those of the other area, else all of both
+-- the pages that count as changed at first: those of the other area if the image was just formatted, else those of both
 abbrev pub pages_at_first : Header → Bool → Changed
 pages_at_first h formatted = let all = area_pages layout_in_use h.sizes in
     record { recent = replicate all (not formatted); older = replicate all formatted }
 
--- an engine over a new image: the empty memory, no command, room in every slot, the first header in force, no checkpoint
--- under way, and of the other area all pages count as changed
+-- an engine over a new image: the empty memory, no command, room in every slot, the first header in force, no
+-- checkpoint under way, and all pages of the other area changed
 abbrev pub IsNewImage : {D : Type 0} → Limits → EngineState D → Type 0
 IsNewImage limits s = (s.memory ≡ empty_contents limits.cells limits.elements) × (s.count ≡ 0) × (s.room ≡ limits.slots)
     × (s.header ≡ new_header (sizes_of limits)) × (s.step ≡ NoCheckpoint) × (s.pages ≡ pages_at_first s.header true)
 
--- opening the file comes to this fault first
+-- opening the file gives this first fault
 abbrev pub IsFirstFault : Refusal → List ℕ → Type 0
 IsFirstFault fault file = Opens file (Err fault)
 
--- reading the file comes to what the engine is: its header, its memory, its count, and just its room
+-- reading the file gives the engine's header, memory and count, and exactly its room
 abbrev pub IsFound : {D : Type 0} → EngineState D → List ℕ → Type 0
 IsFound s file = (s.header ≡ header_of file) × Reads layout_in_use file (Ok (record { contents = s.memory; count = s.count; room = s.room }))

@@ -1,4 +1,4 @@
-//! Requests that may be served as a group.
+//! Requests that can be served as a group.
 ghost use Rattle.std.specs.Prelude.{◌≡◌, IfSome, IsNone, IsTrue, ◌↔◌};
 ghost use Rattle.im_types.specs.Groups.{AreApart};
 
@@ -7,7 +7,7 @@ use arrayvec::ArrayVec;
 use im_types::Request;
 use std::marker::Model;
 
-/// The requests of a group, 16 at most, of which no two are of one element. Contracts see their list.
+/// The requests of a group: 16 at most, with no two of one element. Contracts see their list.
 #[derive(Debug, Drop)]
 pub struct Group {
     requests: ArrayVec<Request, 16>,
@@ -26,7 +26,7 @@ impl Model for Group {
 }
 
 impl Group {
-    /// These requests as a group, in their order. `None` exactly where two are of one element.
+    /// Makes a group of these requests, in their order. Returns `None` exactly if two are of one element.
     pub fn new(requests: ArrayVec<Request, 16>) -> Option<Group>
         ensures found { IfSome result (λ g. g ≡ requests.items) }
         ensures none { IsNone result ↔ (AreApart requests.items → ⊥) }
@@ -37,7 +37,7 @@ impl Group {
         Some(Group { requests })
     }
 
-    /// The requests, in their order.
+    /// Returns the requests, in their order.
     pub fn requests(&self) -> &ArrayVec<Request, 16>
         ensures found { result.now.items ≡ self.now }
         ensures apart { AreApart self.now }

@@ -1,4 +1,4 @@
-//! How an image is made of a file.
+//! Makes an image of a file.
 ghost use Rattle.std.specs.Prelude.{◌≡◌, ◌≢◌, false, true, ◌⊎◌, [], ◌∷◌, ◌<◌, length, drop};
 ghost use Rattle.std.specs.Prelude.{IfOk, IfErr, OnOk, IsErrOf, MatchResult};
 ghost use Rattle.im_types.specs.declared.refusals.Refusal.TheVariants.{WrongLength, NoMemory, Device};
@@ -48,7 +48,7 @@ fn write_image<D: Disk>(disk: &mut D, image: &[u8]) -> Result<(), DeviceFault>
     open_gate(disk, 0) // The same; then the gate closed, or open before the whole of the image, which is on the disk.
 }
 
-// Makes a new image of a file: the memory that it means, and no checkpoint yet.
+// Makes a new image of a file. Returns the memory that it means, and a checkpoint that isn't under way.
 fn lay_down<D: Disk>(
     alloc: Global,
     disk: &mut D,

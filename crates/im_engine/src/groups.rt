@@ -1,4 +1,4 @@
-//! The members of a group: what is put on the disk for them, how they act, and what they are answered.
+//! The members of a group: what is put on the disk for them, how they act, and their answers.
 ghost use Rattle.std.specs.Prelude.{◌≡◌, ◌↔◌, ◌⊎◌, ◌+◌, ◌≤◌, ℕ, [], length, map};
 ghost use Rattle.std.specs.Prelude.{Some, Ok, OnOk, IsTrue};
 ghost use Rattle.std.specs.Prelude.{MatchResult};
@@ -27,7 +27,7 @@ use im_memory::Memory;
 use im_types::{Command, LAST, Outcome, Refusal, Request, Served};
 use std::cmp::min;
 
-// Whether none of the requests is this element's.
+// Returns whether none of the requests is of this element.
 fn are_others(element: u16, members: &[Request]) -> bool
     ensures { IsTrue result ↔ AreOthers element members.now }
 {
@@ -39,7 +39,7 @@ fn are_others(element: u16, members: &[Request]) -> bool
     true
 }
 
-/// Whether each element has one of the requests at most, as the members of a group have to be.
+/// Returns whether each element has at most one of the requests, as a group demands of its members.
 pub fn are_apart(members: &[Request]) -> bool
     ensures { IsTrue result ↔ AreApart members.now }
 {
@@ -53,7 +53,7 @@ pub fn are_apart(members: &[Request]) -> bool
     true
 }
 
-/// Refuses each member alike.
+/// Answers each member with this refusal.
 pub(crate) fn refuse_all(members: &[Command], refusal: Refusal, served: &mut ArrayVec<Served, 16>)
     requires fits { length members.now ≤ 16 }
     requires empty { served.old.items ≡ [] }
@@ -64,7 +64,7 @@ pub(crate) fn refuse_all(members: &[Command], refusal: Refusal, served: &mut Arr
     }
 }
 
-/// How many more commands a journal takes: no more than there is room for, and none past the last count.
+/// Returns how many more commands a journal takes. It is limited by the room and by the last count.
 pub(crate) fn places_in(journal: &Journal) -> u64
     ensures places { result ≡ places journal.now.count journal.now.room }
     ensures known { IsJournal journal.now }
@@ -72,7 +72,7 @@ pub(crate) fn places_in(journal: &Journal) -> u64
     min(journal.room() as u64, LAST - journal.count())
 }
 
-/// The requests of a group as commands.
+/// Turns the requests of a group into commands.
 pub(crate) fn commands_of(members: &[Request], commands: &mut ArrayVec<Command, 16>)
     requires fits { length members.now ≤ 16 }
     requires empty { commands.old.items ≡ [] }
@@ -83,7 +83,7 @@ pub(crate) fn commands_of(members: &[Request], commands: &mut ArrayVec<Command, 
     }
 }
 
-/// Puts the commands on the disk as one group, unless there are none.
+/// Puts the commands on the disk as one group. It does nothing if there are none.
 pub(crate) fn put_on<D: Disk>(
     journal: &mut Journal,
     disk: &mut D,
@@ -111,7 +111,7 @@ pub(crate) fn put_on<D: Disk>(
     journal.append_group(disk, commands)
 }
 
-// An accepted command acts, once the disk has it.
+// Lets an accepted command act. The disk already has it.
 fn act(
     checkpoint: &mut Checkpoint,
     memory: &mut Memory,
@@ -126,12 +126,12 @@ fn act(
         → IsKept checkpoint.old.state (paged checkpoint.old memory.old) m j now
         → IsKept checkpoint.new.state (paged checkpoint.new memory.new) m j now }
 {
-    // Of a page that a checkpoint has still to write, what stood there before the command is wanted.
+    // If a checkpoint still has to write a page, it needs the page as it was before the command.
     checkpoint.before(memory, command);
     memory.step(command)
 }
 
-// One member acts, or is answered without acting.
+// Lets one member act, or answers it without acting.
 fn act_one(
     checkpoint: &mut Checkpoint,
     memory: &mut Memory,
@@ -170,7 +170,7 @@ fn as_served(answer: Result<Outcome, Refusal>) -> Served
     }
 }
 
-/// All members act in their order, once the disk has the commands of those that are accepted and have a place.
+/// Lets all members act in their order. The disk already has the commands of those that are accepted and have a place.
 pub(crate) fn act_all(
     checkpoint: &mut Checkpoint,
     memory: &mut Memory,

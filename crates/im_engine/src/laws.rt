@@ -1,4 +1,4 @@
-//! Laws of what files mean: each is the contract of a function that does nothing.
+//! Laws about what files mean. Each is the contract of a function that does nothing.
 ghost use Rattle.std.specs.Prelude.{◌≡◌, ℕ, ◌<◌, List, [], length, map, true, false, Result, Err};
 ghost use Rattle.im_types.specs.declared.refusals.Refusal.{Refusal};
 ghost use Rattle.im_types.specs.declared.refusals.Refusal.TheVariants.{Device, Failed};
@@ -16,8 +16,8 @@ ghost use Rattle.im_engine.specs.Groups.{all_refused};
 ghost use Rattle.im_engine.specs.Run.{is_device, has_device, acknowledged_members};
 ghost use Rattle.im_engine.specs.State.{IsFirstFault};
 
-/// A file means one thing: reading it by the rules of a version comes to one memory, one count and one room, or to one
-/// first fault, and opening it does.
+/// A file means one thing. Reading it by the rules of a version gives one memory, one count and one room, or one first
+/// fault. The same holds for opening it.
 pub fn files_mean_one_thing()
     ensures reads { (version : Version) (file : List ℕ) (one other : Result Reached Refusal)
         → Reads (layout_of version) file one → Reads (layout_of version) file other → one ≡ other }
@@ -35,9 +35,10 @@ pub fn new_images_mean_the_empty_memory()
         → Means (empty_contents s.cells s.elements) 0 s.slots (new_image 0xA5 s) }
 {}
 
-/// A group whose members are answered as one after another acknowledges just the commands that it puts on the disk, and
-/// tells of no failure. One that is refused as a whole acknowledges none; it tells of a failure where it would have put
-/// any.
+/// The commands that a group acknowledges. If its members are answered one after another, it acknowledges just the
+/// commands that it puts on the disk, and no answer says that the disk failed. If it is refused as a whole, it
+/// acknowledges none. Refused with `Device`, it says that the disk failed if it would have put any command there; with
+/// `Failed`, it never does.
 pub fn groups_acknowledge_what_they_put()
     ensures put { (s : Reached) (members : List Request)
         → acknowledged_members s.contents members (map as_served (answers_of s members)) ≡ puts_of s members }
@@ -50,7 +51,7 @@ pub fn groups_acknowledge_what_they_put()
     ensures dead { (members : List Request) → has_device (all_refused Failed members) ≡ false }
 {}
 
-/// What a command comes to on a memory never tells that a call of the disk failed.
+/// The answer to a command on a memory never says that a call of the disk failed.
 pub fn steps_tell_of_no_failure()
     ensures { (m : Contents) (command : Command) (refusal : Refusal)
         → (step m command).answer ≡ Err refusal → is_device refusal ≡ false }

@@ -1,5 +1,5 @@
-//! The engine: a memory that a disk keeps. A command is answered once the disk has it, and a crash at any moment leaves
-//! a file that means the memory after a beginning of the accepted commands.
+//! The engine: a memory that a disk keeps. A command is answered after the disk has it. A crash at any moment leaves a
+//! file that means the memory after a prefix of the accepted commands.
 #![tactic(auto)]
 
 mod apart;

@@ -1,4 +1,4 @@
-//! How an image is opened.
+//! Opens an image.
 ghost use Rattle.std.specs.Prelude.{◌≡◌, ◌⊎◌, ◌≤◌, false, true, replicate, length, Ok, IfOk, IfErr, MatchResult};
 ghost use Rattle.im_types.specs.declared.refusals.Refusal.TheVariants.{NoMemory, Device};
 ghost use Rattle.im_disk.specs.Moment.{Left, Fault, Faults};
@@ -18,12 +18,12 @@ use im_image::{Image, read_to_open};
 use im_types::Refusal;
 use std::alloc::Global;
 
-// Puts all that was written on the disk, and reads the image then: what is read is what each file left means.
+// Puts all that was written on the disk, and then reads the image. So each file that may be left means what was read.
 fn read_synced<D: Disk>(alloc: Global, disk: &mut D) -> Result<Image, Refusal>
     ensures area { IfOk result (λ i. i.header.area ≤ 1) }
     ensures fits { IfOk result (λ i.
         Fits (record { header = seen i.header; step = NoCheckpoint }) i.memory.contents i.journal) }
-    // Whatever is known of pages, where all of them count as changed.
+    // It holds whatever is known of pages, if all of them count as changed.
     ensures kept { IfOk result (λ i. D.honest disk.new → (x : Paged)
         → x.recent ≡ replicate (area_pages layout_in_use (seen i.header).sizes) true
         → IsKept (record { header = seen i.header; step = NoCheckpoint }) x i.memory.contents i.journal
@@ -37,8 +37,8 @@ fn read_synced<D: Disk>(alloc: Global, disk: &mut D) -> Result<Image, Refusal>
     ensures faults { Faults MayRefuseOpening result (D.failures disk.old) (D.failures disk.new) }
     ensures honest { D.honest disk.new → D.honest disk.old }
 {
-    // A crash after a write that wasn't synced may leave less than is read: a sync makes it sure. A stop in it leaves
-    // what a stop before it leaves, and so do all the reads behind it.
+    // After a write without a sync, a crash may leave less than a read gives. The sync makes sure. A stop in it, or in
+    // the reads behind it, leaves what a stop before it leaves.
     if let Err(_) = disk.sync() {
         return Err(Refusal::Device);
     }

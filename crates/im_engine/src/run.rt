@@ -1,4 +1,4 @@
-//! How commands, groups, turns and sweeps follow one another.
+//! Runs commands, groups, turns and sweeps one after another.
 ghost use Rattle.std.specs.Prelude.{◌≡◌, ◌+◌, ◌≤◌, length, true, false, IfOk, IfErr, OnErr};
 ghost use Rattle.im_types.specs.declared.refusals.Refusal.TheVariants.{NoMemory};
 ghost use Rattle.im_disk.specs.Since.{LeavesWithin, LeavesNow};
@@ -15,7 +15,7 @@ use im_disk::Disk;
 use im_types::{Command, Outcome, Refusal, Served};
 use std::alloc::Global;
 
-/// What is done to an engine.
+/// An event of an engine.
 #[derive(Debug, Drop)]
 pub enum Event {
     /// A command is served.
@@ -24,17 +24,17 @@ pub enum Event {
     Group(Group),
     /// A turn of a checkpoint is made.
     Turn,
-    /// The gates of so many old slots at most are closed, with one sync.
+    /// The gates of at most this many old slots are closed, with one sync.
     Sweep(u32),
 }
 
-/// What an event is answered.
+/// The answer to an event.
 #[derive(Debug, Drop)]
 pub enum Answer {
     /// The answer to a command.
     Served(Result<Outcome, Refusal>),
-    /// The room that a group found, in commands, and the answers to its members, in their order. The room says which
-    /// of its commands are in doubt, where all members are answered `Device`.
+    /// The room that a group found, in commands, and the answers to its members, in their order. If all members are
+    /// answered `Device`, the room says which of the group's commands are in doubt.
     Grouped(u32, ArrayVec<Served, 16>),
     /// The answer to a turn.
     Turned(Result<TurnDone, Refusal>),

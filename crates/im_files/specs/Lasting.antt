@@ -4,10 +4,10 @@ use Rattle.std.specs.Duration.{as_nanos}
 use Rattle.std.specs.declared.time.Instant.{Instant}
 use Rattle.im_files.specs.declared.waiting.Waiting.{Waiting}
 
--- so many nanoseconds at most
+-- the maximum wait, in nanoseconds
 abbrev pub longest : {R : Type 0} → Waiting R → ℕ
 longest waiting = as_nanos waiting.most
 
--- the moment from which they are counted, once the file was found in use
+-- the moment from which the wait is counted, after the file was found in use
 abbrev pub counted_from : {R : Type 0} → Waiting R → Option Instant
 counted_from waiting = waiting.began

@@ -7,13 +7,13 @@ use Rattle.im_files.specs.declared.notes.Noting.TheVariants.{Unneeded, Left, Fai
 abbrev pub note_of : List ℕ → List ℕ
 note_of path = path ++ codes ".unsynced"
 
--- no note was needed
+-- no note is needed
 abbrev pub is_unneeded : Noting → Bool
 is_unneeded (Unneeded) = true
 is_unneeded (Left) = false
 is_unneeded (Failed kind) = false
 
--- Of the bytes of a note, and those by which the system names this run of the machine, which are 36 characters and a line
--- feed: both are whole, and the note is of another run.
+-- The note was left in another run of the machine. The note and the system's name for this run are each 37 bytes long
+-- (36 characters and a line feed), and they differ.
 abbrev pub is_earlier : List ℕ → List ℕ → Bool
 is_earlier note boot = (length note == 37) && ((length boot == 37) && not (bytes_eq note boot))

@@ -1,4 +1,4 @@
-//! The note beside a file, as a file of its own.
+//! Keeps the note beside a file as a file of its own.
 ghost use Rattle.std.specs.Prelude.{◌≡◌, List, ℕ, IfOk, string_bytes};
 ghost use Rattle.im_files.specs.Notes.{is_earlier, note_of};
 
@@ -9,13 +9,13 @@ use std::io::{self, ErrorKind};
 use std::os::unix::fs::FileExt;
 use std::rt::Files;
 
-// Where the system names this run of the machine.
+// The system's name for this run of the machine is in this file.
 const BOOT: &str = "/proc/sys/kernel/random/boot_id";
 
 // 36 characters and a line feed.
 const NAME: usize = 37;
 
-/// The path of the note of a file that is no link: that of the file and `.unsynced`.
+/// Returns the path of a file's note: the file's path and `.unsynced`. The file must not be a link.
 pub fn note_name(alloc: Global, path: &str) -> Result<String, AllocError>
     ensures name { IfOk result (λ name. string_bytes name ≡ note_of path.now) }
 {
@@ -24,8 +24,8 @@ pub fn note_name(alloc: Global, path: &str) -> Result<String, AllocError>
     Ok(name)
 }
 
-/// The path of the note of the file at the path. Where that is a link, the note stands beside the link's target, if
-/// that can be found.
+/// Returns the path of the note of the file at the path. If the path is a link, the note stands beside the link's
+/// target, provided that it can be found.
 pub fn note_path<R: Files<File = File> + AllocGlobal>(
     rt: &R,
     path: &str,
@@ -44,19 +44,19 @@ pub fn note_path<R: Files<File = File> + AllocGlobal>(
     note_name(rt.alloc(), path)
 }
 
-// Whether a note with these bytes was left in another run of the machine than the one that has this name.
+// Returns whether a note with these bytes was left in another run of the machine. `boot` is the name of this run.
 fn is_of_earlier(note: &[u8], boot: &[u8]) -> bool
     ensures { result ≡ is_earlier note.now boot.now }
 {
     note.len() == NAME && boot.len() == NAME && note != boot
 }
 
-// The first bytes of a file, and how many they are.
+// Reads the first bytes of a file and returns their number.
 fn read_short<R: Files<File = File>>(rt: &R, path: &str, buf: &mut [u8]) -> io::Result<usize> {
     File::open(rt, path)?.read_at(buf, 0)
 }
 
-// What the note at this path says. One that can't be read stands.
+// What the note at this path says. A note that can't be read stands.
 fn sight_of<R: Files<File = File>>(rt: &R, note: &str) -> Sight {
     match fs::symlink_metadata(rt, note) {
         Err(error) if error.kind() == ErrorKind::NotFound => return Sight::Absent,
@@ -77,8 +77,8 @@ fn sight_of<R: Files<File = File>>(rt: &R, note: &str) -> Sight {
     }
 }
 
-// Writes the name of this run of the machine into a new file. It needn't be on the disk: it says nothing to the next
-// run.
+// Writes the name of this run of the machine into a new file. It needn't reach the disk, because the next run doesn't
+// need it.
 fn write_note<R: Files<File = File>>(rt: &R, note: &str) -> io::Result<()> {
     let mut boot = [0; NAME];
     if read_short(rt, BOOT, &mut boot)? != NAME {
@@ -98,7 +98,7 @@ fn write_note<R: Files<File = File>>(rt: &R, note: &str) -> io::Result<()> {
     }
 }
 
-/// The note of one file, as it was seen when this was made.
+/// The note of one file, as it was when this was made.
 #[derive(Drop)]
 pub struct FileNotes {
     note: String,
@@ -106,7 +106,7 @@ pub struct FileNotes {
 }
 
 impl FileNotes {
-    /// Looks at the note beside the file at the path, or beside the link's target where that is a link.
+    /// Looks at the note beside the file at the path. If the path is a link, the note is beside the link's target.
     pub fn beside<R: Files<File = File> + AllocGlobal>(
         rt: &R,
         path: &str,

@@ -1,4 +1,4 @@
-//! How the file of an image is made, opened and removed.
+//! Makes, opens and removes the file of an image.
 ghost use Rattle.std.specs.Prelude.{◌≡◌, [], true, false, not, replicate, IfOk};
 ghost use Rattle.im_disk.specs.File.{has_failed_sync};
 ghost use Rattle.im_files.specs.Notes.{is_unneeded};
@@ -14,11 +14,11 @@ use std::rt::Files;
 /// Why an image's file wasn't made or opened.
 #[derive(Clone, Copy, Debug, PartialEq, Eq)]
 pub enum FileFault {
-    /// The file can't be made or opened. Where its sync failed (`OpenFault::Sync`), a note was left if one could be.
+    /// The file can't be made or opened. If its sync failed (`OpenFault::Sync`), a note was left if that was possible.
     Open(OpenFault),
-    /// A sync of the file has failed since the machine was started, by the note beside it, which stays there. What
-    /// the file shows may not be on the disk. Once its file system has been mounted anew the note may be removed; or
-    /// the machine is started again.
+    /// By the note beside it, a sync of the file has failed since the machine started. The note stays. What the file
+    /// shows may not be on the disk. The note may be removed after the file system is mounted anew. Otherwise the
+    /// machine has to be restarted.
     Unsynced,
 }
 
@@ -44,9 +44,9 @@ impl From<FileFault> for Refusal {
     }
 }
 
-/// Opens the file of an image to read and write it, as [`FileDisk::open`] does, which waits for the lock as the start
-/// does. The note is looked at while the file is locked, and before a byte of it is read: `Unsynced` where the note
-/// stands, and an earlier one is taken away. The file's bytes aren't changed.
+/// Opens the file of an image for reading and writing, as [`FileDisk::open`] does. It waits for the lock as the start
+/// does. It looks at the note while the file is locked and before it reads a byte. Returns `Unsynced` if the note
+/// stands, and removes an earlier note. The file's bytes don't change.
 pub fn open_image<R: Files<File = File> + AllocGlobal, S: Start>(
     rt: &R,
     path: &str,
@@ -71,8 +71,8 @@ pub fn open_image<R: Files<File = File> + AllocGlobal, S: Start>(
     }
 }
 
-/// Opens the file of an image to read it alone, as [`FileDisk::open_to_read`] does, and tells whether its note
-/// stands: what is read may then not be on the disk. The note stays.
+/// Opens the file of an image only for reading, as [`FileDisk::open_to_read`] does. It also returns whether the note
+/// stands. If it does, what is read may not be on the disk. The note stays.
 pub fn open_image_to_read<R: Files<File = File> + AllocGlobal, S: Start>(
     rt: &R,
     path: &str,
@@ -88,10 +88,11 @@ pub fn open_image_to_read<R: Files<File = File> + AllocGlobal, S: Start>(
     Ok((disk, stands(&notes)))
 }
 
-/// Makes the file of an image, of so many zero bytes, and tells whether nothing was at the path before: then it may be
-/// removed again ([`remove_image`]) where it doesn't become an image. Where a new one is asked for and something is
-/// there, `Exists`, and nothing is changed; else the file that is there is made over, as [`FileDisk::create`] does.
-/// The note of what was there is taken away, as none of its bytes are.
+/// Makes the file of an image, of `len` zero bytes. It also returns whether nothing was at the path before. Such a file
+/// may be removed again ([`remove_image`]) if it doesn't become an image.
+///
+/// With `is_new`, returns `Exists` if something is there, and changes nothing. Without it, a file that is there is made
+/// over, as [`FileDisk::create`] does. The note of the earlier file is removed, because none of its bytes remain.
 pub fn make_image<R: Files<File = File> + AllocGlobal, S: Start>(
     rt: &R,
     path: &str,
@@ -118,7 +119,7 @@ pub fn make_image<R: Files<File = File> + AllocGlobal, S: Start>(
     Ok((disk, is_made))
 }
 
-// Whether nothing is at the path, no link either.
+// Returns whether nothing is at the path, not even a link.
 fn is_free<R: Files<File = File>>(rt: &R, path: &str) -> bool {
     match fs::symlink_metadata(rt, path) {
         Ok(_) => false,
@@ -126,8 +127,8 @@ fn is_free<R: Files<File = File>>(rt: &R, path: &str) -> bool {
     }
 }
 
-/// Removes a file that [`make_image`] made, where nothing was at its path before, and tells whether it is gone. A
-/// file that was there before stays.
+/// Removes a file that [`make_image`] made, if nothing was at its path before. Returns whether the file is gone. A file
+/// that was there before stays.
 pub fn remove_image<R: Files<File = File>, S: Start>(
     rt: &R,
     path: &str,
@@ -142,7 +143,7 @@ pub fn remove_image<R: Files<File = File>, S: Start>(
     disk.remove(rt, path).is_ok()
 }
 
-/// Leaves a note beside the file of an image: a sync of it has failed in this run of the machine.
+/// Leaves a note beside the file of an image. It says that a sync of the file failed in this run of the machine.
 pub fn leave_note<R: Files<File = File> + AllocGlobal>(
     rt: &R,
     path: &str,
@@ -153,8 +154,8 @@ pub fn leave_note<R: Files<File = File> + AllocGlobal>(
     }
 }
 
-/// Leaves a note beside the file of an image where a sync of it has failed since it was opened, and else does nothing.
-/// Called while the disk is there, so that the file is still locked.
+/// Leaves a note beside the file of an image if a sync of it has failed since it was opened. Otherwise it does nothing.
+/// Call it while the disk is there, so that the file is still locked.
 pub fn note_failed_sync<R: Files<File = File> + AllocGlobal, S: Start>(
     rt: &R,
     path: &str,

@@ -1,8 +1,8 @@
-//! Files of images: how one is made, opened and removed, with the note that a failed sync leaves beside it.
+//! Files of images: makes, opens and removes one, with the note that a failed sync leaves beside it.
 //!
-//! After a sync that failed the system may show bytes that the disk hasn't got, and answer `Ok` the next time. So a
-//! *note* is left beside the image's file, `PATH.unsynced`, which says in which run of the machine that was. An
-//! opening to write is refused while the note is of this run. docs/CRASH.md tells it for whoever has such a file.
+//! After a failed sync the system may show bytes that the disk doesn't have, and return `Ok` the next time. So the
+//! program leaves a *note* beside the image's file, `PATH.unsynced`, which names the run of the machine. An opening for
+//! writing is refused while the note is of this run. docs/CRASH.md says what to do with such a file.
 //!
 //! Stands on `im_disk`.
 #![tactic(auto)]

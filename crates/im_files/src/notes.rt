@@ -1,4 +1,4 @@
-//! What is known by the note beside a file, and where it is kept.
+//! What the note beside a file says, and where it is kept.
 ghost use Rattle.std.specs.Prelude.{◌≡◌, OnOk};
 
 use std::fs::File;
@@ -8,15 +8,15 @@ use std::rt::Files;
 /// What the note beside an image's file says.
 #[derive(Clone, Copy, Debug, PartialEq, Eq)]
 pub enum Sight {
-    /// There is none.
+    /// There is no note.
     Absent,
-    /// It was left before the machine was started: what the file shows is what the disk has.
+    /// The note is from before the machine started: what the file shows is what the disk has.
     Earlier,
-    /// It was left since the machine was started, or nobody can tell when.
+    /// The note is from after the machine started, or its time is unknown.
     Standing,
 }
 
-/// Where the note of one file is looked at, left and taken away.
+/// Looks at the note of one file, leaves it and removes it.
 pub trait Notes {
     ghost use Rattle.im_files.specs.declared.notes.Sight.{Sight};
     ghost use Rattle.im_files.specs.declared.notes.Sight.TheVariants.{Standing};
@@ -24,25 +24,25 @@ pub trait Notes {
     /// What the note says.
     ghost sight: { Self → Sight };
 
-    /// What it says.
+    /// Returns what the note says.
     fn look(&self) -> Sight
         ensures sight { result ≡ sight self.now };
 
-    /// Leaves a note of now, in the place of one that is there. Where that fails the kind of the failure is told.
+    /// Leaves a note of this run in place of any earlier one. Returns the kind of the failure if that fails.
     fn leave<R: Files<File = File>>(&mut self, rt: &R) -> Result<(), ErrorKind>
         ensures standing { OnOk result (sight self.new ≡ Standing) };
 
-    /// Takes the note away, as far as the system lets it.
+    /// Removes the note, if the system allows it.
     fn take_away<R: Files<File = File>>(&mut self, rt: &R);
 }
 
-/// Whether a note was left.
+/// Says whether a note was left.
 #[derive(Clone, Copy, Debug, PartialEq, Eq)]
 pub enum Noting {
-    /// No sync has failed, so none is needed.
+    /// No sync has failed, so no note is needed.
     Unneeded,
-    /// It was left.
+    /// The note was left.
     Left,
-    /// It is needed, and leaving it failed so.
+    /// A note is needed, and leaving it failed with this kind.
     Failed(ErrorKind),
 }

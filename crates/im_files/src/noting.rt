@@ -1,4 +1,4 @@
-//! What is done by the note beside a file: whether the file is opened, and when a note is left.
+//! What the note beside a file decides: whether the file is opened, and when a note is left.
 ghost use Rattle.std.specs.Prelude.{◌≡◌, ◌≢◌, false, true, not, IfErr, IfOk, OnErr};
 ghost use Rattle.im_disk.specs.File.{has_failed_sync};
 ghost use Rattle.im_files.specs.Notes.{is_unneeded};
@@ -11,7 +11,7 @@ use im_disk::{Failure, FileDisk, Start};
 use std::fs::File;
 use std::rt::Files;
 
-/// Hands on what was opened of a file to be written, unless its note stands. An earlier note is taken away.
+/// Returns what was opened for writing, unless the note stands. Then it returns `Unsynced`. It removes an earlier note.
 pub fn admit<R: Files<File = File>, D: Drop, N: Notes>(
     rt: &R,
     opened: D,
@@ -31,7 +31,7 @@ pub fn admit<R: Files<File = File>, D: Drop, N: Notes>(
     }
 }
 
-/// Whether the note stands.
+/// Returns whether the note stands.
 pub fn stands<N: Notes>(notes: &N) -> bool
     ensures yes { result ≡ true → N.sight notes.now ≡ Standing }
     ensures no { result ≡ false → N.sight notes.now ≢ Standing }
@@ -42,7 +42,7 @@ pub fn stands<N: Notes>(notes: &N) -> bool
     }
 }
 
-/// Leaves a note where a sync of the file has failed since it was opened, and else does nothing.
+/// Leaves a note if a sync of the file has failed since it was opened. Otherwise it does nothing.
 pub fn note_on<R: Files<File = File>, S: Start, N: Notes>(
     rt: &R,
     disk: &FileDisk<S>,

@@ -1,4 +1,4 @@
-//! Openings that wait for the lock of a file.
+//! Openings that wait for a file's lock.
 ghost use Rattle.std.specs.Prelude.{◌≡◌, ◌*◌, None};
 ghost use Rattle.im_files.specs.Lasting.{counted_from, longest};
 
@@ -6,21 +6,21 @@ use im_disk::Start;
 use std::thread::sleep;
 use std::time::{Clock, Duration, Instant};
 
-// So many milliseconds pass between two tries.
+// The milliseconds between two tries.
 const PAUSE: u64 = 20;
 
-/// A start of which nothing is known, as of [`Unknown`](im_disk::Unknown). Its opening waits for the file's lock.
+/// A start about which nothing is known, like [`Unknown`](im_disk::Unknown). Its opening waits for the file's lock.
 #[derive(Drop)]
 pub struct Waiting<R> {
     rt: R,
-    // When it was found in use first.
+    // The first time that the file was found in use.
     began: Option<Instant>,
     most: Duration,
 }
 
 impl<R: Drop> Waiting<R> {
-    /// An opening that waits for so many seconds at most, from the moment on at which the file is found in use. Where
-    /// the clock can't be read it doesn't wait.
+    /// An opening that waits at most `seconds` seconds, counted from the moment when the file is found in use. It
+    /// doesn't wait if the clock can't be read.
     pub fn new(rt: R, seconds: u32) -> Waiting<R>
         ensures longest { longest result ≡ seconds * 1_000_000_000 }
         ensures begins { counted_from result ≡ None }

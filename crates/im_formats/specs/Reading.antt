@@ -1,4 +1,5 @@
--- How the records of an area are read: the fields say what the record may be, and its spelling says whether it is. (Own.)
+-- How the records of an area are read: the fields give the only record that it can be, and the bytes must be that
+-- record's spelling. (Own.)
 use Rattle.std.specs.Prelude.{ℕ, List, Option, None, Some, ◌==◌, nat_lt, if◌then◌else◌, slice_index, option_and_then}
 use Rattle.im_types.specs.declared.operations.Op.{Op}
 use Rattle.im_types.specs.declared.operations.Kind.{Kind}
@@ -38,7 +39,7 @@ entry_of code n =
     else if code == 12 then Some (Answered Cleared)
     else None
 
--- what is kept, if the operation and the entry are read
+-- the operation with its entry, if both are read
 abbrev pub kept_of : Option Op → Option Entry → Option (Option Kept)
 kept_of None entry = None
 kept_of (Some op) None = None

@@ -1,7 +1,7 @@
-//! Laws of the bytes of an image: what a header, a cell, a waiter node and a kept entry are spelled as reads back as
-//! what it was, and nothing else reads so.
+//! Laws of the bytes of an image. The spelling of a header, a cell, a waiter node or a kept entry reads back as what
+//! was spelled. No other bytes read as the same.
 //!
-//! Each law is the contract of a function that does nothing. The spellings are `im_types`' definitions.
+//! Each law is the contract of a function that does nothing. The spellings are definitions of `im_types`.
 #![tactic(auto)]
 
 ghost use Rattle.std.specs.Prelude.{◌≡◌, ◌≤◌, ◌<◌, ◌^◌, ◌∷◌, ℕ, List, Option, Some, true, slice_range};
@@ -22,7 +22,7 @@ pub fn headers_read_back()
     ensures { (gate : ℕ) (h : Header) → FitsHeader h → header_in (gate ∷ header_body h) ≡ h }
 {}
 
-/// A header that can stand in an area spells one.
+/// The spelling of a header that can stand in an area is taken as the header of that area.
 pub fn headers_are_taken()
     ensures { (l : Layout) (area gate : ℕ) (h : Header) → FitsHeader h → is_header l area h ≡ true
         → spells_header l area (gate ∷ header_body h) ≡ true }
@@ -34,7 +34,7 @@ pub fn headers_read_nothing_else()
         → slice_range bytes 1 64 ≡ header_body (header_in bytes) }
 {}
 
-/// A place of a session record reads back as what it was spelled from.
+/// A place of a session record reads back as the place that was spelled.
 pub fn places_read_back()
     ensures { (place : Option Kept) → FitsPlace place → read_place (place_bytes place) ≡ Some place }
 {}
@@ -44,7 +44,7 @@ pub fn places_read_nothing_else()
     ensures { (bytes : List ℕ) (place : Option Kept) → read_place bytes ≡ Some place → bytes ≡ place_bytes place }
 {}
 
-/// The record of a cell reads back as what it was spelled from.
+/// The record of a cell reads back as the record that was spelled.
 pub fn cells_read_back()
     ensures { (cells nodes : ℕ) (cell : CellRecord) → cells < 2 ^ 32 → nodes ≤ 2 ^ 32 → FitsCell cells nodes cell
         → read_cell (cell_bytes cell) ≡ Some cell }
@@ -55,7 +55,7 @@ pub fn cells_read_nothing_else()
     ensures { (bytes : List ℕ) (cell : CellRecord) → read_cell bytes ≡ Some cell → bytes ≡ cell_bytes cell }
 {}
 
-/// A waiter node reads back as what it was spelled from.
+/// A waiter node reads back as the node that was spelled.
 pub fn nodes_read_back()
     ensures { (nodes : ℕ) (node : NodeRecord) → nodes ≤ 2 ^ 32 → FitsNode nodes node
         → read_node (node_bytes node) ≡ Some node }
@@ -66,7 +66,7 @@ pub fn nodes_read_nothing_else()
     ensures { (bytes : List ℕ) (node : NodeRecord) → read_node bytes ≡ Some node → bytes ≡ node_bytes node }
 {}
 
-/// A session record of either version is spelled by one window alone.
+/// A session record of either version is the spelling of one window alone.
 pub fn sessions_are_spelled_by_one_window()
     ensures { (version : Version) (w v : Window) → FitsWindow (layout_of version) w → FitsWindow (layout_of version) v
         → session_bytes (layout_of version) w ≡ session_bytes (layout_of version) v → w ≡ v }

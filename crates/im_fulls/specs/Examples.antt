@@ -1,4 +1,4 @@
--- A worked trace, and what is shown of it. (Own.)
+-- A worked trace, and its changes. (Own.)
 use Rattle.std.specs.Prelude.{List, [], ◌∷◌}
 use Rattle.im_types.specs.declared.operations.Op.TheVariants.{Alloc, Release, Reset, Store}
 use Rattle.im_types.specs.declared.operations.Kind.TheVariants.{I}
@@ -21,6 +21,6 @@ stored_and_released =
     ∷ asks 0 3 (Release 0) (told Released)
     ∷ []
 
--- one change for each command: a question has none
+-- one change for each command; a question has none
 abbrev pub seven_changes : List Change
 seven_changes = Same ∷ Fills 0 5 ∷ Fills 1 6 ∷ Gone 0 1 ∷ Gone 0 2 ∷ Fills 1 7 ∷ Gone 0 2 ∷ []

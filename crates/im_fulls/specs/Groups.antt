@@ -1,5 +1,5 @@
--- Requests that are served together: which may stand before which, so that each changes what it would change at the memory
--- before all of them. (Own.)
+-- Requests that are served together, and their order: which of them may stand before another, so that it has the same
+-- change as at the memory before all of them. (Own.)
 use Rattle.std.specs.Prelude.{◌≢◌, ℕ, List, map}
 use Rattle.std.specs.List.{AllByRecursion}
 use Rattle.im_types.specs.declared.operations.Op.{Op}
@@ -9,7 +9,7 @@ use Rattle.im_types.specs.declared.commands.Command.TheVariants.{Request as Asks
 use Rattle.im_types.specs.Contents.{Contents}
 use Rattle.im_types.specs.Run.{after}
 
--- before a store to an address: no other store there, and no block made, released or reset
+-- an operation that may stand before a store to an address: no other store there, and no allocation, release or reset
 abbrev pub LeavesStores : ℕ → Op → Type 0
 LeavesStores a (Alloc kind n) = ⊥
 LeavesStores a (Release b) = ⊥
@@ -19,7 +19,7 @@ LeavesStores a (Store b v) = b ≢ a
 LeavesStores a (Take b) = Unit {0}
 LeavesStores a (Put b v) = Unit {0}
 
--- an earlier operation, and a later one: a release and a reset stand alone
+-- an earlier operation may stand before a later one; nothing may stand before a release or a reset
 abbrev pub MayPrecede : Op → Op → Type 0
 MayPrecede earlier (Alloc kind n) = Unit {0}
 MayPrecede earlier (Release a) = ⊥
@@ -29,7 +29,7 @@ MayPrecede earlier (Store a v) = LeavesStores a earlier
 MayPrecede earlier (Take a) = Unit {0}
 MayPrecede earlier (Put a v) = Unit {0}
 
--- these requests are of other elements, and each may stand before this one
+-- these requests are of other elements, and each of them may stand before this one
 abbrev pub AreBefore : List Request → Request → Type 0
 AreBefore earlier r = AllByRecursion (λ e. (r.element ≢ e.element) × MayPrecede e.op r.op) earlier
 

@@ -1,10 +1,10 @@
--- The rule of the book: its one word is how many changes there are. (Own.)
+-- The rule of the book: its one word is the number of changes. (Own.)
 use Rattle.std.specs.Prelude.{◌≡◌, ◌==◌, ◌<◌, ℕ, true, List, [], ◌∷◌, ◌++◌, length, MatchBool}
 use mathlib.Core.List.{IsPrefix}
 use Rattle.logbook.specs.Pages.{Cell, Step, View, Book, Named}
 use Rattle.im_types.specs.declared.changes.Change.{Change}
 
--- the first word is the length of the list; a book has two words, of which this one leaves the second at 0
+-- the first word is the length of the list; a book has two words, and this book leaves the second at 0
 pub record IsCounted (cells : List Cell) (log : List Change) : Type 0 where
   pub words : cells ≡ (length log, true) ∷ (0, true) ∷ []
 
@@ -16,6 +16,6 @@ head_of book = record { tracked = true; key = 0; book = book }
 abbrev pub Adds : Step Change → View Change ℕ → ℕ → View Change ℕ → Type 0
 Adds s old found new = MatchBool (found == s.old) (new.0 ≡ old.0 ++ s.ask ∷ []) (length new.0 ≡ found)
 
--- the one list goes on where the other ends
+-- the first list is a prefix of the second, which is longer
 abbrev pub IsLonger : List Change → List Change → Type 0
 IsLonger xs ys = IsPrefix xs ys × (length xs < length ys)

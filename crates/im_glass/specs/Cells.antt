@@ -1,15 +1,15 @@
--- Cells that are full or not, and what a change makes of them. (Own.)
+-- Cells that are full or not, and how a change changes them. (Own.)
 use Rattle.std.specs.Prelude.{ℕ, List, [], ◌∷◌, Bool, true, false, Option, Some, None, slice_set}
 use Rattle.im_types.specs.declared.changes.Change.{Change}
 use Rattle.im_types.specs.declared.changes.Change.TheVariants.{Same, Full as Fills, Gone}
 use Rattle.im_types.specs.Place.{fill}
 
--- a cell, by whether it is full
+-- a cell: its value if it is full
 abbrev pub cell_of : Bool → ℕ → Option ℕ
 cell_of true value = Some value
 cell_of false value = None
 
--- each cell with its value, where it is full
+-- each cell: its value if it is full
 abbrev pub cells_of : List Bool → List ℕ → List (Option ℕ)
 cells_of [] values = []
 cells_of (full ∷ fulls) [] = []

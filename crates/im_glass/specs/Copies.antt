@@ -9,7 +9,7 @@ use Rattle.im_glass.specs.declared.book.InOrder.{InOrder}
 use Rattle.im_glass.specs.declared.copies.Ahead.{Ahead}
 use Rattle.im_glass.specs.Cells.{written}
 
--- a beginning of the list of changes
+-- a prefix of the list of changes
 abbrev pub History : Type 0
 History = Seen Change ℕ InOrder
 
@@ -17,7 +17,7 @@ History = Seen Change ℕ InOrder
 abbrev pub CopyState : Type 0
 CopyState = History × List (Option ℕ) × ℕ
 
--- a copy after what was put ahead, where that is of its cells alone
+-- a copy after a change that was put ahead; a change that isn't of its cells alone leaves it as it is
 abbrev pub applied_to : CopyState → Ahead → CopyState
 applied_to s ahead = if is_below (length s.1) ahead.change then (ahead.seen, written s.1 ahead.change, ahead.count) else s
 
@@ -25,12 +25,12 @@ applied_to s ahead = if is_below (length s.1) ahead.change then (ahead.seen, wri
 abbrev pub after_all : CopyState → List Ahead → CopyState
 after_all s ahead = fold applied_to s ahead
 
--- the cells are those after the changes, of which there are so many
+-- the cells are those after the changes, and the count is the number of the changes
 pub record IsKept (s : CopyState) : Type 0 where
   pub values : (a : ℕ) → slice_index_or s.1 a None ≡ value_after a None s.0.log
   pub count : s.2 ≡ length s.0.log
 
--- what is put ahead goes on with the book's changes, one after another, each of these many cells alone
+-- what is put ahead continues the book's changes, one after another, and is of the first n cells alone
 abbrev pub GoesOn : ℕ → Book → List Change → List Ahead → Type 0
 GoesOn n book changes [] = Unit {0}
 GoesOn n book changes (ahead ∷ rest) =

@@ -10,18 +10,18 @@ pub record PaneView : Type 0 where
   pub cells : ℕ
   pub spare : ℕ
 
--- the same of a pane that has no name, on which nothing is put ahead, and its book
+-- a pane that has no name, and on which nothing is put ahead: its book, and the same
 pub record UnnamedView : Type 0 where
   pub book : Book
   pub shown : List Change
   pub cells : ℕ
   pub spare : ℕ
 
--- a pane on which nothing else is put ahead, with a name and without
+-- a pane without a name, under a name; nothing is put ahead on it
 abbrev pub with_name : UnnamedView → PaneView
 with_name u = record { shown = u.shown; ahead = []; cells = u.cells; spare = u.spare }
 
--- what a change of what is put ahead, shown or given out leaves
+-- the numbers of cells and of readers that weren't given out stay
 pub record HasSame (old new : PaneView) : Type 0 where
   pub cells : new.cells ≡ old.cells
   pub spare : new.spare ≡ old.spare

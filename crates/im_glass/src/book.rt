@@ -1,4 +1,4 @@
-//! The list of changes: one book of the toolchain's `logbook`, of which each holds a beginning. The list is for
+//! The list of changes: one book of the toolchain's `logbook`. Each holder has a prefix of it. The list is for
 //! contracts alone; its length is a word that all share.
 ghost use Rattle.std.specs.Prelude.{◌≡◌, ◌<◌, ◌^◌, ◌++◌, ◌∷◌, ◌⊎◌, [], length, MatchBool};
 ghost use mathlib.Core.List.{IsPrefix};
@@ -8,7 +8,7 @@ use im_types::Change;
 use logbook::{Gain, Offer, Plain, Play, Rule, Seen, Start, Word};
 use std::marker::{Brand, Model, PhantomData};
 
-/// The rule of the book.
+/// The rule of the book: its word is the length of its list.
 pub struct InOrder;
 
 impl Rule<Change, u64> for InOrder {
@@ -55,7 +55,7 @@ impl Plain<Change, Change, u64> for Add {
     ghost state = { λ change. None };
 }
 
-/// Which book it is. Each call of a program picks it.
+/// Which book it is. Each call of a program picks its own.
 pub trait PaneName {
     ghost use Rattle.logbook.specs.Pages.{Book};
 
@@ -66,7 +66,7 @@ impl PaneName for Brand {
     ghost book = { record { number = 0; log_name = 0; cells_name = 0 } };
 }
 
-/// A book with no changes, which has no name yet. Contracts see which book it is.
+/// A book with no changes and no name yet. Contracts see which book it is.
 #[derive(Drop)]
 pub struct NewBook {
     head: Word<Change, u64, InOrder>,
@@ -86,7 +86,7 @@ impl Model for NewBook {
 }
 
 impl NewBook {
-    /// A new book.
+    /// Makes a new book.
     pub fn new() -> NewBook {
         let (seen, mut first, _second) = Seen::open(Start::alone(), 0, 0);
         NewBook {
@@ -95,7 +95,7 @@ impl NewBook {
         }
     }
 
-    /// The book under a name, and the beginning of its list that is empty.
+    /// Returns the book under a name, with the empty prefix of its list.
     pub(crate) fn named<J: PaneName>(self) -> (Book<J>, Beginning<J>)
         requires { self ≡ J.book }
         ensures { result.1 ≡ [] }
@@ -115,7 +115,7 @@ impl NewBook {
     }
 }
 
-/// A book and a beginning of its list, without its name.
+/// A book with a prefix of its list, without a name.
 #[derive(Drop)]
 pub(crate) struct UnnamedBook {
     head: Word<Change, u64, InOrder>,
@@ -126,7 +126,7 @@ pub(crate) struct UnnamedBook {
 }
 
 impl UnnamedBook {
-    /// The book and the beginning under a name.
+    /// Returns the book and the prefix under a name.
     pub(crate) fn named<J: PaneName>(self) -> (Book<J>, Beginning<J>)
         requires { self.seen.book ≡ J.book }
         ensures { result.1 ≡ self.seen.log }
@@ -146,7 +146,7 @@ impl UnnamedBook {
     }
 }
 
-/// The word that all share: how many changes the list has.
+/// The word that all share: the length of the list.
 #[derive(Drop)]
 pub struct Book<J: PaneName> {
     head: Word<Change, u64, InOrder>,
@@ -165,7 +165,7 @@ impl<J: PaneName> Model for Book<J> {
 }
 
 impl<J: PaneName> Book<J> {
-    /// The book without its name, and a beginning of its list.
+    /// Returns the book without its name, with a prefix of its list.
     pub(crate) fn unnamed(self, beginning: Beginning<J>) -> UnnamedBook
         ensures book { result.seen.book ≡ J.book }
         ensures log { result.seen.log ≡ beginning }
@@ -176,7 +176,7 @@ impl<J: PaneName> Book<J> {
     }
 }
 
-/// A beginning of the list that was seen. Contracts see its changes.
+/// A prefix of the list that was seen. Contracts see its changes.
 #[derive(Drop)]
 pub struct Beginning<J: PaneName> {
     count: u64,
@@ -196,7 +196,7 @@ impl<J: PaneName> Model for Beginning<J> {
 }
 
 impl<J: PaneName> Beginning<J> {
-    /// What was seen, of which there is so much.
+    /// Makes the prefix of what was seen, given its length.
     pub(crate) fn of(seen: Seen<Change, u64, InOrder>, count: u64) -> Beginning<J>
         requires book { seen.book ≡ J.book }
         requires count { count ≡ length seen.log }
@@ -209,7 +209,7 @@ impl<J: PaneName> Beginning<J> {
         }
     }
 
-    /// What was seen.
+    /// Returns what was seen.
     pub(crate) fn seen(&self) -> Seen<Change, u64, InOrder>
         ensures book { result.book ≡ J.book }
         ensures log { result.log ≡ self.now }
@@ -217,14 +217,14 @@ impl<J: PaneName> Beginning<J> {
         self.seen.again()
     }
 
-    /// How many changes it has.
+    /// Returns how many changes it has.
     pub fn len(&self) -> u64
         ensures { result ≡ length self.now }
     {
         self.count
     }
 
-    /// The same once more. It has no more than a number.
+    /// Returns a copy of it, which is no more than a number.
     pub fn again(&self) -> Beginning<J>
         ensures { result ≡ self.now }
     {
@@ -235,7 +235,7 @@ impl<J: PaneName> Beginning<J> {
         }
     }
 
-    /// The longer of two beginnings, which the other one begins.
+    /// Returns the longer of two prefixes. The other one is a prefix of it.
     pub fn longer(&self, other: &Beginning<J>) -> Beginning<J>
         ensures one { (result ≡ self.now) ⊎ (result ≡ other.now) }
         ensures this { IsPrefix self.now result }
@@ -250,7 +250,8 @@ impl<J: PaneName> Beginning<J> {
         }
     }
 
-    /// Adds a change behind all that was seen, and says whether it did. It didn't where the list is longer.
+    /// Adds a change after all that was seen, and returns whether it did. It doesn't if the list is longer; then it has
+    /// seen more.
     pub(crate) fn add(&mut self, book: &Book<J>, change: Change) -> bool
         requires { length self.old < 2 ^ 62 }
         ensures { MatchBool result (self.new ≡ self.old ++ change ∷ []) (IsLonger self.old self.new) }

@@ -1,4 +1,4 @@
-//! Cells that are full or not, with the values of those that are: 9 bytes a cell.
+//! Cells that are full or not, with the values of those that are full. A cell takes 9 bytes.
 ghost use Rattle.std.specs.Prelude.{◌≡◌, ◌<◌, ◌≤◌, ◌+◌, ℕ, None, Some, length, replicate, slice_index_or};
 ghost use Rattle.std.specs.Prelude.{slice_set, true, IfOk};
 ghost use Rattle.im_types.specs.Place.{fill};
@@ -9,7 +9,7 @@ use im_types::Change;
 use std::alloc::{AllocError, Global};
 use std::marker::Model;
 
-/// Cells by address, each with its value where it is full.
+/// Cells by address. A full cell has its value.
 #[derive(Drop)]
 pub struct FullCells {
     values: Vec<u64>,
@@ -28,7 +28,7 @@ impl Model for FullCells {
 }
 
 impl FullCells {
-    /// So many cells, none of them full.
+    /// Makes the given number of cells, none of them full.
     pub fn new(alloc: Global, cells: u32) -> Result<FullCells, AllocError>
         ensures { IfOk result (λ c. c ≡ replicate cells None) }
     {
@@ -37,14 +37,14 @@ impl FullCells {
         Ok(FullCells { values, full })
     }
 
-    /// How many cells there are.
+    /// Returns how many cells there are.
     pub fn len(&self) -> usize
         ensures { result ≡ length self.now }
     {
         self.full.len()
     }
 
-    /// The value of a cell, where it is full; none past the last cell.
+    /// Returns the value of a full cell, and none if the cell isn't full or is past the last one.
     pub fn get(&self, a: usize) -> Option<u64>
         ensures { result ≡ slice_index_or self.now a None }
     {
@@ -58,7 +58,7 @@ impl FullCells {
         }
     }
 
-    // A cell is full from now on.
+    // Makes a cell full.
     fn fill(&mut self, a: usize, value: u64)
         requires { a < length self.old }
         ensures { self.new ≡ slice_set self.old a (Some value) }
@@ -67,7 +67,7 @@ impl FullCells {
         self.values[a] = value;
     }
 
-    // A cell isn't full from now on.
+    // Makes a cell not full.
     fn empty(&mut self, a: usize)
         requires { a < length self.old }
         ensures { self.new ≡ slice_set self.old a None }
@@ -75,7 +75,7 @@ impl FullCells {
         self.full[a] = false;
     }
 
-    // So many cells aren't full from now on.
+    // Makes `count` cells from `base` on not full.
     fn empty_all(&mut self, base: u32, count: u32)
         requires { base + count ≤ length self.old }
         ensures { self.new ≡ fill self.old base count None }
@@ -85,7 +85,7 @@ impl FullCells {
         }
     }
 
-    /// Whether a change is of these cells alone.
+    /// Returns whether a change is of these cells alone.
     pub fn has(&self, change: Change) -> bool
         ensures { result ≡ is_below (length self.now) change }
     {
@@ -96,7 +96,7 @@ impl FullCells {
         }
     }
 
-    /// Changes the cells.
+    /// Makes a change in the cells.
     pub fn change(&mut self, change: Change)
         requires { is_below (length self.old) change ≡ true }
         ensures { self.new ≡ written self.old change }

@@ -1,4 +1,4 @@
-//! One of the two copies of the full cells, and what is written to both.
+//! The two copies of the full cells, and what is written to both.
 use crate::book::InOrder;
 use crate::cells::FullCells;
 use im_types::Change;
@@ -6,35 +6,35 @@ use left_right::Absorb;
 use logbook::Seen;
 use std::alloc::AllocError;
 
-/// A beginning of the list of changes. It has no bytes.
+/// A prefix of the list of changes. It has no bytes.
 pub type History = Seen<Change, u64, InOrder>;
 
-/// A change, with the list that it ends and how many changes that has.
+/// A change, with the list that ends in it and the length of that list.
 #[derive(Drop)]
 pub struct Ahead {
     /// The change.
     pub change: Change,
-    /// How many changes there are with it.
+    /// How many changes there are, this one included.
     pub count: u64,
-    /// The changes up to it.
+    /// The changes up to this one.
     pub seen: History,
 }
 
-/// The full cells after a beginning of the list of changes.
+/// The full cells after a prefix of the list of changes.
 #[derive(Drop)]
 pub struct Copy {
-    /// The cells.
+    /// The cells after these changes.
     pub cells: FullCells,
-    /// How many changes they are after.
+    /// How many changes there are.
     pub count: u64,
-    /// Those changes.
+    /// The changes.
     pub seen: History,
 }
 
 impl Absorb<Ahead> for Copy {
     ghost use Rattle.im_glass.specs.Copies.{applied_to};
 
-    // As contracts see it: the changes, the cells (a list, of any length), how many changes.
+    // The state for contracts: the changes, the cells (a list of any length), and the number of changes.
     type State = (History, [Option<u64>; 0], u64);
 
     ghost state = { λ s. (s.seen, s.cells, s.count) };

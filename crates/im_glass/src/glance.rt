@@ -18,7 +18,7 @@ use left_right::writer::Writer;
 use std::alloc::AllocError;
 use std::marker::Model;
 
-/// A reader that wasn't given out, and has no name. Contracts see of which book it is.
+/// A reader that wasn't given out, and has no name. Contracts see which book it is of.
 #[derive(Drop)]
 pub struct Spare {
     reader: Reader<Copy, Known, Shows>,
@@ -39,7 +39,7 @@ impl Model for Spare {
     ghost invariant = { λ s. (s.count ≡ length s.seen.log) × HasSeen (known s.reader.place) s.seen.book };
 }
 
-/// What reads the full cells. Contracts see what it has seen: a beginning of the changes that were shown.
+/// A reader of the full cells. Contracts see what it has seen: a prefix of the changes that were shown.
 #[derive(Drop)]
 pub struct Glance<J: PaneName> {
     reader: Reader<Copy, Known, Shows>,
@@ -60,7 +60,7 @@ impl<J: PaneName> Model for Glance<J> {
 }
 
 impl Spare {
-    // One more reader, which has seen what is shown.
+    // Makes one more reader, which has seen what is shown.
     pub(crate) fn new(writer: &mut Writer<Copy, Ahead, Known, Shows>) -> Result<Spare, AllocError>
         requires kept { IsKept (state_of writer.old.desk.shown.value) }
         requires known { (view writer.old.desk.place).seen ≡ Some writer.old.desk.shown.value.seen }
@@ -81,7 +81,7 @@ impl Spare {
         })
     }
 
-    // The reader under the name of its book.
+    // Gives the reader the name of its book.
     pub(crate) fn named<J: PaneName>(self) -> Glance<J>
         requires { self ≡ J.book }
     {
@@ -98,7 +98,7 @@ impl Spare {
 }
 
 impl<J: PaneName> Glance<J> {
-    /// Sees all that was told, from now on. (Own.)
+    /// Takes in all that was told: from now on the reader has seen it. (Own.)
     pub fn learn(&mut self, told: &Told<J>)
         ensures kept { IsPrefix self.old self.new }
         ensures found { IsPrefix told.now self.new }
@@ -106,9 +106,10 @@ impl<J: PaneName> Glance<J> {
         self.seen = self.seen.longer(told.beginning());
     }
 
-    /// The value of a full I cell, after all that it saw and was told before, and whatever was shown since; none where
-    /// the cell isn't full then. It waits for nobody and takes no memory. `PaneGone` where the pane has ended, and it
-    /// has seen no more then. (Readers that never wait: Ramalhete, Correia, Left-Right, 2015.)
+    /// Returns the value of a full I cell, and none if the cell isn't full. It reads the cells after all that it has
+    /// seen or was told before, and after whatever was shown since. It waits for nobody and takes no memory. Returns
+    /// `PaneGone` if the pane has ended; then it has seen nothing more. (Readers that never wait: Ramalhete, Correia,
+    /// Left-Right, 2015.)
     pub fn glance(&mut self, a: u32) -> Result<Option<u64>, Refusal>
         ensures later { IfOk result (λ _. IsPrefix self.old self.new) }
         ensures found { IfOk result (λ value. value ≡ value_after a None self.new) }
@@ -117,7 +118,7 @@ impl<J: PaneName> Glance<J> {
     {
         match replace_with(&mut self.reader, a, |reader, a| look::<J>(reader, a)) {
             Some((value, seen)) => {
-                // What was told was shown, so this never holds: no clause of the two copies says so.
+                // What was told was shown before, so this never holds. No clause of the two copies says so.
                 if seen.len() < self.seen.len() {
                     return Err(Refusal::PaneGone);
                 }

@@ -1,5 +1,5 @@
-//! The full cells, which one thread shows and others read and wait for nobody. What was shown is one list of changes,
-//! and each who reads has seen a beginning of it, which only grows.
+//! The full cells. One thread shows them; others read them and wait for nobody. What was shown is one list of changes.
+//! Each reader has seen a prefix of it, which only grows.
 #![tactic(auto)]
 
 mod book;

@@ -1,4 +1,4 @@
-//! What shows the full cells.
+//! Panes, which show the full cells.
 ghost use Rattle.std.specs.Prelude.{◌≡◌, ◌+◌, ◌-◌, ◌<◌, ◌++◌, ◌∷◌, [], None, Some, drop, length, replicate, true};
 ghost use Rattle.std.specs.Prelude.{IfOk, IsOkUnless};
 ghost use Rattle.std.specs.Prelude.{IfSome, IsSome, OnErr, OnOk, ◌↔◌};
@@ -23,20 +23,20 @@ use std::alloc::{AllocError, Global};
 use std::marker::{Brand, Model};
 use std::sync::Wait;
 
-// There are no more changes than this.
+// The list never has more changes than this.
 const MOST: u64 = 1 << 61;
 
-// Room is made for so many changes that are put ahead or were shown last.
+// How many changes, put ahead or shown last, have room.
 const GROUPS: u32 = 32;
 
 type Both = Writer<Copy, Ahead, Known, Shows>;
 
-/// What shows the full cells, as a list of changes. Contracts see the changes that are shown, those that are put ahead,
-/// how many cells there are, and how many readers weren't given out. It is ended by [`Pane::end`], never dropped.
+/// A pane shows the full cells, as a list of changes. Contracts see the changes that are shown, those that are put
+/// ahead, how many cells there are, and how many readers weren't given out. [`Pane::end`] ends it; it is never dropped.
 pub struct Pane<J: PaneName> {
     both: Both,
     book: Book<J>,
-    // The changes that are shown, and those that are put ahead.
+    // The changes that are shown, followed by those that are put ahead.
     all: Beginning<J>,
     spare: Vec<Spare>,
 }
@@ -84,7 +84,7 @@ impl<J: PaneName> Model for Told<J> {
 }
 
 impl<J: PaneName> Told<J> {
-    // The changes.
+    // Returns the changes.
     pub(crate) fn beginning(&self) -> &Beginning<J>
         ensures { result.now ≡ self.now }
     {
@@ -93,8 +93,8 @@ impl<J: PaneName> Told<J> {
 }
 
 impl<J: PaneName> Pane<J> {
-    /// A pane of so many cells, none of them full, with so many readers, above 0: 18 bytes a cell, and nothing more for
-    /// each change that is shown. `NoMemory` where there is no room for it. (Own.)
+    /// Makes a pane of the given number of cells, none of them full, with the given number of readers, above 0. A cell
+    /// takes 18 bytes, and a change that is shown takes no more. Returns `NoMemory` if there is no room for it. (Own.)
     pub fn new<R: Wait>(
         rt: &R,
         alloc: Global,
@@ -126,7 +126,7 @@ impl<J: PaneName> Pane<J> {
         }
     }
 
-    /// A reader, which has seen all that is shown; none where all were given out. (Own.)
+    /// Gives out a reader, which has seen all that is shown. Returns none if all were given out. (Own.)
     pub fn glance(&mut self) -> Option<Glance<J>>
         ensures found { IfSome result (λ g. IsPrefix self.old.shown g) }
         ensures some { IsSome result ↔ (0 < self.old.spare) }
@@ -141,8 +141,8 @@ impl<J: PaneName> Pane<J> {
         Some(glance)
     }
 
-    /// Takes in a change that isn't shown yet, of this pane's cells. `NoMemory` where there is no room for it. No room
-    /// is taken while at most 16 are put ahead, and at most 16 were before the last show. (Own.)
+    /// Puts ahead a change of this pane's cells, which isn't shown yet. Returns `NoMemory` if there is no room for it.
+    /// It takes no memory while at most 16 changes are put ahead and at most 16 were before the last show. (Own.)
     pub fn put_ahead(&mut self, change: Change) -> Result<(), Refusal>
         requires { is_below self.old.cells change ≡ true }
         ensures contents { OnOk result (self.new ≡ record self.old { ahead = self.old.ahead ++ change ∷ [] }) }
@@ -153,7 +153,7 @@ impl<J: PaneName> Pane<J> {
             return Err(Refusal::NoMemory);
         }
         let mut all = self.all.again();
-        // The list is longer only where a change before was refused room: then none is taken in any more.
+        // The list is longer only if an earlier change was refused for want of room. Then no more changes are taken.
         if !all.add(&self.book, change) {
             return Err(Refusal::NoMemory);
         }
@@ -171,8 +171,8 @@ impl<J: PaneName> Pane<J> {
         }
     }
 
-    /// Shows all changes that were put ahead, at once. It waits for the readers that still read what was shown before
-    /// the last show. (Own.)
+    /// Shows all changes that were put ahead, at once, and returns what is shown then. It waits for the readers that
+    /// still read what was shown before the last show. (Own.)
     pub fn show<R: Wait>(&mut self, rt: &R) -> Told<J>
         ensures contents { self.new ≡ record self.old { shown = self.old.shown ++ self.old.ahead; ahead = [] } }
         ensures found { result ≡ self.new.shown }
@@ -183,7 +183,7 @@ impl<J: PaneName> Pane<J> {
         }
     }
 
-    /// What is shown. (Own.)
+    /// Returns what is shown. (Own.)
     pub fn told(&self) -> Told<J>
         ensures { result ≡ self.now.shown }
     {
@@ -193,14 +193,14 @@ impl<J: PaneName> Pane<J> {
         }
     }
 
-    /// How many cells there are.
+    /// Returns how many cells there are.
     pub fn cell_count(&self) -> usize
         ensures { result ≡ self.now.cells }
     {
         self.both.published().cells.len()
     }
 
-    /// The pane without its name, which can have another one then. (Own.)
+    /// Takes the name off the pane, so that it can get another one. (Own.)
     pub fn unnamed(self) -> Unnamed
         requires { self.ahead ≡ [] }
         ensures book { result.book ≡ J.book }
@@ -219,7 +219,7 @@ impl<J: PaneName> Pane<J> {
         }
     }
 
-    /// Ends the pane, and waits for its readers. From then on each glance is `PaneGone`. (Own.)
+    /// Ends the pane, and waits for its readers. From then on each glance returns `PaneGone`. (Own.)
     pub fn end<R: Wait>(self, rt: &R) {
         let Pane {
             both,
@@ -231,7 +231,7 @@ impl<J: PaneName> Pane<J> {
     }
 }
 
-/// A pane without a name, on which nothing is put ahead. Contracts see its book too. It is ended by [`Unnamed::end`].
+/// A pane without a name, on which nothing is put ahead. Contracts also see its book. [`Unnamed::end`] ends it.
 pub struct Unnamed {
     both: Both,
     book: UnnamedBook,
@@ -265,7 +265,7 @@ impl Model for Unnamed {
 }
 
 impl Unnamed {
-    /// The pane under the name of its book. (Own.)
+    /// Gives the pane the name of its book. (Own.)
     pub fn named<J: PaneName>(self) -> Pane<J>
         requires { self.book ≡ J.book }
         ensures { result ≡ with_name self }
@@ -291,8 +291,8 @@ impl Unnamed {
     }
 }
 
-/// A new pane on which these changes of its cells are shown, without a name. `NoMemory` where there is no room for it.
-/// (Own.)
+/// Makes a new pane, without a name, on which these changes of its cells are shown. Returns `NoMemory` if there is no
+/// room for it. (Own.)
 pub fn open<R: Wait>(
     rt: &R,
     alloc: Global,
@@ -308,7 +308,7 @@ pub fn open<R: Wait>(
     opened::<Brand, R>(rt, alloc, NewBook::new(), cells, readers, changes)
 }
 
-// The same, of a book that has a name for so long.
+// Does the same with a book that has a name meanwhile.
 fn opened<J: PaneName, R: Wait>(
     rt: &R,
     alloc: Global,
@@ -338,7 +338,7 @@ fn opened<J: PaneName, R: Wait>(
     Ok(pane.unnamed())
 }
 
-// The two copies of cells of which none is full, after no change, with room for what is put ahead.
+// Makes the two copies, with no cell full, after no change, and with room for what is put ahead.
 fn copies<R: Wait>(
     rt: &R,
     alloc: Global,
@@ -355,7 +355,7 @@ fn copies<R: Wait>(
     let mut both = new_copies(alloc, &seen, cells, readers)?;
     match make_room(&mut both, &seen) {
         Ok(()) => {
-            // Twice, as the copy that was shown first takes in what was put ahead at the second time.
+            // It is called twice, because the copy that was shown first takes in what was put ahead at the second call.
             let both = show_nothing(rt, both);
             Ok(show_nothing(rt, both))
         }
@@ -366,7 +366,7 @@ fn copies<R: Wait>(
     }
 }
 
-// The two copies alone.
+// Makes the two copies alone.
 fn new_copies(alloc: Global, seen: &History, cells: u32, readers: u16) -> Result<Both, AllocError>
     requires readers { 0 < readers }
     requires none { seen.now.log ≡ [] }
@@ -386,7 +386,7 @@ fn new_copies(alloc: Global, seen: &History, cells: u32, readers: u16) -> Result
     Writer::new(alloc, first, second, readers as usize)
 }
 
-// Shows what changes nothing.
+// Shows changes that change nothing.
 fn show_nothing<R: Wait>(rt: &R, both: Both) -> Both
     requires kept { IsKept (state_of both.desk.shown.value) }
     requires idle { IsIdle (state_of both.desk.shown.value) (drop both.behind both.log.items) }
@@ -397,7 +397,7 @@ fn show_nothing<R: Wait>(rt: &R, both: Both) -> Both
     publish(rt, both).0
 }
 
-// Puts ahead what changes nothing, so that there is room for as much afterwards.
+// Puts ahead changes that change nothing, so that there is room for that many afterwards.
 fn make_room(both: &mut Both, seen: &History) -> Result<(), AllocError>
     requires shown { state_of both.old.desk.shown.value ≡ (seen.now, both.old.desk.shown.value.cells, 0) }
     requires none { drop both.old.behind both.old.log.items ≡ [] }
@@ -418,7 +418,7 @@ fn make_room(both: &mut Both, seen: &History) -> Result<(), AllocError>
     Ok(())
 }
 
-// So many readers, which have seen what is shown.
+// Makes the given number of readers, which have seen what is shown.
 fn spare_readers(alloc: Global, both: &mut Both, readers: u16) -> Result<Vec<Spare>, AllocError>
     requires kept { IsKept (state_of both.old.desk.shown.value) }
     requires known { (view both.old.desk.place).seen ≡ Some both.old.desk.shown.value.seen }
@@ -449,7 +449,7 @@ fn publish<R: Wait>(rt: &R, both: Both) -> (Both, ())
     (both, ())
 }
 
-// Shows the changes that are put ahead.
+// Shows the changes that are put ahead, of this book.
 fn show_all<J: PaneName, R: Wait>(rt: &R, both: Both) -> (Both, ())
     requires goes_on { GoesOn (length both.desk.shown.value.cells) J.book both.desk.shown.value.seen.log
         (drop both.behind both.log.items) }

@@ -1,15 +1,15 @@
-//! The rule of the two copies: what is shown is kept, and who has seen it knows of which book it is.
+//! The rule of the two copies: what is shown is kept, and whoever has seen it knows which book it belongs to.
 use crate::copies::{Copy, History};
 use atomic_table::{Join, Split};
 use crossbeam_utils::rule::{Outcome, Protocol};
 
-/// What one who shows or reads knows of the list of changes. It is for contracts alone: no value of it is made.
+/// What a reader or the one who shows knows of the list of changes. It is for contracts alone: no value of it is made.
 pub struct Known {
-    /// What it has seen, if it has seen anything.
+    /// The prefix that it has seen, if it has seen any.
     pub seen: Option<History>,
 }
 
-/// The rule.
+/// The rule of the two copies.
 pub struct Shows;
 
 impl Protocol<Copy, Known> for Shows {
@@ -20,7 +20,7 @@ impl Protocol<Copy, Known> for Shows {
     ghost first = { newcomer };
 }
 
-// What a look tells, and a change of what is shown.
+// What a look returns, and what a show changes.
 pub struct Sees;
 
 impl Outcome<Copy, Known> for Sees {

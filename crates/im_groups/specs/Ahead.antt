@@ -1,4 +1,4 @@
--- What is known of a command before those ahead of it have acted. (Own.)
+-- A command before the commands ahead of it have acted, and what is known of it. (Own.)
 use Rattle.std.specs.Prelude.{◌≡◌, ℕ, ◌+◌, ◌<◌, ◌≤◌, ◌==◌, Bool, true, false, ◌&&◌, nat_lt, List, [], ◌∷◌, length}
 use Rattle.std.specs.Prelude.{Option, None, Some}
 use Rattle.std.specs.Prelude.{Result, Ok, Err, slice_get, if◌then◌else◌}
@@ -21,22 +21,23 @@ use Rattle.im_types.specs.Meaning.{accept_each}
 abbrev pub AreAccepted : Contents → List Command → Type 0
 AreAccepted m commands = accept_each m commands ≡ Some (after m commands)
 
--- a window's bounds behind an accepted command: a request of its element has the next number, a confirmation moves the base
+-- a window's bounds after an accepted command: a request of its element takes the next number, and a confirmation moves
+-- the base
 abbrev pub bounds_behind : ℕ → Command → (ℕ × ℕ) → (ℕ × ℕ)
 bounds_behind element (Asks r) b = if r.element == element then (b.0, b.1 + 1) else b
 bounds_behind element (Confirm other upto) b = if other == element then (upto, b.1) else b
 
--- and behind several
+-- the bounds after several accepted commands
 abbrev pub bounds_behind_all : ℕ → List Command → (ℕ × ℕ) → (ℕ × ℕ)
 bounds_behind_all element [] b = b
 bounds_behind_all element (command ∷ commands) b = bounds_behind_all element commands (bounds_behind element command b)
 
--- the same of a window that may not be there
+-- the same for a window that may not exist
 abbrev pub moved_by : ℕ → List Command → Result (ℕ × ℕ) Refusal → Result (ℕ × ℕ) Refusal
 moved_by element commands (Ok b) = Ok (bounds_behind_all element commands b)
 moved_by element commands (Err refusal) = Err refusal
 
--- within these bounds the request is the next one, none past the last, and the window has room
+-- within these bounds the request is the next one, its number isn't past the last one of all, and the window has room
 abbrev pub is_next : ℕ × ℕ → Request → Bool
 is_next b r = (r.number == b.1) && (nat_lt r.number (b.0 + WINDOW) && nat_lt r.number (LAST + 1))
 
@@ -55,7 +56,7 @@ abbrev pub asks_at_once : Waiter → Command → Bool
 asks_at_once who (Asks r) = (r.element == who.element) && ((r.number == who.number) && is_at_once r.op)
 asks_at_once who (Confirm element upto) = false
 
--- what is kept is answered; where nothing is, so is what will be
+-- the kept entry is answered; if none is kept, this truth value
 abbrev pub is_answered_or : Bool → Option Kept → Bool
 is_answered_or at_once (Some k) = if is_waiting k then false else true
 is_answered_or at_once None = at_once
@@ -64,7 +65,8 @@ is_answered_or at_once None = at_once
 abbrev pub is_sure : Contents → List Command → Waiter → Bool
 is_sure m ahead who = is_answered_or (list_any (asks_at_once who) ahead) (kept_for m.windows who)
 
--- the confirmation would drop an entry of which it isn't known, before the commands ahead of it act, that it is answered
+-- the confirmation would drop an entry, and before the commands ahead of it act it isn't known that this entry is
+-- answered
 pub record DropsUnsure (m : Contents) (ahead : List Command) (element upto : ℕ) : Type 0 where
   pub base : ℕ
   pub next : ℕ
@@ -74,15 +76,15 @@ pub record DropsUnsure (m : Contents) (ahead : List Command) (element upto : ℕ
   pub from : base ≤ number
   pub below : number < upto
   pub unsure : is_sure m ahead (record { element = element; number = number }) ≡ false
-  -- where none is ahead, all is known
+  -- with no command ahead, all is known
   pub behind : 0 < length ahead
 
--- whether the command is accepted isn't known before those ahead of it act: it is a confirmation
+-- it isn't known before the commands ahead of it act whether the command is accepted: it is a confirmation
 abbrev pub IsUnsure : Contents → List Command → Command → Type 0
 IsUnsure m ahead (Asks r) = ⊥
 IsUnsure m ahead (Confirm element upto) = DropsUnsure m ahead element upto
 
--- So many of the members are judged: some, and all up to the first of which it isn't known whether it is accepted.
+-- `many` members are judged: at least one, and all up to the first member whose acceptance isn't known
 pub record ServesPrefix (m : Contents) (put members : List Command) (many : ℕ) : Type 0 where
   pub within : many ≤ length members
   pub some : 0 < length members → 0 < many

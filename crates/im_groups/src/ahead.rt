@@ -1,4 +1,4 @@
-//! A command, judged by the memory that the commands ahead of it will leave, before any of them acts.
+//! A command that is judged after the commands ahead of it, before any of them acts.
 ghost use Rattle.std.specs.Prelude.{◌≡◌, ◌+◌, ◌≤◌, ◌<◌, ℕ, length, true, false, IfOk, IfSome, IsNone};
 ghost use Rattle.std.specs.List.{list_any};
 ghost use Rattle.im_types.specs.declared.TheConstants.{LAST};
@@ -15,7 +15,7 @@ use im_types::{Command, Entry, LAST, Op, Refusal, Request, WINDOW};
 
 // ---- bounds
 
-// The bounds of an element's window behind a command that is accepted.
+// Returns the bounds of an element's window after an accepted command.
 fn bounds_behind(bounds: (u64, u64), element: u16, command: &Command) -> (u64, u64)
     requires low { bounds.1 ≤ LAST + 17 }
     ensures { result ≡ bounds_behind element command.now bounds }
@@ -41,7 +41,7 @@ fn bounds_behind(bounds: (u64, u64), element: u16, command: &Command) -> (u64, u
     }
 }
 
-// The bounds of an element's window as the memory has them: none is past the last number by more than one.
+// Returns the bounds of an element's window in the memory. The next number is at most one past the last number of all.
 fn bounds_now(memory: &Memory, element: u16) -> Result<(u64, u64), Refusal>
     ensures bounds { result ≡ bounds memory.now.contents.windows element }
     ensures low { IfOk result (λ b. b.1 ≤ LAST + 1) }
@@ -51,7 +51,7 @@ fn bounds_now(memory: &Memory, element: u16) -> Result<(u64, u64), Refusal>
     memory.window(element)
 }
 
-// The bounds of an element's window behind these commands.
+// Returns the bounds of an element's window after these commands.
 fn bounds_behind_all(
     memory: &Memory,
     ahead: &[Command],
@@ -71,7 +71,8 @@ fn bounds_behind_all(
     Ok(bounds)
 }
 
-// Whether a request is the next one within these bounds, none past the last, and the window has room.
+// Returns whether a request is the next one within these bounds, its number isn't past the last one of all, and the
+// window has room.
 fn is_next(bounds: (u64, u64), request: &Request) -> bool
     requires low { bounds.0 ≤ LAST + 1 }
     ensures { result ≡ is_next bounds request.now }
@@ -81,14 +82,14 @@ fn is_next(bounds: (u64, u64), request: &Request) -> bool
 
 // ---- what is known to be answered
 
-// Whether an operation is answered at once, whatever the cells are.
+// Returns whether an operation is answered at once, whatever the cells are.
 fn is_at_once(op: Op) -> bool
     ensures { result ≡ is_at_once op }
 {
     !matches!(op, Op::Fetch(_) | Op::Take(_))
 }
 
-// Whether a command is the request under an element's number, and is answered at once.
+// Returns whether a command is the request under an element's number, and is answered at once.
 fn asks_at_once(element: u16, number: u64, command: &Command) -> bool
     ensures { result ≡ asks_at_once (record { element = element; number = number }) command.now }
 {
@@ -100,7 +101,7 @@ fn asks_at_once(element: u16, number: u64, command: &Command) -> bool
     }
 }
 
-// Whether one of these commands is the request under an element's number, and is answered at once.
+// Returns whether one of these commands is the request under an element's number, and is answered at once.
 fn is_asked_at_once(ahead: &[Command], element: u16, number: u64) -> bool
     ensures { result ≡ list_any (asks_at_once (record { element = element; number = number })) ahead.now }
 {
@@ -112,7 +113,8 @@ fn is_asked_at_once(ahead: &[Command], element: u16, number: u64) -> bool
     false
 }
 
-// Whether the entry under an element's number is answered already, or will be at once by one of these commands.
+// Returns whether the entry under an element's number is answered already, or will be answered at once by one of these
+// commands.
 fn is_sure(memory: &Memory, ahead: &[Command], element: u16, number: u64) -> bool
     ensures { result ≡ is_sure memory.now.contents ahead.now (record { element = element; number = number }) }
 {
@@ -122,7 +124,7 @@ fn is_sure(memory: &Memory, ahead: &[Command], element: u16, number: u64) -> boo
     }
 }
 
-// Whether that is so of all numbers from one on, below another.
+// Returns whether that holds for all numbers from `from` to `upto - 1`.
 fn are_sure(memory: &Memory, ahead: &[Command], element: u16, from: u64, upto: u64) -> bool
     ensures all { result ≡ true → (number : ℕ) → from ≤ number → number < upto
         → is_sure memory.now.contents ahead.now (record { element = element; number = number }) ≡ true }
@@ -139,7 +141,7 @@ fn are_sure(memory: &Memory, ahead: &[Command], element: u16, from: u64, upto: u
 
 // ---- the judgement
 
-// Whether the memory accepts a command as it is.
+// Returns whether the memory accepts a command as it is.
 fn accepts(memory: &Memory, command: &Command) -> bool
     ensures { result ≡ is_accepted memory.now.contents command.now }
 {
@@ -149,7 +151,7 @@ fn accepts(memory: &Memory, command: &Command) -> bool
     }
 }
 
-// A request, judged behind these commands.
+// Returns whether a request is accepted after these commands.
 fn judge_request(memory: &Memory, ahead: &[Command], request: &Request) -> bool
     requires few { length ahead.now ≤ 16 }
     requires accepted { AreAccepted memory.now.contents ahead.now }
@@ -161,8 +163,8 @@ fn judge_request(memory: &Memory, ahead: &[Command], request: &Request) -> bool
     }
 }
 
-// A confirmation, judged behind these commands; `None` where it would drop an entry of which it isn't known that it is
-// answered.
+// Returns whether a confirmation is accepted after these commands. Returns `None` if it would drop an entry that isn't
+// surely answered.
 fn judge_confirm(memory: &Memory, ahead: &[Command], element: u16, upto: u64) -> Option<bool>
     requires few { length ahead.now ≤ 16 }
     requires some { 0 < length ahead.now }
@@ -185,10 +187,11 @@ fn judge_confirm(memory: &Memory, ahead: &[Command], element: u16, upto: u64) ->
     }
 }
 
-/// Whether a command is accepted behind others that haven't acted yet, 16 at most, each of them accepted in its turn.
+/// Returns whether a command is accepted after at most 16 commands ahead of it. They haven't acted yet, and each of
+/// them is accepted in its turn.
 ///
-/// `None` where that can't be told before they act: the command is a confirmation, and would drop an entry that waits
-/// now, or that a fetch or a take among them makes. With none ahead all is known. (Own.)
+/// It returns `None` if that isn't known before they act. Then the command is a confirmation, and would drop an entry
+/// that waits now, or the entry of a fetch or a take among them. With no command ahead, it never returns `None`. (Own.)
 pub fn judge_behind(memory: &Memory, ahead: &[Command], command: &Command) -> Option<bool>
     requires few { length ahead.now ≤ 16 }
     requires accepted { AreAccepted memory.now.contents ahead.now }

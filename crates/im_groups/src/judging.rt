@@ -1,4 +1,4 @@
-//! The members of a group, judged one after another before any of them acts.
+//! The members of a group, judged in their order before any of them acts.
 ghost use Rattle.std.specs.Prelude.{◌≡◌, ◌+◌, ◌-◌, ◌<◌, ◌≤◌, ◌&&◌, ◌++◌, ◌∷◌, [], length, take, nat_lt, if◌then◌else◌};
 ghost use Rattle.im_groups.specs.Commands.{commands_at};
 ghost use Rattle.im_groups.specs.Ahead.{ServesPrefix};
@@ -8,7 +8,7 @@ use arrayvec::ArrayVec;
 use im_memory::Memory;
 use im_types::Command;
 
-// Adds a member that is accepted and has a place.
+// Adds a member's command if it is accepted and has a place.
 fn add_member(
     accepted: bool,
     left: &mut u64,
@@ -26,10 +26,12 @@ fn add_member(
     }
 }
 
-/// Judges the members of a group, each behind those before it, with places for so many commands: the commands of those
-/// that are accepted and have a place, and how many members were judged. These are all up to the first of which it
-/// can't be told before the others act (`judge_behind`), at least one where there are any, and all where they are
-/// requests. It takes no memory. (Own.)
+/// Judges the members of a group, each after the members before it, with the given number of places for commands. It
+/// puts the commands that are accepted and have a place into `commands`, and returns the number of judged members. It
+/// takes no memory. (Own.)
+///
+/// It stops before the first member whose acceptance isn't known before the others act (`judge_behind`). It judges at
+/// least one member if there are any, and all of them if they are requests.
 pub fn judge_members(
     memory: &Memory,
     places: u64,

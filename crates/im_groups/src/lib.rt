@@ -1,5 +1,5 @@
-//! Groups of commands: what they come to, one after another, and how the members are judged before any of them acts.
-//! The engine puts those on the disk that are accepted, and lets them act behind that.
+//! Groups of commands: the effect of their members in order, and how the members are judged before any of them acts.
+//! The engine first puts the accepted commands on the disk, and then lets them act.
 #![tactic(auto)]
 
 mod ahead;

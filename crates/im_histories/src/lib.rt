@@ -1,5 +1,5 @@
-//! Laws over whole histories of requests, for every list of commands from the empty memory on. They count the
-//! requests of a block's life and know no states of cells.
+//! Laws over whole histories of requests. They hold for every list of commands on an empty memory. They count the
+//! requests of a block's life and use no states of cells.
 #![tactic(auto)]
 
 ghost use Rattle.std.specs.Prelude.{ℕ, List};
@@ -8,16 +8,16 @@ ghost use Rattle.im_types.specs.Contents.{empty_contents};
 ghost use Rattle.im_types.specs.History.{MatchingLaw, ValueLaw};
 ghost use Rattle.im_histories.specs.Entries.{EntryLaw};
 
-/// The value law of I cells: in the end each fetch of a cell in a block's life has the first value that was stored
-/// there in that life, earlier or later than the fetch, or is waiting if none was; but a fetch after the second store
-/// has a clash.
+/// The value law of I cells. Each fetch of a cell in a block's life has, in the end, the first value that is stored
+/// there in that life, earlier or later than the fetch. If no value is stored, it waits. A fetch after the second store
+/// to its cell has a clash.
 pub fn value_law()
     ensures { (cells elements : ℕ) (commands : List Command) → ValueLaw (empty_contents cells elements) commands }
 {}
 
-/// The matching law of M cells: in the end the k-th take of a cell in a block's life has the value of the k-th put to
-/// that cell, or is waiting if there was none. A put where the puts to its cell before it outnumber the takes is a
-/// clash, and from then on each take and each put of that cell.
+/// The matching law of M cells. In the end the k-th take of a cell in a block's life has the value of the k-th put to
+/// that cell. If there is no k-th put, it waits. A put clashes if more puts than takes of its cell came before it. From
+/// that put on, each take and each put of the cell has a clash.
 pub fn matching_law()
     ensures { (cells elements : ℕ) (commands : List Command) → MatchingLaw (empty_contents cells elements) commands }
 {}

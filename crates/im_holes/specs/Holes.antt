@@ -1,4 +1,4 @@
--- Holes among cells: rows of free ones, as long as they can be. (Own.)
+-- Holes among cells: rows of free cells that no free cell can lengthen. (Own.)
 use Rattle.std.specs.Prelude.{◌≡◌, ◌≢◌, ℕ, zero, suc, pred, ◌+◌, ◌-◌, ◌*◌, ◌/◌, ◌^◌, ◌<◌, ◌≤◌, max, List, [], ◌∷◌}
 use Rattle.std.specs.Prelude.{length}
 use Rattle.std.specs.Prelude.{Bool, true, false, Option, None, Some, IsSome, if◌then◌else◌, slice_index_or}
@@ -6,31 +6,31 @@ use Rattle.std.specs.Prelude.{slice_set, nat_lt}
 use Rattle.im_holes.specs.declared.tags.TheConstants.{PART}
 use Rattle.im_holes.specs.Tree.{at_node, leaf_count, row_length, HasMaxima}
 
--- a cell: None of a free one, and of a held one its holder's number; None past the last cell
+-- a cell: None for a free one and past the last cell, and the holder's number for a held one
 abbrev pub holder_at : List (Option ℕ) → ℕ → Option ℕ
 holder_at cells k = slice_index_or cells k None
 
--- whether there is no holder
+-- whether a cell has no holder
 abbrev pub is_free_cell : Option ℕ → Bool
 is_free_cell None = true
 is_free_cell (Some number) = false
 
--- whether a cell is there and free
+-- whether a cell exists and is free
 abbrev pub free_at : List (Option ℕ) → ℕ → Bool
 free_at cells k = is_free_cell (slice_index_or cells k (Some 0))
 
--- n cells from base on are there and held
+-- n cells from base on exist and are held
 abbrev pub AreHeld : List (Option ℕ) → ℕ → ℕ → Type 0
 AreHeld cells base n = (k : ℕ) → base ≤ k → k < base + n → IsSome (holder_at cells k)
 
--- n cells from base on became held, the first one with number 0; no other changed
+-- n cells from base on became held, the first one with the number 0, and no other cell changed
 pub record AreTakenFrom (old new : List (Option ℕ)) (base n : ℕ) : Type 0 where
   pub count : length new ≡ length old
   pub held : AreHeld new base n
   pub first : holder_at new base ≡ Some 0
   pub others : (k : ℕ) → (base ≤ k → k < base + n → ⊥) → holder_at new k ≡ holder_at old k
 
--- n cells from base on are a hole: all free, and neither the cell before them is nor the one behind them
+-- n cells from base on are a hole: all are free, and neither the cell before them nor the cell after them is
 pub record IsHole (free : ℕ → Bool) (base n : ℕ) : Type 0 where
   pub some : 0 < n
   pub each : (k : ℕ) → base ≤ k → k < base + n → free k ≡ true
@@ -45,21 +45,21 @@ mark_at begins k = slice_index_or begins k false
 abbrev pub kept_at : List ℕ → ℕ → ℕ
 kept_at tags k = slice_index_or tags k 0
 
--- the length of the hole that begins at a cell, by its mark and its number; 0 of none
+-- the length of the hole that begins at a cell, by its mark and its number; 0 if none begins there
 abbrev pub length_by : Bool → ℕ → ℕ
 length_by false n = 0
 length_by true n = n
 
--- the length of the hole that begins at a cell; 0 of none
+-- the length of the hole that begins at a cell; 0 if none does
 abbrev pub begin_at : List Bool → List ℕ → ℕ → ℕ
 begin_at begins tags k = length_by (mark_at begins k) (kept_at tags k)
 
--- a cell with this number, where so many free ones begin with it
+-- a cell: free while a run of free cells has cells left, else held with this number
 abbrev pub cell_in_run : ℕ → ℕ → Option ℕ
 cell_in_run zero tag = Some tag
 cell_in_run (suc n) tag = None
 
--- the cells that marks and numbers stand for, the first so many of which are free
+-- the cells that marks and numbers stand for; the first n of them are free
 abbrev pub cells_from : ℕ → List Bool → List ℕ → List (Option ℕ)
 cells_from n [] tags = []
 cells_from n (begin ∷ begins) [] = []
@@ -70,33 +70,33 @@ cells_from n (begin ∷ begins) (tag ∷ tags) =
 unfoldable pub told_cells : List Bool → List ℕ → List (Option ℕ)
 told_cells begins tags = cells_from 0 begins tags
 
--- with a hole at a cell
+-- the marks with a hole that begins at a cell
 abbrev pub marked : List Bool → ℕ → List Bool
 marked begins base = slice_set begins base true
 
--- with the length of a hole at its first cell and at its last one
+-- the numbers with the length of a hole at its first and its last cell
 abbrev pub tagged : List ℕ → ℕ → ℕ → List ℕ
 tagged tags base n = slice_set (slice_set tags base n) (base + n - 1) n
 
--- without the first n cells of a hole of so many: what is left of it is a hole
+-- the marks after the first n cells of a hole are taken; the rest of it is a hole
 abbrev pub cut_marks : List Bool → ℕ → ℕ → ℕ → List Bool
 cut_marks begins base n length =
     if nat_lt n length then marked (slice_set begins base false) (base + n) else slice_set begins base false
 
--- the same of the lengths
+-- the same for the lengths
 abbrev pub cut_tags : List ℕ → ℕ → ℕ → ℕ → List ℕ
 cut_tags tags base n length =
     if nat_lt n length then tagged (slice_set tags base 0) (base + n) (length - n) else slice_set tags base 0
 
--- with a hole that begins at a cell, and none at a later one
+-- the marks with a hole that begins at one cell, and none that begins at the other
 abbrev pub joined_marks : List Bool → ℕ → ℕ → List Bool
 joined_marks begins from end = marked (slice_set begins end false) from
 
--- the same of the lengths
+-- the same for the lengths
 abbrev pub joined_tags : List ℕ → ℕ → ℕ → List ℕ
 joined_tags tags from to = tagged tags from (to - from)
 
--- the hole that ends before a cell, by its tags, begins here; at the cell itself where none ends before it
+-- the hole that ends right before a cell, by its tags, begins here; if none ends there, this is the cell itself
 pub record MeetsHole (begins : List Bool) (tags : List ℕ) (base from : ℕ) : Type 0 where
   pub upto : from ≤ base
   pub mark : from < base → mark_at begins from ≡ true
@@ -104,8 +104,8 @@ pub record MeetsHole (begins : List Bool) (tags : List ℕ) (base from : ℕ) : 
   pub none : from ≡ base → (h : ℕ) → h < base → mark_at begins h ≡ true → kept_at tags h ≡ base - h
       → kept_at tags (base - 1) ≡ base - h → ⊥
 
--- boundary tags: holes, and nothing else, have a mark where they begin; the first cell and the last one have their
--- length
+-- boundary tags: a cell is marked if and only if a hole begins there, and the first and the last cell of a hole have
+-- its length
 pub record HasTags (free : ℕ → Bool) (begins : List Bool) (tags : List ℕ) : Type 0 where
   pub own : (k : ℕ) → mark_at begins k ≡ true → IsHole free k (kept_at tags k)
   pub mark : (base n : ℕ) → IsHole free base n → mark_at begins base ≡ true
@@ -113,12 +113,12 @@ pub record HasTags (free : ℕ → Bool) (begins : List Bool) (tags : List ℕ) 
   pub last : (base n : ℕ) → IsHole free base n → kept_at tags (base + n - 1) ≡ n
   pub past : (k : ℕ) → length tags ≤ k → free k ≡ false
 
--- a number is the largest of those of a part
+-- a number is the largest length of a part
 pub record IsLargest (lengths : ℕ → ℕ) (part largest : ℕ) : Type 0 where
   pub over : (k : ℕ) → k / PART ≡ part → lengths k ≤ largest
   pub reached : 0 < largest → (k : ℕ) × (k / PART ≡ part) × (lengths k ≡ largest)
 
--- the first cell of a part where so long a hole begins
+-- the first cell of a part where a hole of at least n cells begins
 pub record IsLeast (lengths : ℕ → ℕ) (n part at : ℕ) : Type 0 where
   pub inside : at / PART ≡ part
   pub room : n ≤ lengths at
@@ -128,7 +128,7 @@ pub record IsLeast (lengths : ℕ → ℕ) (n part at : ℕ) : Type 0 where
 abbrev pub HasLeaf : (ℕ → ℕ) → List ℕ → ℕ → Type 0
 HasLeaf lengths nodes j = IsLargest lengths j (at_node nodes (leaf_count nodes + j))
 
--- the tree of the lengths that begin, with the leaves of two cells anew
+-- the tree of lengths after the leaves of two cells are renewed
 pub record IsRenewed (begins : List Bool) (tags old new : List ℕ) (x y : ℕ) : Type 0 where
   pub count : length new ≡ length old
   pub inner : HasMaxima new
@@ -137,7 +137,7 @@ pub record IsRenewed (begins : List Bool) (tags old new : List ℕ) (x y : ℕ) 
   pub others : (j : ℕ) → j ≢ x / PART → j ≢ y / PART → at_node new (leaf_count old + j) ≡ at_node old
       (leaf_count old + j)
 
--- what is kept of all cells
+-- the marks, the numbers and the tree of all cells agree
 pub record AreHoles (begins : List Bool) (tags nodes : List ℕ) : Type 0 where
   pub count : length begins ≡ length tags
   pub few : length tags < 2 ^ 32

@@ -5,12 +5,12 @@ use Rattle.std.specs.Prelude.{◌≡◌, ◌≢◌, ℕ, zero, suc, ◌+◌, ◌
 abbrev pub at_node : List ℕ → ℕ → ℕ
 at_node nodes k = slice_index_or nodes k 0
 
--- how many leaves a tree of this height has
+-- the number of leaves of a tree of this height
 abbrev pub row_length : ℕ → ℕ
 row_length zero = 1
 row_length (suc height) = 2 * row_length height
 
--- how many leaves a tree of so many nodes has, node 0 being none of it
+-- the number of leaves of a tree with these nodes; node 0 is not used
 abbrev pub leaf_count : List ℕ → ℕ
 leaf_count nodes = length nodes / 2
 
@@ -22,7 +22,8 @@ IsLarger nodes k = at_node nodes k ≡ max (at_node nodes (2 * k)) (at_node node
 abbrev pub HasMaxima : List ℕ → Type 0
 HasMaxima nodes = (k : ℕ) → 0 < k → k < leaf_count nodes → IsLarger nodes k
 
--- a tree of maxima: twice as many nodes as leaves, each of the others the larger of the two below it
+-- a tree of maxima: it has twice as many nodes as leaves, and each node above the leaves is the larger of the two below
+-- it
 pub record IsMaxTree (nodes : List ℕ) : Type 0 where
   pub even : length nodes ≡ 2 * leaf_count nodes
   pub inner : HasMaxima nodes
@@ -34,7 +35,7 @@ pub record IsPut (old new : List ℕ) (leaf number : ℕ) : Type 0 where
   pub here : at_node new (leaf_count old + leaf) ≡ number
   pub others : (j : ℕ) → j ≢ leaf → at_node new (leaf_count old + j) ≡ at_node old (leaf_count old + j)
 
--- no leaf changed since, and each other node but the one above this is the larger of the two below it
+-- no leaf changed, and each other node, except the one right above this one, is the larger of the two below it
 pub record IsUpTo (old new : List ℕ) (k : ℕ) : Type 0 where
   pub even : length old ≡ 2 * leaf_count old
   pub count : length new ≡ length old
@@ -42,7 +43,7 @@ pub record IsUpTo (old new : List ℕ) (k : ℕ) : Type 0 where
   pub inner : (i : ℕ) → 0 < i → i < leaf_count old → i ≢ k / 2 → IsLarger new i
   pub kept : (i : ℕ) → leaf_count old ≤ i → at_node new i ≡ at_node old i
 
--- no leaf changed since, and each other node is the larger of the two below it
+-- no leaf changed, and each other node is the larger of the two below it
 pub record IsUp (old new : List ℕ) : Type 0 where
   pub count : length new ≡ length old
   pub inner : HasMaxima new
@@ -54,7 +55,7 @@ pub record IsFirst (nodes : List ℕ) (n leaf : ℕ) : Type 0 where
   pub room : n ≤ at_node nodes (leaf_count nodes + leaf)
   pub before : (j : ℕ) → j < leaf → at_node nodes (leaf_count nodes + j) < n
 
--- a tree with so many leaves, or up to twice as many, that are all 0
+-- a tree with at least this many leaves, all 0; the number of its leaves is a power of two
 pub record IsZeroTree (nodes : List ℕ) (leaves : ℕ) : Type 0 where
   pub height : ℕ
   pub power : leaf_count nodes ≡ row_length height

@@ -11,15 +11,15 @@ use crate::tree::{first_from, node, room_for};
 use std::alloc::{AllocError, Global};
 use std::marker::Model;
 
-/// Which cells are free, and a number for each cell that is held, which its holder may use. Cells are numbered from 0.
-/// Once made it takes no more memory: five bytes a cell, and one or two for the tree.
+/// The free cells of a table, and a number for each held cell, which the holder may use. Cells are numbered from 0. It
+/// takes five bytes for each cell, and one or two for the tree. It takes no more memory once it is made.
 #[derive(Drop)]
 pub struct Holes {
     // Whether a hole begins at the cell.
     begins: Vec<bool>,
-    // The number of a held cell; of a hole's first cell and its last one its length.
+    // The number of each held cell. The first and the last cell of a hole have the hole's length.
     tags: Vec<u32>,
-    // A tree of the longest hole that begins among the cells of a leaf.
+    // A tree over the longest hole that begins in each leaf's cells.
     nodes: Vec<u32>,
 }
 
@@ -34,7 +34,7 @@ impl Model for Holes {
     ghost invariant = { λ h. AreHoles h.begins.items h.tags.items h.nodes.items };
 }
 
-// The least base where `n` cells are free.
+// Returns the least base where `n` cells are free, or `None` if there is none.
 fn find(begins: &[bool], tags: &[u32], nodes: &[u32], n: u32) -> Option<u32>
     requires holes { AreHoles begins.now tags.now nodes.now }
     requires some { 0 < n }
@@ -47,7 +47,7 @@ fn find(begins: &[bool], tags: &[u32], nodes: &[u32], n: u32) -> Option<u32>
     Some(first_in(begins, tags, first_from(nodes, n), n))
 }
 
-// Takes the first `n` cells of the hole that begins at a cell.
+// Takes the first `n` cells of the hole that begins at `base`.
 fn take_at(begins: &mut [bool], tags: &mut [u32], nodes: &mut [u32], base: u32, n: u32)
     requires holes { AreHoles begins.old tags.old nodes.old }
     requires some { 0 < n }
@@ -61,7 +61,7 @@ fn take_at(begins: &mut [bool], tags: &mut [u32], nodes: &mut [u32], base: u32, 
     renew_two(nodes, begins, tags, base, rest);
 }
 
-// Makes `n` cells from one on free, which are all held.
+// Frees `n` held cells from `base` on.
 fn give_at(begins: &mut [bool], tags: &mut [u32], nodes: &mut [u32], base: u32, n: u32)
     requires holes { AreHoles begins.old tags.old nodes.old }
     requires some { 0 < n }
@@ -78,7 +78,7 @@ fn give_at(begins: &mut [bool], tags: &mut [u32], nodes: &mut [u32], base: u32, 
 }
 
 impl Holes {
-    /// So many cells, all of them held, each with number 0. `AllocError` where the room for them is refused.
+    /// Makes the given number of cells, all held, each with number 0. Returns `AllocError` if their memory is refused.
     pub fn new(alloc: Global, cells: u32) -> Result<Holes, AllocError>
         ensures { IfOk result (λ holes. holes ≡ replicate cells (Some 0)) }
     {
@@ -92,14 +92,14 @@ impl Holes {
         })
     }
 
-    /// How many cells there are.
+    /// Returns the number of cells.
     pub fn cells(&self) -> u32
         ensures { result ≡ length self.now }
     {
         count(self.tags.as_slice())
     }
 
-    /// The number of a cell that is held.
+    /// Returns the number of a held cell.
     #[inline(always)]
     pub fn number(&self, k: u32) -> u32
         requires { IsSome (holder_at self.now k) }
@@ -108,7 +108,7 @@ impl Holes {
         tag(self.tags.as_slice(), k as usize)
     }
 
-    /// Gives a cell that is held another number.
+    /// Gives a held cell another number.
     pub fn set_number(&mut self, k: u32, number: u32)
         requires { IsSome (holder_at self.old k) }
         ensures { self.new ≡ slice_set self.old k (Some number) }
@@ -116,7 +116,7 @@ impl Holes {
         self.tags[k as usize] = number;
     }
 
-    /// The least base where `n` cells, at least one, are free; `None` where there is no such base.
+    /// Returns the least base where `n` cells are free, or `None` if there is none. Here `n` is at least 1.
     pub fn find(&self, n: u32) -> Option<u32>
         requires { 0 < n }
         ensures { result ≡ place n self.now }
@@ -129,8 +129,9 @@ impl Holes {
         )
     }
 
-    /// Takes `n` cells, at least one, at the least base where so many are free, and answers it; `None`, and nothing
-    /// changed, where there is no such base. The number of the first cell is 0; those of the others may be any.
+    /// Takes `n` cells at the least base where `n` cells are free, and returns that base. Here `n` is at least 1. If
+    /// there is no such base, it returns `None` and changes nothing. The first cell gets the number 0, and the others
+    /// may get any number.
     pub fn take(&mut self, n: u32) -> Option<u32>
         requires { 0 < n }
         ensures place { result ≡ place n self.old }
@@ -153,7 +154,7 @@ impl Holes {
         Some(base)
     }
 
-    /// Makes `n` cells from one on free again, at least one, which are all held.
+    /// Frees `n` cells from `base` on, which are all held. Here `n` is at least 1.
     pub fn give(&mut self, base: u32, n: u32)
         requires some { 0 < n }
         requires held { AreHeld self.old base n }

@@ -1,9 +1,9 @@
-//! Which rows of cells are free, and the least place where so many are.
+//! The free rows of cells, and the least place where enough cells are free.
 //!
-//! A hole is a row of free cells, as long as it can be. Its first cell and its last one have its length (boundary
-//! tags, Knuth, The Art of Computer Programming 1, section 2.5), so holes that meet are joined without a search, and a
-//! tree of the lengths leads to the first hole that is long enough. Contracts see a list of cells: none for a free
-//! one, and the holder's number of one that is held.
+//! A hole is a row of free cells that no free cell can lengthen. Its first and its last cell have its length (boundary
+//! tags, Knuth, The Art of Computer Programming 1, section 2.5). So holes that meet are joined without a search. A tree
+//! of the lengths leads to the first hole that is long enough. Contracts see a list of cells: none for a free cell, and
+//! the holder's number for a held one.
 //!
 //! Stands on `im_types`, and its proofs on `im_laws`.
 #![tactic(auto)]

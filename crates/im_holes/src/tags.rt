@@ -1,4 +1,4 @@
-//! Boundary tags: a mark at the cell where a hole begins, and its length there and at its last cell.
+//! Boundary tags: a mark at the first cell of a hole, and the hole's length at its first and its last cell.
 ghost use Rattle.std.specs.Prelude.{◌≡◌, ℕ, false, slice_set, ◌+◌, ◌/◌, ◌<◌, ◌≤◌, ◌^◌, length, replicate};
 ghost use Rattle.std.specs.Prelude.{IfOk};
 ghost use Rattle.im_holes.specs.Tree.{leaf_count, IsMaxTree};
@@ -9,24 +9,24 @@ ghost use Rattle.im_holes.specs.Holes.{MeetsHole, IsRenewed};
 use crate::tree::put;
 use std::alloc::{AllocError, Global};
 
-/// How many cells a leaf of the tree has.
+/// The number of cells in a leaf of the tree.
 pub(crate) const PART: usize = 8;
 
-/// Marks of so many cells, at none of which a hole begins.
+/// Makes marks for the given number of cells. No hole begins at any of them.
 pub(crate) fn no_marks(alloc: Global, cells: usize) -> Result<Vec<bool>, AllocError>
     ensures { IfOk result (λ begins. begins.items ≡ replicate cells false) }
 {
     vec![in alloc; false; cells]
 }
 
-/// Numbers of so many cells, all of them 0.
+/// Makes the numbers of the given number of cells, all 0.
 pub(crate) fn no_numbers(alloc: Global, cells: usize) -> Result<Vec<u32>, AllocError>
     ensures { IfOk result (λ tags. tags.items ≡ replicate cells 0) }
 {
     vec![in alloc; 0u32; cells]
 }
 
-/// The number that is kept for a cell.
+/// Returns the number that is kept for a cell.
 #[inline(always)]
 pub(crate) fn tag(tags: &[u32], k: usize) -> u32
     requires { k < length tags.now }
@@ -35,7 +35,7 @@ pub(crate) fn tag(tags: &[u32], k: usize) -> u32
     tags[k]
 }
 
-/// How many cells there are.
+/// Returns the number of cells.
 pub(crate) fn count(tags: &[u32]) -> u32
     requires { length tags.now < 2 ^ 32 }
     ensures { result ≡ length tags.now }
@@ -43,7 +43,7 @@ pub(crate) fn count(tags: &[u32]) -> u32
     tags.len() as u32
 }
 
-/// The length of the hole that begins at a cell; 0 of none.
+/// Returns the length of the hole that begins at a cell, or 0 if none does.
 pub(crate) fn begin(begins: &[bool], tags: &[u32], k: usize) -> u32
     requires marks { k < length begins.now }
     requires tags { k < length tags.now }
@@ -52,7 +52,7 @@ pub(crate) fn begin(begins: &[bool], tags: &[u32], k: usize) -> u32
     if begins[k] { tags[k] } else { 0 }
 }
 
-// The length of the longest hole that begins among the cells of a leaf.
+// Returns the length of the longest hole that begins among the cells of a leaf.
 fn longest_in(begins: &[bool], tags: &[u32], leaf: usize) -> u32
     requires count { length begins.now ≡ length tags.now }
     requires few { leaf < 2 ^ 32 }
@@ -65,7 +65,7 @@ fn longest_in(begins: &[bool], tags: &[u32], leaf: usize) -> u32
     longest
 }
 
-/// The first cell of a leaf where so long a hole begins; there is one.
+/// Returns the first cell of a leaf where a hole of at least `n` cells begins. The caller knows that there is one.
 pub(crate) fn first_in(begins: &[bool], tags: &[u32], leaf: usize, n: u32) -> u32
     requires count { length begins.now ≡ length tags.now }
     requires few { length tags.now < 2 ^ 32 }
@@ -80,7 +80,7 @@ pub(crate) fn first_in(begins: &[bool], tags: &[u32], leaf: usize, n: u32) -> u3
     at as u32
 }
 
-// Marks a hole of `n` cells.
+// Marks a hole of `n` cells that begins at `base`.
 fn mark_hole(begins: &mut [bool], tags: &mut [u32], base: usize, n: u32)
     requires some { 0 < n }
     requires marks { base < length begins.old }
@@ -93,7 +93,7 @@ fn mark_hole(begins: &mut [bool], tags: &mut [u32], base: usize, n: u32)
     tags[base + n as usize - 1] = n;
 }
 
-/// Takes `n` cells from the front of the hole that begins at a cell; its first cell gets number 0.
+/// Takes `n` cells from the front of the hole that begins at `base`. The cell at `base` gets the number 0.
 pub(crate) fn cut(begins: &mut [bool], tags: &mut [u32], base: usize, n: u32)
     requires some { 0 < n }
     requires count { length begins.old ≡ length tags.old }
@@ -110,8 +110,9 @@ pub(crate) fn cut(begins: &mut [bool], tags: &mut [u32], base: usize, n: u32)
     }
 }
 
-/// Where the hole begins that ends before a cell; the cell itself where none does. What the cell before it has for a
-/// number is a hole's length only where a hole of that length begins so far before.
+/// Returns the first cell of the hole that ends right before `base`, or `base` if no hole ends there. The number of the
+/// cell before `base` may also be a holder's. It is a hole's length only if a hole of that length begins at the cell
+/// that many cells before `base`.
 pub(crate) fn front_of(begins: &[bool], tags: &[u32], base: usize) -> usize
     requires count { length begins.now ≡ length tags.now }
     requires inside { base ≤ length tags.now }
@@ -131,7 +132,7 @@ pub(crate) fn front_of(begins: &[bool], tags: &[u32], base: usize) -> usize
     base
 }
 
-/// Where the hole ends that begins at a cell; at the cell itself where none does.
+/// Returns the cell after the hole that begins at `end`, or `end` if no hole begins there.
 pub(crate) fn behind_of(begins: &[bool], tags: &[u32], end: usize) -> usize
     requires count { length begins.now ≡ length tags.now }
     requires few { length tags.now < 2 ^ 32 }
@@ -144,7 +145,7 @@ pub(crate) fn behind_of(begins: &[bool], tags: &[u32], end: usize) -> usize
     end + begin(begins, tags, end) as usize
 }
 
-// Takes a mark away, if there is such a cell.
+// Takes away the mark of a cell, if there is such a cell.
 fn unmark(begins: &mut [bool], at: usize)
     ensures { begins.new ≡ slice_set begins.old at false }
 {
@@ -153,7 +154,7 @@ fn unmark(begins: &mut [bool], at: usize)
     }
 }
 
-/// Makes the cells from one up to another one a hole, in which one began at `end`.
+/// Makes the cells `from` to `to - 1` one hole. A hole may have begun at `end`, and its mark goes.
 pub(crate) fn join(begins: &mut [bool], tags: &mut [u32], from: usize, end: usize, to: usize)
     requires count { length begins.old ≡ length tags.old }
     requires some { from < end }
@@ -167,7 +168,7 @@ pub(crate) fn join(begins: &mut [bool], tags: &mut [u32], from: usize, end: usiz
     mark_hole(begins, tags, from, (to - from) as u32);
 }
 
-// Makes the leaf that has a cell anew, and the nodes above it.
+// Renews the leaf of a cell and the nodes above it.
 fn renew(nodes: &mut [u32], begins: &[bool], tags: &[u32], at: usize)
     requires count { length begins.now ≡ length tags.now }
     requires few { at < 2 ^ 32 }
@@ -178,7 +179,7 @@ fn renew(nodes: &mut [u32], begins: &[bool], tags: &[u32], at: usize)
     put(nodes, at / PART, longest_in(begins, tags, at / PART));
 }
 
-/// Makes the leaves that have two cells anew, and the nodes above them.
+/// Renews the leaves of two cells and the nodes above them.
 pub(crate) fn renew_two(
     nodes: &mut [u32],
     begins: &[bool],

@@ -1,12 +1,12 @@
-//! A tree of maxima, complete and in one list: node 1 is its root, and the nodes below node k are 2 k and 2 k + 1.
-//! What is at a leaf is the caller's.
+//! A tree of maxima, complete and in one list. Node 1 is its root, and the nodes below node k are 2 k and 2 k + 1. The
+//! caller gives the numbers of the leaves.
 ghost use Rattle.std.specs.Prelude.{◌≡◌, ℕ, false, slice_set, max, ◌+◌, ◌*◌, ◌<◌, ◌≤◌, ◌^◌, length, IfOk};
 ghost use Rattle.im_holes.specs.Tree.{at_node, row_length, leaf_count, IsMaxTree, IsPut, IsUp, IsUpTo, IsFirst};
 ghost use Rattle.im_holes.specs.Tree.{IsZeroTree};
 
 use std::alloc::{AllocError, Global};
 
-/// A node.
+/// Returns the number at a node.
 pub(crate) fn node(nodes: &[u32], k: usize) -> u32
     requires { k < length nodes.now }
     ensures { result ≡ at_node nodes.now k }
@@ -14,7 +14,7 @@ pub(crate) fn node(nodes: &[u32], k: usize) -> u32
     nodes[k]
 }
 
-/// Room for a tree with so many leaves, or up to twice as many, all of them 0.
+/// Makes a tree with at least `leaves` leaves, all 0. The number of its leaves is a power of two.
 pub(crate) fn room_for(alloc: Global, leaves: usize) -> Result<Vec<u32>, AllocError>
     requires { leaves < 2 ^ 31 }
     ensures { IfOk result (λ nodes. IsZeroTree nodes.items leaves) }
@@ -26,7 +26,7 @@ pub(crate) fn room_for(alloc: Global, leaves: usize) -> Result<Vec<u32>, AllocEr
     vec![in alloc; 0u32; 2 * count]
 }
 
-// Makes a node the larger of the two below it; whether that changed it.
+// Sets a node to the larger of the two nodes below it. Returns whether that changed the node.
 fn join_node(nodes: &mut [u32], k: usize) -> bool
     requires { 2 * k + 1 < length nodes.old }
     ensures joined { nodes.new ≡
@@ -39,7 +39,7 @@ fn join_node(nodes: &mut [u32], k: usize) -> bool
     new != old
 }
 
-// Makes the nodes above a node anew, up to one that stays as it was.
+// Renews the nodes above a node, up to the first one that stays as it was.
 fn renew_path(nodes: &mut [u32], from: usize)
     requires { IsUpTo nodes.old nodes.old from }
     ensures { IsUp nodes.old nodes.new }
@@ -64,7 +64,7 @@ pub(crate) fn put(nodes: &mut [u32], leaf: usize, new: u32)
     renew_path(nodes, from);
 }
 
-/// The first leaf with at least this number, where the root has it.
+/// Returns the first leaf with at least the number `n`. The root must have at least `n`.
 pub(crate) fn first_from(nodes: &[u32], n: u32) -> usize
     requires power { (height : ℕ) × (leaf_count nodes.now ≡ row_length height) }
     requires tree { IsMaxTree nodes.now }

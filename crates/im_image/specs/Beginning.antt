@@ -1,9 +1,9 @@
--- How an image begins. (Own.)
+-- The beginning of an image. (Own.)
 use Rattle.std.specs.Prelude.{◌≡◌, ◌≤◌, ℕ, List, length}
 use Rattle.im_types.specs.Header.{header_place}
 use Rattle.im_image.specs.declared.in_force.Beginning.{Beginning}
 
--- this is how the file begins
+-- this is the beginning of the file
 pub record IsBeginning (b : Beginning) (file : List ℕ) : Type 0 where
   pub length_is : b.length ≡ length file
   pub room : 8192 ≤ length file

@@ -34,7 +34,7 @@ SpellsSessions r i page =
     Spells (session_record_bytes layout_in_use) (on_a_page (session_record_bytes layout_in_use))
     (session_bytes layout_in_use) (FitsWindow layout_in_use) new_window r.windows i page
 
--- page i of an area, which has first the pages of cells, then those of waiter nodes, then those of sessions
+-- page i of an area: first come the pages of cells, then those of waiter nodes, then those of sessions
 pub record IsAreaPage (s : Sizes) (r : Records) (i : ℕ) (page : List ℕ) : Type 0 where
   pub cells : i < cell_pages s → SpellsCells s r i page
   pub nodes : (n : ℕ) → i ≡ cell_pages s + n → n < node_pages layout_in_use s → SpellsNodes s r n page
@@ -45,13 +45,13 @@ pub record IsAreaPage (s : Sizes) (r : Records) (i : ℕ) (page : List ℕ) : Ty
 abbrev pub AreAreaPages : Sizes → Records → (ℕ → List ℕ) → Type 0
 AreAreaPages s r page = (i : ℕ) → i < area_pages layout_in_use s → IsAreaPage s r i (page i)
 
--- there are as many records of each kind as these sizes say
+-- the numbers of records of each kind are those of these sizes
 pub record AreCounted (s : Sizes) (r : Records) : Type 0 where
   pub cells : length r.cells ≡ s.cells
   pub nodes : length r.nodes ≡ node_count layout_in_use s
   pub windows : length r.windows ≡ s.elements
 
--- the bytes that are a page of the one memory's records are that page of the other's
+-- bytes that are this page of the one memory's records are the same page of the other's
 pub record SameOn (s : Sizes) (old new : Records) (page : ℕ) : Type 0 where
   pub to : (bytes : List ℕ) → IsAreaPage s old page bytes → IsAreaPage s new page bytes
   pub from : (bytes : List ℕ) → IsAreaPage s new page bytes → IsAreaPage s old page bytes

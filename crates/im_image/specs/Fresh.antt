@@ -1,4 +1,4 @@
--- The image of a memory with no block and no entry, as it is made. (Own.)
+-- A new image: its memory has no block and no entry. (Own.)
 use Rattle.std.specs.Prelude.{ℕ, zero, suc, ◌+◌, ◌*◌, ◌-◌, List, [], ◌∷◌, ◌++◌}
 use Rattle.im_types.specs.declared.TheConstants.{NONE}
 use Rattle.im_types.specs.Contents.{new_window}
@@ -12,20 +12,20 @@ use Rattle.im_types.specs.declared.records.NodeRecord.{NodeRecord}
 use Rattle.im_types.specs.declared.records.NodeRecord.TheVariants.{Free as FreeNode}
 use Rattle.im_types.specs.Records.{cell_bytes, node_bytes, session_bytes}
 
--- bytes so many times
+-- these bytes, repeated
 abbrev pub repeated : ℕ → List ℕ → List ℕ
 repeated zero bytes = []
 repeated (suc n) bytes = bytes ++ repeated n bytes
 
--- a free cell as it is made
+-- a new free cell
 abbrev pub new_cell : CellRecord
 new_cell = FreeCell 0 NONE
 
--- a free node as it is made
+-- a new free node
 abbrev pub new_node : NodeRecord
 new_node = FreeNode NONE
 
--- so many pages that begin with a record so many times
+-- this many pages, which begin with a record repeated
 abbrev pub new_row : ℕ → ℕ → List ℕ → ℕ → List ℕ
 new_row pages size record_bytes count = repeated count record_bytes ++ zeros (page_bytes * pages - size * count)
 

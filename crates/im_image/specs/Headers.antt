@@ -25,15 +25,15 @@ IsHeaderFault e = (e ≡ WrongLength) ⊎ (e ≡ NoHeader) ⊎ (e ≡ BadHeader)
 abbrev pub IsImageFault : Refusal → Type 0
 IsImageFault e = IsHeaderFault e ⊎ (e ≡ BadPage) ⊎ (e ≡ BadRecord)
 
--- why the area in force may not be read: it shows no memory, or want of memory, or a call of the disk that failed
+-- why the area in force can't be read: it shows no memory, memory is short, or a call of the disk failed
 abbrev pub MayRefuseArea : Refusal → Type 0
 MayRefuseArea e = (e ≡ BadPage) ⊎ (e ≡ NoMemory) ⊎ (e ≡ Device)
 
--- why an image may not be read: a fault of it, or want of memory, or a call of the disk that failed
+-- why an image can't be read: it has a fault, memory is short, or a call of the disk failed
 abbrev pub MayRefuseImage : Refusal → Type 0
 MayRefuseImage e = (e ≡ NoMemory) ⊎ (e ≡ Device) ⊎ IsImageFault e
 
--- why an image may not be opened: why it may not be read, or that it is of the first version
+-- why an image can't be opened: it can't be read, or it is of the first version
 abbrev pub MayRefuseOpening : Refusal → Type 0
 MayRefuseOpening e = (e ≡ OldVersion) ⊎ MayRefuseImage e
 
@@ -47,8 +47,8 @@ beginning_fault l length zero one =
     or_else (place_fault l zero one)
     (if length == image_length l (header_in (place_in_force zero one)).sizes then None else Some WrongLength)
 
--- why a file that begins so isn't opened: a sound header of the first version is in force; or that is none, and this is
--- the beginning's fault
+-- why a file with this beginning isn't opened: a sound header of the first version is in force, or else this is the
+-- beginning's fault
 abbrev pub MayNotOpen : ℕ → List ℕ → List ℕ → Refusal → Type 0
 MayNotOpen length zero one e =
     (((header_in (place_in_force zero one)).version == 1) ≡ true)

@@ -1,5 +1,5 @@
--- What is read of an image: its header in force, the memory that its area shows, its journal, and the memory after
--- that. (Own.)
+-- What is read of an image: its header in force, the memory that its area shows, its journal, and the memory after the
+-- journal. (Own.)
 use Rattle.std.specs.Prelude.{◌≡◌, ℕ, ◌≤◌, List, length, None, Ok}
 use Rattle.im_types.specs.declared.TheConstants.{LAST}
 use Rattle.im_types.specs.Contents.{Contents}
@@ -13,8 +13,7 @@ use Rattle.im_journal.specs.Holding.{JournalState, Holds}
 use Rattle.im_image.specs.Headers.{seen}
 use Rattle.im_image.specs.declared.reading.Image.{Image}
 
--- the journal is the one behind this header: its ring lies where the header's version and sizes say, and its run begins
--- at the header's count
+-- the journal of this header: the header's version and sizes give its ring, and its run begins at the header's count
 pub record JournalOf (h : Header) (j : JournalState) : Type 0 where
   pub ring : j.ring ≡ ring_of (layout_named h.version) h.sizes
   pub first : j.first ≡ h.count
@@ -25,7 +24,8 @@ pub record HasSizes (s : Sizes) (m : Contents) : Type 0 where
   pub cells : length m.cells ≡ s.cells
   pub elements : length m.windows ≡ s.elements
 
--- this is the number of one of the two areas of an image of these sizes, and a file that is honest is as long as one
+-- this is the number of one of the two areas of an image of these sizes, and an honest file has the length of such an
+-- image
 pub record IsAreaOf (l : Layout) (s : Sizes) (area : ℕ) (Honest : Type 0) (file : List ℕ) : Type 0 where
   pub number : area ≤ 1
   pub long : Honest → length file ≡ image_length l s
@@ -34,7 +34,7 @@ pub record IsAreaOf (l : Layout) (s : Sizes) (area : ℕ) (Honest : Type 0) (fil
 abbrev pub HasFirstCells : Layout → Sizes → ℕ → List ℕ → List CellRecord → Type 0
 HasFirstCells l s area file row = AreFirstCells l s (area_of l s area file) row
 
--- where the one row is the first cells of one of the two areas of a file, so is the other
+-- if the one row is the first cells of an area of a file, so is the other
 abbrev pub StayFirstCells : Layout → Sizes → ℕ → List ℕ → List CellRecord → List CellRecord → Type 0
 StayFirstCells l s area file old new = HasFirstCells l s area file old → HasFirstCells l s area file new
 
@@ -42,13 +42,13 @@ StayFirstCells l s area file old new = HasFirstCells l s area file old → HasFi
 abbrev pub HasRecords : Layout → Sizes → ℕ → List ℕ → Records → Type 0
 HasRecords l s area file r = SpellsArea l s (area_of l s area file) r
 
--- a file is sound up to its headers, of which this one is in force
+-- a file is sound up to its headers, and this one is in force
 pub record HasHeader (h : Header) (file : List ℕ) : Type 0 where
   -- its length and its headers have no fault
   pub good : header_fault (layout_in file) file ≡ None
   pub is : h ≡ header_of file
 
--- a file is sound up to its area in force, which shows this memory
+-- a file is sound up to its area in force, and that shows this memory
 pub record HasArea (h : Header) (m : Contents) (file : List ℕ) : Type 0 where
   pub header : HasHeader h file
   pub shown : IsShown (layout_in file) file m
@@ -57,7 +57,7 @@ pub record HasArea (h : Header) (m : Contents) (file : List ℕ) : Type 0 where
 pub record AreUnder (h : Header) (m : Contents) : Type 0 where
   -- the header is of one of the two areas
   pub area : h.area ≤ 1
-  -- its count is one that there is
+  -- its count is in range
   pub last : h.count ≤ LAST
   -- the memory has its sizes
   pub sizes : HasSizes h.sizes m
@@ -68,7 +68,7 @@ pub record AreParts (i : Image) : Type 0 where
   pub area : i.header.area ≤ 1
   -- the memory has as many cells and elements as the header says
   pub sizes : HasSizes (sizes_of i.header.limits) i.memory.contents
-  -- the journal is the one behind the header
+  -- the journal is the header's
   pub journal : JournalOf (seen i.header) i.journal
 
 -- what an image that was read comes to

@@ -1,4 +1,4 @@
-//! Which memory the pages of an area show.
+//! Reads the memory that the pages of an area show.
 ghost use Rattle.std.specs.Prelude.{◌≡◌, ◌⊎◌, ◌*◌, ◌≤◌, ℕ, List, [], length, replicate, slice_get, Some, IfOk, IfErr};
 ghost use Rattle.std.specs.Prelude.{IsErrOf};
 ghost use Rattle.std.specs.List.{sum_by};
@@ -19,7 +19,7 @@ use im_types::layout::Version;
 use im_types::{Limits, Refusal};
 use std::alloc::Global;
 
-// Puts the lists of those who wait, one for each of so many cells. Where nobody waits at any, it takes one step.
+// Puts the lists of waiters, one for each cell. It takes one step if nobody waits at any.
 fn put_lists(restoring: &mut Restoring, cells: u32, lists: &Lists)
     requires count { length lists.now ≡ cells }
     requires nobody { restoring.old.lists ≡ replicate cells [] }
@@ -34,7 +34,7 @@ fn put_lists(restoring: &mut Restoring, cells: u32, lists: &Lists)
     }
 }
 
-// Puts the windows of so many elements.
+// Puts the windows of the elements.
 fn put_windows(restoring: &mut Restoring, elements: u16, windows: &[WindowRecord])
     requires count { length windows.now ≡ elements }
     requires places { length restoring.old.windows ≡ elements }
@@ -47,7 +47,7 @@ fn put_windows(restoring: &mut Restoring, elements: u16, windows: &[WindowRecord
     }
 }
 
-// The memory that records stand for, with these lists of those who wait.
+// Makes the memory that records stand for, with these lists of waiters.
 fn restore(
     alloc: Global,
     limits: Limits,
@@ -72,7 +72,7 @@ fn restore(
     Ok(restoring.finish())
 }
 
-// The lists of those who wait of the memory that records show.
+// The lists of waiters of the memory that records show.
 fn lists_of(alloc: Global, limits: Limits, records: &AreaRecords) -> Result<Lists, Refusal>
     requires { length records.now.nodes ≤ NONE }
     ensures found { IfOk result (λ lists. ShowsRecords (sizes_of limits) records.now
@@ -86,8 +86,8 @@ fn lists_of(alloc: Global, limits: Limits, records: &AreaRecords) -> Result<List
     read_contents(alloc, limits, cells, nodes, windows)
 }
 
-/// The memory that records show, in the room of its cells. `BadPage` exactly where they show none; `NoMemory` where
-/// there is no room for it, or for what is read.
+/// Returns the memory that records show. It takes over the room of their cells. Returns `BadPage` only if they show no
+/// memory. Returns `NoMemory` if there is no room for the memory or for what is read.
 pub(crate) fn show(alloc: Global, limits: Limits, records: AreaRecords) -> Result<Memory, Refusal>
     requires { length records.nodes ≤ NONE }
     ensures found { IfOk result (λ m. ShowsRecords (sizes_of limits) records m.contents) }
@@ -100,8 +100,8 @@ pub(crate) fn show(alloc: Global, limits: Limits, records: AreaRecords) -> Resul
     }
 }
 
-/// The memory that the pages of an area of a version show. `BadPage` exactly where they show none; `NoMemory` where
-/// there is no room for the memory, or for what is read.
+/// Returns the memory that the pages of an area of a version show. Returns `BadPage` only if they show none. Returns
+/// `NoMemory` if there is no room for the memory or for what is read.
 ///
 /// It takes a step for each byte, each record, each waiter and each entry.
 pub fn decode(
@@ -123,7 +123,7 @@ pub fn decode(
     }
 }
 
-/// The pages of an area of either version show no two memories.
+/// The pages of an area of either version don't show two memories.
 pub fn areas_show_one_memory()
     ensures { (version : Version) (s : Sizes) (area : List ℕ) (m other : Contents)
         → AreLimits s.cells s.elements s.slots

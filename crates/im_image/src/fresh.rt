@@ -44,7 +44,7 @@ pub(crate) fn new_session() -> [u8; SESSION_RECORD]
     bytes
 }
 
-// Puts bytes behind others, so many times.
+// Appends the bytes `count` times.
 #[tactic(auto, using(crate::proofs::Rows::pushes))]
 fn push_repeated(image: &mut Vec<u8>, bytes: &[u8], count: usize) -> Result<(), AllocError>
     ensures items { OnOk result (image.new.items ≡ image.old.items ++ repeated count bytes.now) }
@@ -56,7 +56,7 @@ fn push_repeated(image: &mut Vec<u8>, bytes: &[u8], count: usize) -> Result<(), 
     Ok(())
 }
 
-// Puts zeros behind others.
+// Appends `count` zeros.
 fn push_zeros(image: &mut Vec<u8>, count: usize) -> Result<(), AllocError>
     requires { length image.old.items + count < 2 ^ 63 }
     ensures items { OnOk result (image.new.items ≡ image.old.items ++ zeros count) }
@@ -66,7 +66,7 @@ fn push_zeros(image: &mut Vec<u8>, count: usize) -> Result<(), AllocError>
     image.resize(length, 0)
 }
 
-// Puts so many pages behind others, which begin with these bytes so many times.
+// Appends this many pages. They begin with `count` copies of the bytes.
 fn push_row(image: &mut Vec<u8>, pages: usize, bytes: &[u8], count: usize) -> Result<(), AllocError>
     requires room { length image.old.items + 4096 * pages < 2 ^ 63 }
     requires fits { length bytes.now * count ≤ 4096 * pages }
@@ -78,7 +78,7 @@ fn push_row(image: &mut Vec<u8>, pages: usize, bytes: &[u8], count: usize) -> Re
     push_zeros(image, PAGE * pages - bytes.len() * count)
 }
 
-// Puts the pages of a new area behind other bytes.
+// Appends the pages of a new area.
 fn push_area(image: &mut Vec<u8>, limits: Limits) -> Result<(), AllocError>
     requires { length image.old.items < 2 ^ 62 }
     ensures items { OnOk result (image.new.items ≡ image.old.items ++ new_area (sizes_of limits)) }
@@ -100,7 +100,7 @@ fn push_area(image: &mut Vec<u8>, limits: Limits) -> Result<(), AllocError>
     )
 }
 
-// The header of a new image, its gate closed.
+// The header of a new image, with its gate closed.
 fn new_header(limits: Limits) -> [u8; 64]
     ensures { result ≡ 0 ∷ header_body (new_header (sizes_of limits)) }
 {
@@ -116,7 +116,7 @@ fn new_header(limits: Limits) -> [u8; 64]
     bytes
 }
 
-// The bytes of a new image that begins so.
+// The bytes of a new image that begins with `first`.
 fn lay_out(alloc: Global, first: &[u8], limits: Limits) -> Result<Vec<u8>, AllocError>
     requires { length first.now ≡ 64 }
     ensures { IfOk result (λ image. image.items ≡ first.now ++ zeros (2 * 4096 - 64) ++ new_area (sizes_of limits)
@@ -133,11 +133,11 @@ fn lay_out(alloc: Global, first: &[u8], limits: Limits) -> Result<Vec<u8>, Alloc
     Ok(image)
 }
 
-/// The bytes of a new image, but for the gate of its first header, which is still closed: the empty memory in area 0 at
-/// generation 1 and count 0, the second header closed, and every gate of the journal closed.
+/// Returns the bytes of a new image, except that the gate of its first header is still closed. Area 0 shows the empty
+/// memory, at generation 1 and count 0. The second header and every gate of the journal are closed.
 ///
-/// Memory: as much as the image is long, at most [`LONGEST_IMAGE`](im_types::layout::LONGEST_IMAGE) bytes; `NoMemory`
-/// where it is refused.
+/// It takes as much memory as the image is long, at most [`LONGEST_IMAGE`](im_types::layout::LONGEST_IMAGE) bytes.
+/// Returns `NoMemory` if that is refused.
 pub fn new_image(alloc: Global, limits: Limits) -> Result<Vec<u8>, Refusal>
     ensures image { IfOk result (λ image. image.items ≡ new_image 0 (sizes_of limits)) }
     ensures only { IfErr result (λ e. e ≡ NoMemory) }

@@ -1,4 +1,4 @@
-//! Headers: one for each area. The open one with the greater generation is in force.
+//! Headers, one for each area. The open header with the greater generation is in force.
 ghost use Rattle.std.specs.Prelude.{◌≡◌, ◌↔◌, ◌≤◌, ◌∷◌, ◌&&◌, ◌==◌, true, IfSome, IsSome, IsTrue, slice_range};
 ghost use Rattle.im_types.specs.Bytes.{same_bytes};
 ghost use Rattle.im_types.specs.Sizes.{AreLimits};
@@ -12,16 +12,16 @@ use im_types::{LAST, Limits};
 /// The version of the layout in use.
 pub const VERSION: u16 = 2;
 
-/// What stands in a header.
+/// The fields of a header.
 #[derive(Clone, Copy, Debug, PartialEq, Eq)]
 pub struct Header {
-    /// The version of the layout: 2, or 1 of an image that is only read.
+    /// The version of the layout. It is 2, or 1 in an image that is only read.
     pub version: u16,
-    /// The area that it is the header of, 0 or 1.
+    /// The area of this header, 0 or 1.
     pub area: u8,
-    /// How many areas were written so far, from 1 on.
+    /// The number of areas written so far, from 1 on.
     pub generation: u64,
-    /// How many commands the area has.
+    /// The number of commands that the area holds.
     pub count: u64,
     /// The sizes of the memory and of its journal.
     pub limits: Limits,
@@ -30,7 +30,7 @@ pub struct Header {
 impl Header {
     ghost use Rattle.im_image.specs.Headers.{seen};
 
-    /// The 64 bytes of the header, with its gate open.
+    /// Returns the 64 bytes of the header, with its gate open.
     pub fn spell(&self) -> [u8; 64]
         ensures { result ≡ 0xA5 ∷ header_body (seen self.now) }
     {
@@ -50,21 +50,21 @@ impl Header {
         bytes
     }
 
-    /// The version of its image's layout.
+    /// Returns the version of the image's layout.
     pub fn layout(&self) -> Version
         ensures { layout_of result ≡ layout_named self.now.version }
     {
         Version::named(self.version)
     }
 
-    /// Whether it is of the first version, whose images are only read.
+    /// Returns whether the header is of the first version. Images of that version are only read.
     pub fn is_old(&self) -> bool
         ensures { result ≡ (self.now.version == 1) }
     {
         self.version == 1
     }
 
-    // Whether its numbers may stand in the header of this area.
+    // Returns whether its numbers are allowed in the header of this area.
     fn is_of(&self, area: u8) -> bool
         ensures is { result ≡ is_header (layout_named self.now.version) area (seen self.now) }
         ensures range { IsTrue result → (self.now.area ≡ area) × (self.now.count ≤ LAST) }
@@ -78,7 +78,7 @@ impl Header {
             && are_sizes(version, self.limits)
     }
 
-    // Whether these bytes spell it for this area.
+    // Returns whether these bytes spell it for this area.
     fn is_spelled(&self, bytes: &[u8; 64], area: u8) -> bool
         ensures is { result ≡ (same_bytes (slice_range bytes.now 1 64) (header_body (seen self.now))
             && is_header (layout_named self.now.version) area (seen self.now)) }
@@ -87,7 +87,7 @@ impl Header {
         bytes[1..] == self.spell()[1..] && self.is_of(area)
     }
 
-    // The header whose fields stand in these bytes, with these limits among them.
+    // The header whose fields stand in these bytes, with these limits.
     fn with_limits(bytes: &[u8; 64], limits: Limits) -> Header
         requires { sizes_of limits ≡ (header_in bytes.now).sizes }
         ensures { seen result ≡ header_in bytes.now }
@@ -101,7 +101,7 @@ impl Header {
         }
     }
 
-    /// The header that the bytes behind a gate spell for this area, if they spell one.
+    /// Returns the header that the bytes behind a gate spell for this area, or `None`.
     pub fn read(bytes: &[u8; 64], area: u8) -> Option<Header>
         ensures found { IfSome result (λ h. seen h ≡ header_in bytes.now) }
         ensures range { IfSome result (λ h. (h.area ≡ area) × (h.count ≤ LAST)) }
@@ -117,14 +117,14 @@ impl Header {
     }
 }
 
-// Whether these are the sizes of an image of a version.
+// Returns whether an image of a version may have these sizes.
 fn are_sizes(version: Version, limits: Limits) -> bool
     ensures { result ≡ are_sizes (layout_of version) (sizes_of limits) }
 {
     limits.cells <= version.most_cells()
 }
 
-// The limits that stand in these bytes, if they are in range.
+// The limits in these bytes, if they are in range.
 fn limits_in(bytes: &[u8; 64]) -> Option<Limits>
     ensures found { IfSome result (λ l. sizes_of l ≡ (header_in bytes.now).sizes) }
     ensures only { AreLimits (header_in bytes.now).sizes.cells (header_in bytes.now).sizes.elements

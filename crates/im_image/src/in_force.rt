@@ -1,4 +1,4 @@
-//! Which header is in force.
+//! Finds the header in force.
 ghost use Rattle.std.specs.Prelude.{◌≡◌, ◌⊎◌, ◌↔◌, ◌≤◌, ◌||◌, ◌==◌, not, true, false, Some, None, Err, IfSome};
 ghost use Rattle.std.specs.Prelude.{IsSome, length, ◌<◌, IfOk};
 ghost use Rattle.std.specs.Prelude.{IfErr, OnOk, IsErrOf};
@@ -32,28 +32,28 @@ fn generation_in(place: &[u8; 64]) -> u64
     LittleEndian::read_u64(&place[8..16])
 }
 
-// Whether the second of two header places is in force.
+// Returns whether the second of two header places is in force.
 fn is_second(zero: &[u8; 64], one: &[u8; 64]) -> bool
     ensures { result ≡ is_second zero.now one.now }
 {
     is_open(one) && (!is_open(zero) || generation_in(zero) < generation_in(one))
 }
 
-// Whether neither is open.
+// Returns whether both are closed.
 fn are_closed(zero: &[u8; 64], one: &[u8; 64]) -> bool
     ensures { result ≡ not (is_open_header zero.now || is_open_header one.now) }
 {
     !(is_open(zero) || is_open(one))
 }
 
-// Whether both are open, under one generation.
+// Returns whether both are open with the same generation.
 fn are_ambiguous(zero: &[u8; 64], one: &[u8; 64]) -> bool
     ensures { result ≡ are_ambiguous zero.now one.now }
 {
     is_open(zero) && is_open(one) && generation_in(zero) == generation_in(one)
 }
 
-// What the one in force spells.
+// The header that the place in force spells.
 fn read_in_force(zero: &[u8; 64], one: &[u8; 64]) -> Option<Header>
     ensures found { IfSome result (λ h. seen h ≡ header_in (place_in_force zero.now one.now)) }
     ensures range { IfSome result (λ h. (h.area ≤ 1) × (h.count ≤ LAST)) }
@@ -67,7 +67,7 @@ fn read_in_force(zero: &[u8; 64], one: &[u8; 64]) -> Option<Header>
     }
 }
 
-// What is read of an image before all else: its length, and the places of its two headers.
+// What is read of an image first: its length, and the places of its two headers.
 #[derive(Drop)]
 struct Beginning {
     length: usize,
@@ -95,7 +95,7 @@ fn header_of_places(zero: &[u8; 64], one: &[u8; 64]) -> Result<Header, Refusal>
     }
 }
 
-// The header in force of an image that begins so, or the first fault.
+// The header in force of an image with this beginning, or the first fault.
 fn header_of(beginning: &Beginning) -> Result<Header, Refusal>
     ensures found { IfOk result (λ h. seen h ≡ header_in (place_in_force beginning.now.zero beginning.now.one)) }
     ensures range { IfOk result (λ h. (h.area ≤ 1) × (h.count ≤ LAST)) }
@@ -119,7 +119,7 @@ fn header_of(beginning: &Beginning) -> Result<Header, Refusal>
     }
 }
 
-// Reads how an image begins; nothing where the file is shorter than two header places.
+// Reads the beginning of an image. Returns `None` if the file is shorter than two header places.
 fn read_beginning<D: Disk>(disk: &mut D) -> Result<Option<Beginning>, DeviceFault>
     ensures short { IfOk result (λ o. D.honest disk.new → o ≡ None → length (D.now disk.old).bytes < 8192) }
     ensures found { IfOk result (λ o. IfSome o (λ b. D.honest disk.new → IsBeginning b (D.now disk.old).bytes)) }
@@ -137,10 +137,10 @@ fn read_beginning<D: Disk>(disk: &mut D) -> Result<Option<Beginning>, DeviceFaul
     Ok(Some(Beginning { length, zero, one }))
 }
 
-/// The header in force of an image, or the first fault of its length and its headers.
+/// Returns the header in force of an image, or the first fault of its length and its headers.
 ///
-/// It only reads, the length and the two header places, and takes no memory.
-/// `WrongLength`, `NoHeader`, `BadHeader`: the first fault in the order of the definition. `Device`: a call failed.
+/// It reads only the length and the two header places, and takes no memory. The faults are `WrongLength`, `NoHeader`
+/// and `BadHeader`, in the order of the definition. Returns `Device` if a call failed.
 pub fn read_header<D: Disk>(disk: &mut D) -> Result<Header, Refusal>
     ensures found { IfOk result (λ h. D.honest disk.new → seen h ≡ header_of (D.now disk.old).bytes) }
     ensures good { OnOk result
@@ -157,8 +157,8 @@ pub fn read_header<D: Disk>(disk: &mut D) -> Result<Header, Refusal>
     }
 }
 
-// The header in force of an image that begins so, or why it isn't opened: a sound header of the first version is
-// refused before the length is compared.
+// The header in force of an image with this beginning, or why the image isn't opened. A sound header of the first
+// version is refused before the length is compared.
 fn header_to_open(beginning: &Beginning) -> Result<Header, Refusal>
     ensures found { IfOk result (λ h. seen h ≡ header_in (place_in_force beginning.now.zero beginning.now.one)) }
     ensures range { IfOk result (λ h. (h.area ≤ 1) × (h.count ≤ LAST)) }
@@ -182,8 +182,8 @@ fn header_to_open(beginning: &Beginning) -> Result<Header, Refusal>
     }
 }
 
-/// The header in force of an image that is to be opened: as [`read_header`], but that a sound header of the first
-/// version is refused `OldVersion`, whatever the file's length is.
+/// Returns the header in force of an image that is to be opened. It is [`read_header`] with one difference: a sound
+/// header of the first version is refused with `OldVersion`, whatever the file's length is.
 pub(crate) fn read_header_to_open<D: Disk>(disk: &mut D) -> Result<Header, Refusal>
     ensures found { IfOk result (λ h. D.honest disk.new → seen h ≡ header_of (D.now disk.old).bytes) }
     ensures young { IfOk result (λ h. (h.version == 1) ≡ false) }
@@ -201,8 +201,8 @@ pub(crate) fn read_header_to_open<D: Disk>(disk: &mut D) -> Result<Header, Refus
     }
 }
 
-// The header in force of an image that begins so, by the rules of the first version: any other version is a fault of
-// it, before the length is compared.
+// The header in force of an image with this beginning, by the rules of the first version. Any other version is a fault
+// of it, before the length is compared.
 fn old_header_of(beginning: &Beginning) -> Result<Header, Refusal>
     ensures found { IfOk result (λ h. seen h ≡ header_in (place_in_force beginning.now.zero beginning.now.one)) }
     ensures range { IfOk result (λ h. (h.area ≤ 1) × (h.count ≤ LAST)) }
@@ -227,8 +227,8 @@ fn old_header_of(beginning: &Beginning) -> Result<Header, Refusal>
     }
 }
 
-/// The header in force of an image of the first version: as [`read_header`], but that one of any other version is
-/// `BadHeader`, whatever the file's length is.
+/// Returns the header in force of an image of the first version. It is [`read_header`] with one difference: a header of
+/// any other version is `BadHeader`, whatever the file's length is.
 pub(crate) fn read_old_header<D: Disk>(disk: &mut D) -> Result<Header, Refusal>
     ensures found { IfOk result (λ h. D.honest disk.new → seen h ≡ header_of (D.now disk.old).bytes) }
     ensures old { IfOk result (λ h. (h.version == 1) ≡ true) }

@@ -1,8 +1,8 @@
-//! The image of a memory: its headers, its pages as they are made and read again, and what a whole image means.
+//! The image of a memory: its headers, how its pages are made and read, and what a whole image means.
 //!
-//! Stands on `im_records` and `im_contents`, which say which memory the bytes of an area show, on `im_memory`, on
-//! `im_journal` for the run of commands, and on `im_disk`, of whose calls it makes only those that read. The bytes are
-//! in docs/FORMAT.md, their definitions in `im_types`.
+//! Stands on `im_records` and `im_contents`, which say which memory the bytes of an area show. Stands on `im_memory`,
+//! and on `im_journal` for the run of commands. Of `im_disk` it calls only what reads. docs/FORMAT.md describes the
+//! bytes, and `im_types` defines them.
 #![tactic(auto)]
 
 mod area;

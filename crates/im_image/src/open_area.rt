@@ -1,4 +1,4 @@
-//! Reading the area in force.
+//! Reads the area in force.
 ghost use Rattle.std.specs.Prelude.{◌≡◌, ◌⊎◌, ◌≤◌, ◌+◌, ◌*◌, ◌/◌, [], length, drop, take, IfOk, OnOk, IsErrOf};
 ghost use Rattle.im_types.specs.Contents.{Contents};
 ghost use Rattle.im_types.specs.Layout as layout;
@@ -20,10 +20,10 @@ use im_types::layout::{CELL_RECORD, CELLS_ON_A_PAGE, PAGE, Version};
 use im_types::{Limits, Refusal};
 use std::alloc::{AllocError, Global};
 
-// How many cells are read at a time: those of 64 pages.
+// The cells of 64 pages are read at a time.
 const PIECE_CELLS: usize = 64 * CELLS_ON_A_PAGE;
 
-// Reads a part of an area, from behind so many of its cells on.
+// Reads a part of an area, from behind its first `cells` cells on.
 fn read_part<D: Disk>(
     disk: &mut D,
     version: Version,
@@ -45,21 +45,20 @@ fn read_part<D: Disk>(
     disk.read(begin + CELL_RECORD * cells, part)
 }
 
-// So many zeros.
 fn zeros(alloc: Global, count: usize) -> Result<Vec<u8>, AllocError>
     ensures { IfOk result (λ v. length v.items ≡ count) }
 {
     vec![in alloc; 0; count]
 }
 
-// How many pieces of cells are read one by one: as many as leave a cell for the last read.
+// The number of pieces of cells that are read one by one. At least one cell is left for the last read.
 fn piece_count(limits: Limits) -> usize
     ensures { PIECE_CELLS * result ≤ limits.cells }
 {
     (limits.cells as usize - 1) / PIECE_CELLS
 }
 
-// Reads a piece of an area's cells, and puts them behind those of the pieces before it.
+// Reads a piece of an area's cells, and puts them behind those of earlier pieces.
 fn read_piece<D: Disk>(
     disk: &mut D,
     version: Version,
@@ -83,8 +82,8 @@ fn read_piece<D: Disk>(
     }
 }
 
-// Reads all pieces of an area's cells, each into the same room: bytes that are read at once take pages of memory that
-// are made anew, which costs more than the reading.
+// Reads all pieces of an area's cells, each into the same buffer. Reading all bytes at once would use fresh pages of
+// memory, which cost more than the reading.
 fn read_pieces<D: Disk>(
     alloc: Global,
     disk: &mut D,
@@ -114,7 +113,7 @@ fn read_pieces<D: Disk>(
     Ok(())
 }
 
-// The first cells of an area, in room for all of them: those of its pieces.
+// The cells of an area's pieces, in a row with room for all cells.
 fn first_cells<D: Disk>(
     alloc: Global,
     disk: &mut D,
@@ -142,7 +141,7 @@ fn first_cells<D: Disk>(
     }
 }
 
-// Reads an area from behind so many of its cells to its end.
+// Reads an area from behind its first `cells` cells to its end.
 fn read_rest<D: Disk>(
     alloc: Global,
     disk: &mut D,
@@ -196,11 +195,12 @@ fn read_records<D: Disk>(
     }
 }
 
-/// The memory that the area of a header in force shows. `BadPage` exactly where it shows none.
+/// Returns the memory that the area of a header in force shows. Returns `BadPage` only if it shows none, and `Device`
+/// if a read failed.
 ///
-/// It only reads, the area: pieces of 8,192 cells while there are more, each with one call, and then all that is left
-/// with one more. Memory: its records, and with them the bytes of a piece, 262,144, or of what is left, at most
-/// 589,824, which are given back before the memory is made; `NoMemory` where it is refused. `Device`: a read failed.
+/// It only reads the area. It reads pieces of 8,192 cells, each with one call, while more cells follow, and then the
+/// rest with one more call. It takes memory for the records, and for the bytes of a piece (262,144) or of the rest (at
+/// most 589,824). It frees those bytes before it makes the memory. Returns `NoMemory` if any of this is refused.
 pub fn read_memory<D: Disk>(alloc: Global, disk: &mut D, header: &Header) -> Result<Memory, Refusal>
     requires area { header.now.area ≤ 1 }
     requires sound { D.honest disk.old → HasHeader (seen header.now) (D.now disk.old).bytes }

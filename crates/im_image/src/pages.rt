@@ -1,4 +1,4 @@
-//! The pages of an area, from the records of a memory.
+//! Makes the pages of an area from the records of a memory.
 ghost use Rattle.std.specs.Prelude.{◌≡◌, ◌≢◌, ◌+◌, ◌*◌, ◌<◌, ◌≤◌, ℕ, List, length, slice_get, slice_index_or};
 ghost use Rattle.im_types.specs.declared.TheConstants.{NONE};
 ghost use Rattle.im_types.specs.Contents.{Contents, new_window};
@@ -50,7 +50,7 @@ fn node_at(records: &MemoryRecords<'_>, limits: Limits, n: usize) -> Option<Node
     }
 }
 
-/// The window of an element; past the last element, one that is new.
+/// Returns the window of an element. Past the last element it is a new window.
 pub(crate) fn window_at(records: &MemoryRecords<'_>, element: u16) -> WindowRecord
     ensures window { result ≡ slice_index_or records.now.windows element new_window }
     ensures fits { element < length records.now.windows → FitsWindow layout_in_use result }
@@ -91,7 +91,7 @@ fn encode_nodes(records: &MemoryRecords<'_>, limits: Limits, i: usize, page: &mu
     }
 }
 
-// Puts the session of an element, or zeros where there is none.
+// Puts the session of an element, or zeros if there is none.
 fn put_element(
     records: &MemoryRecords<'_>,
     limits: Limits,
@@ -141,8 +141,8 @@ fn encode_records(records: &MemoryRecords<'_>, limits: Limits, i: usize, page: &
     }
 }
 
-/// Makes one page of an area that shows a memory. Pages are numbered from 0: those of cells, those of waiter nodes, and
-/// those of sessions. It takes no memory.
+/// Makes one page of an area that shows a memory. Pages are numbered from 0: first those of cells, then of waiter
+/// nodes, then of sessions. It takes no memory.
 pub fn encode_page(memory: &Memory, limits: Limits, i: usize, page: &mut [u8; PAGE])
     requires cells { length memory.now.contents.cells ≡ limits.cells }
     requires elements { length memory.now.contents.windows ≡ limits.elements }
@@ -152,7 +152,6 @@ pub fn encode_page(memory: &Memory, limits: Limits, i: usize, page: &mut [u8; PA
     encode_records(&memory.records(), limits, i, page);
 }
 
-// Puts a page in its place in an area.
 fn put_page(area: &mut [u8], i: usize, page: &[u8; PAGE])
     requires near { i < MOST_AREA_PAGES }
     requires room { 4096 * i + 4096 ≤ length area.old }
@@ -161,7 +160,7 @@ fn put_page(area: &mut [u8], i: usize, page: &[u8; PAGE])
     area[PAGE * i..PAGE * i + PAGE].copy_from_slice(page);
 }
 
-/// Makes one page of an area that shows a memory, in its place in the area. The other pages stay. It takes no memory.
+/// Makes one page of an area that shows a memory, at its place in the area. The other pages stay. It takes no memory.
 pub fn encode_into(memory: &Memory, limits: Limits, i: usize, area: &mut [u8])
     requires cells { length memory.now.contents.cells ≡ limits.cells }
     requires elements { length memory.now.contents.windows ≡ limits.elements }
@@ -189,20 +188,20 @@ pub fn encode(memory: &Memory, limits: Limits, area: &mut [u8])
     }
 }
 
-/// The pages that [`encode_page`] makes of a memory's records show the memory, one behind the other.
+/// The pages that [`encode_page`] makes of a memory's records show the memory when they are joined.
 pub fn pages_show_the_memory()
     ensures { (s : Sizes) (r : Records) (m : Contents) (page : ℕ → List ℕ) → AreCounted s r → ShowsRecords s r m
         → AreAreaPages s r page → Shows layout_in_use s (joined (layout.area_pages layout_in_use s) page) m }
 {}
 
-/// An area shows the memory whose records its pages have.
+/// An area shows a memory if its pages have the memory's records.
 pub fn areas_show_the_memory()
     ensures { (s : Sizes) (r : Records) (m : Contents) (area : List ℕ) → AreCounted s r → ShowsRecords s r m
         → length area ≡ layout.area_bytes layout_in_use s
         → AreAreaPages s r (record_at page_bytes area) → Shows layout_in_use s area m }
 {}
 
-/// A page that shows no record that changed is spelled by the same bytes as before.
+/// A page has the same bytes as before if none of its records changed.
 pub fn pages_outside_stay()
     ensures { (s : Sizes) (old new : Records) (page : ℕ) → AgreeOnPage s.cells s.elements old new page
         → SameOn s old new page }

@@ -1,4 +1,4 @@
-//! What an image means: the memory of the area in force, after the run of commands in the journal.
+//! Reads what an image means: the memory of the area in force, after the run of commands in the journal.
 ghost use Rattle.std.specs.Prelude.{◌≡◌, ◌⊎◌, ◌+◌, ◌≤◌, false, None, Some, Ok, Err, IsTrue, IfOk, IfErr};
 ghost use Rattle.im_types.specs.declared.TheConstants.{LAST};
 ghost use Rattle.im_types.specs.declared.refusals.Refusal.TheVariants.{NoMemory, Device};
@@ -25,23 +25,23 @@ use im_types::layout::Version;
 use im_types::{Command, Refusal};
 use std::alloc::Global;
 
-/// What is read of an image: the header in force, the journal, and the memory after the journal's run of commands.
+/// What is read of an image: the header in force, the journal, and the memory after the journal's run.
 #[derive(Drop)]
 pub struct Image {
     /// The header in force.
     pub header: Header,
-    /// The journal, whose first command is the header's count.
+    /// The journal. The header's count is the number of its first command.
     pub journal: Journal,
     /// The memory after the journal's run.
     pub memory: Memory,
 }
 
-/// What an inspector tells of an image.
+/// What an inspector reports of an image.
 #[derive(Drop)]
 pub struct Report {
     /// The header in force.
     pub header: Header,
-    /// How many commands the journal's run has.
+    /// The number of commands in the journal's run.
     pub run: u64,
     /// The room for more commands.
     pub room: u32,
@@ -49,7 +49,7 @@ pub struct Report {
     pub memory: Memory,
 }
 
-// Whether a memory would accept a command.
+// Returns whether a memory would accept a command.
 fn accepts(memory: &Memory, command: &Command) -> bool
     ensures { result ≡ is_accepted memory.now.contents command.now }
 {
@@ -59,7 +59,7 @@ fn accepts(memory: &Memory, command: &Command) -> bool
     }
 }
 
-// Whether the first version has room for each window of a memory, and knows its entries.
+// Returns whether the first version has room for each window of a memory and knows its entries.
 fn all_have_room(memory: &Memory) -> bool
     ensures { result ≡ list_all (has_room_for layout_1) memory.now.contents.windows }
 {
@@ -72,7 +72,7 @@ fn all_have_room(memory: &Memory) -> bool
     true
 }
 
-// Whether a memory can stand in an image of a version.
+// Returns whether a memory can stand in an image of a version.
 fn can_stand(version: Version, memory: &Memory) -> bool
     ensures { result ≡ can_stand (layout_of version) memory.now.contents }
 {
@@ -82,8 +82,9 @@ fn can_stand(version: Version, memory: &Memory) -> bool
     }
 }
 
-/// Serves commands one after another, as long as the memory accepts each of them in its turn and the next memory can
-/// stand in an image of the version. Whether all were served; then it is the memory after all of them.
+/// Serves commands one after another. It continues as long as the memory accepts each command in its turn and the next
+/// memory can stand in an image of the version. Returns whether all were served. If so, the memory is the one after all
+/// of them.
 pub fn replay(version: Version, memory: &mut Memory, commands: &[Command]) -> bool
     ensures yes { IsTrue result
         → accept_in (layout_of version) memory.old.contents commands.now ≡ Some memory.new.contents }
@@ -101,7 +102,7 @@ pub fn replay(version: Version, memory: &mut Memory, commands: &[Command]) -> bo
     true
 }
 
-// Reads the rest of an image whose header in force and whose memory, of the area in force, are known.
+// Reads the rest of an image. Its header in force and the memory of the area in force are known.
 fn read_run<D: Disk>(
     alloc: Global,
     disk: &mut D,
@@ -139,7 +140,7 @@ fn read_run<D: Disk>(
     }
 }
 
-// Reads the rest of an image whose header in force is known.
+// Reads the rest of an image. Its header in force is known.
 fn read_behind<D: Disk>(alloc: Global, disk: &mut D, header: Header) -> Result<Image, Refusal>
     requires range { (header.area ≤ 1) × (header.count ≤ LAST) }
     requires sound { D.honest disk.old → HasHeader (seen header) (D.now disk.old).bytes }
@@ -156,12 +157,12 @@ fn read_behind<D: Disk>(alloc: Global, disk: &mut D, header: Header) -> Result<I
     }
 }
 
-/// What an image means, or its first fault. It only reads.
+/// Returns what an image means, or its first fault. It only reads.
 ///
-/// The first fault of the file: `WrongLength`, `NoHeader`, `BadHeader`, `BadPage` where the pages in force show no
-/// memory, `BadRecord` where the journal's run is at fault or a command in it isn't accepted where it stands.
-/// `NoMemory` where `alloc` refused the room for the memory, or for what is read. `Device` where a call of the disk
-/// failed.
+/// The faults come in this order: `WrongLength`, `NoHeader`, `BadHeader`, `BadPage`, `BadRecord`. `BadPage` says that
+/// the pages in force show no memory. `BadRecord` says that the journal's run is at fault, or that a command in it
+/// isn't accepted in its turn. Returns `NoMemory` if `alloc` refuses room for the memory or for what is read. Returns
+/// `Device` if a call of the disk failed.
 pub fn read_image<D: Disk>(alloc: Global, disk: &mut D) -> Result<Image, Refusal>
     ensures parts { IfOk result (λ i. AreParts i) }
     ensures header { IfOk result (λ i. D.honest disk.new → seen i.header ≡ header_of (D.now disk.old).bytes) }
@@ -178,8 +179,9 @@ pub fn read_image<D: Disk>(alloc: Global, disk: &mut D) -> Result<Image, Refusal
     }
 }
 
-/// What an image of the layout in use means, or why it isn't opened: as [`read_image`], but that one whose header in
-/// force is a sound one of the first version is refused `OldVersion`, whatever else is wrong with it.
+/// Returns what an image of the layout in use means, or why it isn't opened. It is [`read_image`] with one difference:
+/// an image with a sound header of the first version in force is refused with `OldVersion`, whatever else is wrong with
+/// it.
 pub fn read_to_open<D: Disk>(alloc: Global, disk: &mut D) -> Result<Image, Refusal>
     ensures parts { IfOk result (λ i. AreParts i) }
     ensures young { IfOk result (λ i. layout_named i.header.version ≡ layout_in_use) }
@@ -197,8 +199,9 @@ pub fn read_to_open<D: Disk>(alloc: Global, disk: &mut D) -> Result<Image, Refus
     }
 }
 
-/// What an image of the first version means, or its first fault by the rules of that version: as [`read_image`], but
-/// that a header in force of any other version is `BadHeader`, whatever else is wrong with the image.
+/// Returns what an image of the first version means, or its first fault by the rules of that version. It is
+/// [`read_image`] with one difference: a header in force of any other version is `BadHeader`, whatever else is wrong
+/// with the image.
 pub fn read_old<D: Disk>(alloc: Global, disk: &mut D) -> Result<Image, Refusal>
     ensures parts { IfOk result (λ i. AreParts i) }
     ensures old { IfOk result (λ i. layout_named i.header.version ≡ layout_1) }
@@ -214,8 +217,8 @@ pub fn read_old<D: Disk>(alloc: Global, disk: &mut D) -> Result<Image, Refusal>
     }
 }
 
-/// Tells what an image means, or its first fault. It reads the bytes as they are now, and neither writes nor syncs. The
-/// refusals are those of [`read_image`].
+/// Returns a report of what an image means, or its first fault. It reads the bytes as they are now, and neither writes
+/// nor syncs. The refusals are those of [`read_image`].
 pub fn inspect<D: Disk>(alloc: Global, disk: &mut D) -> Result<Report, Refusal>
     ensures header { IfOk result (λ r. D.honest disk.new → seen r.header ≡ header_of (D.now disk.old).bytes) }
     ensures means { IfOk result
@@ -231,7 +234,7 @@ pub fn inspect<D: Disk>(alloc: Global, disk: &mut D) -> Result<Report, Refusal>
     }
 }
 
-// What is told of an image that was read.
+// The report of an image that was read.
 fn report_of(image: Image) -> Report
     requires { JournalOf (seen image.header) image.journal }
     ensures header { result.header ≡ image.header }

@@ -1,4 +1,4 @@
--- The checks before an access of one cell, and the replies to those who waited for it. (Own.)
+-- The checks before an access of one cell, and the replies to the requests that waited for it. (Own.)
 use Rattle.std.specs.Prelude.{ℕ, List, map, Option, None, Some, Result, Ok, Err, if◌then◌else◌}
 use Rattle.im_types.specs.declared.operations.Kind.{Kind}
 use Rattle.im_types.specs.declared.operations.Reply.{Reply}
@@ -8,15 +8,15 @@ use Rattle.im_types.specs.Act.{same_kind}
 use Rattle.im_types.specs.declared.cells.Cell.{Cell}
 use Rattle.im_cell.specs.declared.slots.Slot.{Slot}
 
--- each of these gets the value
+-- each of these requests gets the value
 abbrev pub replies_to : List Waiter → ℕ → List (Waiter × Reply)
 replies_to waiters v = map (λ waiter. (waiter, Value v)) waiters
 
--- who gets these replies
+-- the requests that get these replies
 abbrev pub askers_of : List (Waiter × Reply) → List Waiter
 askers_of replies = map (λ reply. reply.0) replies
 
--- the cell of a slot, if it is in a block and that is of this kind; else why it may not be accessed
+-- the cell of a slot, if it is in a block of this kind; else the reason why it can't be accessed
 abbrev pub access_in : Kind → Option Slot → Result Cell Reply
 access_in kind None = Err NoCell
 access_in kind (Some slot) = if same_kind kind slot.block.kind then Ok slot.cell else Err WrongKind

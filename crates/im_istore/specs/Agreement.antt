@@ -1,4 +1,4 @@
--- When a table of cells and an arena of waiters belong together. (Own.)
+-- The agreement of a table of cells and an arena of waiters. (Own.)
 use Rattle.std.specs.Prelude.{◌≡◌, ◌≢◌, ℕ, List, [], ◌∷◌, length, Bool, true, false, Option, Some}
 use Rattle.im_types.specs.declared.operations.Waiter.{Waiter}
 use Rattle.im_types.specs.declared.cells.Cell.TheVariants.{Full}
@@ -6,21 +6,21 @@ use Rattle.im_cell.specs.declared.slots.Slot.{Slot}
 use Rattle.im_cell.specs.Slots.{slot_at, cell_at, is_waiting}
 use Rattle.im_arena.specs.Lists.{Shown, list_at}
 
--- whether somebody is on a list
+-- whether a list has a waiter
 abbrev pub has_some : List Waiter → Bool
 has_some [] = false
 has_some (waiter ∷ waiters) = true
 
--- the cell at an address waits exactly where somebody is on its list; a list of an address in no block is empty
+-- the cell at an address waits if and only if its list has a waiter; the list of an address in no block is empty
 abbrev pub AgreeAt : ℕ → List (Option Slot) → Shown → Type 0
 AgreeAt a slots arena = is_waiting (slot_at slots a) ≡ has_some (list_at arena.held a)
 
--- each cell has a list, and a cell waits exactly where its list isn't empty
+-- each cell has a list, and waits if and only if that list isn't empty
 pub record Agree (slots : List (Option Slot)) (arena : Shown) : Type 0 where
   pub lists : length arena.held.lists ≡ length slots
   pub each : (a : ℕ) → AgreeAt a slots arena
 
--- the same at each address but this one, where a full cell still has its readers on its list
+-- the same at each address but this one; the full cell there still has its readers on its list
 pub record AgreeBut (a : ℕ) (slots : List (Option Slot)) (arena : Shown) : Type 0 where
   pub lists : length arena.held.lists ≡ length slots
   pub others : (b : ℕ) → b ≢ a → AgreeAt b slots arena

@@ -1,5 +1,5 @@
--- The cells that a table of cells and an arena of waiters stand for. The list of a cell's waiters has the cell's address
--- for its number. (Own.)
+-- The cells that a table of cells and an arena of waiters stand for. The list of a cell's waiters has the cell's
+-- address as its number. (Own.)
 use Rattle.std.specs.Prelude.{List, [], ◌∷◌, Option, None, Some}
 use Rattle.im_types.specs.declared.operations.Waiter.{Waiter}
 use Rattle.im_types.specs.Contents.{CellState, Held}

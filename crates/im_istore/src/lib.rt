@@ -1,8 +1,8 @@
-//! Fetch and store, on the cells of a table whose waiters stand on the lists of an arena (I cells: Arvind, Nikhil,
-//! Pingali, TOPLAS 11(4), 1989). The list of a cell's waiters has the cell's address for its number.
+//! Fetch and store on the cells of a table. Their waiters stand on the lists of an arena (I cells: Arvind, Nikhil,
+//! Pingali, TOPLAS 11(4), 1989). The list of a cell's waiters has the cell's address as its number.
 //!
-//! Stands on `im_cell`, `im_arena` and `im_types`. Contracts see the cells that the table and the arena stand for, and
-//! say what a call does to them by the definitions of `im_types`.
+//! Stands on `im_cell`, `im_arena` and `im_types`. Contracts see the cells that the table and the arena stand for. They
+//! state the effect of a call on them by the definitions of `im_types`.
 #![tactic(auto)]
 
 ghost use Rattle.std.specs.Prelude.{◌≡◌, ◌≢◌, ◌<◌, ◌++◌, ◌∷◌, [], List, Option, length, drop, slice_get, slice_set};
@@ -23,16 +23,15 @@ ghost use Rattle.im_istore.specs.Access.{access_in, askers_of, replies_to};
 ghost use Rattle.im_istore.specs.Records.{LeavesCells, LeavesRest};
 
 use im_arena::Arena;
-use im_cell::CellTable;
+use im_cell::{CellTable, Slot};
 use im_types::{Cell, Entry, Kind, Reply, Waiter};
 
-/// The cell at an address in a block of this kind. `NoCell` where the address lies in no block, which includes each
-/// address past the last cell; else `WrongKind` where the block is of the other kind.
+// Returns the cell of a slot in a block of this kind.
 #[inline(always)]
-pub fn look(table: &CellTable, a: u32, kind: Kind) -> Result<Cell, Reply>
-    ensures { result ≡ access_in kind (slot_at table.now a) }
+fn cell_for(found: Option<Slot>, kind: Kind) -> Result<Cell, Reply>
+    ensures { result ≡ access_in kind found }
 {
-    let Some(slot) = table.slot(a) else {
+    let Some(slot) = found else {
         return Err(Reply::NoCell);
     };
     if slot.block.kind != kind {
@@ -41,7 +40,26 @@ pub fn look(table: &CellTable, a: u32, kind: Kind) -> Result<Cell, Reply>
     Ok(slot.cell)
 }
 
-/// Puts `who` behind those who wait for the cell at an address, which is in a block and has no value. It takes a node.
+/// Returns the cell at an address in a block of this kind. Returns `NoCell` if the address lies in no block, or past
+/// the last cell. Returns `WrongKind` if the block is of the other kind.
+#[inline(always)]
+pub fn look(table: &CellTable, a: u32, kind: Kind) -> Result<Cell, Reply>
+    ensures { result ≡ access_in kind (slot_at table.now a) }
+{
+    cell_for(table.slot(a), kind)
+}
+
+/// [`look`] at a cell that is written next: one look at the table does for both.
+#[inline(always)]
+pub fn look_to_write(table: &mut CellTable, a: u32, kind: Kind) -> Result<Cell, Reply>
+    ensures cell { result ≡ access_in kind (slot_at table.old a) }
+    ensures same { table.new ≡ table.old }
+{
+    cell_for(table.slot_to_write(a), kind)
+}
+
+/// Puts `who` behind the requests that wait for the cell at an address. The cell is in a block and has no value. The
+/// call takes a node.
 #[inline(never)]
 pub fn wait(table: &mut CellTable, arena: &mut Arena, a: u32, who: Waiter)
     requires some { IsSome (slot_at table.old a) }
@@ -55,8 +73,8 @@ pub fn wait(table: &mut CellTable, arena: &mut Arena, a: u32, who: Waiter)
     let _ = arena.push_back(a, who);
 }
 
-/// Reads the cell at an address for `who`: a full one gives its value, and where there is none yet, `who` waits behind
-/// those who wait. It takes a node where `who` waits.
+/// Reads the cell at an address for `who`. A full cell gives its value, and a clashed one a clash. If the cell has no
+/// value yet, `who` waits behind the others and takes a node.
 #[tactic(auto, using(crate::proofs::Cells::there))]
 #[inline(always)]
 pub fn fetch(table: &mut CellTable, arena: &mut Arena, a: u32, who: Waiter) -> Entry
@@ -68,11 +86,11 @@ pub fn fetch(table: &mut CellTable, arena: &mut Arena, a: u32, who: Waiter) -> E
 
     ensures agree { Agree table.new arena.new }
 
-    // What stays; and all cells do but where `who` waits.
+    // The parts that stay. All cells stay unless `who` waits.
     ensures kept { LeavesRest I a result table.old table.new arena.old arena.new }
     ensures same { result ≢ Waiting → table.new ≡ table.old }
 {
-    let cell = match look(table, a, Kind::I) {
+    let cell = match look_to_write(table, a, Kind::I) {
         Ok(cell) => cell,
         Err(reply) => return Entry::Answered(reply),
     };
@@ -86,33 +104,35 @@ pub fn fetch(table: &mut CellTable, arena: &mut Arena, a: u32, who: Waiter) -> E
     }
 }
 
-/// Writes the cell at an address. After `Stored` its readers, if there are any, still stand on its list:
-/// [`next_reader`] hands them out, and each of them gets the value. A cell that has a value keeps it, and is clashed.
-/// The two are for who answers each reader at once; what they come to, [`store_and_drain`] says.
+/// Writes the cell at an address. A cell that has a value keeps it, and is clashed.
+///
+/// After `Stored` the cell's readers, if there are any, still stand on its list. [`next_reader`] hands them out, and
+/// each of them is to get the value. The two calls are for a caller that answers each reader at once.
+/// [`store_and_drain`] states their effect together.
 #[tactic(auto, using(crate::proofs::Cells::there))]
 #[inline(always)]
 pub fn store(table: &mut CellTable, arena: &Arena, a: u32, value: u64) -> Reply
     requires { Agree table.old arena.now }
 
-    // Whoever asks.
+    // For every asker.
     ensures reply { (who : Waiter) → Answered result ≡ (act (cells_of table.old arena.now) who (Store a value)).entry }
     ensures cells { (who : Waiter)
         → cells_of table.new arena.now ≡ (act (cells_of table.old arena.now) who (Store a value)).cells }
 
-    // The readers are those on the list, and until they are off it the cell has no need of it.
+    // The readers are those on the list. Until they are off it, cells and lists don't agree at this cell.
     ensures readers { (who : Waiter) → result ≡ Stored
         → (act (cells_of table.old arena.now) who (Store a value)).resumed
         ≡ replies_to (list_at arena.now.held a) value }
     ensures draining { result ≡ Stored → AgreeBut a table.new arena.now }
 
-    // Any other answer is the whole of it.
+    // After any other reply no reader is to be answered, and cells and lists agree.
     ensures nobody { (who : Waiter) → result ≢ Stored
         → (act (cells_of table.old arena.now) who (Store a value)).resumed ≡ [] }
     ensures agree { result ≢ Stored → Agree table.new arena.now }
 
     ensures kept { LeavesCells I a table.old table.new }
 {
-    let cell = match look(table, a, Kind::I) {
+    let cell = match look_to_write(table, a, Kind::I) {
         Ok(cell) => cell,
         Err(reply) => return reply,
     };
@@ -129,7 +149,7 @@ pub fn store(table: &mut CellTable, arena: &Arena, a: u32, value: u64) -> Reply
     }
 }
 
-/// Takes the first reader off the list of a cell that a store made full, and gives its node back; `None` where no
+/// Takes the first reader off the list of a cell that a store made full, and frees its node. Returns `None` if no
 /// reader is left, and then cells and lists agree again.
 #[inline(always)]
 pub fn next_reader(arena: &mut Arena, a: u32) -> Option<Waiter>
@@ -139,7 +159,7 @@ pub fn next_reader(arena: &mut Arena, a: u32) -> Option<Waiter>
     ensures none { IfNone result (arena.new ≡ arena.old) }
     ensures links { IfSome result (λ _. IsPopped a arena.old arena.new) }
 
-    // Of each table whose full cell this is.
+    // For each table with this full cell.
     ensures cells { (slots : List (Option Slot)) → AgreeBut a slots arena.old
         → cells_of slots arena.new ≡ cells_of slots arena.old }
     ensures draining { (slots : List (Option Slot)) → AgreeBut a slots arena.old → AgreeBut a slots arena.new }
@@ -148,15 +168,15 @@ pub fn next_reader(arena: &mut Arena, a: u32) -> Option<Waiter>
     arena.pop_front(a)
 }
 
-/// Takes the readers off the list of a cell that a store made full, until none is left, and puts them in their order
-/// behind those in `readers`.
+/// Takes all readers off the list of a cell that a store made full. It puts them in their order at the end of
+/// `readers`.
 pub fn drain(arena: &mut Arena, a: u32, readers: &mut Vec<Waiter>)
     requires list { a < length arena.old.held.lists }
     requires room { vec_len readers.old + length (list_at arena.old.held a) ≤ vec_capacity readers.old }
     ensures readers { readers.new.items ≡ readers.old.items ++ list_at arena.old.held a }
     ensures rest { arena.new.held ≡ with_list arena.old.held a [] }
 
-    // Of each table whose full cell this is.
+    // For each table with this full cell.
     ensures cells { (slots : List (Option Slot)) → AgreeBut a slots arena.old
         → cells_of slots arena.new ≡ cells_of slots arena.old }
     ensures whole { (slots : List (Option Slot)) → AgreeBut a slots arena.old → Agree slots arena.new }
@@ -166,10 +186,10 @@ pub fn drain(arena: &mut Arena, a: u32, readers: &mut Vec<Waiter>)
     }
 }
 
-/// Writes the cell at an address, and takes its readers off its list: those who get the value are put behind the
-/// waiters in `readers`, in the order in which they came. A cell that has a value keeps it, and is clashed.
+/// Writes the cell at an address, and takes its readers off its list. The readers get the value, and are put at the end
+/// of `readers` in their order of arrival. A cell that has a value keeps it, and is clashed.
 ///
-/// It is [`store`], and [`next_reader`] until there is none.
+/// The call is [`store`], and then [`next_reader`] until no reader is left.
 pub fn store_and_drain(
     table: &mut CellTable,
     arena: &mut Arena,
@@ -180,7 +200,7 @@ pub fn store_and_drain(
     requires agree { Agree table.old arena.old }
     requires room { vec_len readers.old + length (list_at arena.old.held a) ≤ vec_capacity readers.old }
 
-    // Whoever asks.
+    // For every asker.
     ensures entry { (who : Waiter) → Answered result ≡ (act (cells_of table.old arena.old) who (Store a value)).entry }
     ensures cells { (who : Waiter)
         → cells_of table.new arena.new ≡ (act (cells_of table.old arena.old) who (Store a value)).cells }

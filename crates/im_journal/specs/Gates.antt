@@ -1,22 +1,22 @@
--- The gates of a ring's slots, as they are closed.
+-- Closing the gates of a ring's slots.
 use Rattle.std.specs.Prelude.{◌≡◌, ℕ, ◌+◌, ◌*◌, ◌^◌, ◌<◌, List, [], length, slice_index}
 use Rattle.im_types.specs.Journal.{Ring, slot_at}
 use Rattle.im_disk.specs.Moment.{Moment, Left}
 
--- the byte that closes a gate: any but that of an open one would do
+-- the byte that closes a gate; any byte but that of an open gate would do
 abbrev pub closed_gate : ℕ
 closed_gate = 0
 
--- so many slots at this offset: there are some, and each byte of them has a number
+-- a ring of slots at this offset: it has at least one slot, and each of its bytes has a number
 abbrev pub IsRing : ℕ → ℕ → Type 0
 IsRing base slots = (0 < slots) × (base + 64 * slots < 2 ^ 63)
 
--- the files agree but for the gates of n slots, from the one of sequence number s on
+-- the files agree outside the gates of n slots, from the slot of sequence number s on
 pub record SameButGates (ring : Ring) (s n : ℕ) (c d : List ℕ) : Type 0 where
   pub size : length d ≡ length c
   pub same : (i : ℕ) → ((k : ℕ) → k < n → i ≡ slot_at ring (s + k) → ⊥) → slice_index d i ≡ slice_index c i
 
--- the file is one that could be left, but for those gates
+-- outside those gates, the file is one that could be left
 pub record MayClose (ring : Ring) (s n : ℕ) (m : Moment) (file : List ℕ) : Type 0 where
   pub from : List ℕ
   pub left : Left m from
@@ -26,7 +26,7 @@ pub record MayClose (ring : Ring) (s n : ℕ) (m : Moment) (file : List ℕ) : T
 abbrev pub HasClosed : Ring → ℕ → ℕ → List ℕ → Type 0
 HasClosed ring s n file = (k : ℕ) → k < n → slice_index file (slot_at ring (s + k)) ≡ closed_gate
 
--- Those gates are closed on the disk for good, and its other bytes are as they were.
+-- Those gates are closed on the disk for good, and all other bytes are as they were.
 pub record AreShut (ring : Ring) (s n : ℕ) (old new : Moment) : Type 0 where
   pub kept : SameButGates ring s n old.bytes new.bytes
   pub closed : HasClosed ring s n new.bytes

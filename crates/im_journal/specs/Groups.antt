@@ -7,20 +7,20 @@ use Rattle.im_types.specs.Journal.{Ring, slot_at, slot}
 use Rattle.im_disk.specs.Moment.{Moment, Left}
 use Rattle.im_journal.specs.Gates.{IsRing}
 
--- the group count of the slot behind k others of a group of so many commands
+-- the group count of the slot behind k others, in a group of `many` commands
 abbrev pub count_at : ℕ → ℕ → ℕ
 count_at group zero = group
 count_at group (suc k) = 0
 
--- So many commands from this sequence number on go as one group into the ring of so many slots at this offset: once
--- round it at most, and no further than the last count there is.
+-- This many commands, from this sequence number on, can go as one group into this ring: once round it at most, and no
+-- further than the last count.
 pub record FitsRing (base slots s n : ℕ) : Type 0 where
   pub ring : IsRing base slots
   pub few : n ≤ MAX_GROUP
   pub once_round : n ≤ slots
   pub last : s + n ≤ LAST
 
--- behind the gates of the slots from sequence number s on stand these commands, the first with this group count
+-- behind the gates of the slots from sequence number s on are these commands, the first with this group count
 abbrev pub HasBodies : Ring → ℕ → ℕ → List Command → List ℕ → Type 0
 HasBodies ring group s [] file = Unit {0}
 HasBodies ring group s (command ∷ commands) file = (drop 1 (slot ring s file) ≡ slot_body group s command)
@@ -31,21 +31,21 @@ abbrev pub AllFit : List Command → Type 0
 AllFit [] = Unit {0}
 AllFit (command ∷ commands) = FitsCommand command × AllFit commands
 
--- byte i isn't behind the gate of one of n slots, from the one of sequence number s on
+-- byte i isn't behind the gate of any of n slots, from the slot of sequence number s on
 abbrev pub IsNoBody : Ring → ℕ → ℕ → ℕ → Type 0
 IsNoBody ring s n i = (k : ℕ) → k < n → (i ≤ slot_at ring (s + k)) ⊎ (slot_at ring (s + k) + 64 ≤ i)
 
--- the files agree but for what is behind the gates of n slots, from the one of sequence number s on
+-- the files agree outside what is behind the gates of n slots, from the slot of sequence number s on
 pub record SameButBodies (ring : Ring) (s n : ℕ) (c d : List ℕ) : Type 0 where
   pub size : length d ≡ length c
   pub same : (i : ℕ) → IsNoBody ring s n i → slice_index d i ≡ slice_index c i
 
--- the same, and but for the gate of the first of these slots: they are a group's
+-- the files agree outside that and the gate of the first of these slots: the bytes of a group
 pub record SameButGroup (ring : Ring) (s n : ℕ) (c d : List ℕ) : Type 0 where
   pub size : length d ≡ length c
   pub same : (i : ℕ) → i ≢ slot_at ring s → IsNoBody ring s n i → slice_index d i ≡ slice_index c i
 
--- the file is one that could be left, but for those bodies
+-- outside those bodies, the file is one that could be left
 pub record MayWriteBodies (ring : Ring) (s n : ℕ) (m : Moment) (file : List ℕ) : Type 0 where
   pub from : List ℕ
   pub left : Left m from

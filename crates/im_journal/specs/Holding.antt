@@ -25,7 +25,7 @@ abbrev pub ring_under : Limits → Ring
 ring_under limits =
     ring_of layout_in_use (record { cells = limits.cells; elements = limits.elements; slots = limits.slots })
 
--- the ring of so many slots at this offset
+-- the ring of this many slots at this offset
 abbrev pub ring_at : ℕ → ℕ → Ring
 ring_at base slots = record { base = base; slots = slots }
 
@@ -33,7 +33,7 @@ ring_at base slots = record { base = base; slots = slots }
 abbrev pub ring_alone : ℕ → Ring
 ring_alone slots = record { base = 0; slots = slots }
 
--- the run goes from the sequence number `first` to the one before `count`, and has so much room behind it
+-- the run goes from the sequence number `first` to the one before `count`, with this room behind it
 pub record JournalState : Type 0 where
   pub ring : Ring
   pub first : ℕ
@@ -49,7 +49,7 @@ state_of base slots first count room = record {
   room = room;
 }
 
--- run and room go once round the ring at most, and no further than the last count there is
+-- the run and the room go once round the ring at most, and no further than the last count
 pub record IsJournal (j : JournalState) : Type 0 where
   pub enough_slots : MIN_SLOTS ≤ j.ring.slots
   pub few_slots : j.ring.slots ≤ MAX_SLOTS
@@ -59,7 +59,7 @@ pub record IsJournal (j : JournalState) : Type 0 where
   pub to_last : j.count ≤ LAST
   pub full_at_last : j.count ≡ LAST → j.room ≡ 0
 
--- The journal is the tail of the file. The room that it knows of may be less than reading the file finds. Each slot
+-- The journal is the tail of the file. A read of the file may find more room than the journal knows of. Each slot
 -- behind the known room is of a command before the run, whatever its gate is.
 pub record Holds (j : JournalState) (file : List ℕ) : Type 0 where
   pub size : j.ring.base + 64 * j.ring.slots ≤ length file
@@ -71,19 +71,19 @@ pub record Holds (j : JournalState) (file : List ℕ) : Type 0 where
   pub behind : j.count < LAST → (k : ℕ) → j.room ≤ k → k < j.ring.slots - (j.count - j.first)
       → sequence_of (slot j.ring (j.count + k) file) < j.first
 
--- it is the tail of each file that a crash at this moment may leave
+-- the journal is the tail of each file that a crash at this moment may leave
 abbrev pub AllHold : JournalState → Moment → Type 0
 AllHold j m = (file : List ℕ) → Left m file → Holds j file
 
--- the room behind n commands, the first of them with this sequence number, of what there was before them
+-- the room behind n commands, the first of them with this sequence number, that take the room that was there
 abbrev pub room_after : ℕ → ℕ → ℕ → ℕ
 room_after count n room = if count + n == LAST then 0 else room - n
 
--- with n commands more
+-- the journal with n commands more
 abbrev pub longer : ℕ → JournalState → JournalState
 longer n j = record j { count = j.count + n; room = room_after j.count n j.room }
 
--- how many slots are neither of the run nor of the known room; at the last count there is none to be made room
+-- the number of slots outside the run and the known room; at the last count no slot can become room
 abbrev pub to_sweep : JournalState → ℕ
 to_sweep j = if j.count == LAST then 0 else j.ring.slots - (j.count - j.first) - j.room
 
@@ -94,12 +94,12 @@ longer_tail count commands t = record {
   room = room_after count (length commands) t.room;
 }
 
--- where a run may begin anew in the first file, it may in the second one
+-- a run may begin anew in the second file wherever it may in the first
 abbrev pub KeepsBoundaries : Ring → ℕ → List ℕ → List ℕ → Type 0
 KeepsBoundaries ring first c d = (k : ℕ) → IsBoundary ring first k c → IsBoundary ring first k d
 
--- The file is one that could be left, but for the slots of these commands as a group, and its tail has the commands at
--- its end. They stand behind one open gate.
+-- Outside the slots of these commands as a group, the file is one that could be left. Its tail has the commands at its
+-- end, behind one open gate.
 pub record Appended (j : JournalState) (commands : List Command) (m : Moment) (file : List ℕ) : Type 0 where
   pub from : List ℕ
   pub left : Left m from
@@ -109,20 +109,20 @@ pub record Appended (j : JournalState) (commands : List Command) (m : Moment) (f
   pub reads : tail j.ring j.first file ≡ option_map (longer_tail j.count commands) (tail j.ring j.first from)
   pub boundaries : KeepsBoundaries j.ring j.first from file
 
--- The commands are on the disk for good, and the journal that comes next is the tail of each file left; the bytes
--- outside their slots are as they were.
+-- The commands are on the disk for good, and the next journal is the tail of each file left. The bytes outside their
+-- slots are as they were.
 pub record Adds (j next : JournalState) (commands : List Command) (old new : Moment) : Type 0 where
   pub added : LeavesNow new (Appended j commands old)
   pub holds : AllHold next new
   pub kept : SameButGroup j.ring j.count (length commands) old.bytes new.bytes
   pub calm : new.ranges ≡ []
 
--- `JournalFull` is answered exactly where this is so, and then the disk is as it was.
+-- The result is `JournalFull` exactly if this holds, and then the disk is as it was.
 pub record IsFullBy {T D : Type 0} (full : Type 0) (old new : D) (result : Result T Refusal) : Type 0 where
   pub exactly : (IsErrOf result JournalFull) ↔ full
   pub untouched : IsErrOf result JournalFull → new ≡ old
 
--- the same, or its tail is as it was
+-- the commands are appended so, or the tail is as it was
 pub record MayAppend (j : JournalState) (commands : List Command) (m : Moment) (file : List ℕ) : Type 0 where
   pub from : List ℕ
   pub left : Left m from
@@ -131,12 +131,12 @@ pub record MayAppend (j : JournalState) (commands : List Command) (m : Moment) (
       ⊎ (tail j.ring j.first file ≡ option_map (longer_tail j.count commands) (tail j.ring j.first from))
   pub boundaries : KeepsBoundaries j.ring j.first from file
 
--- with so much room more
+-- the journal with this much room more
 abbrev pub with_room : JournalState → ℕ → JournalState
 with_room j more = record j { room = j.room + more }
 
--- The files agree outside the ring, and both have the same commands in the journal's run. The second one holds the
--- journal still, so it has the known room, or more.
+-- The files agree outside the ring, and both have the same commands in the journal's run. The second one still holds
+-- the journal, with the known room or more.
 pub record SameRun (j : JournalState) (c d : List ℕ) : Type 0 where
   pub same : SameBut j.ring.base (64 * j.ring.slots) c d
   pub commands : List Command
@@ -154,31 +154,31 @@ pub record MaySweep (j : JournalState) (m : Moment) (file : List ℕ) : Type 0 w
   pub left : Left m from
   pub run : SameRun j from file
 
--- So many slots became room: as many as there were to be swept, `most` at most.
+-- This many slots became room: all that were to be swept, but `most` at most.
 pub record IsSweptBy (most : ℕ) (j : JournalState) (n : ℕ) (next : JournalState) : Type 0 where
   pub turn : n ≡ min most (to_sweep j)
   pub room : next ≡ with_room j n
 
--- The same, three at most.
+-- The same with three at most.
 abbrev pub IsSwept : JournalState → ℕ → JournalState → Type 0
 IsSwept j n next = IsSweptBy 3 j n next
 
--- The room is on the disk for good: the journal with it is the tail of each file left, and the run is as it was.
+-- The room is on the disk for good: the journal with it is the tail of each file left. The run is as it was.
 pub record Sweeps (j next : JournalState) (old new : Moment) : Type 0 where
   pub holds : AllHold next new
   pub run : SameRun j old.bytes new.bytes
   pub calm : new.ranges ≡ []
 
--- what is left of the tail of a file that holds a journal, behind so many of the run's commands
+-- what is left of the tail of a file that holds a journal, behind n of the run's commands
 abbrev pub rest_behind : {j : JournalState} {file : List ℕ} → ℕ → Holds j file → Tail
 rest_behind n held = record { commands = drop n held.commands; room = held.there }
 
--- The file's tail from a sequence number on: these commands, and the room of the journal, which holds the file.
+-- The file's tail from a sequence number on has these commands and the room of the journal. The file holds the journal.
 pub record IsTail (ring : Ring) (first : ℕ) (j : JournalState) (commands : List Command) (file : List ℕ) : Type 0 where
   pub reads : tail ring first file ≡ Some (record { commands = commands; room = j.room })
   pub holds : Holds j file
 
--- these are the bytes of so many slots
+-- these are the bytes of this many slots
 abbrev pub AreSlots : ℕ → List ℕ → Type 0
 AreSlots slots bytes = (0 < slots) × (slots < 2 ^ 32) × (length bytes ≡ 64 * slots)
 

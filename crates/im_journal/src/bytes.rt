@@ -1,4 +1,4 @@
-// How a part of a disk is read.
+// Reads a part of a disk.
 ghost use Rattle.std.specs.Prelude.{◌≡◌, ◌⊎◌, ◌+◌, ◌≤◌, length, take, drop, IfOk, IfErr, OnOk, IsErrOf};
 ghost use Rattle.im_disk.specs.Runs.{ReadsOrRefuses};
 ghost use Rattle.im_disk.specs.Since.{Calls};
@@ -7,7 +7,7 @@ use im_disk::Disk;
 use im_types::Refusal;
 use std::alloc::Global;
 
-/// These bytes of the disk, by one read. `NoMemory` or `Device`.
+/// Reads `len` bytes of the disk from `at` on with one call. Returns `NoMemory` or `Device` on failure.
 pub(crate) fn read_bytes<D: Disk>(
     alloc: Global,
     disk: &mut D,

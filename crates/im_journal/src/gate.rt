@@ -1,4 +1,4 @@
-// How the gates of slots are closed.
+// Closes the gates of slots.
 ghost use Rattle.std.specs.Prelude.{◌≡◌, ◌+◌, ◌*◌, ◌≤◌, ◌<◌, ◌^◌, length, OnOk};
 ghost use Rattle.im_disk.specs.Runs.{Runs};
 ghost use Rattle.im_journal.specs.Gates.{IsRing, MayClose, AreShut};
@@ -7,9 +7,9 @@ ghost use Rattle.im_journal.specs.Holding.{ring_at};
 use im_disk::{DeviceFault, Disk};
 use im_types::layout::CLOSED;
 
-/// Closes the gates of so many slots of a ring, from the one of a sequence number on: a write of one byte for each of
-/// them, and a sync. The slots are of commands before the run: such a slot is no command where its gate is open, and
-/// may be taken for room where it is closed.
+/// Closes the gates of `count` slots of a ring, from the slot of sequence number `from` on. It writes one byte for each
+/// and syncs. The slots are of commands before the run. Such a slot is no command while its gate is open, and may count
+/// as room once its gate is closed.
 pub(crate) fn close_gates<D: Disk>(
     disk: &mut D,
     base: usize,

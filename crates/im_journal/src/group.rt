@@ -1,4 +1,4 @@
-// How the bodies of a group of commands are written.
+// Writes the bodies of a group of commands.
 ghost use Rattle.std.specs.Prelude.{◌≡◌, ◌+◌, ◌*◌, ◌≤◌, length, OnOk};
 ghost use Rattle.im_disk.specs.Runs.{Runs};
 ghost use Rattle.im_journal.specs.Groups.{count_at, FitsRing, MayWriteBodies, AreWritten};
@@ -8,15 +8,15 @@ use crate::slot::spell_in;
 use im_disk::{DeviceFault, Disk};
 use im_types::{Command, LAST, MAX_GROUP};
 
-// The group count of the slot behind so many others.
+// The group count of the slot after `k` others.
 fn count_at(group: u8, k: usize) -> u8
     ensures { result ≡ count_at group k }
 {
     if k == 0 { group } else { 0 }
 }
 
-/// Writes commands behind the gates of the slots from the one of a sequence number on, by a call for each of them. The
-/// first slot counts them all, each other one none. The gates stay.
+/// Writes commands behind the gates of the slots, from the slot of sequence number `from` on, with one call for each.
+/// The group count of the first slot counts them all; that of each other slot is 0. The gates stay.
 pub(crate) fn write_bodies<D: Disk>(
     disk: &mut D,
     base: usize,

@@ -1,5 +1,5 @@
-//! The journal of an image: a ring of slots of 64 bytes, each of them a command behind a gate. Commands stand in groups
-//! of one or more, and a group counts from the moment on when the gate of its first slot is open on the disk.
+//! The journal of an image: a ring of slots of 64 bytes. Each slot is a command behind a gate. Commands stand in groups
+//! of one or more. A group counts once the gate of its first slot is open on the disk.
 #![tactic(auto)]
 
 mod bytes;

@@ -24,7 +24,7 @@ fn slot_in(ring: &[u8], slots: usize, sequence: u64) -> [u8; 64]
     bytes
 }
 
-// Whether the run goes on with this slot.
+// Returns whether the run continues with this slot.
 #[tactic(auto, unfolding(im_types::specs::Journal::continues))]
 fn continues(slot: &[u8; 64], sequence: u64) -> bool
     ensures { result ≡ continues slot.now sequence }
@@ -32,7 +32,7 @@ fn continues(slot: &[u8; 64], sequence: u64) -> bool
     slot[0] == OPEN && sequence_in(slot) == sequence && sequence < LAST
 }
 
-// The commands from a sequence number on, at most once round the ring.
+// The commands from a sequence number on, once round the ring at most.
 fn run_in(alloc: Global, ring: &[u8], slots: usize, first: u64) -> Result<Vec<Command>, Refusal>
     requires slots { AreSlots slots ring.now }
     requires last { first ≤ LAST }
@@ -62,14 +62,14 @@ fn run_in(alloc: Global, ring: &[u8], slots: usize, first: u64) -> Result<Vec<Co
         }
         due = due_after(due, &slot);
     }
-    // A group goes on past the ring's slots.
+    // A group continues past the ring's slots.
     if due > 0 {
         return Err(Refusal::BadRecord);
     }
     Ok(commands)
 }
 
-// How many of so many gates are closed, up to the first open one.
+// How many of the next `count` gates are closed, before the first open one.
 fn closed_in(ring: &[u8], slots: usize, from: u64, count: usize) -> usize
     requires some { 0 < slots }
     requires size { length ring.now ≡ 64 * slots }
@@ -86,7 +86,7 @@ fn closed_in(ring: &[u8], slots: usize, from: u64, count: usize) -> usize
     count
 }
 
-// Whether so many slots are of commands before this one.
+// Returns whether the next `count` slots are all of commands before `first`.
 fn are_stale(ring: &[u8], slots: usize, from: u64, count: usize, first: u64) -> bool
     requires some { 0 < slots }
     requires size { length ring.now ≡ 64 * slots }
@@ -102,7 +102,7 @@ fn are_stale(ring: &[u8], slots: usize, from: u64, count: usize, first: u64) -> 
     true
 }
 
-// The room behind a run, of so many closed gates: none at the last count there is.
+// The room behind a run with this many closed gates. There is none at the last count.
 fn room_behind(next: u64, closed: usize) -> usize
     ensures room { result ≡ (if next == LAST then 0 else closed) }
     ensures few { result ≤ closed }
@@ -111,9 +111,9 @@ fn room_behind(next: u64, closed: usize) -> usize
     if next == LAST { 0 } else { closed }
 }
 
-/// The commands from a sequence number on, and the room behind them. `BadRecord` exactly where a slot of the run isn't
-/// spelled as it should be, a group goes too far, or a slot from the first open gate behind the run on isn't stale;
-/// else `NoMemory`.
+/// Returns the commands from a sequence number on, and the room behind them. Returns `BadRecord` only in three cases: a
+/// slot of the run isn't spelled as it should be, a group goes too far, or a slot isn't stale from the first open gate
+/// behind the run on. Any other refusal is `NoMemory`.
 pub(crate) fn tail_in(
     alloc: Global,
     ring: &[u8],

@@ -38,8 +38,8 @@ fn spell_fields(
     slot
 }
 
-/// The slot of a command, with this group count and under this sequence number, as [`spell`] has it for a command alone
-/// in its group. [`read_in`] gives the command back.
+/// Spells a command as a slot with this group count and sequence number. [`spell`] does the same for a command alone in
+/// its group. [`read_in`] gives the command back.
 pub(crate) fn spell_in(group: u8, command: &Command, sequence: u64) -> [u8; 64]
     ensures bytes { result ≡ open_gate ∷ slot_body group sequence command.now }
     ensures fits { FitsCommand command.now }
@@ -62,8 +62,8 @@ pub(crate) fn spell_in(group: u8, command: &Command, sequence: u64) -> [u8; 64]
     }
 }
 
-/// The slot of a command, alone in its group, under a sequence number: an open gate, and the command's fields. All
-/// numbers are little endian, and what isn't a field is zero. [`read`] gives the command back.
+/// Spells a command alone in its group as a slot with this sequence number: an open gate and the command's fields. All
+/// numbers are little endian, and bytes outside the fields are zero. [`read`] gives the command back.
 pub fn spell(command: &Command, sequence: u64) -> [u8; 64]
     ensures bytes { result ≡ open_gate ∷ slot_body 1 sequence command.now }
     ensures fits { FitsCommand command.now }
@@ -98,7 +98,7 @@ pub(crate) fn sequence_in(slot: &[u8; 64]) -> u64
     LittleEndian::read_u64(&slot[8..16])
 }
 
-// The command that the fields stand for, whatever the other bytes are.
+// The command that the fields stand for. It ignores all other bytes.
 #[tactic(auto, unfolding(im_types::specs::Slot::command_in))]
 fn command_in(slot: &[u8; 64]) -> Option<Command>
     ensures { result ≡ command_in slot.now }
@@ -110,7 +110,7 @@ fn command_in(slot: &[u8; 64]) -> Option<Command>
     command_of(slot[2], element, LittleEndian::read_u64(&slot[16..24]), op)
 }
 
-/// The command of a slot, whatever its gate is, or `None` where the bytes behind the gate aren't those that
+/// Returns the command of a slot, whatever its gate is. Returns `None` if the bytes behind the gate aren't those that
 /// [`spell_in`] gives with this group count.
 pub(crate) fn read_in(group: u8, slot: &[u8; 64]) -> Option<Command>
     ensures found { result ≡ read_in group slot.now }
@@ -124,8 +124,8 @@ pub(crate) fn read_in(group: u8, slot: &[u8; 64]) -> Option<Command>
     }
 }
 
-/// The command of a slot, whatever its gate is, or `None` where the bytes behind the gate aren't those that [`spell`]
-/// gives: the group count isn't 1, the code is none of the eight, or a byte that has to be zero isn't.
+/// Returns the command of a slot, whatever its gate is. Returns `None` if the bytes behind the gate aren't those that
+/// [`spell`] gives: the group count isn't 1, the code is none of the eight, or a byte that has to be zero isn't.
 pub fn read(slot: &[u8; 64]) -> Option<Command>
     ensures found { result ≡ read_slot slot.now }
     ensures spelled { IfSome result (λ c. drop 1 slot.now ≡ slot_body 1 (sequence_of slot.now) c) }
@@ -133,7 +133,7 @@ pub fn read(slot: &[u8; 64]) -> Option<Command>
     read_in(1, slot)
 }
 
-// Whether a slot's count is that of a group, none of whose commands is behind the last number there is.
+// Returns whether a slot's count is that of a group with no command past the last number.
 fn leads(slot: &[u8; 64], sequence: u64) -> bool
     requires low { sequence ≤ LAST }
     ensures { result ≡ leads sequence slot.now }
@@ -153,7 +153,7 @@ fn leader(slot: &[u8; 64], sequence: u64) -> Option<Command>
     }
 }
 
-// The command of a slot that follows in a group.
+// The command of a slot that is a later member of a group.
 fn follower(slot: &[u8; 64], sequence: u64) -> Option<Command>
     ensures { result ≡ member 1 sequence slot.now }
 {
@@ -164,8 +164,8 @@ fn follower(slot: &[u8; 64], sequence: u64) -> Option<Command>
     }
 }
 
-/// The command of a slot of the run, where so many followers are due, or `None` where it isn't spelled as it should
-/// be.
+/// Returns the command of a slot of the run. `due` slots of a group are still to come from this one on; with 0, the
+/// slot leads a group. Returns `None` if the slot isn't spelled as it should be.
 pub(crate) fn member(due: u8, sequence: u64, slot: &[u8; 64]) -> Option<Command>
     requires low { sequence ≤ LAST }
     ensures { result ≡ member due sequence slot.now }
@@ -177,7 +177,8 @@ pub(crate) fn member(due: u8, sequence: u64, slot: &[u8; 64]) -> Option<Command>
     }
 }
 
-/// How many followers are due behind a slot of the run, where so many were due at it.
+/// Returns how many slots of the group are still to come after this one. `due` is the number from this one on; with 0,
+/// the slot leads a group.
 pub(crate) fn due_after(due: u8, slot: &[u8; 64]) -> u8
     ensures { result ≡ due_after due slot.now }
 {

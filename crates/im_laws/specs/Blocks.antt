@@ -1,4 +1,4 @@
--- Addresses of a block, and what is told of one that stays as it is. (Own.)
+-- The addresses of a block, and the reply for a block that stays as it is. (Own.)
 use Rattle.std.specs.Prelude.{◌≡◌, ℕ, ◌+◌, ◌<◌, ◌≤◌, List, Option}
 use Rattle.im_types.specs.declared.operations.Block.{Block}
 use Rattle.im_types.specs.declared.operations.Reply.{Reply}
@@ -9,7 +9,7 @@ use Rattle.im_types.specs.Act.{only_tells, unless_waited_for, block_with_base}
 abbrev pub LiesIn : ℕ → Block → Type 0
 LiesIn a block = (block.base ≤ a) × (a < block.base + block.length)
 
--- whatever was to become of the cells of the block with this base, this is told
+-- the reply of the block with this base, whatever change of its cells was asked for
 abbrev pub IsRefused : List (Option Held) → ℕ → Reply → Type 0
 IsRefused cells a reply =
     (after : Block → List (Option Held)) (meant : Reply) → unless_waited_for after meant cells a (block_with_base a (held_at cells a)) ≡ only_tells cells reply

@@ -1,11 +1,12 @@
--- Which cells an operation may change. (Own.)
+-- The cells that an operation may change. (Own.)
 use Rattle.std.specs.Prelude.{◌≡◌, ℕ, List, [], Option, None, Some}
 use Rattle.im_types.specs.declared.operations.Op.{Op}
 use Rattle.im_types.specs.declared.operations.Op.TheVariants.{Alloc, Release, Reset, Fetch, Store, Take, Put}
 use Rattle.im_types.specs.declared.operations.Block.{Block}
 use Rattle.im_types.specs.Contents.{Empty, Held, held_at, block_at}
 
--- an allocation those in no block, a release and a reset those of the block with its base, the others the cell at their address
+-- an allocation may change cells in no block, a release and a reset the cells of the block with that base, and another
+-- operation the cell at its address
 abbrev pub MayChange : Op → List (Option Held) → ℕ → Type 0
 MayChange (Alloc kind n) cells b = held_at cells b ≡ None
 MayChange (Release a) cells b = (block : Block) × (block_at cells b ≡ Some block) × (block.base ≡ a)
@@ -15,6 +16,6 @@ MayChange (Store a v) cells b = b ≡ a
 MayChange (Take a) cells b = b ≡ a
 MayChange (Put a v) cells b = b ≡ a
 
--- a new block's cell: nobody waits for it
+-- the cell of a new block: no request waits for it
 abbrev pub empty_cell : Block → Held
 empty_cell block = record { block = block; state = Empty [] }

@@ -1,4 +1,4 @@
--- What a request comes to when it is sent again. (Own.)
+-- The outcome of a request that is sent again. (Own.)
 use Rattle.std.specs.Prelude.{◌≡◌, ◌⊎◌, Ok, Err}
 use Rattle.im_types.specs.declared.operations.Reply.{Reply}
 use Rattle.im_types.specs.declared.operations.Entry.{Entry}
@@ -22,7 +22,7 @@ IsSameOrAnswer before now = (now ≡ before) ⊎ ((reply : Reply) × (before ≡
 abbrev pub LastsOrIsForgotten : Contents → Waiter → Kept → Type 0
 LastsOrIsForgotten m who k = IsForgotten m.windows who ⊎ StaysOrIsAnswered k (kept_for m.windows who)
 
--- the request is told this entry, and the memory stays as it is
+-- the request is answered with this entry, and the memory stays as it is
 abbrev pub IsTold : Contents → Request → Entry → Type 0
 IsTold m r entry = step m (Asks r) ≡ record { answer = Ok (Tells entry); contents = m }
 
@@ -30,12 +30,12 @@ IsTold m r entry = step m (Asks r) ≡ record { answer = Ok (Tells entry); conte
 abbrev pub IsRefused : Contents → Request → Refusal → Type 0
 IsRefused m r refusal = step m (Asks r) ≡ record { answer = Err refusal; contents = m }
 
--- the request is told the entry that it had, or the answer that has come since, and the memory stays as it is
+-- the request is answered with its earlier entry, or with the answer that has come since, and the memory stays as it is
 pub record IsToldAgain (m : Contents) (r : Request) (before : Entry) : Type 0 where
   pub entry : Entry
   pub since : IsSameOrAnswer before entry
   pub told : IsTold m r entry
 
--- sent again: told again, unless it was confirmed
+-- a request that is sent again is answered again, unless it was confirmed
 abbrev pub IsToldAgainOrForgotten : Contents → Request → Entry → Type 0
 IsToldAgainOrForgotten m r before = IsForgotten m.windows (asker r) ⊎ IsToldAgain m r before

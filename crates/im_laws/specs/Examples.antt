@@ -1,4 +1,4 @@
--- Worked traces, and what the laws over histories say of them. (Own.)
+-- Worked traces, and the entries that the laws over histories give. (Own.)
 use Rattle.std.specs.Prelude.{ℕ, zero, suc, ◌+◌, List, [], ◌∷◌, ◌++◌, map, Option, None, Some, Result, Ok, Err}
 use Rattle.im_types.specs.declared.operations.Op.{Op}
 use Rattle.im_types.specs.declared.operations.Op.TheVariants.{Alloc, Release, Reset, Fetch, Store, Take, Put}
@@ -28,15 +28,15 @@ use Rattle.im_types.specs.History.{Event, Life, lives, events, last_entry, lawfu
 abbrev pub sixteen_cells : Contents
 sixteen_cells = empty_contents 16 16
 
--- the least memory
+-- the smallest memory
 abbrev pub one_cell : Contents
 one_cell = empty_contents 1 1
 
--- who waits, by element and number
+-- a waiting request, by its element and its number
 abbrev pub waiter : ℕ → ℕ → Waiter
 waiter element number = record { element = element; number = number }
 
--- the lines of a trace: an element asks under a number; it confirms up to a number; its entry under a number is collected
+-- the line of a request of an element under a number, and its answer
 abbrev pub asks : ℕ → ℕ → Op → Result Outcome Refusal → Line
 asks element number op answer = record { call = Commands (Asks (record { element = element; number = number; op = op })); answer = answer }
 
@@ -48,7 +48,7 @@ confirms element upto answer = record { call = Commands (Confirm element upto); 
 abbrev pub collects : ℕ → ℕ → Result Outcome Refusal → Line
 collects element number answer = record { call = Collect element number; answer = answer }
 
--- and their answers
+-- the answer to a request that has this reply
 abbrev pub told : Reply → Result Outcome Refusal
 told reply = Ok (Tells (Answered reply))
 
@@ -56,7 +56,7 @@ told reply = Ok (Tells (Answered reply))
 abbrev pub waits : Result Outcome Refusal
 waits = Ok (Tells Waiting)
 
--- the answer to a confirmation that is taken
+-- the answer to a confirmation that succeeds
 abbrev pub confirmed : Result Outcome Refusal
 confirmed = Ok Confirmed
 
@@ -69,7 +69,7 @@ three_readers =
     ∷ asks 1 2 (Fetch 0) waits
     ∷ []
 
--- and one store answers all of them
+-- one store answers all of them
 abbrev pub one_store : List Line
 one_store =
     three_readers
@@ -79,7 +79,7 @@ one_store =
     ∷ collects 1 2 (told (Value 7))
     ∷ []
 
--- a second store, of the same value too, clashes for good
+-- a second store clashes for good, even with the same value
 abbrev pub second_store : List Line
 second_store =
     asks 0 1 (Alloc I 1) (told (Base 0))
@@ -90,7 +90,7 @@ second_store =
     ∷ collects 1 2 (told (Value 5))
     ∷ []
 
--- takers are served in the order in which they came
+-- takers are served in their order of arrival
 abbrev pub three_takers : List Line
 three_takers =
     asks 0 1 (Alloc M 1) (told (Base 0))
@@ -139,7 +139,7 @@ least_hole =
     ∷ asks 1 1 (Fetch 5) (told WrongKind)
     ∷ []
 
--- a block with a waiting cell stays, and what was told of it is kept
+-- a block with a waiting cell stays, and that answer is kept
 abbrev pub waiting_block : List Line
 waiting_block =
     asks 0 1 (Alloc I 1) (told (Base 0))
@@ -168,12 +168,12 @@ sent_again =
     ∷ asks 1 1 (Fetch 0) (told (Value 3))
     ∷ []
 
--- so many fetches of cell 0 by element 1, from this number on, each of which waits
+-- n fetches of cell 0 by element 1, from this number on, each of which waits
 abbrev pub fetches_that_wait : ℕ → ℕ → List Line
 fetches_that_wait zero number = []
 fetches_that_wait (suc more) number = asks 1 number (Fetch 0) waits ∷ fetches_that_wait more (number + 1)
 
--- sixty-four entries that wait are a full window, which nothing leaves before it is answered
+-- sixty-four waiting entries fill a window, and none leaves it before it is answered
 abbrev pub full_window : List Line
 full_window =
     asks 0 1 (Alloc I 1) (told (Base 0))
@@ -188,7 +188,7 @@ full_window =
     ∷ confirms 1 1 confirmed
     ∷ []
 
--- a block that is reset while a cell of it is waited for, and when none is
+-- a block that is reset while a request waits for a cell of it, and when none waits
 abbrev pub block_reset : List Line
 block_reset =
     asks 0 1 (Alloc I 2) (told (Base 0))
@@ -250,20 +250,20 @@ two_lives =
     ∷ asks 1 4 (Fetch 1) waits
     ∷ []
 
--- for each request of a life the entry that the laws say, if they say one, beside the last that it had
+-- for each request of a life, the entry that the laws give, if they give one, beside the last entry that it had
 abbrev pub beside : Contents → List Command → Kind → ℕ → List Event → List Event → List Event → List (Option Entry × Option Entry)
 beside m commands kind a all before [] = []
 beside m commands kind a all before (event ∷ later) =
     (lawful_entry kind a all before event event.request.op, last_entry m commands (asker event.request)) ∷ beside m commands kind a all (before ++ event ∷ []) later
 
--- for each life of a run
+-- the same for each life of a run
 abbrev pub in_lives : Contents → List Command → ℕ → List (List (Option Entry × Option Entry))
 in_lives m commands a = map (λ (life : Life). beside m commands life.kind a life.requests [] life.requests) (lives (events m commands))
 
--- the laws say this entry, and it is the one that was had; or they say nothing
+-- the laws give this entry, and it is the last one that the request had
 abbrev pub lawful : Entry → Option Entry × Option Entry
 lawful entry = (Some entry, Some entry)
 
--- an entry of which the laws say nothing
+-- an entry for which the laws give none
 abbrev pub unsaid : Entry → Option Entry × Option Entry
 unsaid entry = (None, Some entry)

@@ -1,4 +1,4 @@
--- A request that is new, and what comes of it. (Own.)
+-- A new request, and its outcome. (Own.)
 use Rattle.std.specs.Prelude.{◌≡◌, IsTrue, Ok}
 use Rattle.im_types.specs.declared.operations.Op.{Op}
 use Rattle.im_types.specs.declared.operations.Entry.{Entry}
@@ -12,7 +12,7 @@ use Rattle.im_types.specs.Step.{step, is_accepted}
 abbrev pub after_request : Contents → Request → Contents
 after_request m r = (step m (Asks r)).contents
 
--- the request is told this entry
+-- the request is answered with this entry
 abbrev pub IsAnswered : Contents → Request → Entry → Type 0
 IsAnswered m r entry = (step m (Asks r)).answer ≡ Ok (Tells entry)
 
@@ -21,7 +21,7 @@ pub record IsNew (m : Contents) (r : Request) (op : Op) : Type 0 where
   pub accepted : IsTrue (is_accepted m (Asks r))
   pub asks : r.op ≡ op
 
--- and it is told this entry
+-- the request is new, and is answered with this entry
 pub record IsServed (m : Contents) (r : Request) (op : Op) (entry : Entry) : Type 0 where
   pub is_new : IsNew m r op
   pub answered : IsAnswered m r entry

@@ -1,4 +1,4 @@
--- What becomes of windows: bounds that never go back, and numbers that are dropped for good. (Own.)
+-- Windows over time: bounds that never go back, and numbers that are dropped for good. (Own.)
 use Rattle.std.specs.Prelude.{◌≡◌, ◌≢◌, false, ℕ, ◌+◌, ◌<◌, ◌≤◌, List, Result, Ok, Some, slice_get}
 use Rattle.im_types.specs.declared.TheConstants.{WINDOW, LAST}
 use Rattle.im_types.specs.declared.operations.Waiter.{Waiter}
@@ -16,7 +16,7 @@ pub record IsForgotten (windows : List Window) (who : Waiter) : Type 0 where
   pub there : slice_get windows who.element ≡ Some window
   pub below : who.number < window.base
 
--- a window's bounds, neither of them less than these
+-- these are a window's bounds, and neither of them is less than before
 pub record AreNoLess (base next : ℕ) (now : Result (ℕ × ℕ) Refusal) : Type 0 where
   pub base_now : ℕ
   pub next_now : ℕ
@@ -24,7 +24,8 @@ pub record AreNoLess (base next : ℕ) (now : Result (ℕ × ℕ) Refusal) : Typ
   pub base_rises : base ≤ base_now
   pub next_rises : next ≤ next_now
 
--- the request has its element's next number, and after it the next number is one more; the base stays, and so do the bounds of all other windows
+-- the request has its element's next number, and after it the next number is one more; the base stays, and so do the
+-- bounds of all other windows
 pub record TakesNextNumber (m : Contents) (r : Request) : Type 0 where
   pub base : ℕ
   pub before : bounds m.windows r.element ≡ Ok (base, r.number)
@@ -41,14 +42,14 @@ pub record MovesBase (m : Contents) (element upto : ℕ) : Type 0 where
   pub reached : upto ≤ next
   pub others : (other : ℕ) → other ≢ element → bounds (step m (Confirm element upto)).contents.windows other ≡ bounds m.windows other
 
--- the request has its element's next number, which isn't past the last, and the window has room for it
+-- the request has its element's next number, which isn't past the last number of all, and the window has room for it
 pub record IsNextRequest (windows : List Window) (r : Request) : Type 0 where
   pub base : ℕ
   pub are : bounds windows r.element ≡ Ok (base, r.number)
   pub room : r.number < base + WINDOW
   pub to_last : r.number ≤ LAST
 
--- there is such a window, its next number isn't past this one, and no entry below it waits
+-- there is such a window, this number isn't past its next number, and no entry below it waits
 pub record IsConfirmable (windows : List Window) (element upto : ℕ) : Type 0 where
   pub base : ℕ
   pub next : ℕ

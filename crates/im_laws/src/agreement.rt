@@ -1,4 +1,4 @@
-//! Who waits.
+//! Waiting requests and their entries.
 ghost use Rattle.std.specs.Prelude.{◌≡◌, ◌↔◌, ℕ, ◌≤◌, List, IsTrue};
 ghost use Rattle.im_types.specs.declared.operations.Waiter.{Waiter};
 ghost use Rattle.im_types.specs.declared.operations.Kept.{Kept};
@@ -10,8 +10,8 @@ ghost use Rattle.im_types.specs.Run.{after};
 ghost use Rattle.im_types.specs.Agreement.{WaitingAgrees, times, address_of};
 ghost use Rattle.im_laws.specs.Agreement.{WaitsAt};
 
-/// Who waits at a cell is who has a waiting entry for it: each command keeps this, and it holds after any commands on
-/// an empty memory.
+/// The requests in a cell's list are those with a waiting entry for that cell. Each command keeps this agreement, and
+/// it holds after any commands on an empty memory.
 pub fn waiting_agrees()
     ensures step { (m : Contents) (command : Command) → WaitingAgrees m
         → WaitingAgrees (step m command).contents }
@@ -19,8 +19,8 @@ pub fn waiting_agrees()
         → WaitingAgrees (after (empty_contents cells elements) commands) }
 {}
 
-/// What the agreement says: a request stands in a cell's list exactly where its entry waits for that cell, and then
-/// once and in no other list; and each waiting entry waits for the cell that it names.
+/// The meaning of the agreement. A request stands in a cell's list if and only if it has a waiting entry for that cell.
+/// It stands there once, and in no other list. Each waiting entry waits for the cell that its operation names.
 pub fn waiting_entries_are_listed_once()
     ensures listed { (m : Contents) → WaitingAgrees m → (who : Waiter) (a : ℕ)
         → (1 ≤ times who (waiters_at m.cells a)) ↔ WaitsAt m who a }

@@ -32,8 +32,8 @@ pub fn blocks_are_apart()
         → first ≡ second }
 {}
 
-/// A new request for a block that is told a base is given the least one that is free, and from there on the cells of
-/// the new block, all empty. One that is told that there is no space meets a memory where no base is free.
+/// A new request that is answered with a base has the least free base. From there on its block's cells follow, all
+/// empty. If a new request is answered that there is no space, no base is free.
 pub fn allocation_takes_the_least_place()
     ensures least { (m : Contents) (r : Request) (kind : Kind) (n base : ℕ)
         → IsServed m r (Alloc kind n) (Answered (Base base)) → IsLeastFree m.cells n base }
@@ -45,7 +45,7 @@ pub fn allocation_takes_the_least_place()
         → IsServed m r (Alloc kind n) (Answered NoSpace) → IsFalse (is_free m.cells base n) }
 {}
 
-/// A new request for a release that is told so frees each cell of the block with that base, and nobody waited for any.
+/// A new release that succeeds frees each cell of the block with that base. No request waited for any of them.
 pub fn release_frees_the_block()
     ensures freed { (m : Contents) (r : Request) (a b : ℕ) (block : Block)
         → HasBlocks m.cells → IsServed m r (Release a) (Answered Released)
@@ -56,7 +56,7 @@ pub fn release_frees_the_block()
         → block_at m.cells b ≡ Some block → block.base ≡ a → waiters_at m.cells b ≡ [] }
 {}
 
-/// A new request for a reset that is told so empties each cell of the block with that base, and nobody waited for any.
+/// A new reset that succeeds empties each cell of the block with that base. No request waited for any of them.
 pub fn reset_empties_the_block()
     ensures emptied { (m : Contents) (r : Request) (a b : ℕ) (block : Block)
         → HasBlocks m.cells → IsServed m r (Reset a) (Answered Cleared)

@@ -1,4 +1,4 @@
-//! What is kept for a request.
+//! The entries that are kept for requests.
 ghost use Rattle.std.specs.Prelude.{◌≡◌, ◌⊎◌, List, IsTrue};
 ghost use Rattle.std.specs.Bool.{IsFalse};
 ghost use Rattle.std.specs.List.{list_any};
@@ -17,7 +17,7 @@ ghost use Rattle.im_laws.specs.Windows.{IsForgotten};
 ghost use Rattle.im_laws.specs.Requests.{after_request, IsAnswered};
 ghost use Rattle.im_laws.specs.Entries.{LastsOrIsForgotten, IsToldAgainOrForgotten};
 
-/// What is kept for a request stays kept until it is confirmed, save that a waiting entry may be answered; an answered
+/// The entry of a request stays kept until it is confirmed. Only a waiting entry may change, to an answer. An answered
 /// entry never changes.
 pub fn entry_lasts()
     ensures step { (m : Contents) (command : Command) → WaitingAgrees m
@@ -35,21 +35,22 @@ pub fn entry_lasts()
         ⊎ (kept_for (after m commands).windows who ≡ Some k) }
 {}
 
-/// What a request was told is what is kept for it right after.
+/// Right after a request is answered, its kept entry is the entry that it was answered with.
 pub fn read_back()
     ensures { (m : Contents) (r : Request) (entry : Entry) → WaitingAgrees m → IsAnswered m r entry
         → ask (after_request m r).windows (asker r) ≡ Ok entry }
 {}
 
-/// A request that was told its entry and is sent again, after any commands, is told the same entry, or the answer that
-/// has come since, and changes nothing; unless it was confirmed.
+/// A request that was answered with its entry may be sent again, after any commands. Unless it was confirmed, it has
+/// the same entry, or the answer that has come since. The repeat changes nothing.
 pub fn repeat_is_told_again()
     ensures { (m : Contents) (r : Request) (entry : Entry) (commands : List Command)
         → WaitingAgrees m → IsAnswered m r entry
         → IsToldAgainOrForgotten (after (after_request m r) commands) r entry }
 {}
 
-/// A request under a number that was accepted once is never accepted again, whatever it asks and whatever came between.
+/// A request under a number that was accepted once is never accepted again, whatever it asks and whatever commands came
+/// between.
 pub fn number_acts_once()
     ensures { (m : Contents) (r again : Request) (commands : List Command)
         → IsTrue (is_accepted m (Asks r)) → asker again ≡ asker r

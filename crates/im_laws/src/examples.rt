@@ -1,4 +1,4 @@
-//! Worked traces: the definitions compute each answer.
+//! Worked traces. The definitions compute each answer.
 ghost use Rattle.std.specs.Prelude.{◌≡◌, [], ◌∷◌, length, take};
 ghost use Rattle.im_types.specs.declared.operations.Kind.TheVariants.{I, M};
 ghost use Rattle.im_types.specs.declared.operations.Reply.TheVariants.{Value, Stored, Clash, NoBlock, StillWaiting};
@@ -22,7 +22,7 @@ pub fn readers_wait_for_one_store()
         ≡ Some (record { block = record { base = 0; length = 1; kind = I }; state = Full 7 }) }
 {}
 
-/// A second store clashes, though it has the same value, and so does each fetch after it.
+/// A second store clashes, even with the same value, and so does each fetch after it.
 pub fn second_store_clashes()
     ensures legal { IsLegal sixteen_cells second_store }
     ensures clashed { held_at (end_of sixteen_cells second_store).cells 0
@@ -43,7 +43,8 @@ pub fn second_put_clashes()
         ≡ Some (record { block = record { base = 0; length = 1; kind = M }; state = Clashed 1 }) }
 {}
 
-/// A block may fill all cells; none has no cell or more than there are; and past the last cell there is none.
+/// A block may fill all cells. It can have neither 0 cells nor more cells than there are. No cell lies past the last
+/// one.
 pub fn lengths_and_addresses_have_edges()
     ensures { IsLegal sixteen_cells edges }
 {}
@@ -55,31 +56,31 @@ pub fn least_hole_is_taken()
     // A law has no steps.
 }
 
-/// A block with a waiting cell isn't released, and that answer is kept though the block goes later.
+/// A block with a waiting cell isn't released. That answer is kept even after the block is released later.
 pub fn waiting_block_stays()
     ensures { IsLegal sixteen_cells waiting_block }
 {}
 
-/// A request that comes again acts once: the reader stands in the list once, and only three commands are accepted.
+/// A request that comes again acts once. The reader stands in the list once, and only three commands are accepted.
 pub fn repeat_acts_once()
     ensures legal { IsLegal sixteen_cells sent_again }
     ensures once { waiters_at (end_of sixteen_cells (take 3 sent_again)).cells 0 ≡ waiter 1 1 ∷ [] }
     ensures accepts { length (accepted sixteen_cells (commands_of sent_again)) ≡ 3 }
 {}
 
-/// A window of sixty-four waiting entries takes no more, and gives none up before it is answered.
+/// A window of sixty-four waiting entries takes no more, and none can be confirmed before it is answered.
 pub fn full_window_is_answered_first()
     ensures legal { IsLegal sixteen_cells full_window }
     ensures accepts { length (accepted sixteen_cells (commands_of full_window)) ≡ 68 }
 {}
 
-/// The least memory serves one element on one cell.
+/// The smallest memory serves one element on one cell.
 pub fn least_memory_serves()
     ensures { IsLegal one_cell least_memory }
 {}
 
-/// The value law, worked: the fetch that came before the store and the one that came after it have its value, and the
-/// one after the second store is a clash.
+/// The value law, worked. The fetch before the store and the fetch after it have its value. The fetch after the second
+/// store clashes.
 pub fn fetches_have_the_first_value()
     ensures legal { IsLegal sixteen_cells fetches }
     ensures law { in_lives sixteen_cells (commands_of fetches) 0
@@ -87,7 +88,7 @@ pub fn fetches_have_the_first_value()
         ∷ unsaid (Answered Clash) ∷ lawful (Answered Clash) ∷ []) ∷ [] }
 {}
 
-/// The matching law, worked: each take has the value of its put, until a put comes for which there is no room.
+/// The matching law, worked. Each take has the value of its put, until a put comes that finds the cell full.
 pub fn takes_match_puts()
     ensures legal { IsLegal sixteen_cells takes_and_puts }
     ensures law { in_lives sixteen_cells (commands_of takes_and_puts) 0
@@ -96,7 +97,7 @@ pub fn takes_match_puts()
         ∷ lawful (Answered Clash) ∷ lawful (Answered Clash) ∷ []) ∷ [] }
 {}
 
-/// Two blocks that had one address in turn have a life each, and an entry that was dropped counts as it last was.
+/// Two blocks that had one address in turn have a life each. An entry that was dropped counts as it was last.
 pub fn lives_are_apart()
     ensures legal { IsLegal sixteen_cells two_lives }
     ensures law { in_lives sixteen_cells (commands_of two_lives) 0
@@ -104,8 +105,8 @@ pub fn lives_are_apart()
         ∷ (lawful Waiting ∷ unsaid Waiting ∷ []) ∷ [] }
 {}
 
-/// A reset begins a life of its block: the store before it is forgotten, and the fetch behind it has the store of its own
-/// life. A block that is waited for isn't reset, nor is one by an address inside it.
+/// A reset begins a new life of its block. The store before it is forgotten, and the fetch after it has the store of
+/// its own life. A block that a request waits for isn't reset, and an address inside a block resets nothing.
 pub fn a_reset_begins_a_life()
     ensures legal { IsLegal sixteen_cells block_reset }
     ensures law { in_lives sixteen_cells (commands_of block_reset) 0

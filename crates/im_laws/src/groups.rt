@@ -10,8 +10,8 @@ ghost use Rattle.im_types.specs.Meaning.{Reached, accept_each};
 ghost use Rattle.im_types.specs.Groups.{AreOthers, is_new, reached_by_all, puts_of};
 ghost use Rattle.im_laws.specs.Groups.{IsCounted};
 
-/// Whether a request is accepted stays, whatever requests of other elements are served before it: one of them, or a
-/// group.
+/// Whether a request is accepted doesn't depend on requests of other elements that are served before it, be it one
+/// request or a group.
 pub fn others_leave_acceptance()
     ensures one { (m : Contents) (r q : Request) → q.element ≢ r.element
         → is_accepted (step m (Asks r)).contents (Asks q) ≡ is_accepted m (Asks q) }
@@ -19,8 +19,8 @@ pub fn others_leave_acceptance()
         → is_new (reached_by_all s members) q ≡ is_new s q }
 {}
 
-/// A group comes to what the commands come to that its members put into the journal: each is accepted in its turn, the
-/// count rises by their number, and the room falls by it, to none at the last count that there is.
+/// A group has the effect of the commands that its members put into the journal. Each of them is accepted in its turn.
+/// The count rises by their number, and the room falls by it. At the last count of all the room is 0.
 pub fn groups_are_runs()
     ensures memory { (s : Reached) (members : List Request)
         → (reached_by_all s members).contents ≡ after s.contents (puts_of s members) }

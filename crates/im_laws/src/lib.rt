@@ -1,6 +1,6 @@
-//! Laws of the memory, over its definitions alone. Each function here does nothing, and its contract is a law: it holds
-//! of every memory, every command and every list of commands, and says what a user of a memory can count on, whatever
-//! program keeps it.
+//! Laws of the memory, stated over its definitions alone. Each function here does nothing, and its contract is a law. A
+//! law holds for every memory, every command and every list of commands. It says what a user of a memory can count on,
+//! whatever program keeps it.
 #![tactic(auto)]
 
 mod agreement;

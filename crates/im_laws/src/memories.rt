@@ -6,8 +6,9 @@ ghost use Rattle.im_types.specs.Step.{step};
 ghost use Rattle.im_types.specs.Run.{after};
 ghost use Rattle.im_types.specs.Memory.{IsMemory};
 
-/// The empty memory is a memory, and after each command and any commands a memory still is one: so many cells and
-/// windows, whole blocks, windows within their bounds, and who waits at a cell has a waiting entry.
+/// The empty memory is a memory. A memory stays one after each command and after any commands. So its numbers of cells
+/// and windows stay, its blocks are whole and its windows within their bounds. Each request in a cell's list has a
+/// waiting entry.
 pub fn memory_stays_one()
     ensures empty { (cells elements : ℕ) → IsMemory cells elements (empty_contents cells elements) }
     ensures step { (cells elements : ℕ) (m : Contents) (command : Command)

@@ -1,11 +1,11 @@
-//! Where blocks stand.
+//! The places of blocks.
 ghost use Rattle.std.specs.Prelude.{◌≡◌, ◌↔◌, ℕ, ◌+◌, ◌<◌, ◌≤◌, List, length, Option};
 ghost use Rattle.std.specs.Bool.{IsFalse};
 ghost use Rattle.im_types.specs.Contents.{Held, held_at};
 ghost use Rattle.im_types.specs.Place.{place, is_free, IsLeastFree};
 
-/// A block, of at least one cell, is placed at the least base from which on enough cells are free, and has no place
-/// only where no base is free. Its cells lie below the cell count and are in no block.
+/// A block of at least one cell is placed at the least base from which enough cells are free. It has no place if and
+/// only if no base is free. Its cells lie below the cell count and are in no block.
 pub fn place_is_the_least()
     ensures least { (cells : List (Option Held)) (n base : ℕ) → 1 ≤ n
         → (place n cells ≡ Some base) ↔ IsLeastFree cells n base }

@@ -4,8 +4,8 @@ ghost use Rattle.im_types.specs.declared.commands.Command.{Command};
 ghost use Rattle.im_types.specs.Contents.{Contents};
 ghost use Rattle.im_types.specs.Run.{after, accepted, answers};
 
-/// A list of commands and then another come to the same as the two lists joined: the same memory, the same answers, the
-/// same commands accepted.
+/// Two lists of commands, one run after the other, come to the same as their join. The memory, the answers and the
+/// accepted commands are the same.
 pub fn runs_join()
     ensures memory { (m : Contents) (earlier later : List Command)
         → after m (earlier ++ later) ≡ after (after m earlier) later }
@@ -15,7 +15,7 @@ pub fn runs_join()
         → accepted m (earlier ++ later) ≡ accepted m earlier ++ accepted (after m earlier) later }
 {}
 
-/// The accepted commands alone lead to the same memory as all the commands, and each of them is accepted again.
+/// The accepted commands alone lead to the same memory as all the commands. Each of them is accepted again.
 pub fn only_accepted_commands_matter()
     ensures memory { (m : Contents) (commands : List Command)
         → after m (accepted m commands) ≡ after m commands }

@@ -14,7 +14,7 @@ ghost use Rattle.im_types.specs.Window.{ask};
 ghost use Rattle.im_types.specs.Step.{asker, step, is_accepted, acceptance};
 ghost use Rattle.im_laws.specs.Entries.{IsTold, IsRefused};
 
-/// A command is accepted exactly where it changes the memory, and then it isn't refused.
+/// A command is accepted if and only if it changes the memory. An accepted command isn't refused.
 pub fn accepted_where_changed()
     ensures accepted { (m : Contents) (command : Command)
         → IsTrue (is_accepted m command) ↔ ((step m command).contents ≢ m) }
@@ -24,8 +24,8 @@ pub fn accepted_where_changed()
         → IsOk (step m command).answer }
 {}
 
-/// The acceptance of a command, asked before it is put: the refusal that it would meet, and else whether it would
-/// change the memory.
+/// The acceptance of a command, asked before the command is served. It is the refusal that the command would meet, if
+/// there is one. Otherwise it says whether the command would change the memory.
 pub fn acceptance_tells()
     ensures refused { (m : Contents) (command : Command) (refusal : Refusal)
         → (acceptance m command ≡ Err refusal) ↔ ((step m command).answer ≡ Err refusal) }
@@ -35,8 +35,8 @@ pub fn acceptance_tells()
         ↔ (IsOk (step m command).answer × ((step m command).contents ≡ m)) }
 {}
 
-/// A request under a number that is kept changes nothing: the same operation is told what is kept, another one is a
-/// mismatch.
+/// A request under a number that is kept changes nothing. The same operation is answered with the kept entry, and
+/// another one is refused as a mismatch.
 pub fn repeat_changes_nothing()
     ensures same { (m : Contents) (r : Request) (k : Kept) → kept_for m.windows (asker r) ≡ Some k
         → k.op ≡ r.op → IsTold m r k.entry }
@@ -46,7 +46,7 @@ pub fn repeat_changes_nothing()
         → kept_for m.windows (asker r) ≡ Some k → IsFalse (is_accepted m (Asks r)) }
 {}
 
-/// A command, and a question for an entry, meet only the first six refusals: those of request numbers.
+/// A command and a question for an entry can meet only the first six refusals, those of request numbers.
 pub fn refusals_are_of_numbers()
     ensures command { (m : Contents) (command : Command) (refusal : Refusal)
         → (step m command).answer ≡ Err refusal → number_of refusal ≤ 6 }

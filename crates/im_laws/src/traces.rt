@@ -6,7 +6,8 @@ ghost use Rattle.im_types.specs.Run.{after, answers};
 ghost use Rattle.im_types.specs.Trace.{answer_to, contents_after, IsLegal, end_of};
 ghost use Rattle.im_laws.specs.Traces.{commands_of, command_answers};
 
-/// Two traces joined are legal exactly where the first is, and the second is from the first one's end on.
+/// Two traces joined are legal if and only if the first one is legal and the second one is legal from the end of the
+/// first one on.
 pub fn traces_join()
     ensures end { (m : Contents) (earlier later : List Line)
         → end_of m (earlier ++ later) ≡ end_of (end_of m earlier) later }
@@ -14,7 +15,7 @@ pub fn traces_join()
         → IsLegal m (earlier ++ later) ↔ (IsLegal m earlier × IsLegal (end_of m earlier) later) }
 {}
 
-/// A legal trace with one line more is legal exactly where that line has the answer of the memory at the trace's end.
+/// A legal trace with one more line is legal if and only if that line has the answer of the memory at the trace's end.
 pub fn trace_grows()
     ensures end { (m : Contents) (trace : List Line) (line : Line)
         → end_of m (trace ++ line ∷ []) ≡ contents_after (end_of m trace) line.call }
@@ -22,7 +23,7 @@ pub fn trace_grows()
         → IsLegal m (trace ++ line ∷ []) ↔ (line.answer ≡ answer_to (end_of m trace) line.call) }
 {}
 
-/// The end of a trace is the memory after its commands, and a legal trace has the answers of that run.
+/// The end of a trace is the memory after the trace's commands. A legal trace has the answers of that run.
 pub fn trace_is_a_run()
     ensures end { (m : Contents) (trace : List Line)
         → end_of m trace ≡ after m (commands_of trace) }

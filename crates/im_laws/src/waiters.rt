@@ -1,4 +1,4 @@
-//! Who is answered, and in which order.
+//! The order in which waiting requests are answered.
 ghost use Rattle.std.specs.Prelude.{◌≡◌, ℕ, ◌++◌, ◌∷◌, [], List};
 ghost use Rattle.im_types.specs.declared.operations.Op.{Op};
 ghost use Rattle.im_types.specs.declared.operations.Op.TheVariants.{Fetch, Store, Take, Put};
@@ -11,14 +11,14 @@ ghost use Rattle.im_types.specs.Step.{asker};
 ghost use Rattle.im_types.specs.Agreement.{address_of, WaitingAgrees};
 ghost use Rattle.im_laws.specs.Requests.{after_request, IsNew, IsServed};
 
-/// A new request that is told to wait stands behind all that wait at its cell.
+/// A new request that is told to wait stands behind all requests that wait at its cell.
 pub fn later_request_waits_behind()
     ensures { (m : Contents) (r : Request) (op : Op) → IsServed m r op Waiting
         → waiters_at (after_request m r).cells (address_of op)
         ≡ waiters_at m.cells (address_of op) ++ asker r ∷ [] }
 {}
 
-/// A new store answers each fetch that waits for its cell, with the value stored.
+/// A new store answers each fetch that waits for its cell, with the stored value.
 pub fn store_answers_every_reader()
     ensures { (m : Contents) (r : Request) (a v : ℕ) (reader : Waiter)
         → WaitingAgrees m → IsNew m r (Store a v)
@@ -27,7 +27,7 @@ pub fn store_answers_every_reader()
         ≡ Some (record { op = Fetch a; entry = Answered (Value v) }) }
 {}
 
-/// A new put answers the first take that waits for its cell, with the value put; the others wait on in their order.
+/// A new put answers the first take that waits for its cell, with the put's value. The others wait on in their order.
 pub fn put_answers_the_first_taker()
     ensures answered { (m : Contents) (r : Request) (a v : ℕ) (first : Waiter)
         (others : List Waiter) → WaitingAgrees m → IsNew m r (Put a v)

@@ -18,12 +18,12 @@ ghost use Rattle.im_laws.specs.Windows.{IsForgotten, AreNoLess, TakesNextNumber,
 ghost use Rattle.im_laws.specs.Windows.{IsConfirmable};
 ghost use Rattle.im_laws.specs.Entries.{IsRefused};
 
-/// A request that is accepted takes its element's next number, and moves no other bound of a window.
+/// An accepted request takes its element's next number, and moves no other bound of a window.
 pub fn request_takes_the_next_number()
     ensures { (m : Contents) (r : Request) → IsTrue (is_accepted m (Asks r)) → TakesNextNumber m r }
 {}
 
-/// A confirmation that is accepted raises its window's base to the confirmed number, and moves no other bound.
+/// An accepted confirmation raises its window's base to the confirmed number, and moves no other bound.
 pub fn confirmation_moves_the_base()
     ensures { (m : Contents) (element upto : ℕ) → IsTrue (is_accepted m (Confirm element upto))
         → MovesBase m element upto }
@@ -36,9 +36,9 @@ pub fn bounds_never_fall()
         → AreNoLess base next (bounds (after m commands).windows element) }
 {}
 
-/// The bounds of a window say how a request is met whose number isn't kept: it is accepted exactly where it has the
-/// next number, none past the last, and the window has room. Past the next number or the last it is a gap, and at the
-/// next one of a full window it is refused as such. Each refusal changes nothing.
+/// The bounds of a window decide about a request whose number isn't kept. It is accepted if and only if it has the next
+/// number, that number isn't past the last one of all, and the window has room. A number past the next one or past the
+/// last one is a gap. The next number at a full window is refused as `WindowFull`. A refusal changes nothing.
 pub fn requests_are_judged_by_bounds()
     ensures accepted { (m : Contents) (r : Request)
         → IsTrue (is_accepted m (Asks r)) ↔ IsNextRequest m.windows r }
@@ -54,8 +54,8 @@ pub fn requests_are_judged_by_bounds()
     // A law has no steps.
 }
 
-/// A confirmation is answered exactly where its number isn't past the next one and no entry below it waits. It drops
-/// the entries below that number, and leaves all others and all cells.
+/// A confirmation succeeds if and only if its number isn't past the next one and no entry below it waits. It drops the
+/// entries below that number, and leaves all other entries and all cells.
 pub fn confirmations_drop_what_is_answered()
     ensures confirmed { (m : Contents) (element upto : ℕ)
         → ((step m (Confirm element upto)).answer ≡ Ok Confirmed)
@@ -77,8 +77,8 @@ pub fn confirmations_drop_what_is_answered()
         → IsTrue (is_waiting k) → (step m (Confirm element upto)).answer ≡ Err NotAnswered }
 {}
 
-/// Who asks for an entry is told what is kept, exactly within the bounds of the window; below them that it is
-/// forgotten, and past them that it is a gap.
+/// An entry is kept for exactly the numbers within the window's bounds, and a question for it is answered with that
+/// entry. Below the bounds the question is refused as forgotten, and past them as a gap.
 pub fn entries_are_kept_within_bounds()
     ensures below { (windows : List Window) (who : Waiter) (base next : ℕ)
         → bounds windows who.element ≡ Ok (base, next) → who.number < base
@@ -95,8 +95,8 @@ pub fn entries_are_kept_within_bounds()
         → ask windows who ≡ Err NoElement }
 {}
 
-/// A number that was confirmed stays forgotten, whatever comes later. A request under it is refused as forgotten and
-/// changes nothing, and who asks for its entry is told that it is forgotten.
+/// A confirmed number stays forgotten, whatever commands come later. A request under it is refused as forgotten and
+/// changes nothing. So is a question for its entry.
 pub fn forgotten_for_ever()
     ensures stays { (m : Contents) (commands : List Command) (who : Waiter)
         → IsForgotten m.windows who → IsForgotten (after m commands).windows who }

@@ -1,8 +1,8 @@
--- What a crash may leave of a file, by the calls of the disk over its bytes.
+-- What a crash may leave of a file, from the calls of the disk over its bytes.
 use Rattle.std.specs.Prelude.{ℕ, zero, suc, List, [], ◌∷◌, length, slice_index}
 use Rattle.im_disk.specs.Moment.{Moment, written, synced}
 
--- the file now, the moments before it since the list was last emptied, the newest first, and the moment when it was
+-- the file now, the moments before it since the list was last emptied, newest first, and the moment of that emptying
 pub record History : Type 0 where
   pub now : Moment
   pub past : List Moment
@@ -26,11 +26,11 @@ pub record Event : Type 0 where
   pub at : ℕ
   pub bytes : List ℕ
 
--- the call that is noted by these numbers
+-- the call with these numbers
 abbrev pub event_of : List ℕ → List ℕ → Event
 event_of numbers bytes = record { call = slice_index numbers 0; at = slice_index numbers 1; bytes = bytes }
 
--- After a call, by its number: the list was emptied, the file was handed in, read, written, synced.
+-- After a call, by its number: the list was emptied, the file was handed in, read, written or synced.
 abbrev pub after_call : ℕ → ℕ → List ℕ → History → History
 after_call zero at bytes h = begun_at h.now
 after_call (suc zero) at bytes h = begun_at (given bytes)
@@ -38,7 +38,7 @@ after_call (suc (suc zero)) at bytes h = later h.now h
 after_call (suc (suc (suc zero))) at bytes h = later (written at bytes h.now) h
 after_call (suc (suc (suc (suc more)))) at bytes h = later (synced h.now) h
 
--- after these calls, the newest first
+-- after these calls, newest first
 abbrev pub history_of : List Event → History
 history_of [] = begun_at (given [])
 history_of (e ∷ earlier) = after_call e.call e.at e.bytes (history_of earlier)

@@ -1,4 +1,4 @@
--- An image in the hands of a caller that carries out the writes and syncs itself.
+-- An image in the hands of a caller that carries out the writes and syncs.
 use Rattle.std.specs.Prelude.{◌≡◌, ◌⊎◌, ℕ, Bool, false, List, [], Result, Ok, Err, if◌then◌else◌}
 use Rattle.im_types.specs.declared.refusals.Refusal.{Refusal}
 use Rattle.im_types.specs.declared.refusals.Refusal.TheVariants.{NoMemory, Device}
@@ -13,11 +13,11 @@ pub record ImageState : Type 0 where
   pub engine : EngineState Listing
   pub lost : Bool
 
--- the engine as a call finds it: nothing is left of the list of the call before
+-- the engine as a call finds it, without the list of the call before
 abbrev pub begun_in : ImageState → EngineState Listing
 begun_in s = record s.engine { disk = with_no_steps s.engine.disk }
 
--- what the caller has to carry out after a call: nothing, where that failed
+-- what the caller has to carry out after a call: nothing, if a step was lost
 abbrev pub steps_of : ImageState → List Task
 steps_of s = if s.lost then [] else s.engine.disk.steps
 
@@ -30,15 +30,15 @@ tells_device (Err refusal) = is_device refusal
 abbrev pub IsWant : Refusal → Type 0
 IsWant refusal = (refusal ≡ NoMemory) ⊎ (refusal ≡ Device)
 
--- why these bytes aren't opened: their first fault, or there was no room for them, or for a step
+-- why these bytes aren't opened: their first fault, or no room for them or for a step
 abbrev pub IsFaultOf : List ℕ → Refusal → Type 0
 IsFaultOf file refusal = (refusal ≡ NoMemory) ⊎ (refusal ≡ Device) ⊎ IsFirstFault refusal file
 
--- What carrying out the steps of a call does to the caller's file, which is as the steps of the calls before left it.
+-- What the steps of a call do to the caller's file, when they are carried out after the steps of earlier calls.
 pub record Carries (old : Moment) (new : ImageState) (P : List ℕ → Type 0) : Type 0 where
   -- they lead to the file that the engine knows
   pub ends : new.lost ≡ false → new.engine.disk.now ≡ carried old (steps_of new)
   -- a crash on the way leaves what has P
   pub way : LeftOnTheWay old (steps_of new) P
-  -- and one at their end leaves what means the engine
+  -- and a crash at their end leaves a file that means the engine
   pub means : new.lost ≡ false → LeavesNow new.engine.disk.now (MeansState new.engine)

@@ -1,4 +1,4 @@
--- A disk over a caller's bytes, and what the caller's file comes to by the list of its writes and syncs.
+-- A disk over a caller's bytes, and what the list of its writes and syncs makes of the caller's file.
 use Rattle.std.specs.Prelude.{◌≡◌, ℕ, ◌≤◌, Bool, true, false, List, [], ◌∷◌, ◌++◌, length, take, map, Result}
 use Rattle.std.specs.Prelude.{MatchResult, if◌then◌else◌}
 use Rattle.im_disk.specs.Moment.{Moment, Left, LeftSince, written, synced}
@@ -6,12 +6,12 @@ use Rattle.im_listed.specs.declared.step.Step.{Step}
 use Rattle.im_listed.specs.declared.step.Step.TheVariants.{Write, Sync}
 use Rattle.im_listed.specs.History.{History, given}
 
--- a step on the file: these bytes at this place, or all that was written on the disk
+-- a step on the file: write these bytes at this place, or put all that was written on the disk
 pub data Task : Type 0 where
   Puts : ℕ → List ℕ → Task
   Settles : Task
 
--- the step that is spelled so
+-- the step of the code as a task
 abbrev pub task_of : Step → Task
 task_of (Write place bytes) = Puts place bytes.items
 task_of Sync = Settles
@@ -21,28 +21,28 @@ abbrev pub stepped : Task → Moment → Moment
 stepped (Puts place bytes) m = written place bytes m
 stepped Settles m = synced m
 
--- what carrying out steps makes of a file, the first one first
+-- what carrying out these steps in their order makes of a file
 abbrev pub carried : Moment → List Task → Moment
 carried m [] = m
 carried m (t ∷ ts) = carried (stepped t m) ts
 
 -- a disk over a caller's bytes, as contracts see it
 pub record Listing : Type 0 where
-  -- the file now, and the moments before it since the list was last emptied, the newest first
+  -- the file now, and the moments before it since the list was last emptied, newest first
   pub now : Moment
   pub past : List Moment
-  -- the file as the list was last emptied
+  -- the file when the list was last emptied
   pub begun : Moment
-  -- the writes and syncs since, the oldest first
+  -- the writes and syncs since, oldest first
   pub steps : List Task
-  -- a call has failed, since the list could not grow
+  -- a call has failed, because the list could not grow
   pub failed : Bool
 
 -- what the disk shows, by the history of its calls
 abbrev pub shown : History → List Step → Bool → Listing
 shown h steps failed = record { now = h.now; past = h.past; begun = h.begun; steps = map task_of steps; failed = failed }
 
--- a moment later, at which there are these steps
+-- a moment later, with these steps
 abbrev pub later_with : Moment → List Task → Listing → Listing
 later_with m steps d = record { now = m; past = d.now ∷ d.past; begun = d.begun; steps = steps; failed = d.failed }
 
@@ -63,11 +63,11 @@ no_range (r ∷ rs) = false
 abbrev pub is_calm : Moment → Bool
 is_calm m = no_range m.ranges
 
--- the steps with a sync more, where something was written since the last one
+-- the steps with one more sync, if something was written since the last one
 abbrev pub settled : Bool → List Task → List Task
 settled calm steps = if calm then steps else steps ++ Settles ∷ []
 
--- nothing happened but a failure
+-- only a failure happened
 abbrev pub broken : Listing → Listing
 broken d = record { now = d.now; past = d.past; begun = d.begun; steps = d.steps; failed = true }
 
@@ -75,11 +75,11 @@ broken d = record { now = d.now; past = d.past; begun = d.begun; steps = d.steps
 abbrev pub Lists : {T E : Type 0} → Result T E → Listing → Listing → Listing → Type 0
 Lists result told old new = MatchResult result (λ _. new ≡ told) (λ _. new ≡ broken old)
 
--- Each file that a crash leaves at a beginning of these steps, from this moment on, has P.
+-- After any prefix of these steps, from this moment on, each file that a crash may leave has P.
 abbrev pub LeftOnTheWay : Moment → List Task → (List ℕ → Type 0) → Type 0
 LeftOnTheWay m steps P = (many : ℕ) (file : List ℕ) → many ≤ length steps → Left (carried m (take many steps)) file → P file
 
--- Carrying out the list leads from where it began to the file now, and a crash on the way leaves what the disk tells.
+-- Carrying out the list leads from its start to the file now. A crash on the way leaves what the disk says.
 pub record Accounts (d : Listing) : Type 0 where
   pub ends : d.now ≡ carried d.begun d.steps
   pub way : LeftOnTheWay d.begun d.steps (LeftSince (d.now ∷ d.past) 0)

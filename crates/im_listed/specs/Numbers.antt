@@ -1,4 +1,4 @@
--- A number for each moment, and another one for another moment.
+-- A number for each moment. Different moments have different numbers.
 use Rattle.std.specs.Prelude.{ℕ, zero, suc, ◌+◌, Bool, true, false, List, [], ◌∷◌}
 use Rattle.im_disk.specs.Moment.{Moment}
 
@@ -21,7 +21,8 @@ ranges_number (r ∷ rs) = pair r.0 (pair r.1 (ranges_number rs))
 abbrev pub moment_number : Moment → ℕ
 moment_number m = pair (bytes_number m.bytes) (ranges_number m.ranges)
 
--- Even where no call has failed, and odd, and above what it was, where one has: then half of it is no moment's number.
+-- The number is even if no call has failed. After a failure it is odd and larger than before, so half of it is no
+-- moment's number.
 abbrev pub told : Bool → Moment → ℕ
 told false m = moment_number m + moment_number m
 told true m = moment_number m + moment_number m + 18446744073709551617

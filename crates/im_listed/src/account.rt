@@ -1,4 +1,4 @@
-//! A list of the calls on a disk, which clauses alone read. No memory holds it.
+//! The calls on a disk, as a list. Only clauses read it; it takes no memory.
 ghost use Rattle.std.specs.Prelude.{◌≡◌, List, [], ◌∷◌};
 ghost use Rattle.std.specs.Borrow.{ftrue};
 ghost use Rattle.im_listed.specs.History.{Event, event_of};
@@ -15,11 +15,11 @@ impl Model for Ledger {
     ghost also_owns = { λ _. ftrue };
 }
 
-// It owns nothing, so it may go to another thread.
+// It owns nothing, so it may move to another thread.
 unsafe impl Send for Ledger {}
 
 impl Ledger {
-    // A list of no call.
+    // An empty list.
     pub(crate) fn new() -> Ledger
         ensures { result.events ≡ [] }
     {
@@ -28,7 +28,7 @@ impl Ledger {
         }
     }
 
-    // The numbers are which call, and an offset.
+    // The numbers are the kind of the call and an offset.
     pub(crate) fn note(&mut self, _numbers: &[u64], _bytes: &[u8])
         ensures { self.new.events ≡ event_of _numbers.now _bytes.now ∷ self.old.events }
     {}

@@ -1,4 +1,4 @@
-//! An image in the hands of a caller that carries out the writes and syncs itself.
+//! An image in the hands of a caller that carries out the writes and syncs.
 ghost use Rattle.std.specs.Prelude.{◌≡◌, true, false, [], map, replicate, Err, IfOk, IfErr};
 ghost use Rattle.im_types.specs.Contents.{empty_contents, kept_for, waiters_at};
 ghost use Rattle.im_types.specs.Groups.{AreApart};
@@ -26,10 +26,10 @@ use im_types::{Command, Entry, Kept, Limits, Outcome, Refusal, Request, Served};
 use std::alloc::Global;
 use std::marker::Model;
 
-/// An image in the hands of a caller that carries out the writes and syncs itself: an engine over [`Listed`].
+/// An image in the hands of a caller that carries out the writes and syncs: an engine over [`Listed`].
 ///
-/// After each call the caller carries out [`Image::steps`] on its file, in their order, before it tells the answer. The
-/// list begins where that of the call before ended. Who can't carry out a step says so ([`Image::lose`]).
+/// After each call the caller carries out [`Image::steps`] on its file, in order, and only then tells the answer. The
+/// list begins where the last call's ended. A caller that can't carry out a step calls [`Image::lose`].
 #[derive(Drop)]
 pub struct Image {
     engine: Engine<Listed>,
@@ -47,7 +47,7 @@ impl Model for Image {
     ghost invariant = { λ i. i.lost ≡ false → i.engine.failed ≡ false };
 }
 
-// Whether the answer says that a call of the disk failed.
+// Returns whether the answer says that a call of the disk failed.
 fn tells_device<T>(answer: &Result<T, Refusal>) -> bool
     ensures { result ≡ tells_device answer.now }
 {
@@ -64,7 +64,7 @@ fn known(engine: &Engine<Listed>) -> bool
     engine.failed()
 }
 
-// A disk over these bytes, all of which are on the caller's disk behind its one step.
+// A disk over these bytes. After its one step, all of them are on the caller's disk.
 fn settled(bytes: Vec<u8>) -> Result<Listed, DeviceFault>
     ensures now { IfOk result (λ d. d.now ≡ synced (given bytes.items)) }
     ensures begun { IfOk result (λ d. (d.failed ≡ false) × (d.begun ≡ given bytes.items)) }
@@ -75,9 +75,9 @@ fn settled(bytes: Vec<u8>) -> Result<Listed, DeviceFault>
 }
 
 impl Image {
-    /// Makes the image of an empty memory. The caller's file has its length, and each of its bytes is in doubt.
+    /// Makes the image of an empty memory. The caller's file has the image's length, and each of its bytes is in doubt.
     ///
-    /// `NoMemory` where there isn't room for all that it needs, `Device` where the list couldn't grow.
+    /// Returns `NoMemory` if there isn't room for all that it needs, and `Device` if the list couldn't grow.
     pub fn format(alloc: Global, limits: Limits) -> Result<Image, Refusal>
         ensures empty { IfOk result (λ i. (i.engine.memory ≡ empty_contents limits.cells limits.elements)
             × (i.engine.count ≡ 0) × (i.engine.room ≡ limits.slots)) }
@@ -102,9 +102,9 @@ impl Image {
         }
     }
 
-    /// Opens the image of these bytes, which are those of the caller's file, each of them in doubt.
+    /// Opens the image of these bytes. They are the bytes of the caller's file, each of them in doubt.
     ///
-    /// Refused: the bytes' first fault, as by [`Engine::open`], `NoMemory`, or `Device` where the list couldn't grow.
+    /// Refuses with the bytes' first fault, as [`Engine::open`], `NoMemory`, or `Device` if the list couldn't grow.
     pub fn open(alloc: Global, bytes: Vec<u8>) -> Result<Image, Refusal>
         ensures carried { IfOk result (λ i. i.engine.disk.now ≡ carried (given bytes.items) (steps_of i)) }
         ensures found { IfOk result (λ i. LeavesNow i.engine.disk.now (IsFound i.engine)) }
@@ -113,7 +113,7 @@ impl Image {
         ensures works { IfOk result (λ i. i.lost ≡ false) }
         ensures fault { IfErr result (IsFaultOf bytes.items) }
     {
-        // The engine's own sync then finds nothing in doubt, so that what it reads is the bytes themselves.
+        // The engine's own sync then finds nothing in doubt. So what it reads is the bytes themselves.
         let Ok(disk) = settled(bytes) else {
             return Err(Refusal::Device);
         };
@@ -129,8 +129,8 @@ impl Image {
         }
     }
 
-    /// What the caller has to do to its file after the last call, in this order, before anybody is told the answer:
-    /// nothing after a call that was answered with `Device`.
+    /// Returns the steps that the caller has to carry out on its file after the last call, in this order, before
+    /// anybody is told the answer. There are none after a call that returned `Device`.
     pub fn steps(&self) -> &[Step]
         ensures { map task_of result.now ≡ steps_of self.now }
     {
@@ -141,21 +141,21 @@ impl Image {
         }
     }
 
-    /// Empties the list of steps, as each call of `serve`, `serve_group` and `turn` does before its own.
+    /// Empties the list of steps. Each call of `serve`, `serve_group` and `turn` does so first.
     pub fn forget_steps(&mut self)
         ensures { self.new ≡ record self.old { engine = begun_in self.old } }
     {
         self.engine.empty_list();
     }
 
-    /// Says that the caller couldn't carry out a step. Each later call is answered with `Device`.
+    /// Says that the caller couldn't carry out a step. Each later call returns `Device`.
     pub fn lose(&mut self)
         ensures { self.new ≡ record self.old { lost = true } }
     {
         self.lost = true;
     }
 
-    /// Serves one command, as [`Engine::serve`] does. `Device` where the list couldn't grow, or a step was lost.
+    /// Serves one command, as [`Engine::serve`] does. Returns `Device` if the list couldn't grow or a step was lost.
     pub fn serve(&mut self, command: &Command) -> Result<Outcome, Refusal>
         ensures lost { self.old.lost ≡ true → (result ≡ Err Refusal.Device) × (self.new ≡ self.old) }
         ensures works { self.old.lost ≡ false → self.old.engine.failed ≡ false }
@@ -175,8 +175,8 @@ impl Image {
         answer
     }
 
-    /// Serves the members of a group, as [`Engine::serve_group`] does. All are refused with `Device` where the list
-    /// couldn't grow. Where a step was lost nobody is answered.
+    /// Serves the members of a group, as [`Engine::serve_group`] does. All are refused with `Device` if the list
+    /// couldn't grow. If a step was lost, nobody is answered.
     pub fn serve_group(
         &mut self,
         members: &ArrayVec<Request, 16>,
@@ -202,7 +202,7 @@ impl Image {
         self.lost = known(&self.engine);
     }
 
-    /// Makes one turn of a checkpoint, as [`Engine::turn`] does. `Device` where a step couldn't be listed, or was lost.
+    /// Makes one checkpoint turn, like [`Engine::turn`]. Returns `Device` if a step couldn't be listed or was lost.
     pub fn turn(&mut self) -> Result<TurnDone, Refusal>
         ensures lost { self.old.lost ≡ true → (result ≡ Err Refusal.Device) × (self.new ≡ self.old) }
         // So the answer isn't `Failed`.
@@ -222,7 +222,7 @@ impl Image {
         answer
     }
 
-    /// Sweeps so many slots at most, as [`Engine::sweep`] does. `Device` where a step couldn't be listed, or was lost.
+    /// Sweeps at most `most` slots, like [`Engine::sweep`]. Returns `Device` if a step couldn't be listed or was lost.
     pub fn sweep(&mut self, most: u32) -> Result<u32, Refusal>
         ensures lost { self.old.lost ≡ true → (result ≡ Err Refusal.Device) × (self.new ≡ self.old) }
         ensures works { self.old.lost ≡ false → self.old.engine.failed ≡ false }
@@ -240,7 +240,7 @@ impl Image {
         answer
     }
 
-    /// The entry that is kept under an element's number, as [`Engine::collect`] has it. `Device` where a step was lost.
+    /// Returns the entry under an element's number, like [`Engine::collect`]. Returns `Device` if a step was lost.
     pub fn collect(&self, element: u16, number: u64) -> Result<Entry, Refusal>
         ensures lost { self.now.lost ≡ true → result ≡ Err Refusal.Device }
         ensures answer { self.now.lost ≡ false
@@ -252,21 +252,21 @@ impl Image {
         }
     }
 
-    /// What is kept under an element's number, if anything is: what was asked, and what it came to.
+    /// Returns what is kept under an element's number, if anything is: the operation and its entry.
     pub fn kept(&self, element: u16, number: u64) -> Option<Kept>
         ensures { result ≡ kept_for self.now.engine.memory.windows (record { element = element; number = number }) }
     {
         self.engine.memory().kept(element, number)
     }
 
-    /// The requests that wait at a cell, in their order of arrival; none where the address lies in no block.
+    /// Returns the requests that wait at a cell, in order of arrival. There are none if the address is in no block.
     pub fn waiters(&self, a: u32) -> Waiters<'_>
         ensures { result ≡ waiters_at self.now.engine.memory.cells a }
     {
         self.engine.memory().waiters(a)
     }
 
-    /// The bounds of an element's window, as [`Engine::window`] has them. `Device` where a step was lost.
+    /// Returns the bounds of an element's window, as [`Engine::window`] does. Returns `Device` if a step was lost.
     pub fn window(&self, element: u16) -> Result<(u64, u64), Refusal>
         ensures lost { self.now.lost ≡ true → result ≡ Err Refusal.Device }
         ensures answer { self.now.lost ≡ false → result ≡ bounds self.now.engine.memory.windows element }
@@ -277,21 +277,21 @@ impl Image {
         }
     }
 
-    /// Whether a step was lost, here or at the caller.
+    /// Returns whether a step was lost, here or at the caller.
     pub fn is_lost(&self) -> bool
         ensures { result ≡ self.now.lost }
     {
         self.lost
     }
 
-    /// How many more commands can be accepted.
+    /// Returns how many more commands can be accepted.
     pub fn room(&self) -> u32
         ensures { result ≡ self.now.engine.room }
     {
         self.engine.room()
     }
 
-    /// How many commands have been accepted since the image was formatted.
+    /// Returns how many commands have been accepted since the image was formatted.
     pub fn count(&self) -> u64
         ensures { result ≡ self.now.engine.count }
     {

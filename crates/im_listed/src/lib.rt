@@ -1,5 +1,5 @@
-//! An image in the hands of a caller that does its own writing: [`Listed`] is a disk over the caller's bytes, which
-//! lists what has to be written to the file and synced, in which order.
+//! An image in the hands of a caller that does its own writing. [`Listed`] is a disk over the caller's bytes. It lists
+//! the writes and syncs of the file in their order.
 #![tactic(auto)]
 
 mod account;

@@ -1,4 +1,4 @@
-//! A disk over bytes that a caller hands in. It lists what the caller has to do to its file.
+//! A disk over a caller's bytes. It lists what the caller has to do to its file.
 ghost use Rattle.std.specs.Prelude.{◌≡◌, ◌+◌, ◌≤◌, ◌∷◌, ◌++◌, [], false, true, map, length, take, drop, Ok, OnOk};
 ghost use Rattle.std.specs.Prelude.{OnErr};
 ghost use Rattle.im_disk.specs.Moment.{Counts, written, synced};
@@ -13,7 +13,7 @@ use im_engine::Empties;
 use std::alloc::AllocError;
 use std::marker::Model;
 
-// How a call is noted.
+// The numbers under which calls are noted.
 const EMPTIED: u64 = 0;
 
 const GIVEN: u64 = 1;
@@ -24,12 +24,12 @@ const WRITTEN: u64 = 3;
 
 const SYNCED: u64 = 4;
 
-/// A disk over bytes that a caller hands in, which are a copy of its file. It lists its writes and syncs, for the
-/// caller to carry out on the file in their order, and makes them on the copy at once. The list is emptied between
-/// calls ([`Empties`]). A sync lists nothing where nothing was written since the last one.
+/// A disk over a caller's bytes, which are a copy of its file. It lists its writes and syncs, and makes them on the
+/// copy at once. The caller carries them out on the file, in their order. The list is emptied between calls
+/// ([`Empties`]). A sync isn't listed if nothing was written since the last one.
 ///
-/// What a crash leaves of the caller's file is what it leaves at a beginning of the list ([`Listed::steps`]). A call
-/// fails only where the list cannot grow.
+/// A crash leaves of the caller's file what it leaves after a prefix of the list ([`Listed::steps`]). A call fails only
+/// if the list cannot grow.
 #[derive(Drop)]
 pub struct Listed {
     bytes: Vec<u8>,
@@ -70,7 +70,7 @@ fn add_write(steps: &mut Vec<Step>, place: usize, bytes: &[u8]) -> Result<(), Al
     add(steps, Step::Write(place, copy))
 }
 
-// Adds a sync to the list, where not all was synced, if it can grow.
+// Adds a sync to the list, if it can grow. It does nothing if all was synced (`calm`).
 fn add_sync(steps: &mut Vec<Step>, calm: bool) -> Result<(), AllocError>
     ensures ok { OnOk result (map task_of steps.new.items ≡ settled calm (map task_of steps.old.items)) }
     ensures err { OnErr result (steps.new.items ≡ steps.old.items) }
@@ -81,7 +81,7 @@ fn add_sync(steps: &mut Vec<Step>, calm: bool) -> Result<(), AllocError>
     add(steps, Step::Sync)
 }
 
-// Puts the bytes there.
+// Puts `part` at this offset.
 fn put(bytes: &mut Vec<u8>, at: usize, part: &[u8])
     requires { at + length part.now ≤ length bytes.old.items }
     ensures { bytes.new.items ≡ take at bytes.old.items ++ part.now ++ drop (at + length part.now) bytes.old.items }
@@ -90,7 +90,7 @@ fn put(bytes: &mut Vec<u8>, at: usize, part: &[u8])
 }
 
 impl Listed {
-    /// A disk over these bytes. The list is empty. Each byte counts as in doubt in the file until a sync.
+    /// Makes a disk over these bytes, with an empty list. Each byte counts as in doubt in the file until a sync.
     pub fn new(bytes: Vec<u8>) -> Listed
         ensures over { result ≡ over bytes.items }
         ensures honest { ⟦<Listed as Disk>⟧.honest result }
@@ -107,8 +107,8 @@ impl Listed {
         }
     }
 
-    /// The writes and syncs since the list was last emptied, the oldest first. Carrying them out leads the file from
-    /// where it was then to where the disk is now, and a crash on the way leaves what the disk tells.
+    /// Returns the writes and syncs since the list was last emptied, oldest first. Carrying them out takes the file
+    /// from its state then to the disk's state now. A crash on the way leaves what the disk's clauses say.
     pub fn steps(&self) -> &[Step]
         ensures list { map task_of result.now ≡ self.now.steps }
         ensures account { Accounts self.now }
@@ -131,7 +131,7 @@ impl Disk for Listed {
 
     ghost past = { λ d. d.past };
 
-    // It stays exactly while no call fails and the list begins where it began.
+    // The number stays exactly while no call fails and the list begins where it began.
     ghost failures = { λ d. told d.failed d.begun };
 
     ghost honest = { λ _. Unit {0} };

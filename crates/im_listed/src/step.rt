@@ -1,10 +1,10 @@
-//! What a caller has to do to its file.
+//! The steps of a caller on its file.
 
-/// A step on the file, to be carried out in its place in the list.
+/// A step on the file. The caller carries it out in its place in the list.
 #[derive(Drop)]
 pub enum Step {
-    /// Writes these bytes from this place on.
+    /// Write these bytes at this offset.
     Write(usize, Vec<u8>),
-    /// Puts all that was written on the disk, before any later step.
+    /// Put all that was written on the disk, before any later step.
     Sync,
 }

@@ -1,16 +1,16 @@
-//! What can tell whether somebody asks.
+//! Ears, which tell whether somebody asks.
 ghost use Rattle.std.specs.Prelude.{◌≡◌, true, false};
 
 use std::io::{BufReader, Read};
 
-/// What hears whether somebody asks.
+/// An ear hears whether somebody asks.
 pub trait Ear {
     ghost use Rattle.std.specs.Prelude.{Bool, false};
 
-    /// Whether a read never waits, where an impl says so.
+    /// Whether a read never waits. An impl may say so.
     ghost is_ready: { Self → Bool } = { λ _. false };
 
-    /// Whether nothing is there to be read: a read would wait. `false` where it can't be told.
+    /// Returns whether nothing is there to be read, so that a read would wait. Returns `false` if that can't be told.
     fn is_quiet(&mut self) -> bool
         ensures ready { is_ready self.old ≡ true → result ≡ false }
         ensures same { is_ready self.new ≡ is_ready self.old };
@@ -27,7 +27,7 @@ impl<'a> Ear for &'a [u8] {
     }
 }
 
-/// What stands in the buffer is there.
+/// What stands in the buffer is there; after it, the reader below tells.
 impl<R: Read + Ear> Ear for BufReader<R> {
     ghost use Rattle.std.specs.Io.Buffered.{reader_inner};
 

@@ -1,4 +1,4 @@
-//! Readers that can tell whether a read would wait, and that wait where the one below does not.
+//! Readers that can tell whether a read would wait, and readers that wait if the one below doesn't.
 #![tactic(auto)]
 
 mod ear;

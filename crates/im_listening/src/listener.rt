@@ -1,4 +1,4 @@
-//! A reader that listens by a thread.
+//! A reader that listens with a thread.
 ghost use Rattle.std.specs.Prelude.{◌≡◌, ◌<◌, Ok, length};
 ghost use Rattle.std.specs.Io.{ReadsAtMost};
 
@@ -10,10 +10,10 @@ use std::io::{self, Error, ErrorKind, Read};
 use std::sync::Wait;
 use std::thread::{self, Threads, yield_now};
 
-// So often the thread is let go first, before its reader is taken to wait.
+// How often this thread yields before the other one is taken to wait for the reader.
 const PATIENCE: usize = 4_096;
 
-// What a reader gave that no read has taken yet. Its end is kept: it is read once.
+// What the reader gave and no read has taken yet. The end is kept, since it is read only once.
 #[derive(Clone, Copy)]
 enum Heard {
     Nothing,
@@ -22,14 +22,14 @@ enum Heard {
     Error(ErrorKind),
 }
 
-// A reader, as it goes to the thread and comes back.
+// A reader on its way to the thread and back.
 #[derive(Drop)]
 struct Loan<I> {
     input: I,
     heard: Heard,
 }
 
-// Waits for a byte. One alone: a reader that has given nothing has still all that it had.
+// Waits for one byte. It reads no more, so a reader that has given nothing still has all that it had.
 fn hear<R: Wait, I: Read>(rt: &R, loan: Loan<I>) -> Loan<I> {
     let Loan {
         mut input,
@@ -44,7 +44,7 @@ fn hear<R: Wait, I: Read>(rt: &R, loan: Loan<I>) -> Loan<I> {
     Loan { input, heard }
 }
 
-// The thread: waits for a byte of each reader that is lent, until nobody is left who lends one.
+// The loop of the thread: it waits for a byte of each reader that is lent, until no lender is left.
 fn hear_all<R: Wait + Drop, I: Read + Drop>(rt: R, lent: Receiver<Loan<I>>, give: Sender<Loan<I>>) {
     for _ in rt.forever() {
         let Ok(loan) = lent.recv(&rt) else {
@@ -56,14 +56,15 @@ fn hear_all<R: Wait + Drop, I: Read + Drop>(rt: R, lent: Receiver<Loan<I>>, give
     }
 }
 
-// The way to the thread, and back.
+// The way to the thread and back.
 #[derive(Drop)]
 struct Helper<I: Drop> {
     lend: Sender<Loan<I>>,
     back: Receiver<Loan<I>>,
 }
 
-// What a read of so many bytes, where there was room for so many, leaves to be heard: the end, where it gave none.
+// Returns what a read of `count` bytes leaves to be heard, given the room that it had. It is the end if the read gave
+// nothing.
 fn heard_by(count: usize, room: usize) -> Heard
     ensures end { count ≡ 0 → 0 < room → result ≡ Heard.End }
 {
@@ -74,7 +75,7 @@ fn heard_by(count: usize, room: usize) -> Heard
     }
 }
 
-// Gives this byte, and what is there behind it. Behind a line feed nothing is waited for.
+// Gives this byte, and what is there after it. After a line feed nothing more is read.
 fn put_first<I: Read>(byte: u8, loan: &mut Loan<I>, buf: &mut [u8]) -> io::Result<usize>
     ensures bound { ReadsAtMost result buf.new }
     ensures some { result ≡ Ok 0 → length buf.old ≡ 0 }
@@ -95,7 +96,7 @@ fn put_first<I: Read>(byte: u8, loan: &mut Loan<I>, buf: &mut [u8]) -> io::Resul
     }
 }
 
-// Reads on.
+// Reads on, and waits if nothing is there.
 fn read_on<R: Wait, I: Read>(rt: &R, loan: &mut Loan<I>, buf: &mut [u8]) -> io::Result<usize>
     ensures bound { ReadsAtMost result buf.new }
     ensures ended { result ≡ Ok 0 → 0 < length buf.old → loan.new.heard ≡ Heard.End }
@@ -132,14 +133,15 @@ fn read_heard<R: Wait, I: Read>(rt: &R, loan: &mut Loan<I>, buf: &mut [u8]) -> i
     }
 }
 
-/// A reader that can tell whether a read would wait: where that is asked, a thread of its own waits for the next byte,
-/// and has the reader until then. A read waits for the thread, and reads on where it came to. It waits too where the
-/// reader has nothing yet and doesn't wait itself. The end of the input is read once: each later read gives it again. The
-/// thread keeps no program from ending.
+/// A reader that can tell whether a read would wait. If it is asked that, a thread of its own waits for the next byte,
+/// and has the reader until then. A read waits for the thread, and continues after the byte that it read. A read also
+/// waits if the reader has nothing yet and doesn't wait itself.
+///
+/// The end of the input is read once; each later read gives it again. The thread keeps no program from ending.
 #[derive(Drop)]
 pub struct Listener<R, I: Drop> {
     rt: R,
-    // The reader, where the thread hasn't it.
+    // The reader, unless the thread has it.
     here: Option<Loan<I>>,
     helper: Option<Helper<I>>,
 }
@@ -148,7 +150,7 @@ impl<R: Threads + Wait + Copy + Drop + Send + 'static, I: Read + Drop + Send + '
     R,
     I,
 > {
-    /// A reader of these bytes. It can't tell whether a read would wait until [`Listener::begin`].
+    /// Makes a reader of these bytes. It can't tell whether a read would wait before [`Listener::begin`].
     pub fn new(rt: R, input: I) -> Listener<R, I> {
         let heard = Heard::Nothing;
         Listener {
@@ -158,8 +160,8 @@ impl<R: Threads + Wait + Copy + Drop + Send + 'static, I: Read + Drop + Send + '
         }
     }
 
-    /// Lets its thread begin. Where there is no memory for the way to it, or the system gives no thread, it still can't
-    /// tell.
+    /// Starts its thread. If there is no memory for the way to it, or the system gives no thread, the reader still
+    /// can't tell.
     pub fn begin(&mut self, alloc: Global) {
         let Ok((lend, lent)) = bounded(alloc, 1) else {
             return;
@@ -168,7 +170,7 @@ impl<R: Threads + Wait + Copy + Drop + Send + 'static, I: Read + Drop + Send + '
             return;
         };
         let rt = self.rt;
-        // It isn't joined: a reader that waits for ever would keep the program from ending.
+        // The thread isn't joined: a reader that waits for ever would keep the program from ending.
         if thread::spawn(&self.rt, move || hear_all(rt, lent, give)).is_ok() {
             self.helper = Some(Helper { lend, back });
         }
@@ -176,7 +178,7 @@ impl<R: Threads + Wait + Copy + Drop + Send + 'static, I: Read + Drop + Send + '
 }
 
 impl<R: Wait, I: Read + Drop> Listener<R, I> {
-    // Whether the thread has just brought the reader back.
+    // Returns whether the thread has just brought the reader back.
     fn is_back(&mut self) -> bool {
         let Some(helper) = &self.helper else {
             return false;
@@ -203,7 +205,7 @@ impl<R: Wait, I: Read + Drop> Listener<R, I> {
         }
     }
 
-    // Lends the reader to the thread. Whether it has it now.
+    // Lends the reader to the thread. Returns whether the thread has it now.
     fn lend(&mut self, loan: Loan<I>) -> bool {
         let Some(helper) = &self.helper else {
             self.here = Some(loan);
@@ -218,7 +220,7 @@ impl<R: Wait, I: Read + Drop> Listener<R, I> {
         }
     }
 
-    // Whether the thread, to which the reader was lent just now, waits.
+    // Returns whether the thread, to which the reader was just lent, waits.
     fn waits(&mut self) -> bool {
         for _time in 0..PATIENCE {
             if self.is_back() {

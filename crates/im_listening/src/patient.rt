@@ -1,4 +1,4 @@
-//! Reads that wait for a reader which doesn't.
+//! Reads that wait for a reader that doesn't wait itself.
 ghost use Rattle.std.specs.Prelude.{◌≡◌, ◌≢◌, ◌⊎◌, ◌↔◌, IfErr, IfSome, IsTrue, MatchOption};
 ghost use Rattle.std.specs.Io.{ReadsAtMost};
 ghost use Rattle.std.specs.Io.KnownBytes.{Keeps, ReadConsumes};
@@ -9,17 +9,17 @@ use std::sync::Wait;
 use std::thread::Parker;
 use std::time::Duration;
 
-// So many milliseconds a reader that has nothing yet is let alone.
+// The pause before a reader that has nothing yet is read again, in milliseconds.
 const PAUSE: u64 = 5;
 
-// Whether a read that failed so may come to something when it is made again.
+// Returns whether a read with this error may succeed when it is made again.
 fn may_pass(kind: ErrorKind) -> bool
     ensures { IsTrue result ↔ ((kind ≡ ErrorKind.WouldBlock) ⊎ (kind ≡ ErrorKind.Interrupted)) }
 {
     kind == ErrorKind::WouldBlock || kind == ErrorKind::Interrupted
 }
 
-// Reads what is there. `None` where the reader has nothing yet, or was interrupted.
+// Reads what is there. Returns `None` if the reader has nothing yet, or was interrupted.
 fn read_now<I: Read>(input: &mut I, buf: &mut [u8]) -> Option<io::Result<usize>>
     ensures bound { IfSome result (λ read. ReadsAtMost read buf.new) }
     ensures bytes { MatchOption result (Keeps (I.remaining input.old) (I.remaining input.new))
@@ -39,7 +39,8 @@ fn read_now<I: Read>(input: &mut I, buf: &mut [u8]) -> Option<io::Result<usize>>
     }
 }
 
-/// Reads, and waits as long as the reader has nothing yet, asleep between its looks. An interruption is gone on with.
+/// Reads, and waits as long as the reader has nothing yet. It sleeps between its reads, and continues after an
+/// interruption.
 #[tactic(auto, using(crate::proofs::PatientLemmas::reads_on))]
 pub(crate) fn read_waiting<R: Wait, I: Read>(
     rt: &R,
@@ -61,8 +62,8 @@ pub(crate) fn read_waiting<R: Wait, I: Read>(
     unreachable!()
 }
 
-/// A reader that waits where the one below has nothing yet, as standard input that was opened not to block: its bytes
-/// are those of the one below, and no error of it is `WouldBlock` or `Interrupted`.
+/// A reader that waits if the one below has nothing yet, such as standard input that was opened not to block. Its bytes
+/// are those of the one below. None of its errors is `WouldBlock` or `Interrupted`.
 #[derive(Drop)]
 pub struct Patient<R, I> {
     rt: R,
@@ -70,7 +71,7 @@ pub struct Patient<R, I> {
 }
 
 impl<R: Wait + Drop, I: Read + Drop> Patient<R, I> {
-    /// Reads the bytes of a reader.
+    /// Makes a reader of the bytes of this one.
     pub fn new(rt: R, input: I) -> Patient<R, I> {
         Patient { rt, input }
     }

@@ -1,4 +1,4 @@
--- An image taken apart: which header is in force, what its pages show, what its journal has. (Own.)
+-- The parts of an image: which header is in force, what its pages show, what its journal has. (Own.)
 use Rattle.std.specs.Prelude.{◌≡◌, ◌⊎◌, ℕ, ◌+◌, ◌-◌, ◌<◌, ◌≤◌, List, length, true, false, Some, slice_range}
 use Rattle.im_types.specs.declared.commands.Command.{Command}
 use Rattle.im_types.specs.Contents.{Contents}
@@ -18,7 +18,7 @@ other h = 1 - h.area
 abbrev pub IsBelow : ℕ → List ℕ → Type 0
 IsBelow generation place = (is_open_header place ≡ false) ⊎ (generation_in place < generation)
 
--- this header is the one in force, and nothing is at fault in the file's length and headers
+-- this header is in force, and the file's length and headers have no fault
 pub record InForce (l : Layout) (h : Header) (file : List ℕ) : Type 0 where
   pub number : h.area ≤ 1
   pub size : length file ≡ image_length l h.sizes
@@ -33,7 +33,7 @@ pub record IsImage (l : Layout) (h : Header) (shown : Contents) (commands : List
   pub shows : Shows l h.sizes (area_of l h.sizes h.area file) shown
   pub journal : tail (ring_of l h.sizes) h.count file ≡ Some (record { commands = commands; room = room })
 
--- a header that may take this one's place: of the other area, of a later generation, and within its bounds
+-- a header that may follow this one: of the other area, of a later generation, and within its bounds
 pub record Follows (l : Layout) (h next : Header) : Type 0 where
   pub area : next.area ≡ other h
   pub later : h.generation < next.generation

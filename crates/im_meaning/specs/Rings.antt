@@ -1,9 +1,10 @@
--- A journal some of whose stale slots had their gates written. (Own.)
+-- A journal after writes to the gates of stale slots. (Own.)
 use Rattle.std.specs.Prelude.{◌≡◌, ℕ, ◌+◌, ◌-◌, ◌<◌, ◌≤◌, List, false}
 use Rattle.im_types.specs.Slot.{is_open, sequence_of}
 use Rattle.im_types.specs.Journal.{Ring, slot}
 
--- a run of n slots is the same in both files; in the second one so many gates behind it are closed, and each slot behind those is of a command before the run
+-- A run of n slots is the same in both files. In the second one, the gates of the known room behind it are closed, and
+-- each slot behind those is of a command before the run.
 pub record HasStaleRest (r : Ring) (first n known : ℕ) (c d : List ℕ) : Type 0 where
   pub same : (i : ℕ) → i < n → slot r (first + i) d ≡ slot r (first + i) c
   pub inside : known ≤ r.slots - n

@@ -1,8 +1,8 @@
-//! Laws of images: what may be written to a file that leaves the image that it is, and what gives it another header.
+//! Laws of images: which writes to a file keep its image, and which put another header in force.
 //!
-//! A checkpoint writes pages where nobody reads, closes an old header's gate, writes a new header behind it, and opens
-//! the gate; and it closes the gates of slots whose commands the pages hold. Each law here is about one such write,
-//! torn or whole, and is the contract of a function that does nothing.
+//! A checkpoint writes pages that nobody reads and closes an old header's gate. It writes a new header behind that gate
+//! and opens it. It also closes the gates of slots whose commands the pages hold. Each law here covers one such write,
+//! torn or whole. It is the contract of a function that does nothing.
 #![tactic(auto)]
 
 ghost use Rattle.std.specs.Prelude.{◌≡◌, ◌⊎◌, ℕ, ◌+◌, ◌*◌, ◌-◌, ◌<◌, ◌≤◌, List, length, drop, false, true, Some, Ok};
@@ -28,12 +28,12 @@ pub fn images_are_read()
         → Reads l c (Ok (record { contents = m; count = h.count + length commands; room = room })) }
 {}
 
-/// What reads as a memory is an image.
+/// A file that reads as a memory is an image.
 pub fn what_is_read_is_an_image()
     ensures { (l : Layout) (c : List ℕ) (reached : Reached) → Reads l c (Ok reached) → IsRead l c reached }
 {}
 
-/// Nothing that is written in the area that isn't in force changes the image.
+/// A write to the area that isn't in force keeps the image.
 pub fn other_area_is_not_read()
     ensures { (l : Layout) (h : Header) (shown : Contents) (commands : List Command) (room : ℕ) (c d : List ℕ)
         (at n : ℕ) → IsImage l h shown commands room c
@@ -42,7 +42,7 @@ pub fn other_area_is_not_read()
         → IsImage l h shown commands room d }
 {}
 
-/// Nothing that is written behind the closed gate of the other header changes the image.
+/// A write behind the closed gate of the other header keeps the image.
 pub fn closed_headers_are_not_read()
     ensures { (l : Layout) (h : Header) (shown : Contents) (commands : List Command) (room : ℕ) (c d : List ℕ)
         (at n : ℕ) → IsImage l h shown commands room c
@@ -51,7 +51,7 @@ pub fn closed_headers_are_not_read()
         → IsImage l h shown commands room d }
 {}
 
-/// Whatever becomes of the gate of a header of a lower generation, the image stays.
+/// The image stays, whatever the gate of a header of a lower generation becomes.
 pub fn lower_gates_may_be_anything()
     ensures { (l : Layout) (h : Header) (shown : Contents) (commands : List Command) (room : ℕ) (c d : List ℕ)
         → IsImage l h shown commands room c
@@ -61,8 +61,8 @@ pub fn lower_gates_may_be_anything()
     // A law has no steps.
 }
 
-/// A header that is prepared is not in force while its gate is closed, and once it is open it is. The commands that its
-/// area holds are no longer those of the journal.
+/// A prepared header takes effect once its gate is open: after a write to its gate, the old header or the prepared one
+/// is in force. Under the prepared one, the commands that its area holds are no longer in the journal.
 pub fn next_header_takes_over()
     ensures { (l : Layout) (h next : Header) (shown after : Contents) (commands : List Command) (room k : ℕ)
         (c d : List ℕ) → IsImage l h shown commands room c
@@ -71,7 +71,7 @@ pub fn next_header_takes_over()
         → IsImage l h shown commands room d ⊎ IsImage l next after (drop k commands) room d }
 {}
 
-/// Once the prepared header's gate is open, it is the one in force.
+/// Once the prepared header's gate is open, that header is in force.
 pub fn open_header_is_in_force()
     ensures { (l : Layout) (h next : Header) (shown after : Contents) (commands : List Command) (room k : ℕ)
         (c d : List ℕ) → IsImage l h shown commands room c
@@ -80,8 +80,8 @@ pub fn open_header_is_in_force()
         → is_open_header (header_place (other h) d) ≡ true → IsImage l next after (drop k commands) room d }
 {}
 
-/// The tail of a journal from a later command on is what is left of the commands, with the same room, where that
-/// command is the first of its group.
+/// The tail of a journal can begin at a later command, if that is the first of its group. It then has the rest of the
+/// commands and the same room.
 pub fn tails_may_begin_later()
     ensures { (r : Ring) (first k : ℕ) (c : List ℕ) (commands : List Command) (room : ℕ)
         → tail r first c ≡ Some (record { commands = commands; room = room })
@@ -89,7 +89,7 @@ pub fn tails_may_begin_later()
         → tail r (first + k) c ≡ Some (record { commands = drop k commands; room = room }) }
 {}
 
-/// Where a run ends it may begin anew, and nowhere behind that.
+/// A run may begin anew where it ends, and nowhere behind that.
 pub fn runs_end_at_boundaries()
     ensures end { (r : Ring) (first : ℕ) (c : List ℕ) (commands : List Command) (room : ℕ)
         → tail r first c ≡ Some (record { commands = commands; room = room })
@@ -99,14 +99,14 @@ pub fn runs_end_at_boundaries()
         → IsBoundary r first k c → k ≤ length commands }
 {}
 
-/// What is written before the journal, in a header or an area, leaves where its run may begin anew.
+/// A write before the journal, in a header or an area, keeps the places where the journal's run may begin anew.
 pub fn boundaries_are_of_the_journal()
     ensures { (l : Layout) (h : Header) (c d : List ℕ) (at n : ℕ) → SameBut at n c d → 0 < h.sizes.slots
         → at + n ≤ journal_at l h.sizes → KeepsBoundaries (ring_of l h.sizes) h.count c d }
 {}
 
-/// The tail of a journal keeps its commands, and the room that is known, where each slot of the run stays, the gates of
-/// the known room are closed, and each slot behind them has a sequence number below the run's first one.
+/// The tail of a journal keeps its commands and its known room under three conditions. Each slot of the run stays, the
+/// gates of the known room are closed, and each slot behind them has a sequence number below the run's first.
 pub fn stale_gates_may_be_closed()
     ensures tail { (r : Ring) (first : ℕ) (c d : List ℕ) (commands : List Command) (room known : ℕ)
         → tail r first c ≡ Some (record { commands = commands; room = room })
@@ -120,7 +120,7 @@ pub fn stale_gates_may_be_closed()
         → HasStaleRest r first (length commands) known c d → KeepsBoundaries r first c d }
 {}
 
-/// Behind its room a tail has stale slots alone.
+/// Behind its room, a tail has only stale slots.
 pub fn slots_behind_the_room_are_stale()
     ensures { (r : Ring) (first : ℕ) (c : List ℕ) (commands : List Command) (room : ℕ)
         → tail r first c ≡ Some (record { commands = commands; room = room })

@@ -1,4 +1,4 @@
--- What makes a table, an arena and windows a memory. (Own.)
+-- The invariant of a table, an arena and windows that make a memory. (Own.)
 use Rattle.std.specs.Prelude.{◌≡◌, ◌*◌, ◌≤◌, List, Option, length}
 use Rattle.im_types.specs.declared.TheConstants.{WINDOW, MAX_CELLS, MAX_ELEMENTS}
 use Rattle.im_types.specs.Contents.{Window, Contents}
@@ -12,17 +12,17 @@ use Rattle.im_istore.specs.Agreement.{Agree}
 abbrev pub contents_of : List (Option Slot) → Shown → List Window → Contents
 contents_of slots arena windows = record { cells = cells_of slots arena; windows = windows }
 
--- they show a memory
+-- a table, an arena and windows show a memory
 pub record MakesMemory (slots : List (Option Slot)) (arena : Shown) (windows : List Window) : Type 0 where
-  -- each cell has a list, and waits exactly where somebody is on it
+  -- each cell has a list, and waits if and only if that list has a waiter
   pub agree : Agree slots arena
-  -- the whole is a memory of its own lengths
+  -- together they are a memory with their own lengths
   pub memory : IsMemory (length slots) (length windows) (contents_of slots arena windows)
-  -- there is a cell
+  -- there is at least one cell
   pub some_cell : 1 ≤ length slots
   -- there are no more cells than a memory may have
   pub few_cells : length slots ≤ MAX_CELLS
-  -- nor more elements
+  -- there are no more elements than a memory may have
   pub few_elements : length windows ≤ MAX_ELEMENTS
-  -- each entry of a window could have a node
+  -- there is a node for each entry that windows may keep
   pub nodes : arena.held.nodes ≡ WINDOW * length windows

@@ -1,4 +1,4 @@
--- A memory that is put together from what records show of it. (Own.)
+-- A memory that is put together from its records. (Own.)
 use Rattle.std.specs.Prelude.{ℕ, ◌≡◌, ◌*◌, ◌≤◌, List, length}
 use Rattle.im_types.specs.declared.TheConstants.{WINDOW, MAX_CELLS, MAX_ELEMENTS}
 use Rattle.im_types.specs.declared.operations.Waiter.{Waiter}
@@ -10,7 +10,7 @@ use Rattle.im_types.specs.Memory.{IsMemory}
 use Rattle.im_types.specs.Pages.{cells_shown}
 use Rattle.im_arena.specs.Lists.{Shown}
 
--- the records of the cells, who waits at each of them, and the windows
+-- the records of the cells, the requests that wait at each of them, and the windows
 pub record Parts : Type 0 where
   pub cells : List CellRecord
   pub lists : List (List Waiter)
@@ -20,13 +20,14 @@ pub record Parts : Type 0 where
 abbrev pub contents_shown : Parts → Contents
 contents_shown p = record { cells = cells_shown p.cells p.lists; windows = p.windows }
 
--- parts that are complete: the lists stand in nodes, as the cells' records say, and the whole is a memory
+-- the parts are complete: the lists stand in some nodes as the cells' records say, and together the parts are a memory
 pub record AreComplete (p : Parts) : Type 0 where
   pub nodes : List NodeRecord
   pub chained : ShowLists nodes p.cells p.lists
   pub memory : IsMemory (length p.cells) (length p.windows) (contents_shown p)
 
--- there are records and lists for all cells and nodes for all entries, and not too many of either
+-- there are records and lists for all cells, nodes for all entries, and at least one cell; cells and elements are
+-- within their bounds
 pub record HaveRoom (cells : List CellRecord) (room : ℕ) (arena : Shown) (windows : List Window) : Type 0 where
   pub records : room ≡ length cells
   pub lists : length arena.held.lists ≡ length cells

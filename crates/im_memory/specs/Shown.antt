@@ -23,7 +23,7 @@ tag_of Waiting (Some ends) = TagWaiting ends.first ends.last
 tag_of (Full v) ends = TagFull v
 tag_of (Clashed v) ends = TagClashed v
 
--- the ends of a list are among so many nodes
+-- both ends of a list are below a number of nodes
 abbrev pub AreWithin : ℕ → Option Ends → Type 0
 AreWithin nodes None = Unit {0}
 AreWithin nodes (Some ends) = (ends.first < nodes) × (ends.last < nodes)
@@ -43,7 +43,7 @@ cell_records (slot ∷ slots) (e ∷ ends) = cell_record slot e ∷ cell_records
 abbrev pub records_of : List (Option Slot) → Shown → List Window → Records
 records_of slots arena windows = record { cells = cell_records slots arena.links.ends; nodes = arena.links.records; windows = windows }
 
--- a memory whose links lead through its lists
+-- the links of this memory lead through its lists
 pub record IsShown (slots : List (Option Slot)) (arena : Shown) (windows : List Window) : Type 0 where
   pub makes : MakesMemory slots arena windows
   pub threaded : IsThreaded arena

@@ -9,14 +9,14 @@ use Rattle.im_arena.specs.Lists.{Shown, free_record}
 use Rattle.im_memory.specs.MakesMemory.{contents_of}
 use Rattle.im_memory.specs.Shown.{records_of}
 
--- what a memory contains, the records that show it, and the waiter node that the next request that waits takes (NONE:
+-- the contents of a memory, the records that show it, and the waiter node that the next waiting request takes (NONE if
 -- no node is free)
 pub record MemoryState : Type 0 where
   pub contents : Contents
   pub records : Records
   pub spare : ℕ
 
--- the memory that a table, an arena and windows make
+-- the memory state that a table, an arena and windows make
 abbrev pub state_of : List (Option Slot) → Shown → List Window → MemoryState
 state_of slots arena windows = record {
   contents = contents_of slots arena windows;

@@ -1,4 +1,4 @@
--- Which records a command may change. (Own.)
+-- The records that a command may change. (Own.)
 use Rattle.std.specs.Prelude.{◌≡◌, ◌≢◌, ℕ, zero, suc, List, [], ◌∷◌, length, map, Option, None, Some, slice_get}
 use Rattle.std.specs.Prelude.{slice_index_or, if◌then◌else◌}
 use Rattle.im_types.specs.declared.TheConstants.{NONE}
@@ -26,7 +26,7 @@ use Rattle.im_arena.specs.Chain.{along}
 use Rattle.im_arena.specs.Lists.{free_record, link_of}
 use Rattle.im_memory.specs.State.{MemoryState}
 
--- the tag of a cell's record; a free cell has none
+-- the tag of a cell's record; a free cell's is Empty
 abbrev pub tag_in : CellRecord → PresenceTag
 tag_in (FreeCell hole next) = TagEmpty
 tag_in (BlockCell block tag) = tag
@@ -39,19 +39,19 @@ tag_at r a = tag_in (slice_index_or r.cells a (FreeCell 0 NONE))
 abbrev pub first_at : Records → ℕ → ℕ
 first_at r a = tag_first (tag_at r a)
 
--- the last one
+-- the last node of that list
 abbrev pub last_at : Records → ℕ → ℕ
 last_at r a = tag_last (tag_at r a)
 
--- the node behind another one
+-- the node after another one
 abbrev pub next_at : List NodeRecord → ℕ → ℕ
 next_at nodes n = link_of (slice_index_or nodes n free_record)
 
--- so many nodes of a list, from its first one on
+-- n nodes of a list, from its first one on
 abbrev pub nodes_from : List NodeRecord → ℕ → ℕ → List ℕ
 nodes_from nodes first count = along (λ n. n) (next_at nodes) first count
 
--- so many addresses from this one on
+-- n addresses from this one on
 abbrev pub addresses : ℕ → ℕ → List ℕ
 addresses base zero = []
 addresses base (suc n) = base ∷ addresses (suc base) n
@@ -69,56 +69,57 @@ nowhere = record { cells = []; nodes = [] }
 abbrev pub one_cell : ℕ → Places
 one_cell a = record { cells = a ∷ []; nodes = [] }
 
--- the nodes for one who waits behind these: the spare one and, where somebody waits already, the last one before it
+-- the nodes that change if a request is put behind these: the spare node and, if requests wait already, the last node
+-- before it
 abbrev pub nodes_behind : ℕ → ℕ → List Waiter → List ℕ
 nodes_behind spare last [] = spare ∷ []
 nodes_behind spare last (waiter ∷ waiters) = spare ∷ last ∷ []
 
--- by a fetch of a cell in this state, where the spare node and the last one of the cell's list are these
+-- the places of a fetch of a cell in this state, with the spare node and the last node of the cell's list
 abbrev pub by_fetch : ℕ → ℕ → ℕ → CellState → Places
 by_fetch spare last a (Empty waiters) = record { cells = a ∷ []; nodes = nodes_behind spare last waiters }
 by_fetch spare last a (Full v) = nowhere
 by_fetch spare last a (Clashed v) = nowhere
 
--- by a store, where the list of the cell begins at this node: the nodes of all readers are given back
+-- the places of a store, if the list of the cell begins at this node: the nodes of all readers are freed
 abbrev pub by_store : List NodeRecord → ℕ → ℕ → CellState → Places
 by_store nodes first a (Empty readers) = record { cells = a ∷ []; nodes = nodes_from nodes first (length readers) }
 by_store nodes first a (Full v) = one_cell a
 by_store nodes first a (Clashed v) = one_cell a
 
--- by a take
+-- the places of a take
 abbrev pub by_take : ℕ → ℕ → ℕ → CellState → Places
 by_take spare last a (Empty waiters) = record { cells = a ∷ []; nodes = nodes_behind spare last waiters }
 by_take spare last a (Full v) = one_cell a
 by_take spare last a (Clashed v) = one_cell a
 
--- by a put: the node of the first taker is given back
+-- the places of a put: the node of the first taker is freed
 abbrev pub by_put : ℕ → ℕ → CellState → Places
 by_put first a (Empty []) = one_cell a
 by_put first a (Empty (taker ∷ takers)) = record { cells = a ∷ []; nodes = first ∷ [] }
 by_put first a (Full v) = one_cell a
 by_put first a (Clashed v) = one_cell a
 
--- what a cell of the kind that the operation is for comes to; else none
+-- the value of this function at a cell of the operation's kind; else the value for none
 abbrev pub at_kind : {X : Type 0} → X → Kind → (CellState → X) → Option Held → X
 at_kind none kind by None = none
 at_kind none kind by (Some held) = if same_kind kind held.block.kind then by held.state else none
 
--- where, at a cell of the kind that the operation is for
+-- the places at a cell of the operation's kind
 abbrev pub places_at : Kind → (CellState → Places) → Option Held → Places
 places_at kind by held = at_kind nowhere kind by held
 
--- the cells from a base on, if there is one
+-- the places of n cells from a base on, if there is one
 abbrev pub places_from : ℕ → Option ℕ → Places
 places_from n None = nowhere
 places_from n (Some base) = record { cells = addresses base n; nodes = [] }
 
--- the cells of a block, if there is one
+-- the places of a block's cells, if there is one
 abbrev pub places_of : Option Block → Places
 places_of None = nowhere
 places_of (Some block) = record { cells = addresses block.base block.length; nodes = [] }
 
--- by an operation on these cells, where the records and the spare node are these
+-- the places of an operation on these cells, with these records and this spare node
 abbrev pub places : List (Option Held) → Records → ℕ → Op → Places
 places cells r spare (Alloc kind n) = places_from n (place n cells)
 places cells r spare (Release a) = places_of (block_with_base a (held_at cells a))
@@ -142,7 +143,7 @@ pub record Touched : Type 0 where
   pub nodes : List ℕ
   pub elements : List ℕ
 
--- at these places, and in the windows of these elements
+-- these places, and the windows of these elements
 abbrev pub touched_in : Places → List ℕ → Touched
 touched_in p elements = record { cells = p.cells; nodes = p.nodes; elements = elements }
 
@@ -158,7 +159,7 @@ abbrev pub IsOther : List ℕ → ℕ → Type 0
 IsOther [] n = Unit {0}
 IsOther (m ∷ ms) n = (n ≢ m) × IsOther ms n
 
--- of all records, those of these cells, nodes and elements alone change
+-- only the records of these cells, nodes and elements change
 pub record ChangesOnly (t : Touched) (old new : Records) : Type 0 where
   pub cells : (a : ℕ) → IsOther t.cells a → slice_get new.cells a ≡ slice_get old.cells a
   pub nodes : (n : ℕ) → IsOther t.nodes n → slice_get new.nodes n ≡ slice_get old.nodes n

@@ -1,4 +1,4 @@
-//! What an operation does to the cells, and who is answered by it.
+//! The effect of an operation on the cells, and the requests that it answers.
 ghost use Rattle.std.specs.Prelude.{◌≡◌, ◌<◌, false, List, Option, length};
 ghost use Rattle.im_types.specs.declared.operations.Kind.TheVariants.{I, M};
 ghost use Rattle.im_types.specs.Act.{act, allocate, at_cell, block_with_base, put, release_block, reset_block, store};
@@ -21,25 +21,25 @@ use im_mstore::take;
 use im_sessions::Sessions;
 use im_types::{Entry, Kind, Op, Reply, Waiter};
 
-/// Who is answered by an operation of somebody else.
+/// The waiting requests that an operation answers.
 #[derive(Clone, Copy)]
 pub enum Resumed {
-    /// Nobody.
+    /// None.
     Nobody,
-    /// The first who waited to take, with this value.
+    /// The first take that waited, with this value.
     Taker(Waiter, u64),
     /// Each reader on the list of this cell, with this value.
     Readers(u32, u64),
 }
 
-/// What the asker is told, and who else is to be answered.
+/// The effect of an operation: the asker's entry, and the waiting requests that are still to be answered.
 #[derive(Clone, Copy)]
 pub struct Acted {
     pub entry: Entry,
     pub resumed: Resumed,
 }
 
-// The asker alone is told something.
+// Returns the effect of an operation that answers no waiting request.
 fn told(entry: Entry) -> Acted
     ensures { result ≡ record { entry = entry; resumed = Resumed.Nobody } }
 {
@@ -49,7 +49,7 @@ fn told(entry: Entry) -> Acted
     }
 }
 
-// A store: its readers stay on the list of the cell, until `resume` answers them.
+// Does a store. Its readers stay on the cell's list until `resume` answers them.
 fn store(table: &mut CellTable, arena: &Arena, a: u32, value: u64) -> Acted
     requires { Agree table.old arena.now }
     ensures acted { let cells = cells_of table.old arena.now in HasActed table.new arena.now result
@@ -68,7 +68,7 @@ fn store(table: &mut CellTable, arena: &Arena, a: u32, value: u64) -> Acted
     }
 }
 
-// A put: its taker is off the list of the cell.
+// Does a put. If a take waits, it is taken off the cell's list.
 fn put(table: &mut CellTable, arena: &mut Arena, a: u32, value: u64) -> Acted
     requires { Agree table.old arena.old }
     ensures acted { let cells = cells_of table.old arena.old in HasActed table.new arena.new result
@@ -88,7 +88,7 @@ fn put(table: &mut CellTable, arena: &mut Arena, a: u32, value: u64) -> Acted
     }
 }
 
-// A new block.
+// Makes a block.
 #[inline(never)]
 fn allocate(table: &mut CellTable, arena: &Arena, kind: Kind, n: u32) -> Acted
     requires { Agree table.old arena.now }
@@ -106,7 +106,7 @@ fn allocate(table: &mut CellTable, arena: &Arena, kind: Kind, n: u32) -> Acted
     }
 }
 
-// Why the cells of the block with this base stay as they are.
+// Returns why the cells of the block with this base stay as they are.
 fn reason(table: &CellTable, arena: &Arena, a: u32) -> Reply
     requires agree { Agree table.now arena.now }
     requires stays { is_releasable table.now a ≡ false }
@@ -118,7 +118,7 @@ fn reason(table: &CellTable, arena: &Arena, a: u32) -> Reply
     }
 }
 
-// The end of a block.
+// Frees the block with this base, unless a request waits for one of its cells.
 #[inline(never)]
 fn release(table: &mut CellTable, arena: &Arena, a: u32) -> Acted
     requires { Agree table.old arena.now }
@@ -135,7 +135,7 @@ fn release(table: &mut CellTable, arena: &Arena, a: u32) -> Acted
     }
 }
 
-// A block whose cells are all empty from now on.
+// Empties the cells of the block with this base, unless a request waits for one of them.
 #[inline(never)]
 fn reset(table: &mut CellTable, arena: &Arena, a: u32) -> Acted
     requires { Agree table.old arena.now }
@@ -152,7 +152,7 @@ fn reset(table: &mut CellTable, arena: &Arena, a: u32) -> Acted
     }
 }
 
-/// An operation of an asker on the cells. Where it may have to wait, there is a free node for it.
+/// Does an asker's operation on the cells. A free node must be there, in case the asker waits.
 #[inline(always)]
 pub fn act(table: &mut CellTable, arena: &mut Arena, who: Waiter, op: Op) -> Acted
     requires agree { Agree table.old arena.old }
@@ -160,7 +160,7 @@ pub fn act(table: &mut CellTable, arena: &mut Arena, who: Waiter, op: Op) -> Act
     ensures acted { HasActed table.new arena.new result (act (cells_of table.old arena.old) who op) }
     ensures nodes { arena.new.held.nodes ≡ arena.old.held.nodes }
 
-    // Of the records that it may change.
+    // The records that it may change.
     ensures changes { ChangesAt (places_in table.old arena.old op) table.old arena.old table.new arena.new }
     ensures among { AreAmong (places_in table.old arena.old op) result.resumed arena.new }
 {
@@ -175,15 +175,15 @@ pub fn act(table: &mut CellTable, arena: &mut Arena, who: Waiter, op: Op) -> Act
     }
 }
 
-// Each reader on a list is answered with a value, and leaves the list: what `im_istore::store_and_drain` does after its
-// store, with the reader answered in place of being handed out, so that it takes no memory.
+// Answers each reader on a list with a value, and takes it off the list. After its store, `im_istore::store_and_drain`
+// does the same, but hands the readers out. This function answers them, and takes no memory.
 fn drain(sessions: &mut Sessions, arena: &mut Arena, a: u32, value: u64)
     requires awaited { AreAwaited sessions.old (replies_to (list_at arena.old.held a) value) }
     requires listed { a < length arena.old.held.lists }
     ensures windows { sessions.new ≡ answer_each sessions.old (replies_to (list_at arena.old.held a) value) }
     ensures nodes { arena.new.held.nodes ≡ arena.old.held.nodes }
 
-    // Of each table whose full cell this is.
+    // For each table with this full cell.
     ensures cells { (slots : List (Option Slot)) → AgreeBut a slots arena.old
         → cells_of slots arena.new ≡ cells_of slots arena.old }
     ensures agree { (slots : List (Option Slot)) → AgreeBut a slots arena.old → Agree slots arena.new }
@@ -194,14 +194,14 @@ fn drain(sessions: &mut Sessions, arena: &mut Arena, a: u32, value: u64)
     }
 }
 
-/// Answers those that an operation resumes. Then table and arena agree.
+/// Answers the requests that an operation resumes. After it, table and arena agree.
 pub fn resume(sessions: &mut Sessions, arena: &mut Arena, resumed: Resumed)
     requires awaited { AreAwaited sessions.old (replies_of resumed arena.old) }
     requires listed { AreListed resumed arena.old }
     ensures windows { sessions.new ≡ answer_each sessions.old (replies_of resumed arena.old) }
     ensures nodes { arena.new.held.nodes ≡ arena.old.held.nodes }
 
-    // Of each table that the operation may have left.
+    // For each table that the operation may have left.
     ensures cells { (slots : List (Option Slot)) → AgreeFor resumed slots arena.old
         → cells_of slots arena.new ≡ cells_of slots arena.old }
     ensures agree { (slots : List (Option Slot)) → AgreeFor resumed slots arena.old → Agree slots arena.new }

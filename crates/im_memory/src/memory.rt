@@ -32,16 +32,26 @@ use im_types::{
 use std::alloc::Global;
 use std::marker::Model;
 
-/// A memory. Contracts see what it contains, which is always a memory, the records that show it on the pages of an
-/// image, and the waiter node that the next request that waits takes.
+/// A memory. Contracts see three parts. The contents are always those of a memory, and the records show it on the pages
+/// of an image. The third part is the waiter node that the next waiting request takes.
 ///
-/// The room for all requests that may wait is taken by [`Memory::new`]: a request that waits is kept in its element's
-/// window, so there are never more of them than entries.
-#[derive(Drop)]
+/// [`Memory::new`] takes the room for all requests that may wait. A waiting request is kept in its element's window, so
+/// there are never more of them than entries.
 pub struct Memory {
     pub(crate) table: CellTable,
     pub(crate) arena: Arena,
     pub(crate) sessions: Sessions,
+}
+
+// By one call, so that whoever owns a memory isn't proved to let go each of its fields wherever it may end.
+impl Drop for Memory {
+    fn drop(self) {
+        let Memory {
+            table: _,
+            arena: _,
+            sessions: _,
+        } = self;
+    }
 }
 
 impl Model for Memory {
@@ -56,7 +66,7 @@ impl Model for Memory {
     ghost invariant = { λ m. MakesMemory m.table m.arena m.sessions };
 }
 
-// A new request: what comes of it is done, it is kept with its entry, and those that it resumes are answered.
+// Serves a new request: does its operation, keeps its entry, and answers the requests that it resumes.
 fn serve(
     table: &mut CellTable,
     arena: &mut Arena,
@@ -85,8 +95,8 @@ fn serve(
 }
 
 impl Memory {
-    /// A memory of these sizes, with no block and no entry. All memory that it will ever need is taken here; refused
-    /// with `NoMemory` where there isn't enough.
+    /// Makes a memory of these sizes, with no block and no entry. It takes all its memory here, and returns `NoMemory`
+    /// if that is refused.
     pub fn new(alloc: Global, limits: Limits) -> Result<Self, Refusal>
         ensures empty { IfOk result (λ m. m.contents ≡ empty_contents limits.cells limits.elements) }
         ensures memory { IfOk result (λ m. IsMemory limits.cells limits.elements m.contents) }
@@ -111,24 +121,26 @@ impl Memory {
         })
     }
 
-    /// One command: what it comes to, or why it is refused, and then nothing changes. Refused are, with `NoElement`, a
-    /// command of an element that isn't there; a request with `Forgotten` below its window, with `Mismatch` under a
-    /// number that is kept for another operation, with `Gap` past the next number and past the last that there is, and
-    /// with `WindowFull` where 64 entries are kept; a confirmation with `Gap` past the next number, and with
-    /// `NotAnswered` where an entry that it would drop still waits. It takes no memory.
+    /// Serves one command, and returns its outcome or its refusal. A refusal changes nothing. The call takes no memory.
+    ///
+    /// A command of an element that doesn't exist is refused with `NoElement`. A request is refused with `Forgotten`
+    /// below its window, and with `Mismatch` under a number that is kept for another operation. It is refused with
+    /// `Gap` past the next number and past the last number of all, and with `WindowFull` while 64 entries are kept. A
+    /// confirmation is refused with `Gap` past the next number, and with `NotAnswered` if an entry that it would drop
+    /// still waits.
     pub fn step(&mut self, command: &Command) -> Result<Outcome, Refusal>
         ensures answer { result ≡ (step self.old.contents command.now).answer }
         ensures contents { self.new.contents ≡ (step self.old.contents command.now).contents }
         ensures unaccepted { is_accepted self.old.contents command.now ≡ false → self.new ≡ self.old }
 
-        // Of the records that show it, no others change.
+        // Only these of its records change.
         ensures changes { ChangesOnly (touched self.old command.now) self.old.records self.new.records }
 
-        // It stays a memory, in which who waits has a waiting entry, and what is kept stays kept until it is confirmed.
+        // It stays a memory, each waiting request has a waiting entry, and entries stay kept until they are confirmed.
         ensures memory { let m = self.old.contents in IsMemory (length m.cells) (length m.windows) self.new.contents }
         ensures keeps { KeepsEntries self.old.contents command.now self.new.contents }
 
-        // After any commands from the empty memory on, and then this one, the laws of whole histories hold.
+        // The laws of whole histories hold after any commands on the empty memory, followed by this one.
         ensures values { let m = self.old.contents in
             let empty = empty_contents (length m.cells) (length m.windows) in
             (commands : List Command) → m ≡ after empty commands → ValueLaw empty (commands ++ command.now ∷ []) }
@@ -182,8 +194,8 @@ impl Memory {
         }
     }
 
-    /// Whether [`Memory::step`] would accept this command, which it does where the command changes the memory, or why
-    /// it would be refused.
+    /// Returns whether [`Memory::step`] would accept this command, or the refusal that it would return. It accepts a
+    /// command if and only if the command changes the memory.
     pub fn judge(&self, command: &Command) -> Result<bool, Refusal>
         ensures { result ≡ acceptance self.now.contents command.now }
     {
@@ -197,23 +209,23 @@ impl Memory {
         }
     }
 
-    /// The entry that is kept under an element's number: refused with `NoElement`, with `Forgotten` below the window,
-    /// and with `Gap` where the number isn't used yet.
+    /// Returns the entry that is kept under an element's number. Returns `NoElement` if there is no such element,
+    /// `Forgotten` below its window, and `Gap` if the number isn't used yet.
     pub fn collect(&self, element: u16, number: u64) -> Result<Entry, Refusal>
         ensures { result ≡ ask self.now.contents.windows (record { element = element; number = number }) }
     {
         self.sessions.entry(element, number)
     }
 
-    /// The base of an element's window, from which on its entries are numbered, and the number of its next new request:
-    /// refused with `NoElement`.
+    /// Returns the base of an element's window, and the number of its next new request. The entries are numbered from
+    /// the base on. Returns `NoElement` if there is no such element.
     pub fn window(&self, element: u16) -> Result<(u64, u64), Refusal>
         ensures { result ≡ bounds self.now.contents.windows element }
     {
         self.sessions.window(element)
     }
 
-    /// How many cells there are, at most 1,048,576.
+    /// Returns the number of cells, at most 1,048,576.
     pub fn cells(&self) -> u32
         ensures count { result ≡ length self.now.contents.cells }
         ensures few { result ≤ MAX_CELLS }
@@ -222,7 +234,7 @@ impl Memory {
         self.arena.list_count()
     }
 
-    /// How many elements there are, at most 64.
+    /// Returns the number of elements, at most 64.
     pub fn elements(&self) -> u16
         ensures count { result ≡ length self.now.contents.windows }
         ensures few { result ≤ MAX_ELEMENTS }
@@ -231,43 +243,44 @@ impl Memory {
         self.sessions.elements() as u16
     }
 
-    /// What the cell at an address is, or `None` where the address lies in no block.
+    /// Returns the cell at an address, or `None` if the address lies in no block.
     pub fn cell(&self, a: u32) -> Option<Cell>
         ensures { result ≡ presence_in (held_at self.now.contents.cells a) }
     {
         self.table.get(a)
     }
 
-    /// The block that an address lies in.
+    /// Returns the block that an address lies in, or `None` if it lies in none.
     pub fn block(&self, a: u32) -> Option<Block>
         ensures { result ≡ block_at self.now.contents.cells a }
     {
         self.table.block_of(a)
     }
 
-    /// The requests that wait at a cell, in their order of arrival; none where the address lies in no block. Each takes
-    /// one step.
+    /// Returns the requests that wait at a cell, in their order of arrival. There are none if the address lies in no
+    /// block. Each request takes one step.
     pub fn waiters(&self, a: u32) -> Waiters<'_>
         ensures { result ≡ waiters_at self.now.contents.cells a }
     {
         self.arena.waiters(a)
     }
 
-    /// The request at this place, from 0, among those that wait at a cell. It takes as many steps as the place.
+    /// Returns the request at this place among those that wait at a cell, or `None` past the last one. Places count
+    /// from 0. It takes one step for each place.
     pub fn waiter(&self, a: u32, place: usize) -> Option<Waiter>
         ensures { result ≡ slice_get (waiters_at self.now.contents.cells a) place }
     {
         self.waiters(a).nth(place)
     }
 
-    /// What is kept under an element's number.
+    /// Returns the operation and the entry that are kept under an element's number, or `None` if there are none.
     pub fn kept(&self, element: u16, number: u64) -> Option<Kept>
         ensures { result ≡ kept_for self.now.contents.windows (record { element = element; number = number }) }
     {
         self.sessions.kept(element, number)
     }
 
-    /// The records of the memory as it is now, for the pages of an image.
+    /// Returns the records of the memory as it is now, for the pages of an image.
     pub fn records(&self) -> MemoryRecords<'_>
         ensures view { result ≡ self.now.records }
         ensures shows { let m = self.now.contents in

@@ -18,8 +18,8 @@ use im_sessions::Sessions;
 use im_types::{Cell, CellRecord, Kept, NONE, NodeRecord, PresenceTag, Refusal};
 use std::marker::Model;
 
-/// The records of a memory: of each cell, and of each node for a request that waits. With the windows they show the
-/// memory as it was when they were taken. Contracts see all of them.
+/// The records of a memory: one for each cell and one for each waiter node. Together with the windows they show the
+/// memory as it is. Contracts see all of them.
 #[derive(Drop)]
 pub struct MemoryRecords<'a> {
     table: &'a CellTable,
@@ -38,7 +38,7 @@ impl<'a> Model for MemoryRecords<'a> {
     ghost invariant = { λ r. IsShown r.table.now r.arena.now r.sessions.now };
 }
 
-// That the links of an arena lead through its lists. It does nothing but ask for the law.
+// Shows that the links of an arena lead through its lists. The call does nothing but ask for that law.
 pub(crate) fn are_threaded(arena: &Arena)
     requires { 0 < length arena.now.held.lists }
     ensures { IsThreaded arena.now }
@@ -47,7 +47,7 @@ pub(crate) fn are_threaded(arena: &Arena)
 }
 
 impl<'a> MemoryRecords<'a> {
-    /// The records of the memory that a table, an arena and windows make.
+    /// Returns the records of the memory that a table, an arena and windows make.
     pub(crate) fn new(
         table: &'a CellTable,
         arena: &'a Arena,
@@ -67,7 +67,7 @@ impl<'a> MemoryRecords<'a> {
         }
     }
 
-    /// What a page shows of the cell at an address; past the last cell, a free cell.
+    /// Returns the record of the cell at an address, or a free cell's record past the last cell.
     pub fn cell_record(&self, a: u32) -> CellRecord
         ensures shown { result ≡ slice_index_or self.now.cells a (FreeCell 0 NONE) }
         ensures fits { FitsCell (length self.now.cells) (length self.now.nodes) result }
@@ -88,7 +88,7 @@ impl<'a> MemoryRecords<'a> {
         }
     }
 
-    /// What a page shows of a node, by its number; past the last node, a free node.
+    /// Returns the record of the node with this number, or a free node's record past the last node.
     #[tactic(auto, using(crate::proofs::ThreadLemmas::record_past))]
     pub fn node_record(&self, n: u32) -> NodeRecord
         ensures shown { result ≡ slice_index_or self.now.nodes n (FreeNode NONE) }
@@ -100,7 +100,8 @@ impl<'a> MemoryRecords<'a> {
         self.arena.node(n)
     }
 
-    /// The base of an element's window, and the number of its next new request: refused with `NoElement`.
+    /// Returns the base of an element's window and the number of its next new request. Returns `NoElement` if there is
+    /// no such element.
     pub fn window(&self, element: u16) -> Result<(u64, u64), Refusal>
         ensures bounds { result ≡ bounds self.now.windows element }
         ensures within { (e : ℕ) (w : Window) → slice_get self.now.windows e ≡ Some w → IsWindow w }
@@ -108,7 +109,7 @@ impl<'a> MemoryRecords<'a> {
         self.sessions.window(element)
     }
 
-    /// What is kept under an element's number.
+    /// Returns the operation and the entry that are kept under an element's number, or `None` if there are none.
     pub fn kept(&self, element: u16, number: u64) -> Option<Kept>
         ensures { result ≡ kept_for self.now.windows (record { element = element; number = number }) }
     {
@@ -116,7 +117,8 @@ impl<'a> MemoryRecords<'a> {
     }
 }
 
-// The ends of the list of a cell; none past the last cell.
+// Returns the first and the last node of a cell's list, or `None` if the list is empty or the address is past the last
+// cell.
 fn ends_at(arena: &Arena, a: u32) -> Option<Ends>
     requires { IsThreaded arena.now }
     ensures ends { result ≡ ends_at arena.now.links a }
@@ -128,7 +130,7 @@ fn ends_at(arena: &Arena, a: u32) -> Option<Ends>
     arena.ends(a)
 }
 
-// The tag of a cell whose list has these ends.
+// Returns the presence tag of a cell whose list has these ends.
 fn tag_of(cell: Cell, ends: Option<Ends>) -> PresenceTag
     ensures tag { result ≡ tag_of cell ends }
     ensures fits { (nodes : ℕ) → AreWithin nodes ends → FitsTag nodes result }

@@ -1,4 +1,4 @@
-//! A memory from what the pages of an image show of it.
+//! A memory that is made from the pages of an image.
 ghost use Rattle.std.specs.Prelude.{◌≡◌, ◌+◌, ◌*◌, ◌<◌, ◌≤◌, [], length, replicate, slice_index_or, slice_set, IfOk};
 ghost use Rattle.std.specs.Prelude.{IfErr};
 ghost use Rattle.std.specs.List.{sum_by};
@@ -16,14 +16,25 @@ use im_types::{Kept, Limits, Refusal, WINDOW, Waiter};
 use std::alloc::Global;
 use std::marker::Model;
 
-/// A memory while it is put together: the records of its cells, then who waits at each, and each element's window.
-/// Contracts see these parts.
-#[derive(Drop)]
+/// A memory while it is put together. Its parts are the records of its cells, the requests that wait at each cell, and
+/// each element's window. Contracts see these parts.
 pub struct Restoring {
     cells: CellRow,
     room: TableRoom,
     arena: Arena,
     sessions: Sessions,
+}
+
+// By one call, so that whoever owns the parts isn't proved to let go each of its fields wherever it may end.
+impl Drop for Restoring {
+    fn drop(self) {
+        let Restoring {
+            cells: _,
+            room: _,
+            arena: _,
+            sessions: _,
+        } = self;
+    }
 }
 
 impl Model for Restoring {
@@ -49,8 +60,9 @@ fn push_each(arena: &mut Arena, list: u32, waiters: &[Waiter])
 }
 
 impl Restoring {
-    /// The parts of a memory of these sizes: these records of its cells, which stay where they lie, nobody who waits,
-    /// and new windows. It takes all other room that the memory will need; `NoMemory` where that is refused.
+    /// Makes the parts of a memory of these sizes. It has these records of its cells, which stay where they lie, no
+    /// waiting request, and new windows. It takes all other room that the memory will need, and returns `NoMemory` if
+    /// that is refused.
     pub fn new(alloc: Global, limits: Limits, cells: CellRow) -> Result<Restoring, Refusal>
         requires { length cells ≡ limits.cells }
         ensures parts { IfOk result (λ r. r ≡ record {
@@ -78,7 +90,8 @@ impl Restoring {
         })
     }
 
-    /// Puts those who wait at a cell, in their order, in the place of nobody. It takes a step for each.
+    /// Puts the requests that wait at a cell on its list, in their order. The list must be empty. It takes one step for
+    /// each of them.
     pub fn put_list(&mut self, a: u32, waiters: &[Waiter])
         requires cell { a < length self.old.lists }
         requires empty { slice_index_or self.old.lists a [] ≡ [] }
@@ -88,7 +101,7 @@ impl Restoring {
         push_each(&mut self.arena, a, waiters);
     }
 
-    /// Puts a window with these entries, numbered from a base on, in the place of an element's window.
+    /// Replaces an element's window by one with these entries, numbered from `base` on.
     pub fn put_window(&mut self, element: u16, base: u64, kept: &[Kept])
         requires element { element < length self.old.windows }
         requires window { IsWindow (record { base = base; kept = kept.now }) }
@@ -100,7 +113,7 @@ impl Restoring {
         self.sessions.restore(element, base, kept);
     }
 
-    /// The memory that the parts stand for. It takes no memory.
+    /// Returns the memory that the parts stand for. It takes no memory.
     pub fn finish(self) -> Memory
         requires { AreComplete self }
         ensures { result.contents ≡ contents_shown self }

@@ -1,5 +1,5 @@
-//! Which pages a command may change: those of the records that it touches. Each function puts pages into a set, and
-//! takes none out of it.
+//! The pages that a command may change: the pages of the records that it touches. Each function puts pages into a set,
+//! and takes none out of it.
 ghost use Rattle.std.specs.Prelude.{◌≡◌, ◌∷◌, ◌+◌, ◌*◌, ◌<◌, ◌≤◌, List, length, map, true, Err};
 ghost use Rattle.im_types.specs.declared.operations.Waiter.{Waiter as Asker};
 ghost use Rattle.im_types.specs.declared.operations.Kind.TheVariants.{I, M};
@@ -30,7 +30,7 @@ use im_istore::look;
 use im_pages::{PageSet, page_of_cell, page_of_node, page_of_session};
 use im_types::{Cell, Command, Kind, MAX_CELLS, NONE, NodeRecord, Op};
 
-// The first node of a list; NONE where it is empty.
+// Returns the first node of a list, or NONE if the list is empty.
 fn first_node(arena: &Arena, list: u32) -> u32
     requires { list < length arena.now.held.lists }
     ensures { result ≡ first_in (ends_at arena.now.links list) }
@@ -41,7 +41,7 @@ fn first_node(arena: &Arena, list: u32) -> u32
     }
 }
 
-// The node behind another one; NONE behind the last one of a list, and where there is no such node.
+// Returns the node after another one. Returns NONE after the last one of a list, and if there is no such node.
 fn next_node(arena: &Arena, n: u32) -> u32
     requires { IsThreaded arena.now }
     ensures { result ≡ next_at arena.now.links.records n }
@@ -55,7 +55,7 @@ fn next_node(arena: &Arena, n: u32) -> u32
     }
 }
 
-// A cell.
+// Adds the page of a cell.
 fn touch_cell(a: u32, pages: &mut PageSet)
     ensures cell { has pages.new (pages_of.page_of_cell a) ≡ true }
     ensures kept { IsWithin pages.old pages.new }
@@ -65,7 +65,7 @@ fn touch_cell(a: u32, pages: &mut PageSet)
     pages.add(page_of_cell(a));
 }
 
-// A waiter node.
+// Adds the page of a waiter node.
 fn touch_node(arena: &Arena, n: u32, pages: &mut PageSet)
     ensures node { has pages.new (pages_of.page_of_node (length arena.now.held.lists) n) ≡ true }
     ensures kept { IsWithin pages.old pages.new }
@@ -75,7 +75,7 @@ fn touch_node(arena: &Arena, n: u32, pages: &mut PageSet)
     pages.add(page_of_node(arena.list_count(), n));
 }
 
-// An element's session.
+// Adds the page of an element's session.
 fn touch_session(arena: &Arena, elements: u16, element: u16, pages: &mut PageSet)
     ensures state { let cells = length arena.now.held.lists in
         pages.new ≡ with_page pages.old (pages_of.page_of_session cells elements element) }
@@ -88,7 +88,7 @@ fn touch_session(arena: &Arena, elements: u16, element: u16, pages: &mut PageSet
     pages.add(page_of_session(arena.list_count(), elements, element));
 }
 
-// So many cells from a base on.
+// Adds the pages of `n` cells from `base` on.
 fn touch_cells(base: u32, n: u32, pages: &mut PageSet)
     requires { base + n ≤ MAX_CELLS }
     ensures state { pages.new ≡ with_cells pages.old base n }
@@ -103,7 +103,8 @@ fn touch_cells(base: u32, n: u32, pages: &mut PageSet)
     pages.add_range(page_of_cell(base), page_of_cell(base + n - 1) + 1);
 }
 
-// The nodes that a new waiter changes: the one that it takes, and the last one before it, which will link to it.
+// Adds the pages of the nodes that a new waiter changes. These are the node that it takes, and the last node before it,
+// which will link to it.
 fn touch_ends(arena: &Arena, a: u32, pages: &mut PageSet)
     ensures spare { let cells = length arena.now.held.lists in
         has pages.new (pages_of.page_of_node cells arena.now.links.spare) ≡ true }
@@ -117,7 +118,7 @@ fn touch_ends(arena: &Arena, a: u32, pages: &mut PageSet)
     touch_node(arena, arena.last(a), pages);
 }
 
-// The readers of a cell: their nodes and their sessions.
+// Adds the pages of the nodes and the sessions of a cell's readers.
 fn touch_readers(arena: &Arena, elements: u16, a: u32, pages: &mut PageSet)
     requires threaded { IsThreaded arena.now }
     requires listed { a < length arena.now.held.lists }
@@ -138,7 +139,7 @@ fn touch_readers(arena: &Arena, elements: u16, a: u32, pages: &mut PageSet)
     }
 }
 
-// A fetch.
+// Adds the pages that a fetch may change, without the asker's session.
 fn touch_fetch(table: &CellTable, arena: &Arena, a: u32, pages: &mut PageSet)
     requires { Agree table.now arena.now }
     ensures places { HasPlaces (length arena.now.held.lists) (places_in table.now arena.now (Op.Fetch a)) pages.new }
@@ -161,7 +162,7 @@ fn touch_fetch(table: &CellTable, arena: &Arena, a: u32, pages: &mut PageSet)
     }
 }
 
-// A take.
+// Adds the pages that a take may change, without the asker's session.
 fn touch_take(table: &CellTable, arena: &Arena, a: u32, pages: &mut PageSet)
     requires { Agree table.now arena.now }
     ensures places { HasPlaces (length arena.now.held.lists) (places_in table.now arena.now (Op.Take a)) pages.new }
@@ -181,7 +182,7 @@ fn touch_take(table: &CellTable, arena: &Arena, a: u32, pages: &mut PageSet)
     }
 }
 
-// A store.
+// Adds the pages that a store may change, without the asker's session.
 fn touch_store(
     table: &CellTable,
     arena: &Arena,
@@ -213,7 +214,7 @@ fn touch_store(
     }
 }
 
-// The first taker of a cell: its node and its session.
+// Adds the pages of the node and the session of a cell's first taker.
 fn touch_taker(arena: &Arena, elements: u16, a: u32, pages: &mut PageSet)
     requires { a < length arena.now.held.lists }
     ensures node { let cells = length arena.now.held.lists in
@@ -231,7 +232,7 @@ fn touch_taker(arena: &Arena, elements: u16, a: u32, pages: &mut PageSet)
     }
 }
 
-// A put.
+// Adds the pages that a put may change, without the asker's session.
 fn touch_put(
     table: &CellTable,
     arena: &Arena,
@@ -260,7 +261,7 @@ fn touch_put(
     }
 }
 
-// A new block.
+// Adds the pages of a new block's cells.
 fn touch_alloc(table: &CellTable, arena: &Arena, kind: Kind, n: u32, pages: &mut PageSet)
     requires { length table.now ≤ MAX_CELLS }
     ensures places { let op = Op.Alloc kind n in
@@ -277,7 +278,7 @@ fn touch_alloc(table: &CellTable, arena: &Arena, kind: Kind, n: u32, pages: &mut
     }
 }
 
-// A block that ends, or whose cells become empty.
+// Adds the pages of a block's cells. The block is released or reset.
 fn touch_block(table: &CellTable, arena: &Arena, a: u32, pages: &mut PageSet)
     requires { length table.now ≤ MAX_CELLS }
     ensures places { let cells = cells_of table.now arena.now in
@@ -295,7 +296,8 @@ fn touch_block(table: &CellTable, arena: &Arena, a: u32, pages: &mut PageSet)
     }
 }
 
-// An operation: what it changes of the cells and the nodes, and the sessions of those that it resumes.
+// Adds the pages of the cells and the nodes that an operation may change, and of the sessions of the requests that it
+// resumes.
 fn touch_op(table: &CellTable, arena: &Arena, elements: u16, op: Op, pages: &mut PageSet)
     requires agree { Agree table.now arena.now × IsThreaded arena.now }
     requires few { length table.now ≤ MAX_CELLS }
@@ -322,10 +324,12 @@ fn touch_op(table: &CellTable, arena: &Arena, elements: u16, op: Op, pages: &mut
 }
 
 impl Memory {
-    /// Puts each page into the set on which [`Memory::step`] of this command may change a record: of a fetch, a take or
-    /// a put at most four pages, of a store two and two more for each reader that waits, and of a confirmation, or of a
-    /// request whose cell isn't there, the page of its element's session alone. Of a block that is asked for, ends or
-    /// is reset these are the pages of its cells and that of the session, and no others. It takes no memory.
+    /// Puts each page into the set on which [`Memory::step`] of this command may change a record. It takes no memory.
+    ///
+    /// A fetch, a take or a put adds at most four pages. A store adds at most two, and two more for each reader that
+    /// waits. A confirmation, and a request for a cell in no block, adds only the page of its element's session. An
+    /// allocation, a release or a reset of a block adds the pages of the block's cells and of the session, and no
+    /// others.
     pub fn touches(&self, command: &Command, pages: &mut PageSet)
         ensures covers { Covers self.now command.now pages.new }
         ensures others { KeepsOutside self.now command.now pages.new }

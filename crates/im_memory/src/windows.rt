@@ -1,4 +1,4 @@
-//! Leave to forget, judged and not yet given.
+//! Confirmations that are judged before they are done.
 ghost use Rattle.std.specs.Prelude.{◌≡◌, ◌-◌, take, slice_get, slice_index_or, Some};
 ghost use Rattle.std.specs.List.{list_any};
 ghost use Rattle.im_types.specs.Contents.{Window, new_window, kept_for};
@@ -8,7 +8,7 @@ ghost use Rattle.im_memory.specs.Confirming.{forgets, does_wait};
 use im_sessions::Sessions;
 use im_types::{Entry, Kept, Refusal};
 
-// Whether the entry under an element's number waits.
+// Returns whether the entry under an element's number waits.
 fn waits(sessions: &Sessions, element: u16, number: u64) -> bool
     ensures { result ≡ does_wait (kept_for sessions.now (record { element = element; number = number })) }
 {
@@ -18,7 +18,7 @@ fn waits(sessions: &Sessions, element: u16, number: u64) -> bool
     }
 }
 
-// Whether an entry below a number waits.
+// Returns whether an entry below a number waits.
 fn any_waits(sessions: &Sessions, element: u16, base: u64, upto: u64) -> bool
     ensures { (w : Window) → slice_get sessions.now element ≡ Some w → w.base ≡ base
         → result ≡ list_any is_waiting (take (upto - base) w.kept) }
@@ -31,7 +31,7 @@ fn any_waits(sessions: &Sessions, element: u16, base: u64, upto: u64) -> bool
     false
 }
 
-/// Whether a confirmation would drop an entry, or why it would be refused.
+/// Returns whether a confirmation would drop an entry, or why it would be refused.
 pub fn judge_confirm(sessions: &Sessions, element: u16, upto: u64) -> Result<bool, Refusal>
     ensures { let windows = sessions.now in result
         ≡ forgets upto (slice_index_or windows element new_window) (confirm_window upto (slice_get windows element)) }

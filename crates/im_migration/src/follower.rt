@@ -1,12 +1,13 @@
-//! Who follows how far a migration has come.
+//! Reports the progress of a migration.
 
-/// Who is told how far a migration has come. What it does with that isn't the migration's concern.
+/// A receiver of a migration's progress. What it does with it doesn't concern the migration.
 pub trait Follower {
-    /// Is told before each page and each slot of the new file how many of them were written, and how many there are.
+    /// Is called before each page and each slot of the new file. It gets the number of pages and slots written so far,
+    /// and their total.
     fn writes(&self, written: u64, all: u64);
 }
 
-/// The follower that does nothing.
+/// A follower that does nothing.
 #[derive(Clone, Copy, Drop)]
 pub struct Unfollowed;
 

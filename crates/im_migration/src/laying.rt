@@ -1,4 +1,4 @@
-//! How a memory is laid down as a new image: what stands behind the closed gate of its header, and then the gate.
+//! Lays a memory down as a new image: first what stands behind the closed gate of its header, and then the gate.
 ghost use Rattle.std.specs.Prelude.{◌≡◌, ◌⊎◌, ◌+◌, ◌*◌, ◌<◌, ◌≤◌, ℕ, length, OnOk};
 ghost use Rattle.im_types.specs.declared.TheConstants.{LAST};
 ghost use Rattle.im_types.specs.Header.{header_body};
@@ -19,7 +19,7 @@ use im_memory::Memory;
 use im_types::Limits;
 use im_types::layout::{CLOSED, PAGE, SLOT, area_at, area_pages, image_length, journal_at};
 
-// Writes where no gate of a header is.
+// Writes a range that has no gate of a header.
 fn write_beside<N: Disk>(new: &mut N, at: usize, bytes: &[u8]) -> Result<(), DeviceFault>
     requires beside { IsBeside at (length bytes.now) }
     requires inside { N.honest new.old → at + length bytes.now ≤ length (N.now new.old).bytes }
@@ -30,13 +30,13 @@ fn write_beside<N: Disk>(new: &mut N, at: usize, bytes: &[u8]) -> Result<(), Dev
     new.write_at(at, bytes) // Where both gates were closed a stop leaves them so: they aren't in the range.
 }
 
-// Tells how many pages and slots were written.
+// Reports the number of pages and slots written.
 fn tell<F: Follower>(follower: &F, limits: Limits, pages: usize, slots: usize) {
     let all = (area_pages(limits) as u64).saturating_add(limits.slots as u64);
     follower.writes((pages as u64).saturating_add(slots as u64), all);
 }
 
-// Where the bytes of a page begin and end, without the gate of a header, in a file of this length.
+// The first byte and the end of a page, without the gate of a header, in a file of this length.
 fn piece(page: usize, whole: usize) -> (usize, usize)
     requires inside { 4096 * page < whole }
     requires long { 8192 ≤ whole }
@@ -51,7 +51,7 @@ fn piece(page: usize, whole: usize) -> (usize, usize)
     (from, end)
 }
 
-// Writes zeros over a page of the file, but for the gate of a header.
+// Writes zeros over a page of the file, except for the gate of a header.
 fn clear_page<N: Disk>(new: &mut N, page: usize, whole: usize) -> Result<(), DeviceFault>
     requires inside { 4096 * page < whole }
     requires long { 8192 ≤ whole }
@@ -66,8 +66,8 @@ fn clear_page<N: Disk>(new: &mut N, page: usize, whole: usize) -> Result<(), Dev
     write_beside(new, from, &zeros[..end - from])
 }
 
-// Writes zeros over the whole file but the gates of the two headers, so that no byte of it has still to find its
-// place on the disk.
+// Writes zeros over the whole file, except for the gates of the two headers. After that, each byte of the file already
+// has its place on the disk.
 fn clear<N: Disk>(new: &mut N, limits: Limits) -> Result<(), DeviceFault>
     requires size { N.honest new.old
         → length (N.now new.old).bytes ≡ layout.image_length layout_in_use (sizes_of limits) }
@@ -147,10 +147,9 @@ fn write_header<N: Disk>(new: &mut N, header: &Header) -> Result<(), DeviceFault
     write_beside(new, 1, &bytes[1..]) // The gate is closed, whatever a stop leaves behind it.
 }
 
-/// Lays a memory down as a new image, with this header, in a file of its length in which no header is open.
+/// Lays a memory down as a new image with this header. The file has the image's length, and no header in it is open.
 ///
-/// A crash at any moment of it leaves a file in which no header is open, or the image. Once it has answered `Ok`, the
-/// image is on the disk.
+/// A crash during the run leaves a file without an open header, or the image. After `Ok` the image is on the disk.
 pub(crate) fn lay_down<N: Disk, F: Follower>(
     new: &mut N,
     header: &Header,
@@ -173,6 +172,6 @@ pub(crate) fn lay_down<N: Disk, F: Follower>(
     write_pages(new, memory, header.limits, follower)?;
     close_slots(new, header.limits, follower)?;
     write_header(new, header)?;
-    // A stop leaves the gate closed, or open over what is on the disk then. Once this is done it is open for good.
+    // A stop leaves the gate closed, or open over what is then on the disk. After this call it is open for good.
     open_gate(new, 0)
 }

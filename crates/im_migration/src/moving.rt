@@ -24,7 +24,7 @@ use im_types::layout::image_length;
 use im_types::{Limits, Refusal};
 use std::alloc::Global;
 
-// The header of an image that has so many commands in its first area, as it is made.
+// The header of a new image with this count of commands in its first area.
 fn header_for(limits: Limits, count: u64) -> Header
     ensures { seen result ≡ moved_header (sizes_of limits) count }
 {
@@ -37,7 +37,7 @@ fn header_for(limits: Limits, count: u64) -> Header
     }
 }
 
-// Puts what was read of an image into a new file, and tells its count.
+// Puts an image that was read into a new file, and returns its count.
 fn put<N: Disk, F: Follower>(new: &mut N, image: &Image, follower: &F) -> Result<u64, Refusal>
     requires { AreParts image.now }
     ensures moved { OnOk result (N.honest new.new → LeavesNow (N.now new.new) (IsMoved image.now)) }
@@ -61,34 +61,34 @@ fn put<N: Disk, F: Follower>(new: &mut N, image: &Image, follower: &F) -> Result
     }
 }
 
-/// Moves an image of the first version on: puts the memory that it means, after its journal's run, into the new file as
-/// an image of the layout in use, at generation 1 and with all its commands counted in area 0. The old file is only
-/// read. Answers the new file, and the count. The follower is told how far it has come.
+/// Migrates an image of the first version. It puts the memory that the image means, after its journal's run, into the
+/// new file. The new file becomes an image of the layout in use, at generation 1, with all commands counted in area 0.
+/// The old file is only read. Returns the new file and the count. The follower gets the progress.
 ///
-/// Each file that a crash may leave since the start, those aside that it could leave before, has both headers closed,
-/// or means what the old file means. So a migration that was stopped is begun again. Each refusal gives the new file
-/// back.
+/// A crash since the start may leave a file that could be left before, one with both headers closed, or one that means
+/// what the old file means. So a stopped migration can be run again. Each refusal gives the new file back.
 ///
 /// - `WrongLength`, `NoHeader`, `BadHeader`, `BadPage`, `BadRecord`: the first fault of the old file by the rules of
 ///   the first version. An image of the layout in use is `BadHeader`. Nothing was written.
-/// - `WrongLength` also where the new file hasn't the length of an image with the old one's limits, and `NotBlank`
-///   where, after a sync, a header in it is open. Nothing was written.
-/// - `NoMemory` where `alloc` refused the room for the memory, or for what is read. Nothing was written.
-/// - `Device` where a call of either disk failed. The new file may be written in part, and its headers are as above.
+/// - `WrongLength` also if the new file doesn't have the length of an image with the old one's limits. Nothing was
+///   written.
+/// - `NotBlank` if a header of the new file is open after a sync. Nothing was written.
+/// - `NoMemory` if `alloc` refused the room for the memory, or for what is read. Nothing was written.
+/// - `Device` if a call of either disk failed. The new file may be partly written, and its headers are as above.
 pub fn migrate<O: Disk, N: Disk, F: Follower>(
     alloc: Global,
     old: &mut O,
     mut new: N,
     follower: &F,
 ) -> Result<(N, u64), (Refusal, N)>
-    // Of the new file: what a stop leaves, and what is there once it is done.
+    // What a stop leaves of the new file, and what is there at the end.
     ensures leaves { MatchResult result
         (λ r. LeavesBlankOrSame N.Disk new r.0 (O.honest old.new) (O.now old.old).bytes)
         (λ e. LeavesBlankOrSame N.Disk new e.1 (O.honest old.new) (O.now old.old).bytes) }
     ensures moved { IfOk result (λ r. O.honest old.new → N.honest r.0
         → LeavesNow (N.now r.0) (MeansSame (O.now old.old).bytes)) }
     ensures count { IfOk result (λ r. O.honest old.new → HasCount (O.now old.old).bytes r.1) }
-    // It had the length, and no header in it was open.
+    // The new file had the length, and no header in it was open.
     ensures place { IfOk result (λ r. O.honest old.new → N.honest r.0
         → IsPlace (header_of (O.now old.old).bytes).sizes (N.now new).bytes) }
     ensures refused { IfErr result (λ e. (e.0 ≡ NoMemory) ⊎ (e.0 ≡ Device)
@@ -110,8 +110,8 @@ pub fn migrate<O: Disk, N: Disk, F: Follower>(
     }
 }
 
-/// The length that a new file needs for the memory of an image of the first version. The image is read whole, and is
-/// refused as [`migrate`] refuses it.
+/// Returns the length that a new file needs for the memory of an image of the first version. It reads the whole image,
+/// and refuses it as [`migrate`] does.
 pub fn length_for<O: Disk>(alloc: Global, old: &mut O) -> Result<usize, Refusal>
     ensures length { IfOk result (λ n. O.honest old.new
         → n ≡ layout.image_length layout_in_use (header_of (O.now old.old).bytes).sizes) }

@@ -1,4 +1,4 @@
-//! Whether a file may be taken for a new image: it has the length, and no header in it is open.
+//! Checks whether a file can become a new image: it has the length, and no header in it is open.
 ghost use Rattle.std.specs.Prelude.{◌≡◌, ◌⊎◌, ◌≤◌, false, true, length, IfOk, IfErr, OnOk};
 ghost use Rattle.im_types.specs.declared.refusals.Refusal.TheVariants.{Device, NotBlank, WrongLength};
 ghost use Rattle.im_types.specs.Layout.{sizes_of};
@@ -11,7 +11,7 @@ use im_disk::{DeviceFault, Disk};
 use im_types::layout::{OPEN, PAGE, image_length};
 use im_types::{Limits, Refusal};
 
-// Whether the gates of both headers read closed, after a sync.
+// Returns whether the gates of both headers read closed after a sync.
 fn is_blank<N: Disk>(new: &mut N) -> Result<bool, DeviceFault>
     requires { N.honest new.old → 4097 ≤ length (N.now new.old).bytes }
     ensures yes { IfOk result (λ b. N.honest new.new → b ≡ true → IsBlank (N.now new.old).bytes) }
@@ -20,8 +20,8 @@ fn is_blank<N: Disk>(new: &mut N) -> Result<bool, DeviceFault>
     ensures runs { Obeys N.Disk new.old new.new result
         (LeavesWithin N.now N.past new.old new.new (Left (N.now new.old))) }
 {
-    // A crash after a write that wasn't synced may leave a gate that reads closed: a sync makes it sure. A stop in
-    // it, or in the reads behind it, leaves what a stop before it leaves.
+    // After a write without a sync, a crash may leave a gate open that reads closed. The sync makes sure. A stop in it,
+    // or in the reads behind it, leaves what a stop before it leaves.
     new.sync()?;
     let mut zero = [OPEN; 1];
     let mut one = [OPEN; 1];
@@ -30,8 +30,8 @@ fn is_blank<N: Disk>(new: &mut N) -> Result<bool, DeviceFault>
     Ok(zero[0] != OPEN && one[0] != OPEN)
 }
 
-/// Finds that a file may be taken for a new image with these limits: `WrongLength` where it hasn't the length of one,
-/// `NotBlank` where, after a sync, a header in it is open. It writes nothing.
+/// Checks that a file can become a new image with these limits. Returns `WrongLength` if it doesn't have the length of
+/// one, and `NotBlank` if a header in it is open after a sync. It writes nothing.
 pub(crate) fn find_place<N: Disk>(new: &mut N, limits: Limits) -> Result<(), Refusal>
     ensures place { OnOk result (N.honest new.new → IsPlace (sizes_of limits) (N.now new.old).bytes) }
     ensures calm { OnOk result (N.honest new.new → N.now new.new ≡ synced (N.now new.old)) }

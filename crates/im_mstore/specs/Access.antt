@@ -1,4 +1,4 @@
--- What a cell of takers shows. (Own.)
+-- A cell without a value, as its takers show it. (Own.)
 use Rattle.std.specs.Prelude.{List, [], ◌∷◌}
 use Rattle.im_types.specs.declared.operations.Waiter.{Waiter}
 use Rattle.im_types.specs.declared.cells.Cell.{Cell}

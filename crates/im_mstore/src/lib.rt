@@ -1,8 +1,8 @@
-//! Take and put, on the cells of a table whose waiters stand on the lists of an arena (M cells: Barth, Nikhil, Arvind,
-//! 1991). The list of a cell's waiters has the cell's address for its number.
+//! Take and put on the cells of a table. Their waiters stand on the lists of an arena (M cells: Barth, Nikhil, Arvind,
+//! 1991). The list of a cell's waiters has the cell's address as its number.
 //!
-//! Stands on `im_istore`, for what cells and lists stand for, when they agree, and the checks before an access.
-//! Contracts say what a call does to the cells by the definitions of `im_types`.
+//! Stands on `im_istore`. It gives the meaning of cells and lists, their agreement, and the checks before an access.
+//! Contracts state the effect of a call on the cells by the definitions of `im_types`.
 #![tactic(auto)]
 
 ghost use Rattle.std.specs.Prelude.{◌≡◌, ◌≢◌, ◌<◌, ◌∷◌, [], ℕ, length, drop, slice_get, slice_set, Err, IsSome};
@@ -22,10 +22,10 @@ ghost use Rattle.im_mstore.specs.Access.{open_cell};
 
 use im_arena::Arena;
 use im_cell::CellTable;
-use im_istore::{look, wait};
+use im_istore::{look_to_write, wait};
 use im_types::{Cell, Entry, Kind, Reply, Waiter};
 
-// The cell without a value that those on this list wait for.
+// Returns the cell without a value whose waiters are on this list.
 fn open_cell(arena: &Arena, list: u32) -> Cell
     requires { list < length arena.now.held.lists }
     ensures { result ≡ open_cell (list_at arena.now.held list) }
@@ -37,7 +37,8 @@ fn open_cell(arena: &Arena, list: u32) -> Cell
     }
 }
 
-// Takes the first off the list of those who wait for a cell in a block. The cell waits on where others are left.
+// Takes the first request off the list of those that wait for a cell in a block. If others are left, the cell still
+// waits.
 #[inline(never)]
 fn first_taker(table: &mut CellTable, arena: &mut Arena, a: u32) -> Option<Waiter>
     requires some { IsSome (slot_at table.old a) }
@@ -53,8 +54,8 @@ fn first_taker(table: &mut CellTable, arena: &mut Arena, a: u32) -> Option<Waite
     taker
 }
 
-/// Takes the value of the cell at an address for `who`, and leaves the cell empty; where there is no value yet, `who`
-/// waits behind those who wait. It takes a node where `who` waits.
+/// Takes the value of the cell at an address for `who`, and leaves the cell empty. A clashed cell gives a clash and
+/// stays. If the cell has no value yet, `who` waits behind the others and takes a node.
 #[tactic(auto, using(im_istore::proofs::Cells::there))]
 #[inline(always)]
 pub fn take(table: &mut CellTable, arena: &mut Arena, a: u32, who: Waiter) -> Entry
@@ -67,7 +68,7 @@ pub fn take(table: &mut CellTable, arena: &mut Arena, a: u32, who: Waiter) -> En
     ensures agree { Agree table.new arena.new }
     ensures kept { LeavesRest M a result table.old table.new arena.old arena.new }
 {
-    let cell = match look(table, a, Kind::M) {
+    let cell = match look_to_write(table, a, Kind::M) {
         Ok(cell) => cell,
         Err(reply) => return Entry::Answered(reply),
     };
@@ -84,14 +85,15 @@ pub fn take(table: &mut CellTable, arena: &mut Arena, a: u32, who: Waiter) -> En
     }
 }
 
-/// Gives a value to the first of those who wait for the cell at an address, who comes with the answer and whose node is
-/// given back; where nobody waits, the cell keeps the value. A cell that has a value keeps that, and is clashed.
+/// Puts a value into the cell at an address. If requests wait for the cell, the first of them gets the value. It is
+/// returned beside the reply, and its node is freed. If none waits, the cell keeps the value. A cell that has a value
+/// already keeps that one, and is clashed.
 #[tactic(auto, using(im_istore::proofs::Cells::there))]
 #[inline(always)]
 pub fn put(table: &mut CellTable, arena: &mut Arena, a: u32, value: u64) -> (Reply, Option<Waiter>)
     requires { Agree table.old arena.old }
 
-    // Whoever asks.
+    // For every asker.
     ensures reply { (who : Waiter) → Answered result.0 ≡ (act (cells_of table.old arena.old) who (Put a value)).entry }
     ensures cells { (who : Waiter)
         → cells_of table.new arena.new ≡ (act (cells_of table.old arena.old) who (Put a value)).cells }
@@ -101,11 +103,11 @@ pub fn put(table: &mut CellTable, arena: &mut Arena, a: u32, value: u64) -> (Rep
     ensures agree { Agree table.new arena.new }
     ensures nodes { arena.new.held.nodes ≡ arena.old.held.nodes }
 
-    // What stays.
+    // The parts that stay.
     ensures kept { LeavesCells M a table.old table.new }
     ensures links { MatchOption result.1 (arena.new ≡ arena.old) (λ _. IsPopped a arena.old arena.new) }
 {
-    let cell = match look(table, a, Kind::M) {
+    let cell = match look_to_write(table, a, Kind::M) {
         Ok(cell) => cell,
         Err(reply) => return (reply, None),
     };

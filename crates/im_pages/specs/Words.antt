@@ -7,7 +7,7 @@ use Rattle.std.specs.Int.{bit_at}
 unfoldable pub is_set : List ℕ → ℕ → Bool
 is_set words at = bit_at (slice_index_or words (at / 64) 0) (at % 64) == 1
 
--- so many bits of words, from this one on
+-- n bits of words, from this one on
 unfoldable pub bits_from : List ℕ → ℕ → ℕ → List Bool
 bits_from words at zero = []
 bits_from words at (suc n) = is_set words at ∷ bits_from words (at + 1) n
@@ -16,7 +16,7 @@ bits_from words at (suc n) = is_set words at ∷ bits_from words (at + 1) n
 abbrev pub bits_of : List ℕ → ℕ → List Bool
 bits_of words n = bits_from words 0 n
 
--- so many bits, in as few words as they take
+-- the bits lie in as few words as they need
 pub record IsPacked (words : List ℕ) (bits : ℕ) : Type 0 where
   pub packed : length words ≡ (bits + 63) / 64
   pub few : bits < 2 ^ 32
@@ -25,7 +25,7 @@ pub record IsPacked (words : List ℕ) (bits : ℕ) : Type 0 where
 abbrev pub AreClear : List ℕ → ℕ → ℕ → Type 0
 AreClear words from to = (bit : ℕ) → from ≤ bit → bit < to → is_set words bit ≡ false
 
--- the first bit from one on that is set
+-- the first set bit from one on
 pub record IsFirstSet (words : List ℕ) (from bit : ℕ) : Type 0 where
   pub behind : from ≤ bit
   pub set : is_set words bit ≡ true

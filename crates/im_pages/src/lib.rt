@@ -1,10 +1,10 @@
-//! Pages of an area: which page shows a record, and sets of pages.
+//! Pages of an area: the page of a record, and sets of pages.
 //!
-//! A set has one bit a page, and takes no memory once it is made. Contracts see a list of truth values, by the page's
-//! number.
+//! A set has one bit for each page. It takes no memory once it is made. Contracts see a list of truth values, indexed
+//! by the page's number.
 #![tactic(auto)]
 
-// Which page shows which record.
+// The page of each record.
 mod places;
 // Sets of pages.
 mod sets;

@@ -11,7 +11,7 @@ use im_types::{Limits, Refusal};
 use std::alloc::Global;
 use std::marker::Model;
 
-/// A set of pages of an area. A page past the area's last one counts as one that is in it.
+/// A set of pages of an area. A page past the area's last one counts as being in the set.
 #[derive(Drop)]
 pub struct PageSet {
     words: Vec<u64>,
@@ -30,7 +30,7 @@ impl Model for PageSet {
 }
 
 impl PageSet {
-    /// A set with no page of an area. `NoMemory` where there is no room for it.
+    /// Makes a set with no page of an area. Returns `NoMemory` if its memory is refused.
     pub fn new(alloc: Global, limits: Limits) -> Result<PageSet, Refusal>
         ensures none { IfOk result (λ set. set ≡ replicate (layout.area_pages layout_in_use (sizes_of limits)) false) }
         ensures only { IfErr result (λ e. e ≡ Refusal.NoMemory) }
@@ -42,7 +42,7 @@ impl PageSet {
         Ok(PageSet { words, pages })
     }
 
-    /// Whether a page is in the set; a page past the last one counts as one that is.
+    /// Returns whether a page is in the set. A page past the last one counts as being in it.
     pub fn has(&self, page: usize) -> bool
         ensures { result ≡ has self.now page }
     {
@@ -65,7 +65,7 @@ impl PageSet {
         }
     }
 
-    /// Puts each page from one on, up to another one, into the set. A page past the last one changes nothing.
+    /// Puts the pages `from` to `to - 1` into the set. Pages past the last one change nothing.
     pub fn add_range(&mut self, from: usize, to: usize)
         ensures state { self.new ≡ with_pages self.old from (to - from) }
         ensures length { length self.new ≡ length self.old }
@@ -79,7 +79,7 @@ impl PageSet {
         }
     }
 
-    /// Puts all pages of another set, of as many pages, into this one.
+    /// Puts all pages of another set into this one. Both sets have the same number of pages.
     pub fn union_with(&mut self, other: &PageSet)
         requires { length self.old ≡ length other.now }
         ensures { self.new ≡ union self.old other.now }
@@ -101,7 +101,7 @@ impl PageSet {
         fill_words(self.words.as_mut_slice(), u64::MAX);
     }
 
-    /// The least page of the set from this one on, if there is one.
+    /// Returns the least page of the set from this one on, or `None` if there is none.
     pub fn next_from(&self, page: usize) -> Option<usize>
         ensures { MatchOption result (HasNoneFrom self.now page) (IsNext self.now page) }
     {

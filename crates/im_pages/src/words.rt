@@ -1,9 +1,9 @@
-//! Bits in words of 64, bit n being bit n % 64 of word n / 64.
+//! Bits in words of 64: bit n is bit n % 64 of word n / 64.
 ghost use Rattle.std.specs.Prelude.{◌≡◌, ℕ, ◌*◌, ◌-◌, ◌/◌, ◌<◌, ◌≤◌, ◌^◌, ◌==◌, ◌||◌, length, replicate};
 ghost use Rattle.std.specs.Prelude.{slice_index_or, true, MatchOption};
 ghost use Rattle.im_pages.specs.Words.{is_set, AreClear, IsFirstSet};
 
-/// Whether a bit is set.
+/// Returns whether a bit is set.
 pub(crate) fn is_set(words: &[u64], at: usize) -> bool
     requires { at / 64 < length words.now }
     ensures { result ≡ is_set words.now at }
@@ -19,7 +19,7 @@ pub(crate) fn set_bit(words: &mut [u64], at: usize)
     words[at / 64] |= 1 << (at % 64);
 }
 
-// Makes each word from one on, up to another one, this one.
+// Sets the words `from` to `to - 1` to `word`.
 fn fill_between(words: &mut [u64], from: usize, to: usize, word: u64)
     requires { to ≤ length words.old }
     ensures found { (k : ℕ) → from ≤ k → k < to → slice_index_or words.new k 0 ≡ word }
@@ -31,7 +31,7 @@ fn fill_between(words: &mut [u64], from: usize, to: usize, word: u64)
     }
 }
 
-/// Sets each bit from one on, up to another one: word by word, but for the first and the last of them.
+/// Sets the bits `from` to `to - 1`. It writes whole words, except the first and the last one.
 pub(crate) fn set_range(words: &mut [u64], from: usize, to: usize)
     requires order { from < to }
     requires inside { (to - 1) / 64 < length words.old }
@@ -51,7 +51,7 @@ pub(crate) fn set_range(words: &mut [u64], from: usize, to: usize)
     words[last] |= high;
 }
 
-/// Sets each bit that is set in other words.
+/// Sets each bit that is set in `other`.
 pub(crate) fn set_bits(words: &mut [u64], other: &[u64])
     requires { length words.old ≡ length other.now }
     ensures { (bit : ℕ) → is_set words.new bit ≡ (is_set words.old bit || is_set other.now bit) }
@@ -61,7 +61,7 @@ pub(crate) fn set_bits(words: &mut [u64], other: &[u64])
     }
 }
 
-/// Makes all words this one.
+/// Sets all words to `word`.
 pub(crate) fn fill_words(words: &mut [u64], word: u64)
     ensures { words.new ≡ replicate (length words.old) word }
 {
@@ -70,7 +70,7 @@ pub(crate) fn fill_words(words: &mut [u64], word: u64)
     }
 }
 
-/// The first bit from one on that is set, if there is one.
+/// Returns the first set bit from `from` on, or `None` if there is none.
 pub(crate) fn first_set(words: &[u64], from: usize) -> Option<usize>
     requires inside { from / 64 < length words.now }
     requires few { length words.now < 2 ^ 32 }

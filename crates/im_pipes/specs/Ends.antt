@@ -28,12 +28,12 @@ items_of [] = []
 items_of (Some item ∷ messages) = item ∷ items_of messages
 items_of (None ∷ messages) = items_of messages
 
--- the messages of these items, and the end mark where there is one
+-- the messages of these items, and the end mark if there is one
 abbrev pub messages_of : {T : Type 0} → Bool → List T → List (Option T)
 messages_of true items = map Some items ++ None ∷ []
 messages_of false items = map Some items
 
--- what was handed out of these messages, of which those are held
+-- what was handed out of the messages that were received, given those that are still held
 abbrev pub handed_of : {T : Type 0} → List (Option T) → List (Option T) → List (Option T)
 handed_of received held = take (length received - length held) received
 
@@ -44,7 +44,7 @@ pub record AreNewEnds {T : Type 0} (inlet outlet : PipeEnd T) : Type 0 where
   pub nothing_received : outlet.items ≡ []
   pub is_open : outlet.ended ≡ false
 
--- what was received, and the end after it: one item more, or the end mark, or nothing
+-- what was received, and the end after it: one more item, or the end mark, or nothing
 abbrev pub Receives : {T : Type 0} → PipeEnd T → Received T → PipeEnd T → Type 0
 Receives old (Item item) new = (new.items ≡ old.items ++ item ∷ []) × (new.ended ≡ false)
 Receives old End new = (new.items ≡ old.items) × (new.ended ≡ true)

@@ -16,7 +16,7 @@ use std::alloc::{AllocError, Global};
 use std::marker::Model;
 use std::sync::Wait;
 
-// How many messages an outlet holds.
+// The number of messages that an outlet holds.
 const AHEAD: usize = 8;
 
 /// The end of a pipe that sends. Contracts see which pipe it is, and what was sent.
@@ -41,7 +41,7 @@ impl<T: Drop> Model for Inlet<T> {
         × (known s.pass ≡ log true false (messages_of false (items_of (known s.pass).sent)) []) };
 }
 
-/// What was sent through an inlet that finished, and whether the end mark was.
+/// An inlet after its end. Contracts see what was sent through it, and whether the end mark was sent.
 #[derive(Drop)]
 pub struct Finished<T: Drop> {
     sender: RuledSender<Option<T>, Log<T>, InOrder>,
@@ -64,8 +64,8 @@ impl<T: Drop> Model for Finished<T> {
         × (known s.pass ≡ log true false (messages_of s.marked (items_of (known s.pass).sent)) []) };
 }
 
-/// The end of a pipe that receives. Contracts see which pipe it is, what was received, and whether the end mark was.
-/// What it holds, to be handed out later and in order, isn't received yet.
+/// The end of a pipe that receives. Contracts see which pipe it is, what was received, and whether the end mark was
+/// received. What the outlet holds, to hand out later in order, doesn't count as received yet.
 #[derive(Drop)]
 pub struct Outlet<T: Drop> {
     receiver: RuledReceiver<Option<T>, Log<T>, InOrder>,
@@ -97,12 +97,12 @@ pub enum Received<T> {
     Item(T),
     /// The end mark: nothing comes after it.
     End,
-    /// Nothing: the pipe is empty, and nobody is left who could send.
+    /// Nothing: the pipe is empty, and no sender is left.
     Gone,
 }
 
-/// The two ends of a new pipe, which holds at most so many messages, above 0, and eight more that its outlet took
-/// ahead: items, and one end mark. `NoMemory` where there is no room for it. (Own.)
+/// Makes a new pipe and returns its two ends. The pipe holds at most `capacity` messages, above 0, and its outlet takes
+/// up to eight more ahead. Messages are items, and one end mark. Returns `NoMemory` if there is no room for it. (Own.)
 pub fn pipe<T: Drop>(alloc: Global, capacity: usize) -> Result<(Inlet<T>, Outlet<T>), Refusal>
     requires { 0 < capacity }
     ensures found { IfOk result (λ ends. AreNewEnds ends.0 ends.1) }
@@ -130,7 +130,7 @@ fn new_ends<T: Drop>(alloc: Global, capacity: usize) -> Result<(Inlet<T>, Outlet
     ))
 }
 
-// Sends a message, an item or the end mark. It comes back where the channel hands it back.
+// Sends a message: an item or the end mark. Returns the message if the channel hands it back.
 fn put<T: Drop, R: Wait>(
     rt: &R,
     sender: &RuledSender<Option<T>, Log<T>, InOrder>,
@@ -149,7 +149,7 @@ fn put<T: Drop, R: Wait>(
     }
 }
 
-// Receives a message: one that is there, or it waits for one.
+// Receives a message that is there, or waits for one.
 fn take<T: Drop, R: Wait>(
     rt: &R,
     receiver: &RuledReceiver<Option<T>, Log<T>, InOrder>,
@@ -175,8 +175,8 @@ fn take<T: Drop, R: Wait>(
 }
 
 impl<T: Drop> Inlet<T> {
-    /// Sends an item, and waits while the pipe is full. Where the channel hands it back, as after the outlet's end,
-    /// the item comes back and nothing was sent. (Own.)
+    /// Sends an item, and waits while the pipe is full. If the channel hands it back, as it does after the outlet's
+    /// end, the item comes back and nothing was sent. (Own.)
     pub fn send<R: Wait>(&mut self, rt: &R, item: T) -> Result<(), T>
         ensures same { self.new.pipe ≡ self.old.pipe }
         ensures contents { MatchResult result (λ _. self.new.items ≡ self.old.items ++ item ∷ [])
@@ -211,7 +211,7 @@ impl<T: Drop> Inlet<T> {
 }
 
 impl<T: Drop> Outlet<T> {
-    // Takes one message more, if one is there and there is room for it. Whether it did.
+    // Takes one more message, if one is there and there is room for it. Returns whether it did.
     fn gather_one<R: Wait>(&mut self, rt: &R) -> bool
         ensures { self.new ≡ self.old }
     {
@@ -227,8 +227,8 @@ impl<T: Drop> Outlet<T> {
         }
     }
 
-    // Where nothing is held, waits for a message, and takes what else is there then: so a sender that waits is woken
-    // once for all of them.
+    // If nothing is held, waits for a message, and also takes the others that are there then. So a waiting sender is
+    // woken once for all of them.
     fn gather<R: Wait>(&mut self, rt: &R)
         ensures { self.new ≡ self.old }
     {
@@ -246,8 +246,8 @@ impl<T: Drop> Outlet<T> {
         }
     }
 
-    /// Receives the next item or the end mark, and waits while the pipe is empty. `Gone`, and nothing was received,
-    /// where the channel fails, as after the end of an inlet that didn't finish. (Own.)
+    /// Receives the next item or the end mark, and waits while the pipe is empty. Returns `Gone`, with nothing
+    /// received, if the channel fails, as it does after the end of an inlet that didn't finish. (Own.)
     pub fn receive<R: Wait>(&mut self, rt: &R) -> Received<T>
         requires { self.old.ended ≡ false }
         ensures same { self.new.pipe ≡ self.old.pipe }
@@ -264,7 +264,7 @@ impl<T: Drop> Outlet<T> {
         }
     }
 
-    /// What both ends know together: what was received is a beginning of what was sent, in order, each item once; and
+    /// Shows what both ends know together. What was received is a prefix of what was sent, in order, each item once;
     /// after the end mark it is all of it. It takes both ends of one pipe, and does nothing. (Own.)
     pub fn whole(self, finished: Finished<T>)
         requires { self.pipe ≡ finished.pipe }

@@ -1,5 +1,5 @@
-//! A pipe from one sender to one receiver: a channel of bounded capacity under a rule, by which what was received is
-//! at each moment a beginning of what was sent, in order, each item once.
+//! A pipe from one sender to one receiver: a channel of bounded capacity under a rule. By the rule, what was received
+//! is at each moment a prefix of what was sent, in order, each item once.
 #![tactic(auto)]
 
 mod ends;

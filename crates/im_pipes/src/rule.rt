@@ -1,18 +1,18 @@
-//! The rule of a pipe: what was sent is what was received, and then what the pipe holds.
+//! The rule of a pipe: what was sent is what was received, followed by what the pipe holds.
 
 use crossbeam_channel::protocol::{Join, Lesson, Outcome, Protocol, Split};
 use std::collections::LinkedList;
 
-/// What a pass may do, what it has sent and what it has received, end marks too. It says what a pipe is for contracts
-/// alone: no value of it is made.
+/// What a pass may do, and what it has sent and received, end marks included. It is for contracts alone: no value of it
+/// is made.
 pub struct Log<T> {
     /// Whether it may send.
     pub sends: bool,
     /// Whether it may receive.
     pub receives: bool,
-    /// What it has sent; an end mark is `None`.
+    /// The messages that it has sent. An end mark is `None`.
     pub sent: LinkedList<Option<T>>,
-    /// What it has received.
+    /// The messages that it has received.
     pub received: LinkedList<Option<T>>,
 }
 
@@ -28,7 +28,7 @@ impl<T> Protocol<Option<T>, Log<T>> for InOrder {
     ghost first = { log true true [] [] };
 }
 
-// One pass for each end, and both together again.
+// One pass for each end, and the two joined again.
 pub struct TwoEnds;
 
 impl<T> Split<Log<T>> for TwoEnds {
@@ -77,7 +77,7 @@ impl<T> Lesson<Option<T>, Log<T>> for Taken {
     ghost fact = { λ l held. Unit {0} };
 }
 
-// What both passes together know.
+// What the two passes know together.
 pub struct Whole;
 
 impl<T> Lesson<Option<T>, Log<T>> for Whole {

@@ -1,4 +1,4 @@
--- Leave to forget, on one window. (Own.)
+-- Confirmations on one window. (Own.)
 use Rattle.std.specs.Prelude.{ℕ, ◌-◌, max, drop, Bool, Result, Ok, Err, nat_lt}
 use Rattle.im_types.specs.declared.refusals.Refusal.{Refusal}
 use Rattle.im_types.specs.Contents.{Window}
@@ -7,7 +7,7 @@ use Rattle.im_types.specs.Contents.{Window}
 abbrev pub confirmed : ℕ → Window → Window
 confirmed upto w = record { base = max w.base upto; kept = drop (upto - w.base) w.kept }
 
--- whether a confirmation that came to this forgets anything
+-- whether a confirmation with this result drops an entry
 abbrev pub forgets : ℕ → Window → Result Window Refusal → Result Bool Refusal
 forgets upto w (Ok now) = Ok (nat_lt w.base upto)
 forgets upto w (Err refusal) = Err refusal

@@ -1,4 +1,4 @@
--- The cells of a memory, made of the slots by address and of one queue of all that wait. (Own.)
+-- The cells of a memory, made of the slots by address and of one queue of all waiting requests. (Own.)
 use Rattle.std.specs.Prelude.{◌≡◌, ℕ, suc, List, [], ◌∷◌, Bool, true, false, Option, None, Some, slice_index_or}
 use Rattle.im_types.specs.declared.operations.Waiter.{Waiter}
 use Rattle.im_types.specs.Contents.{CellState, Empty, Full, Clashed, Held}
@@ -8,13 +8,13 @@ use Rattle.im_plain.specs.declared.cells.Slot.{Slot}
 use Rattle.im_plain.specs.declared.queue.Deferred.{Deferred}
 use Rattle.im_plain.specs.Waiting.{waiting_at}
 
--- a cell's state, by what is in it and by those that wait there
+-- a cell's state, from its content and the requests that wait there
 abbrev pub state_of : State → List Waiter → CellState
 state_of HasNothing waiters = Empty waiters
 state_of (HasValue v) waiters = Full v
 state_of (HasClash v) waiters = Clashed v
 
--- a slot of a block, with nothing in its cell
+-- a slot of a block, with its cell emptied
 abbrev pub emptied_slot : Option Slot → Option Slot
 emptied_slot None = None
 emptied_slot (Some slot) = Some (record { block = slot.block; state = HasNothing })
@@ -33,7 +33,7 @@ joined_from a (slot ∷ slots) queue = held_of slot (waiting_at a queue) ∷ joi
 abbrev pub joined : List (Option Slot) → List Deferred → List (Option Held)
 joined slots queue = joined_from 0 slots queue
 
--- requests may wait here
+-- requests may wait at a cell with this content
 abbrev pub is_open_state : State → Bool
 is_open_state HasNothing = true
 is_open_state (HasValue v) = false
@@ -44,6 +44,6 @@ abbrev pub is_open : Option Slot → Bool
 is_open None = false
 is_open (Some slot) = is_open_state slot.state
 
--- where no request may wait, none does
+-- no request waits where none may
 abbrev pub Fits : List (Option Slot) → List Deferred → Type 0
 Fits slots queue = (a : ℕ) → is_open (slice_index_or slots a None) ≡ false → waiting_at a queue ≡ []

@@ -11,7 +11,7 @@ use Rattle.im_plain.specs.Joined.{joined, Fits}
 abbrev pub contents_of : List (Option Slot) → List Deferred → List Window → Contents
 contents_of slots queue windows = record { cells = joined slots queue; windows = windows }
 
--- they show a memory, and the queue has room for a whole window of each element
+-- slots, a queue and windows show a memory, and the queue has room for a whole window of each element
 pub record MakesMemory (slots : List (Option Slot)) (queue : List Deferred) (capacity : ℕ) (windows : List Window) : Type 0 where
   pub fits : Fits slots queue
   pub memory : IsMemory (length slots) (length windows) (contents_of slots queue windows)

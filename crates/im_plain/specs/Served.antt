@@ -1,4 +1,4 @@
--- What an operation comes to on slots and a queue. (Own.)
+-- The effect of an operation on slots and a queue. (Own.)
 use Rattle.std.specs.Prelude.{◌≡◌, ℕ, List, [], false, Option, Some, drop, take, length}
 use Rattle.std.specs.List.{list_any}
 use Rattle.im_types.specs.declared.operations.Waiter.{Waiter}
@@ -17,7 +17,7 @@ use Rattle.im_plain.specs.declared.acts.Acted.{Acted}
 use Rattle.im_plain.specs.Waiting.{waiting_at, without, with_asker, replies_to}
 use Rattle.im_plain.specs.Joined.{state_of, joined, is_open_state, Fits}
 
--- what an operation does to the cell that it is on
+-- the effect of an operation on the cell at its address
 abbrev pub access_of : Waiter → Op → CellState → ServedCell
 access_of who (Alloc kind n) = tells NoCell
 access_of who (Release a) = tells NoCell
@@ -27,31 +27,31 @@ access_of who (Store a v) = store v
 access_of who (Take a) = take_from who
 access_of who (Put a v) = put v
 
--- so many wait at the cell, and none where none may
+-- this many requests wait at the cell, and none if none may wait there
 pub record AreWaiting (state : State) (waiting : ℕ) (waiters : List Waiter) : Type 0 where
   pub counted : length waiters ≡ waiting
   pub quiet : is_open_state state ≡ false → waiters ≡ []
 
--- this is what serving an asker comes to at a cell where these wait
+-- this is the effect of serving an asker at a cell where these requests wait
 pub record HasServed (served : Served) (who : Waiter) (waiters : List Waiter) (was : ServedCell) : Type 0 where
   pub state : state_of served.state (drop served.count (with_asker served.entry who waiters)) ≡ was.state
   pub quiet : is_open_state served.state ≡ false → drop served.count (with_asker served.entry who waiters) ≡ []
   pub told : served.entry ≡ was.entry
   pub replies : replies_to (take served.count (with_asker served.entry who waiters)) served.value ≡ was.resumed
 
--- the same, for each asker and any that wait
+-- the same, for each asker and any waiting requests
 abbrev pub Serves : State → ℕ → Served → (Waiter → CellState → ServedCell) → Type 0
 Serves state waiting served was =
     (who : Waiter) (waiters : List Waiter) → AreWaiting state waiting waiters → HasServed served who waiters (was who (state_of state waiters))
 
--- slots and queue are what an operation comes to, once those that are given a value have left the queue
+-- slots and queue are the effect of an operation, once the requests that are given a value have left the queue
 pub record HasActed (slots : List (Option Slot)) (queue : List Deferred) (acted : Acted) (was : ActedCells) : Type 0 where
   pub cells : joined slots (without acted.count acted.address queue) ≡ was.cells
   pub fits : Fits slots (without acted.count acted.address queue)
   pub told : acted.entry ≡ was.entry
   pub replies : replies_to (take acted.count (waiting_at acted.address queue)) acted.value ≡ was.resumed
 
--- at this address a block of n cells begins, at none of which somebody waits
+-- a block of n cells begins at this address, and no request waits for any of them
 pub record IsUnwaited (cells : List (Option Held)) (a n : ℕ) : Type 0 where
   pub block : Block
   pub found : block_with_base a (held_at cells a) ≡ Some block

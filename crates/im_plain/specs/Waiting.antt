@@ -1,4 +1,4 @@
--- Requests that wait, in one list for all cells, in their order of arrival. (Own.)
+-- Waiting requests, in one list for all cells, in their order of arrival. (Own.)
 use Rattle.std.specs.Prelude.{ℕ, zero, suc, List, [], ◌∷◌, ◌++◌, map, ◌==◌, if◌then◌else◌}
 use Rattle.im_types.specs.declared.operations.Waiter.{Waiter}
 use Rattle.im_types.specs.declared.operations.Reply.{Reply}
@@ -12,22 +12,22 @@ abbrev pub waiting_at : ℕ → List Deferred → List Waiter
 waiting_at a [] = []
 waiting_at a (deferred ∷ queue) = if deferred.address == a then deferred.waiter ∷ waiting_at a queue else waiting_at a queue
 
--- the queue without the first n that wait at a cell
+-- the queue without the first n requests that wait at a cell
 abbrev pub without : ℕ → ℕ → List Deferred → List Deferred
 without zero a queue = queue
 without (suc n) a [] = []
 without (suc n) a (deferred ∷ queue) = if deferred.address == a then without n a queue else deferred ∷ without (suc n) a queue
 
--- the queue after a request came to this entry at a cell
+-- the queue after a request at a cell, by its entry: a waiting request is put at the end
 abbrev pub parked : Entry → ℕ → Waiter → List Deferred → List Deferred
 parked Waiting a who queue = queue ++ record { address = a; waiter = who } ∷ []
 parked (Answered reply) a who queue = queue
 
--- those that wait at the cell then
+-- the requests that wait at the cell after a request, by its entry
 abbrev pub with_asker : Entry → Waiter → List Waiter → List Waiter
 with_asker Waiting who waiters = waiters ++ who ∷ []
 with_asker (Answered reply) who waiters = waiters
 
--- each of these is given the value
+-- each of these requests is given the value
 abbrev pub replies_to : List Waiter → ℕ → List (Waiter × Reply)
 replies_to waiters value = map (λ who. (who, Value value)) waiters

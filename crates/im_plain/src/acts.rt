@@ -1,4 +1,4 @@
-//! What an operation does to the cells.
+//! The effects of operations on cells.
 ghost use Rattle.std.specs.Prelude.{◌≡◌, ℕ, ◌+◌, ◌<◌, ◌≤◌, IfErr, IfOk, length, List, take, drop, vec_len};
 ghost use Rattle.std.specs.Prelude.{vec_capacity};
 ghost use Rattle.std.specs.List.{list_any};
@@ -16,8 +16,8 @@ use crate::cells::{Slot, State, empty, fill, place, slot_at};
 use crate::queue::{Deferred, count_at, park};
 use im_types::{Block, Entry, Kind, MAX_CELLS, Op, Reply, Waiter};
 
-/// What a cell has then, what the asker is told, and how many of those that wait there, from the first on, are given
-/// which value.
+/// The effect of an operation on one cell: the cell's new state and the asker's entry. Of the requests that wait there,
+/// the first `count` are given `value`.
 #[derive(Clone, Copy)]
 pub struct Served {
     pub state: State,
@@ -48,7 +48,7 @@ fn deferred() -> Served
     }
 }
 
-// A write while some wait: the first `count` of them are given the value.
+// The effect of a write to an empty cell. The first `count` waiting requests are given the value.
 fn stored(state: State, count: usize, value: u64) -> Served
     ensures { result ≡ record { state = state; entry = Entry.Answered Reply.Stored; count = count; value = value } }
 {
@@ -60,7 +60,7 @@ fn stored(state: State, count: usize, value: u64) -> Served
     }
 }
 
-/// A fetch on a cell, however many wait there.
+/// Returns the effect of a fetch on a cell. It is the same however many requests wait there.
 fn fetch(state: State) -> Served
     ensures { (waiting : ℕ) → Serves state waiting result (λ who. fetch who) }
 {
@@ -71,7 +71,7 @@ fn fetch(state: State) -> Served
     }
 }
 
-/// A store to a cell at which so many wait.
+/// Returns the effect of a store to a cell at which `waiting` requests wait.
 fn store(state: State, waiting: usize, value: u64) -> Served
     ensures { Serves state waiting result (λ who. store value) }
 {
@@ -81,7 +81,7 @@ fn store(state: State, waiting: usize, value: u64) -> Served
     }
 }
 
-/// A take from a cell, however many wait there.
+/// Returns the effect of a take from a cell. It is the same however many requests wait there.
 fn take_from(state: State) -> Served
     ensures { (waiting : ℕ) → Serves state waiting result (λ who. take_from who) }
 {
@@ -92,7 +92,7 @@ fn take_from(state: State) -> Served
     }
 }
 
-/// A put to a cell at which so many wait.
+/// Returns the effect of a put to a cell at which `waiting` requests wait.
 fn put(state: State, waiting: usize, value: u64) -> Served
     ensures { Serves state waiting result (λ who. put value) }
 {
@@ -103,7 +103,7 @@ fn put(state: State, waiting: usize, value: u64) -> Served
     }
 }
 
-/// An operation on a cell at which so many wait.
+/// Returns the effect of an operation on a cell at which `waiting` requests wait.
 fn access(state: State, waiting: usize, op: Op) -> Served
     ensures { Serves state waiting result (λ who. access_of who op) }
 {
@@ -116,8 +116,8 @@ fn access(state: State, waiting: usize, op: Op) -> Served
     }
 }
 
-/// What the asker is told, and how many of those that wait at an address, from the first on, are to be given which
-/// value.
+/// The effect of an operation: the asker's entry. Of the requests that wait at `address`, the first `count` are still
+/// to be given `value`.
 #[derive(Clone, Copy)]
 pub struct Acted {
     pub entry: Entry,
@@ -137,7 +137,7 @@ fn tells(reply: Reply) -> Acted
     }
 }
 
-/// An operation on the cell at an address, of the kind that it is for.
+/// Does an operation on the cell at an address. It needs a block of kind `kind`, which is the operation's kind.
 fn access_at(
     slots: &mut [Option<Slot>],
     queue: &mut Vec<Deferred>,
@@ -172,7 +172,7 @@ fn access_at(
     }
 }
 
-/// A new block.
+/// Makes a block.
 fn allocate(slots: &mut [Option<Slot>], queue: &[Deferred], kind: Kind, n: u32) -> Acted
     requires fits { Fits slots.old queue.now }
     requires few { length slots.old ≤ MAX_CELLS }
@@ -196,7 +196,7 @@ fn allocate(slots: &mut [Option<Slot>], queue: &[Deferred], kind: Kind, n: u32) 
     tells(Reply::Base(base))
 }
 
-// Whether somebody waits at a cell with this state, where so many are in its queue.
+// Returns whether a request waits at a cell with this state and `waiting` requests in its queue.
 fn has_waiter(state: State, waiting: usize) -> bool
     ensures { (waiters : List Waiter) → length waiters ≡ waiting → result ≡ has_waiter (state_of state waiters) }
 {
@@ -206,7 +206,7 @@ fn has_waiter(state: State, waiting: usize) -> bool
     }
 }
 
-// Whether somebody waits at the cell at an address.
+// Returns whether a request waits at the cell at an address.
 fn is_waiting(slots: &[Option<Slot>], queue: &[Deferred], a: u32) -> bool
     ensures { result ≡ is_waiting_cell (held_at (joined slots.now queue.now) a) }
 {
@@ -216,7 +216,7 @@ fn is_waiting(slots: &[Option<Slot>], queue: &[Deferred], a: u32) -> bool
     }
 }
 
-// Whether somebody waits at one of `n` cells from `base` on.
+// Returns whether a request waits at one of `n` cells from `base` on.
 fn any_waits(slots: &[Option<Slot>], queue: &[Deferred], base: u32, n: u32) -> bool
     requires within { base + n ≤ length slots.now }
     requires few { length slots.now ≤ MAX_CELLS }
@@ -230,7 +230,7 @@ fn any_waits(slots: &[Option<Slot>], queue: &[Deferred], base: u32, n: u32) -> b
     false
 }
 
-// The length of the block with this base, or why its cells stay as they are.
+// Returns the length of the block with this base, or the reply that leaves its cells as they are.
 fn unwaited_for(slots: &[Option<Slot>], queue: &[Deferred], a: u32) -> Result<u32, Reply>
     requires fits { Fits slots.now queue.now }
     requires blocks { HasBlocks (joined slots.now queue.now) }
@@ -250,7 +250,7 @@ fn unwaited_for(slots: &[Option<Slot>], queue: &[Deferred], a: u32) -> Result<u3
     Ok(slot.block.length)
 }
 
-/// The end of a block.
+/// Frees the block with this base, unless a request waits for one of its cells.
 fn release(slots: &mut [Option<Slot>], queue: &[Deferred], a: u32) -> Acted
     requires fits { Fits slots.old queue.now }
     requires blocks { HasBlocks (joined slots.old queue.now) }
@@ -267,7 +267,7 @@ fn release(slots: &mut [Option<Slot>], queue: &[Deferred], a: u32) -> Acted
     }
 }
 
-/// A block whose cells are all empty from now on.
+/// Empties the cells of the block with this base, unless a request waits for one of them.
 fn reset(slots: &mut [Option<Slot>], queue: &[Deferred], a: u32) -> Acted
     requires fits { Fits slots.old queue.now }
     requires blocks { HasBlocks (joined slots.old queue.now) }
@@ -284,7 +284,7 @@ fn reset(slots: &mut [Option<Slot>], queue: &[Deferred], a: u32) -> Acted
     }
 }
 
-/// An operation of an asker on the cells.
+/// Does an asker's operation on the cells. The requests that it resumes are left in the queue.
 pub fn act(slots: &mut [Option<Slot>], queue: &mut Vec<Deferred>, who: Waiter, op: Op) -> Acted
     requires fits { Fits slots.old queue.old.items }
     requires blocks { HasBlocks (joined slots.old queue.old.items) }

@@ -1,4 +1,4 @@
-//! The cells by address, without those that wait for them.
+//! The cells by address, without the requests that wait for them.
 ghost use Rattle.std.specs.Prelude.{◌≡◌, ℕ, ◌+◌, ◌<◌, ◌≤◌, length, List, Some, None, IfSome, slice_index_or};
 ghost use Rattle.im_types.specs.declared.operations.Waiter.{Waiter};
 ghost use Rattle.im_plain.specs.Joined.{state_of, emptied_slot};
@@ -7,7 +7,7 @@ ghost use Rattle.im_types.specs.Place.{begins_free, place, fill, change_each};
 
 use im_types::{Block, Cell, MAX_CELLS};
 
-/// What is in a cell, whoever waits for it.
+/// The content of a cell, whether or not requests wait for it.
 #[derive(Clone, Copy)]
 pub enum State {
     Empty,
@@ -22,7 +22,7 @@ pub struct Slot {
     pub state: State,
 }
 
-/// What a cell is at which so many wait.
+/// Returns a cell with this state at which `waiting` requests wait.
 pub fn presence_of(state: State, waiting: usize) -> Cell
     ensures { (waiters : List Waiter) → length waiters ≡ waiting → result ≡ presence_of (state_of state waiters) }
 {
@@ -34,7 +34,7 @@ pub fn presence_of(state: State, waiting: usize) -> Cell
     }
 }
 
-/// The slot at an address, if it is in a block.
+/// Returns the slot at an address, or `None` if it is in no block.
 pub fn slot_at(slots: &[Option<Slot>], a: u32) -> Option<Slot>
     ensures value { result ≡ slice_index_or slots.now a None }
     ensures within { IfSome result (λ _. a < length slots.now) }
@@ -43,7 +43,7 @@ pub fn slot_at(slots: &[Option<Slot>], a: u32) -> Option<Slot>
     if at < slots.len() { slots[at] } else { None }
 }
 
-/// Whether the slots begin with `n` that are in no block.
+/// Returns whether the first `n` slots exist and are in no block.
 pub fn begins_free(slots: &[Option<Slot>], n: u32) -> bool
     ensures { result ≡ begins_free n slots.now }
 {
@@ -55,7 +55,7 @@ pub fn begins_free(slots: &[Option<Slot>], n: u32) -> bool
     true
 }
 
-/// The least base from which on `n` slots are in no block.
+/// Returns the least base from which `n` slots are in no block, or `None` if there is none.
 pub fn place(slots: &[Option<Slot>], n: u32) -> Option<u32>
     requires { length slots.now ≤ MAX_CELLS }
     ensures { result ≡ place n slots.now }
@@ -68,7 +68,7 @@ pub fn place(slots: &[Option<Slot>], n: u32) -> Option<u32>
     None
 }
 
-// A slot whose cell has nothing, where it is one of a block.
+// Returns a block's slot with an empty cell. A slot in no block stays as it is.
 fn emptied(slot: Option<Slot>) -> Option<Slot>
     ensures { result ≡ emptied_slot slot }
 {
@@ -81,7 +81,7 @@ fn emptied(slot: Option<Slot>) -> Option<Slot>
     }
 }
 
-/// Empties the cells of `n` slots from `base` on, as far as there are slots.
+/// Empties the cells of `n` slots from `base` on. Slots past the end are left out.
 pub fn empty(slots: &mut [Option<Slot>], base: u32, n: u32)
     ensures { slots.new ≡ change_each emptied_slot slots.old base n }
 {
@@ -93,7 +93,7 @@ pub fn empty(slots: &mut [Option<Slot>], base: u32, n: u32)
     }
 }
 
-/// Sets `n` slots from `base` on, as far as there are slots.
+/// Sets `n` slots from `base` on. Slots past the end are left out.
 pub fn fill(slots: &mut [Option<Slot>], base: u32, n: u32, slot: Option<Slot>)
     ensures { slots.new ≡ fill slots.old base n slot }
 {

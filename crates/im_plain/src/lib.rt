@@ -1,5 +1,4 @@
-//! A memory kept plainly: slow, with no links and no bytes. What each of its functions does is what the definitions
-//! say.
+//! A plain memory: slow, without links and without bytes. Each of its functions does what the definitions say.
 #![tactic(auto)]
 
 mod acts;

@@ -24,12 +24,22 @@ use im_types::{
 use std::alloc::{AllocError, Global};
 use std::marker::Model;
 
-/// A memory, kept plainly. Contracts see its contents, and they are always those of a memory.
-#[derive(Drop)]
+/// A plain memory. Contracts see its contents, which are always those of a memory.
 pub struct PlainMemory {
     slots: Vec<Option<Slot>>,
     queue: Vec<Deferred>,
     windows: Vec<KeptWindow>,
+}
+
+// By one call, so that whoever owns a memory isn't proved to let go each of its fields wherever it may end.
+impl Drop for PlainMemory {
+    fn drop(self) {
+        let PlainMemory {
+            slots: _,
+            queue: _,
+            windows: _,
+        } = self;
+    }
 }
 
 impl Model for PlainMemory {
@@ -45,7 +55,7 @@ impl Model for PlainMemory {
     ghost invariant = { λ m. MakesMemory m.slots.items m.queue.items (vec_capacity m.queue) m.windows.items };
 }
 
-// A new request: what comes of it is done, and it is kept with its entry.
+// Serves a new request: does its operation, keeps its entry, and answers the requests that it resumes.
 fn serve(
     slots: &mut [Option<Slot>],
     queue: &mut Vec<Deferred>,
@@ -72,8 +82,8 @@ fn serve(
 }
 
 impl PlainMemory {
-    /// A memory of these sizes, with no block and no entry. All memory that it will ever need is taken here; refused
-    /// with `NoMemory` where there isn't enough.
+    /// Makes a memory of these sizes, with no block and no entry. It takes all its memory here, and returns `NoMemory`
+    /// if that is refused.
     pub fn new(alloc: Global, limits: Limits) -> Result<Self, Refusal>
         ensures empty { IfOk result (λ m. m ≡ empty_contents limits.cells limits.elements) }
         ensures memory { IfOk result (λ m. IsMemory limits.cells limits.elements m) }
@@ -99,17 +109,19 @@ impl PlainMemory {
         })
     }
 
-    /// One command: what it comes to, or why it is refused, and then nothing changes. Refused are, with `NoElement`, a
-    /// command of an element that isn't there; a request with `Forgotten` below its window, with `Mismatch` under a
-    /// number that is kept for another operation, with `Gap` past the next number and past the last that there is, and
-    /// with `WindowFull` where 64 entries are kept; a confirmation with `Gap` past the next number, and with
-    /// `NotAnswered` where an entry that it would drop still waits. It takes no memory.
+    /// Serves one command, and returns its outcome or its refusal. A refusal changes nothing. The call takes no memory.
+    ///
+    /// A command of an element that doesn't exist is refused with `NoElement`. A request is refused with `Forgotten`
+    /// below its window, and with `Mismatch` under a number that is kept for another operation. It is refused with
+    /// `Gap` past the next number and past the last number of all, and with `WindowFull` while 64 entries are kept. A
+    /// confirmation is refused with `Gap` past the next number, and with `NotAnswered` if an entry that it would drop
+    /// still waits.
     pub fn step(&mut self, command: &Command) -> Result<Outcome, Refusal>
         ensures answer { result ≡ (step self.old command.now).answer }
         ensures contents { self.new ≡ (step self.old command.now).contents }
         ensures refused { OnErr result (self.new ≡ self.old) }
 
-        // It stays a memory, who waits has a waiting entry, and what is kept stays kept until it is confirmed.
+        // It stays a memory, each waiting request has a waiting entry, and entries stay kept until they are confirmed.
         ensures memory { IsMemory (length self.old.cells) (length self.old.windows) self.new }
         ensures agrees { WaitingAgrees self.new }
         ensures keeps { KeepsEntries self.old command.now self.new }
@@ -151,8 +163,8 @@ impl PlainMemory {
         }
     }
 
-    /// Whether [`PlainMemory::step`] would accept this command, which it does where the command changes the memory, or
-    /// why it would be refused.
+    /// Returns whether [`PlainMemory::step`] would accept this command, or the refusal that it would return. It accepts
+    /// a command if and only if the command changes the memory.
     pub fn judge(&self, command: &Command) -> Result<bool, Refusal>
         ensures { result ≡ acceptance self.now command.now }
     {
@@ -168,23 +180,23 @@ impl PlainMemory {
         }
     }
 
-    /// The entry that is kept under an element's number: refused with `NoElement`, with `Forgotten` below the window,
-    /// and with `Gap` where the number isn't used yet.
+    /// Returns the entry that is kept under an element's number. Returns `NoElement` if there is no such element,
+    /// `Forgotten` below its window, and `Gap` if the number isn't used yet.
     pub fn collect(&self, element: u16, number: u64) -> Result<Entry, Refusal>
         ensures { result ≡ ask self.now.windows (record { element = element; number = number }) }
     {
         ask(self.windows.as_slice(), Waiter { element, number })
     }
 
-    /// The base of an element's window, from which on its entries are numbered, and the number of its next new request:
-    /// refused with `NoElement`.
+    /// Returns the base of an element's window, and the number of its next new request. The entries are numbered from
+    /// the base on. Returns `NoElement` if there is no such element.
     pub fn window(&self, element: u16) -> Result<(u64, u64), Refusal>
         ensures { result ≡ bounds self.now.windows element }
     {
         bounds(self.windows.as_slice(), element)
     }
 
-    /// How many cells there are, at most 1,048,576.
+    /// Returns the number of cells, at most 1,048,576.
     pub fn cells(&self) -> u32
         ensures count { result ≡ length self.now.cells }
         ensures few { result ≤ MAX_CELLS }
@@ -193,7 +205,7 @@ impl PlainMemory {
         self.slots.len() as u32
     }
 
-    /// How many elements there are, at most 64.
+    /// Returns the number of elements, at most 64.
     pub fn elements(&self) -> u16
         ensures count { result ≡ length self.now.windows }
         ensures few { result ≤ MAX_ELEMENTS }
@@ -202,7 +214,7 @@ impl PlainMemory {
         self.windows.len() as u16
     }
 
-    /// What the cell at an address is, or `None` where the address lies in no block.
+    /// Returns the cell at an address, or `None` if the address lies in no block.
     pub fn cell(&self, a: u32) -> Option<Cell>
         ensures { result ≡ presence_in (held_at self.now.cells a) }
     {
@@ -212,7 +224,7 @@ impl PlainMemory {
         }
     }
 
-    /// The block that an address lies in.
+    /// Returns the block that an address lies in, or `None` if it lies in none.
     pub fn block(&self, a: u32) -> Option<Block>
         ensures { result ≡ block_at self.now.cells a }
     {
@@ -222,14 +234,15 @@ impl PlainMemory {
         }
     }
 
-    /// The request at this place, from 0, among those that wait at a cell, in their order of arrival.
+    /// Returns the request at this place among those that wait at a cell, or `None` past the last one. Places count
+    /// from 0, in the order of arrival.
     pub fn waiter(&self, a: u32, place: usize) -> Option<Waiter>
         ensures { result ≡ slice_get (waiters_at self.now.cells a) place }
     {
         nth_at(self.queue.as_slice(), a, place)
     }
 
-    /// What is kept under an element's number.
+    /// Returns the operation and the entry that are kept under an element's number, or `None` if there are none.
     pub fn kept(&self, element: u16, number: u64) -> Option<Kept>
         ensures { result ≡ kept_for self.now.windows (record { element = element; number = number }) }
     {
@@ -237,7 +250,7 @@ impl PlainMemory {
     }
 }
 
-// So many slots in no block.
+// Makes the given number of slots, all in no block.
 fn no_slots(alloc: Global, cells: u32) -> Result<Vec<Option<Slot>>, AllocError>
     ensures { IfOk result (λ slots. slots.items ≡ replicate cells None) }
 {
@@ -248,7 +261,7 @@ fn no_slots(alloc: Global, cells: u32) -> Result<Vec<Option<Slot>>, AllocError>
     Ok(slots)
 }
 
-// So many windows with no entry.
+// Makes the given number of windows, all with no entry.
 fn new_windows(alloc: Global, elements: u16) -> Result<Vec<KeptWindow>, AllocError>
     ensures { IfOk result (λ windows. windows.items ≡ replicate elements new_window) }
 {

@@ -1,4 +1,4 @@
-//! All requests that wait, in their order of arrival.
+//! All waiting requests, in their order of arrival.
 ghost use Rattle.std.specs.Prelude.{◌≡◌, ◌+◌, ◌<◌, ◌≤◌, ◌++◌, ◌∷◌, [], List, length, slice_get, slice_index_or};
 ghost use Rattle.std.specs.Prelude.{vec_len, vec_capacity, Some, None, IfSome};
 ghost use Rattle.std.specs.Option.{IfNone};
@@ -8,14 +8,14 @@ ghost use Rattle.im_plain.specs.Waiting.{waiting_at, without, parked};
 
 use im_types::{Entry, Waiter};
 
-/// A request that waits, and the address of the cell that it waits at.
+/// A waiting request, and the address of the cell that it waits at.
 #[derive(Clone, Copy)]
 pub struct Deferred {
     pub address: u32,
     pub waiter: Waiter,
 }
 
-/// How many wait at a cell.
+/// Returns the number of requests that wait at a cell.
 pub fn count_at(queue: &[Deferred], a: u32) -> usize
     ensures { result ≡ length (waiting_at a queue.now) }
 {
@@ -28,7 +28,7 @@ pub fn count_at(queue: &[Deferred], a: u32) -> usize
     count
 }
 
-/// The request at this place, from 0, among those that wait at a cell.
+/// Returns the request at this place, from 0, among those that wait at a cell, or `None` past the last one.
 pub fn nth_at(queue: &[Deferred], a: u32, place: usize) -> Option<Waiter>
     ensures { result ≡ slice_get (waiting_at a queue.now) place }
 {
@@ -44,7 +44,7 @@ pub fn nth_at(queue: &[Deferred], a: u32, place: usize) -> Option<Waiter>
     None
 }
 
-/// Puts a request behind the others, if its entry is Waiting.
+/// Puts a request at the end of the queue if its entry is Waiting.
 pub fn park(queue: &mut Vec<Deferred>, a: u32, waiter: Waiter, entry: Entry)
     requires { vec_len queue.old < vec_capacity queue.old }
     ensures queue { queue.new.items ≡ parked entry a waiter queue.old.items }
@@ -55,7 +55,7 @@ pub fn park(queue: &mut Vec<Deferred>, a: u32, waiter: Waiter, entry: Entry)
     }
 }
 
-/// The place in the queue of the first request that waits at a cell.
+/// Returns the place in the queue of the first request that waits at a cell, or `None` if none waits.
 fn first_at(queue: &[Deferred], a: u32) -> Option<usize>
     ensures none { IfNone result ((waiting_at a queue.now ≡ []) × (without 1 a queue.now ≡ queue.now)) }
     ensures within { IfSome result (λ i. i < length queue.now) }
@@ -71,7 +71,7 @@ fn first_at(queue: &[Deferred], a: u32) -> Option<usize>
     None
 }
 
-/// Takes out the first request that waits at a cell.
+/// Removes and returns the first request that waits at a cell, or returns `None` if none waits.
 pub fn pop_first(queue: &mut Vec<Deferred>, a: u32) -> Option<Waiter>
     ensures first { result ≡ slice_get (waiting_at a queue.old.items) 0 }
     ensures rest { queue.new.items ≡ without 1 a queue.old.items }

@@ -14,7 +14,7 @@ use im_types::{Entry, Judged, Kept, LAST, Op, Refusal, Reply, Request, WINDOW, W
 use std::alloc::{AllocError, Global};
 use std::marker::Model;
 
-/// The entries that are kept for an element. It has room for a whole window.
+/// The entries that are kept for an element, with room for a whole window.
 #[derive(Drop)]
 pub struct KeptWindow {
     base: u64,
@@ -34,7 +34,7 @@ impl Model for KeptWindow {
 }
 
 impl KeptWindow {
-    /// A window with no entry.
+    /// Makes a window with no entry.
     pub fn new(alloc: Global) -> Result<Self, AllocError>
         ensures { IfOk result (λ w. w ≡ new_window) }
     {
@@ -42,7 +42,7 @@ impl KeptWindow {
         Ok(KeptWindow { base: 1, kept })
     }
 
-    /// Whether a request is new or known, or why it is refused.
+    /// Returns whether a request is new or a repeat, or why it is refused.
     pub fn judge(&self, request: &Request) -> Result<Judged, Refusal>
         ensures { result ≡ judge_window request.now (Some self.now) }
     {
@@ -68,7 +68,7 @@ impl KeptWindow {
         }
     }
 
-    /// The entry under a number, or why there is none.
+    /// Returns the entry under a number, or why there is none.
     pub fn ask(&self, number: u64) -> Result<Entry, Refusal>
         ensures { result ≡ ask_window number (Some self.now) }
     {
@@ -83,7 +83,7 @@ impl KeptWindow {
         }
     }
 
-    /// What is kept under a number.
+    /// Returns the operation and the entry under a number, or `None` if there are none.
     pub fn kept(&self, number: u64) -> Option<Kept>
         ensures { result ≡ kept_under self.now number }
     {
@@ -98,7 +98,7 @@ impl KeptWindow {
         }
     }
 
-    /// The base, and the number of the next new request.
+    /// Returns the base, and the number of the next new request.
     pub fn bounds(&self) -> (u64, u64)
         requires { next_number self.now < 2 ^ 64 }
         ensures { result ≡ (self.now.base, next_number self.now) }
@@ -114,7 +114,7 @@ impl KeptWindow {
         self.kept.push(Kept { op, entry }).unwrap();
     }
 
-    /// The entry under a number is now answered.
+    /// Answers the entry under a number.
     pub fn answer(&mut self, number: u64, reply: Reply)
         ensures { self.new ≡ answer_in number reply self.old }
     {
@@ -124,7 +124,7 @@ impl KeptWindow {
         }
     }
 
-    // How many entries a confirmation drops, or why it is refused.
+    // Returns the number of entries that a confirmation drops, or why it is refused.
     fn count_below(&self, upto: u64) -> Result<usize, Refusal>
         ensures count { IfOk result (λ count. count ≡ upto - self.now.base) }
         ensures within { IfOk result (λ count. count ≤ length self.now.kept) }
@@ -141,7 +141,7 @@ impl KeptWindow {
         Ok(count as usize)
     }
 
-    /// Whether a confirmation would drop an entry, or why it would be refused.
+    /// Returns whether a confirmation would drop an entry, or why it would be refused.
     pub fn judge_confirm(&self, upto: u64) -> Result<bool, Refusal>
         ensures { result ≡ forgets upto self.now (confirm_window upto (Some self.now)) }
     {
@@ -149,7 +149,7 @@ impl KeptWindow {
         Ok(self.base < upto)
     }
 
-    /// Drops the entries below a number, if each of them is answered.
+    /// Drops the entries below a number if each of them is answered. Returns why it is refused otherwise.
     pub fn confirm(&mut self, upto: u64) -> Result<(), Refusal>
         ensures { MatchResult result (λ _. confirm_window upto (Some self.old) ≡ Ok self.new)
             (λ refusal. (confirm_window upto (Some self.old) ≡ Err refusal) × (self.new ≡ self.old)) }
@@ -161,14 +161,14 @@ impl KeptWindow {
     }
 }
 
-// Whether an entry is waiting.
+// Returns whether an entry is waiting.
 fn has_waiting(kept: &[Kept]) -> bool
     ensures { result ≡ list_any is_waiting kept.now }
 {
     kept.iter().any(|k| matches!(k.entry, Entry::Waiting))
 }
 
-// Drops the first entries.
+// Drops the first `count` entries.
 fn drop_front(kept: &mut Vec<Kept>, count: usize)
     requires { count ≤ vec_len kept.old }
     ensures items { kept.new.items ≡ drop count kept.old.items }
@@ -179,7 +179,7 @@ fn drop_front(kept: &mut Vec<Kept>, count: usize)
     }
 }
 
-/// Whether a request is new or known, or why it is refused.
+/// Returns whether a request is new or a repeat, or why it is refused.
 pub fn judge(windows: &[KeptWindow], request: &Request) -> Result<Judged, Refusal>
     ensures { result ≡ judge windows.now request.now }
 {
@@ -191,7 +191,7 @@ pub fn judge(windows: &[KeptWindow], request: &Request) -> Result<Judged, Refusa
     window.judge(request)
 }
 
-/// The entry that is kept for a request, or why there is none.
+/// Returns the entry that is kept for a request, or why there is none.
 pub fn ask(windows: &[KeptWindow], who: Waiter) -> Result<Entry, Refusal>
     ensures { result ≡ ask windows.now who }
 {
@@ -203,7 +203,7 @@ pub fn ask(windows: &[KeptWindow], who: Waiter) -> Result<Entry, Refusal>
     window.ask(who.number)
 }
 
-/// What is kept for a request.
+/// Returns the operation and the entry that are kept for a request, or `None` if there are none.
 pub fn kept_for(windows: &[KeptWindow], who: Waiter) -> Option<Kept>
     ensures { result ≡ kept_for windows.now who }
 {
@@ -215,7 +215,7 @@ pub fn kept_for(windows: &[KeptWindow], who: Waiter) -> Option<Kept>
     window.kept(who.number)
 }
 
-/// The base of an element's window, and the number of its next new request.
+/// Returns the base of an element's window and the number of its next new request, or `NoElement`.
 pub fn bounds(windows: &[KeptWindow], element: u16) -> Result<(u64, u64), Refusal>
     requires { (w : Window) → slice_get windows.now element ≡ Some w → next_number w < 2 ^ 64 }
     ensures { result ≡ bounds windows.now element }
@@ -228,7 +228,7 @@ pub fn bounds(windows: &[KeptWindow], element: u16) -> Result<(u64, u64), Refusa
     Ok(window.bounds())
 }
 
-/// Whether a confirmation would drop an entry, or why it would be refused.
+/// Returns whether a confirmation would drop an entry, or why it would be refused.
 pub fn judge_confirm(windows: &[KeptWindow], element: u16, upto: u64) -> Result<bool, Refusal>
     ensures { let windows = windows.now in result
         ≡ forgets upto (slice_index_or windows element new_window) (confirm_window upto (slice_get windows element)) }
@@ -241,7 +241,7 @@ pub fn judge_confirm(windows: &[KeptWindow], element: u16, upto: u64) -> Result<
     window.judge_confirm(upto)
 }
 
-/// Keeps a request with its entry.
+/// Keeps a request's operation with its entry.
 pub fn note(windows: &mut [KeptWindow], request: &Request, entry: Entry)
     requires { (w : Window) → slice_get windows.old request.now.element ≡ Some w → length w.kept < WINDOW }
     ensures { windows.new ≡ note windows.old request.now entry }
@@ -253,7 +253,7 @@ pub fn note(windows: &mut [KeptWindow], request: &Request, entry: Entry)
     }
 }
 
-/// The entry of a request is now answered.
+/// Answers the entry of a request.
 pub fn answer(windows: &mut [KeptWindow], who: Waiter, reply: Reply)
     ensures { windows.new ≡ answer windows.old who reply }
 {
@@ -264,7 +264,7 @@ pub fn answer(windows: &mut [KeptWindow], who: Waiter, reply: Reply)
     }
 }
 
-/// Drops an element's entries below a number, if each of them is answered.
+/// Drops an element's entries below a number if each of them is answered. Returns why it is refused otherwise.
 pub fn confirm(windows: &mut [KeptWindow], element: u16, upto: u64) -> Result<(), Refusal>
     ensures ok { OnOk result ((w : Window) × (confirm_window upto (slice_get windows.old element) ≡ Ok w)
         × (windows.new ≡ slice_set windows.old element w)) }
@@ -279,7 +279,7 @@ pub fn confirm(windows: &mut [KeptWindow], element: u16, upto: u64) -> Result<()
     window.confirm(upto)
 }
 
-/// The first `count` of those that wait at a cell are answered with a value, and leave the queue.
+/// Answers the first `count` requests that wait at a cell with a value, and takes them out of the queue.
 pub fn resume(
     windows: &mut [KeptWindow],
     queue: &mut Vec<Deferred>,

@@ -11,8 +11,8 @@ use crate::plan::Plan;
 use im_memory::Memory;
 use im_types::{Block, Cell, Kind, LAST, Op, Request};
 
-/// Whether a plan fits a memory: its requests are still to come, each of an element that there is, and each I cell that
-/// they name is empty, and nobody waits for it.
+/// Returns whether a plan fits a memory. Each of its requests is still to come and is of an element that exists. Each I
+/// cell that the plan names is empty, and nobody waits for it.
 #[tactic(auto, using(crate::proofs::FittingLemmas::plan_fits))]
 pub fn fits(plan: &Plan, memory: &Memory) -> bool
     ensures { IsTrue result ↔ FitsPlan memory.now.contents plan.now }
@@ -20,7 +20,7 @@ pub fn fits(plan: &Plan, memory: &Memory) -> bool
     do_fit(plan.requests(), memory)
 }
 
-// Whether each request fits.
+// Returns whether each request fits.
 fn do_fit(requests: &[Request], memory: &Memory) -> bool
     ensures { result ≡ all_fit memory.now.contents requests.now }
 {
@@ -34,7 +34,7 @@ fn do_fit(requests: &[Request], memory: &Memory) -> bool
     true
 }
 
-// Whether a request fits.
+// Returns whether a request fits.
 fn does_fit(request: &Request, memory: &Memory) -> bool
     ensures { result ≡ request_fits memory.now.contents request.now }
 {
@@ -48,7 +48,7 @@ fn does_fit(request: &Request, memory: &Memory) -> bool
     }
 }
 
-// Whether its number is still to come.
+// Returns whether a request's number is still to come.
 fn is_to_come(request: &Request, memory: &Memory) -> bool
     ensures { result ≡ number_fits request.now.number (bounds memory.now.contents.windows request.now.element) }
 {
@@ -64,7 +64,7 @@ fn is_to_come(request: &Request, memory: &Memory) -> bool
     }
 }
 
-// An operation's address, or its length.
+// Returns an operation's address, or its length.
 fn address(op: &Op) -> u32
     ensures { result ≡ address_of op.now }
 {
@@ -75,7 +75,7 @@ fn address(op: &Op) -> u32
     }
 }
 
-// Whether a cell is no I cell, or is empty.
+// Returns whether a cell is empty or isn't an I cell.
 fn is_for_cell(block: Option<Block>, cell: Option<Cell>) -> bool
     ensures { (held : Option Held) → block ≡ option_map (λ h. h.block) held → cell ≡ presence_in held
         → result ≡ cell_fits held }

@@ -1,5 +1,5 @@
-//! Plans as code: fetches and stores, looked up by element and number, and whether they fit a memory. What a plan's
-//! requests come to, whatever their order, is told by the laws of `im_plans`.
+//! Plans as code: fetches and stores, looked up by element and number, and the test whether they fit a memory. The laws
+//! of `im_plans` say what the results of a plan's requests are, whatever their order.
 #![tactic(auto)]
 
 mod fitting;

@@ -16,8 +16,8 @@ use std::alloc::Global;
 use std::collections::{BTreeMap, BTreeSet};
 use std::marker::Model;
 
-/// Requests that make a plan: fetches and stores, each under its own element's number, with at most one store to an
-/// address. Contracts see their list.
+/// The requests of a plan. They are fetches and stores, each under its own element's number, with at most one store to
+/// an address. Contracts see their list.
 #[derive(Drop)]
 pub struct Plan {
     requests: Vec<Request>,
@@ -40,8 +40,8 @@ impl Model for Plan {
 }
 
 impl Plan {
-    /// A plan of these requests, in time of their number times its logarithm. `BadPlan` where one is no fetch or store,
-    /// two have one element and number, or two store to one address; `NoMemory` where `alloc` refuses its index.
+    /// Makes a plan of n requests, in time n log n. Returns `BadPlan` if a request is no fetch or store, two requests
+    /// have one element and number, or two store to one address. Returns `NoMemory` if `alloc` refuses its index.
     pub fn new(alloc: Global, requests: Vec<Request>) -> Result<Plan, Refusal>
         ensures found { IfOk result (λ plan. plan ≡ requests.items) }
         ensures plan { OnOk result (IsPlan requests.items) }
@@ -60,7 +60,8 @@ impl Plan {
         Ok(Plan { requests, under })
     }
 
-    /// Whether the plan has this request, with its operation, under its element's number. In logarithmic time.
+    /// Returns whether the plan has this request, with its operation, under its element's number. It takes logarithmic
+    /// time.
     #[tactic(auto, using(crate::proofs::MakingLemmas::in_plan))]
     pub fn has(&self, request: &Request) -> bool
         ensures has { IsTrue result ↔ IsInPlan self.now request.now }
@@ -69,7 +70,7 @@ impl Plan {
         self.has_under(request)
     }
 
-    /// The plan's requests, in the order that they were given in.
+    /// Returns the plan's requests, in the order in which they were given.
     pub fn requests(&self) -> &[Request]
         ensures all { result.now ≡ self.now }
         ensures plan { IsPlan self.now }
@@ -77,7 +78,7 @@ impl Plan {
         self.requests.as_slice()
     }
 
-    // The same by the index.
+    // Returns the same by the index.
     fn has_under(&self, request: &Request) -> bool
         ensures found { result ≡ is_op request.now.op (op_under (request.now.element, request.now.number) self.now) }
         ensures plan { IsPlan self.now }
@@ -89,7 +90,7 @@ impl Plan {
     }
 }
 
-// Whether an operation may stand in a plan.
+// Returns whether an operation may stand in a plan.
 fn is_for_plans(op: &Op) -> bool
     ensures { result ≡ is_planned op.now }
 {

@@ -1,4 +1,4 @@
--- A plan, and what it comes to. (Own.)
+-- A plan, and its results. (Own.)
 use Rattle.std.specs.Prelude.{ℕ, List, [], ◌∷◌, Option, map}
 use Rattle.im_types.specs.declared.operations.Op.{Op}
 use Rattle.im_types.specs.declared.operations.Op.TheVariants.{Alloc, Fetch, Store}
@@ -22,6 +22,6 @@ two_cells = after (empty_contents 16 4) (Asks (asks 0 1 (Alloc I 2)) ∷ [])
 abbrev pub a_plan : List Request
 a_plan = asks 1 1 (Fetch 0) ∷ asks 1 2 (Fetch 1) ∷ asks 2 1 (Store 0 5) ∷ asks 2 2 (Store 1 6) ∷ asks 3 1 (Fetch 0) ∷ asks 3 2 (Fetch 9) ∷ []
 
--- what each of a plan's requests comes to
+-- the results of a plan's requests
 abbrev pub results_of : Contents → List Request → List (Option Reply)
 results_of m plan = map (λ r. result_of m.cells plan r.op) plan

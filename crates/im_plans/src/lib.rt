@@ -1,6 +1,6 @@
-//! Laws of planned runs: traces that ask only for what a plan has, on a memory that the plan fits. Each function here
-//! does nothing, and its contract is a law. They hold whatever the order of the requests, and whatever questions and
-//! confirmations come between.
+//! Laws of planned runs. A planned run is a trace that requests only what a plan has, on a memory that the plan fits.
+//! Each function here does nothing, and its contract is a law. The laws hold for every order of the requests, with any
+//! questions and confirmations between them.
 #![tactic(auto)]
 
 ghost use Rattle.std.specs.Prelude.{◌≡◌, ◌↔◌, ◌++◌, ◌∷◌, [], List, None, Some, Ok};
@@ -22,8 +22,9 @@ ghost use Rattle.im_plans.specs.Example.{two_cells, a_plan, results_of};
 ghost use Rattle.im_plans.specs.Runs.{Starts, IsInPlan, IsPlannedCall, IsPlannedRun, IsResultOrWaits, TellsResults};
 ghost use Rattle.im_plans.specs.Runs.{HasServed, entry_for};
 
-/// Each answer that a planned request is given in a legal planned run is its result by the plan, which names no order:
-/// at once, when it is sent again, and when its entry is collected. So is each answer that is kept for it at the end.
+/// Each answer to a planned request in a legal planned run is the request's result by the plan, which names no order.
+/// This holds for the answer at once, the answer when it is sent again, and the answer when its entry is collected. It
+/// also holds for each answer that is kept at the end.
 pub fn planned_answers_are_results()
     ensures told { (m : Contents) (plan : List Request) (trace : List Line) → Starts m plan
         → IsLegal m trace → IsPlannedRun plan trace → AllByRecursion (TellsResults m plan) trace }
@@ -44,8 +45,8 @@ pub fn fetch_with_no_store_waits()
         → entry ≡ Waiting }
 {}
 
-/// Once all of the plan was served, what is kept for its requests is given by the memory at the start and the plan
-/// alone: the result, or Waiting where there is none.
+/// Once the whole plan is served, the memory at the start and the plan alone give the entry that is kept for each of
+/// its requests. It is the request's result, or Waiting if there is no result.
 pub fn served_plan_has_one_end()
     ensures { (m : Contents) (plan : List Request) (trace : List Line) (r : Request)
         (entry : Entry) → Starts m plan → IsPlannedRun plan trace
@@ -54,13 +55,14 @@ pub fn served_plan_has_one_end()
         → entry ≡ entry_for (result_of m.cells plan r.op) }
 {}
 
-/// A planned run with one line more is planned exactly where that line is.
+/// A planned run with one more line is planned if and only if that line is.
 pub fn planned_run_grows()
     ensures { (plan : List Request) (trace : List Line) (line : Line) → IsPlannedRun plan trace
         → IsPlannedRun plan (trace ++ line ∷ []) ↔ IsPlannedCall plan line.call }
 {}
 
-/// An example: fetches have the value that the plan stores, before and after its store; one in no block is told so.
+/// An example. A fetch has the value that the plan stores, before and after the store. A fetch of an address in no
+/// block has the result `NoCell`.
 pub fn plan_has_results()
     ensures { results_of two_cells a_plan
         ≡ Some (Value 5) ∷ Some (Value 6) ∷ Some Stored ∷ Some Stored ∷ Some (Value 5) ∷ Some NoCell

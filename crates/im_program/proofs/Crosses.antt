@@ -1,4 +1,4 @@
--- A disk over a file may cross threads where what stands for its start may.
+-- A disk over a file may go to another thread if what stands for its start may.
 use denote.RattleType.{RattleType}
 use denote.Param.Send.{IsSend, sendable}
 use Rattle.std.proofs.Crossing.{crosses}

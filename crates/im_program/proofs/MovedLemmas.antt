@@ -1,4 +1,4 @@
--- What the moving of an image from one file to another comes to.
+-- The move of an image from one file to another.
 use Rattle.std.proofs.Common.{◌≡◌, ◌⊎◌, inl, inr, ⊎_elim, ℕ, zero, suc, List, [], ◌∷◌, get_or, replicate, refl, sym, ◌∙◌, ap, subst, arith}
 use Rattle.std.specs.Prelude.{Option}
 use Rattle.std.specs.Io.KnownBytes.{Appends, Keeps}
@@ -26,7 +26,7 @@ no_gate n is e = omega (arith, is, e)
 zeros_blank : (n : ℕ) → IsBlank (replicate n 0)
 zeros_blank n = (no_gate (get_or (replicate n 0) 0 0) (zero_at n 0), no_gate (get_or (replicate n 0) 4096 0) (zero_at n 4096))
 
--- what was only read since it was opened, by two runs of calls
+-- two runs of calls that only read, since the opening
 pub read_since : {E : Type 0} (honest : E → Type 0) (now : E → Moment) (past : E → List Moment) (first : Moment) (opened mid old : E) → now opened ≡ first → past opened ≡ [] → (honest mid → OnlyReads now past opened mid)
     → (honest old → honest mid) → (honest old → OnlyReads now past mid old) → honest old → ReadsOnly first (now old) [] (past old)
 read_since honest now past first opened mid old is none before was after h =

@@ -12,21 +12,21 @@ use Rattle.im_program.specs.declared.words.Job.{Job}
 use Rattle.im_program.specs.declared.words.Job.TheVariants.{Demonstration, Format, Serial, Serve, Inspect}
 use Rattle.im_script.specs.Grammar.{number_up_to}
 
--- ---- what a parse reads of the command line
+-- ---- what the parser knows of the command line
 
 -- an option that takes a number
 abbrev pub option_rule : Text → Rule
 option_rule id = record (new_rule id) { long = Some id; value_names = 1 }
 
--- an option that is given or not
+-- a flag: an option without a value
 abbrev pub flag_rule : Text → Rule
 flag_rule id = record (new_rule id) { long = Some id; action = Some SetTrue }
 
--- a path that has to be given
+-- a required path
 abbrev pub path_rule : Text → Rule
 path_rule id = record (new_rule id) { required = true }
 
--- the option by which an opening waits: whole seconds, up to a day
+-- the option for the time that an opening waits: whole seconds, up to a day
 abbrev pub wait_rule : Rule
 wait_rule = record (option_rule (codes "wait")) { parser = Some (Unsigned 0 86400) }
 
@@ -58,7 +58,7 @@ inspect_app = file_app (codes "inspect") (codes "IMAGE")
 abbrev pub migrate_app : App
 migrate_app = with_rule (file_app (codes "migrate") (codes "OLD")) (path_rule (codes "NEW"))
 
--- a command that has a version to tell
+-- a command with `--version`
 abbrev pub with_version : App → App
 with_version app = record app { top = record app.top { has_version = true } }
 
@@ -72,7 +72,7 @@ imem_app = with_subcommand (with_subcommand (with_subcommand (with_subcommand (w
 
 -- ---- what is asked for
 
--- a Work without where its texts lie in memory
+-- a Work without the places of its texts in memory
 pub data Task : Type 0 where
   demonstration : Task
   format : (image : List ℕ) (cells elements slots : ℕ) (is_new : Bool) → Task
@@ -96,7 +96,7 @@ task_of (Alone job) = task_of_job job
 task_of (Run image script planned) = run image.now script.now planned
 task_of (Migrate old new) = migrate old.now new.now
 
--- an option's number, in decimal digits below 2^32, or `fallback` where the option is not given
+-- an option's number, in decimal digits below 2^32, or `fallback` if the option isn't given
 abbrev pub number_in : List Row → Text → ℕ → Option ℕ
 number_in rows id fallback = option_map_or (number_up_to 4294967295) (first_of id rows) (Some fallback)
 
@@ -104,11 +104,11 @@ number_in rows id fallback = option_map_or (number_up_to 4294967295) (first_of i
 abbrev pub path_in : List Row → Text → Text
 path_in rows id = unwrap_or (first_of id rows) []
 
--- whether an option is given: its text is then `true`
+-- whether a flag is given: its text is then `true`
 abbrev pub is_given : List Row → Text → Bool
 is_given rows id = bytes_eq (path_in rows id) (codes "true")
 
--- the task of format, where each number that is given is one
+-- the task of format, if each number that is given is in decimal digits below 2^32
 abbrev pub format_task : List Row → Option Task
 format_task rows =
     option_and_then (λ cells. option_and_then (λ elements. option_map (λ slots. format (path_in rows (codes "IMAGE")) cells elements slots (is_given rows (codes "new")))
@@ -134,26 +134,26 @@ inspect_task rows = inspect (path_in rows (codes "IMAGE"))
 abbrev pub migrate_task : List Row → Task
 migrate_task rows = migrate (path_in rows (codes "OLD")) (path_in rows (codes "NEW"))
 
--- the subcommand that was met, with what was found of its arguments
+-- the subcommand that was found, with its arguments
 abbrev pub task_in : Option (Text × List Row) → Option Task
 task_in None = Some demonstration
 task_in (Some met) = if bytes_eq met.0 (codes "format") then format_task met.1 else if bytes_eq met.0 (codes "serial") then Some (serial_task met.1) else if bytes_eq met.0 (codes "run") then Some (run_task met.1) else if bytes_eq met.0 (codes "serve") then Some (serve_task met.1) else if bytes_eq met.0 (codes "migrate") then Some (migrate_task met.1) else Some (inspect_task met.1)
 
--- whether the subcommand that was met is to end by the kind of what it refuses
+-- whether the exit status of the subcommand that was found tells refusals apart
 abbrev pub has_statuses : Option (Text × List Row) → Bool
 has_statuses None = false
 has_statuses (Some met) = is_given met.1 (codes "statuses")
 
--- what stands behind a plus, where the text begins with one; else the text
+-- the text after a leading plus; a text without one is taken whole
 abbrev pub behind_plus : Text → Text
 behind_plus [] = []
 behind_plus (byte ∷ rest) = if byte == 43 then rest else byte ∷ rest
 
--- the seconds that a text says in decimal digits, before which a plus may stand; none where it says none
+-- the seconds that a text gives in decimal digits, after an optional plus; none if it isn't such a text
 abbrev pub seconds_of : Text → ℕ
 seconds_of text = unwrap_or (number_up_to 4294967295 (behind_plus text)) 0
 
--- for how many seconds an opening of the subcommand that was met waits
+-- how many seconds the openings of the subcommand that was found wait
 abbrev pub wait_in : Option (Text × List Row) → ℕ
 wait_in None = 0
 wait_in (Some met) = seconds_of (path_in met.1 (codes "wait"))

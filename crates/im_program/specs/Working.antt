@@ -1,4 +1,4 @@
--- What the work comes to that the program is asked for. (Own.)
+-- The result of each kind of work. (Own.)
 use Rattle.std.specs.Prelude.{◌≡◌, ℕ, List, [], Option}
 use Rattle.im_types.specs.Sizes.{AreLimits}
 use Rattle.im_disk.specs.Moment.{Moment}
@@ -10,9 +10,9 @@ use Rattle.im_dialogue.specs.Dialogue.{TalkedFrom}
 use Rattle.im_run.specs.Running.{RanFrom}
 use Rattle.im_program.specs.Words.{Task, demonstration, format, serial, run, serve, inspect, migrate}
 
--- A task was done on this disk, with this status: its file held the first moment when it was opened, and the writer held
--- these bytes before, and holds those now. No file is opened for the demonstration; what a migration comes to is said apart,
--- as two files are opened for it.
+-- A task was done on this disk, with this status. The disk's file held the first moment when it was opened. The writer
+-- held the first bytes before, and holds the others now. The demonstration opens no file. The result of a migration is
+-- stated elsewhere, because it opens two files.
 abbrev pub DoneOn : {D : Type 0} → (D → Moment) → (D → List Moment) → (D → ℕ) → Moment → Task → Option (List ℕ) → Option (List ℕ) → ℕ → D → Type 0
 DoneOn now past failures first demonstration was is status disk = ⊥
 DoneOn now past failures first (format image cells elements slots is_new) was is status disk =

@@ -1,4 +1,4 @@
-//! What a person is told on standard error.
+//! What the program prints for a person on standard error.
 
 use crate::descriptors::Descriptors;
 use crate::opening::call_of;
@@ -15,27 +15,27 @@ use std::fmt::{Display, Formatter};
 use std::io::Eprint;
 use std::path::Path;
 
-// How many requests are served between two lines of progress.
+// The number of requests served between two lines of progress.
 const STRIDE: u64 = 4_096;
 
-// How many pages and slots of a migration are written between two such lines.
+// The number of pages and slots that a migration writes between two lines of progress.
 const WRITES: u64 = 1_024;
 
-// How many turns of checkpoints are made between two lines that tell how a run stands.
+// The number of checkpoint turns between two lines about how a run stands.
 const TURNS: u64 = 1_024;
 
 /// Which of the standard streams are terminals.
 #[derive(Clone, Copy, Debug, PartialEq, Eq)]
 pub struct Terminals {
-    /// Standard input: somebody may be asked.
+    /// Standard input: the program may ask a person.
     pub input: bool,
-    /// Standard output: somebody waits for each line.
+    /// Standard output: a person waits for each line.
     pub output: bool,
-    /// Standard error: somebody watches.
+    /// Standard error: a person watches.
     pub errors: bool,
 }
 
-// A name in a message: a byte that would steer a terminal is shown as it is written in a text.
+// A name in a message. Control characters are written as escapes, so that a name can't steer a terminal.
 #[derive(Clone, Copy)]
 struct Shown<'a>(&'a str);
 
@@ -53,7 +53,7 @@ impl Display for Shown<'_> {
     }
 }
 
-/// Standard error, for the work on these files.
+/// Prints on standard error what happens to the files of one piece of work.
 #[derive(Drop)]
 pub struct Console<'a, R> {
     rt: &'a R,
@@ -63,13 +63,13 @@ pub struct Console<'a, R> {
     // The second file: a script, or the new file of a migration.
     script: &'a str,
     terminals: Terminals,
-    // What was refused last, and whether it waits to be told until the disk says what failed.
+    // The last refusal, and whether its line waits until the disk says which call failed.
     refused: Option<Reason>,
     waits: bool,
 }
 
 impl<'a, R: Eprint + AllocGlobal> Console<'a, R> {
-    /// For the files of this work.
+    /// Makes the console for the files of `work`.
     pub fn new(
         rt: &'a R,
         held: &'a Descriptors,
@@ -99,22 +99,22 @@ impl<'a, R: Eprint + AllocGlobal> Console<'a, R> {
         }
     }
 
-    /// Why the work was refused last, if it was.
+    /// Returns the reason of the last refusal, if there was one.
     pub fn reason(&self) -> Option<Reason> {
         self.refused
     }
 
-    /// Whether somebody watches.
+    /// Whether a person watches standard error.
     pub(crate) fn is_watched(&self) -> bool {
         self.terminals.errors
     }
 
-    /// Whether somebody may be asked.
+    /// Whether the program may ask a person.
     pub(crate) fn may_ask(&self) -> bool {
         self.terminals.input
     }
 
-    /// Asks a person whether a file may be made anew.
+    /// Asks a person whether an existing file may be replaced.
     pub(crate) fn ask(&self, image: &str, is: &impl Display) {
         let path = Shown(image);
         let _printed = eprint!(self.rt;
@@ -122,7 +122,7 @@ impl<'a, R: Eprint + AllocGlobal> Console<'a, R> {
         );
     }
 
-    // Which file the reason speaks of.
+    // The file that the reason is about.
     fn path(&self, reason: Reason) -> &'a str {
         if reason.is_of_second() {
             if self.script == "-" {
@@ -135,7 +135,7 @@ impl<'a, R: Eprint + AllocGlobal> Console<'a, R> {
         }
     }
 
-    // Tells why the work is refused.
+    // Prints why the work is refused.
     fn tell(&self, reason: Reason) {
         let path = Shown(self.path(reason));
         let _printed = match reason {
@@ -162,21 +162,22 @@ impl<'a, R: Eprint + AllocGlobal> Console<'a, R> {
         };
     }
 
-    // What was refused is told with what the disk says of it.
+    // Prints a refusal with what the disk says about it.
     fn tell_call(&mut self, reason: Reason) {
         self.refused = Some(reason);
         self.waits = false;
         self.tell(reason);
     }
 
-    // Tells which call failed, where what was refused waits for it, or a note is needed.
+    // Prints which call failed, if the last refusal waits for it or a note is needed.
     fn tell_failed(&mut self, reason: Reason, noting: Noting) {
         if self.waits || noting != Noting::Unneeded {
             self.tell_call(reason);
         }
     }
 
-    /// Tells what was refused, if it isn't told yet: with what failed of the image's file, and whether a note is left.
+    /// Prints the last refusal if it isn't printed yet, with the call on the image's file that failed. Prints whether a
+    /// note was left beside the image.
     pub(crate) fn settle(&mut self, failure: Option<Failure>, noting: Noting) {
         if let Some(failure) = failure {
             self.tell_failed(Reason::Call(call_of(failure)), noting);
@@ -185,7 +186,7 @@ impl<'a, R: Eprint + AllocGlobal> Console<'a, R> {
         self.tell_note(self.image, noting);
     }
 
-    /// The same of the new file of a migration.
+    /// The same as `settle`, for the new file of a migration.
     pub(crate) fn settle_new(&mut self, failure: Option<Failure>, noting: Noting) {
         if let Some(failure) = failure {
             self.tell_failed(Reason::NewCall(call_of(failure)), noting);
@@ -193,7 +194,7 @@ impl<'a, R: Eprint + AllocGlobal> Console<'a, R> {
         self.tell_note(self.script, noting);
     }
 
-    // Tells what waits to be told.
+    // Prints the refusal that waits.
     fn tell_waiting(&mut self) {
         if self.waits {
             self.waits = false;
@@ -203,7 +204,7 @@ impl<'a, R: Eprint + AllocGlobal> Console<'a, R> {
         }
     }
 
-    // Tells of a note that was left, or that wasn't to be left.
+    // Prints whether a note was left, or couldn't be left.
     fn tell_note(&self, path: &str, noting: Noting) {
         let path = Shown(path);
         let _printed = match noting {
@@ -216,7 +217,7 @@ impl<'a, R: Eprint + AllocGlobal> Console<'a, R> {
     }
 }
 
-// The folder in which a path is looked for.
+// The folder that contains the path.
 fn folder_of(path: &str) -> &str {
     match Path::new(path).parent() {
         Some(folder) => folder.as_str(),
@@ -224,7 +225,7 @@ fn folder_of(path: &str) -> &str {
     }
 }
 
-// Whether a reason waits for what the disk says: a call on it failed.
+// Whether a reason waits for what the disk says, because a call on the disk failed.
 fn is_of_call(reason: Reason) -> bool {
     matches!(
         reason,
@@ -290,7 +291,7 @@ impl<R: Eprint + AllocGlobal> Follower for Console<'_, R> {
     }
 }
 
-/// Standard error, for the thread that keeps checkpoints in a run.
+/// Prints on standard error for the thread that keeps checkpoints in a run.
 #[derive(Drop)]
 pub struct Watch<'a, R> {
     rt: &'a R,
@@ -298,7 +299,7 @@ pub struct Watch<'a, R> {
 }
 
 impl<'a, R> Watch<'a, R> {
-    /// How the run stands is told where somebody watches.
+    /// Makes the watch. It prints how the run stands if `is_watched`.
     pub fn new(rt: &'a R, is_watched: bool) -> Watch<'a, R> {
         Watch { rt, is_watched }
     }

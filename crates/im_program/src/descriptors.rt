@@ -1,15 +1,15 @@
-//! The numbers of the standard streams, which no file that is opened may get.
+//! Keeps the numbers of the standard streams in use, so that no opened file gets one of them.
 
 use std::fs::File;
 use std::os::fd::{AsFd, AsRawFd};
 use std::rt::Files;
 
-// What is opened in the place of a stream that is closed. It is opened to be read, so a write to it fails.
+// What is opened in place of a closed stream. It is opened for reading, so a write to it fails.
 const NOWHERE: &str = "/dev/null";
 
-/// Descriptors 0 to 2 are in use for as long as this value lives, so no image is opened under one of them: what is
-/// printed would be written over it. The system gives the least number that is free. Each call that opens a file takes
-/// this value, and [`Descriptors::hold`] alone makes it, so none is opened before.
+/// Keeps descriptors 0 to 2 in use as long as this value lives. The system gives the least free number, so an image
+/// could otherwise get the number of a closed stream, and output would overwrite it. Each call that opens a file takes
+/// this value. Only [`Descriptors::hold`] makes it, so no file is opened before.
 #[derive(Drop)]
 pub struct Descriptors {
     first: Option<File>,
@@ -31,8 +31,9 @@ fn has(file: &Option<File>, number: i32) -> bool {
 }
 
 impl Descriptors {
-    /// Takes those of the three numbers that are free, by opening /dev/null three times. `None` where it can't be opened
-    /// so often and one of the streams is closed, or isn't known to be open: then no file is to be opened.
+    /// Takes those of the three numbers that are free, by opening /dev/null three times. Returns `None` if /dev/null
+    /// can't be opened three times and one of the streams is closed, or isn't known to be open. Then no file may be
+    /// opened.
     pub fn hold<R: Files<File = File>, I: AsFd, O: AsFd, E: AsFd>(
         rt: &R,
         input: &I,
@@ -51,12 +52,12 @@ impl Descriptors {
         }
     }
 
-    // Whether it was opened three times.
+    // Whether /dev/null was opened three times.
     fn is_whole(&self) -> bool {
         self.first.is_some() && self.second.is_some() && self.third.is_some()
     }
 
-    /// Whether the stream of this number, 0 to 2, was closed: /dev/null is in its place.
+    /// Whether the stream with this number, 0 to 2, was closed. /dev/null is then in its place.
     pub fn stands_for(&self, number: i32) -> bool {
         has(&self.first, number) || has(&self.second, number) || has(&self.third, number)
     }

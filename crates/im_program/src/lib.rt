@@ -1,5 +1,5 @@
-//! What the program is asked by the words of its command line, and the work that it does: it makes images, serves
-//! scripts, moves images on, and tells what an image means.
+//! Reads the command line of the program and does the work that it asks for. The program makes images, serves scripts
+//! and dialogues, moves images to the layout in use, and reports what an image means.
 #![tactic(auto)]
 
 mod console;

@@ -1,4 +1,4 @@
-//! How an image of the first version is moved on to a new file.
+//! Moves an image of the first layout version to a new file.
 ghost use Rattle.std.specs.Prelude.{◌≡◌, ◌⊎◌, ◌≤◌, [], length, replicate, IfOk, IfErr, OnOk, OnErr, string_bytes};
 ghost use Rattle.std.specs.Io.KnownBytes.{Appends, Keeps};
 ghost use Rattle.im_types.specs.declared.refusals.Refusal.TheVariants.{Device};
@@ -23,7 +23,7 @@ use std::fs::{self, File};
 use std::io::{ErrorKind, Write};
 use std::rt::Files;
 
-// The line of an image that was moved on.
+// The line that reports the number of commands of the moved image.
 fn make_migrated(alloc: Global, count: u64) -> Result<String, AllocError>
     ensures { IfOk result (λ text. string_bytes text ≡ migrated_line count) }
 {
@@ -42,12 +42,14 @@ fn print_migrated<W: Write>(alloc: Global, count: u64, out: &mut W) -> Result<()
     }
 }
 
-/// Moves the image of the first version on one disk on to another, and gives that one back. Its count goes to `out`, as
-/// the line `migrated COUNT`, or the line `refused N NAME` of what [`migrate`] refuses. The observer is told how far it has
-/// come, and why it is refused. The status is 0, or 1 where something was refused, or where a write of the output failed.
+/// Moves the image of the first version on the disk `old` to the disk `new`. Returns the status and the new disk.
+/// Writes the line `migrated COUNT` to `out`, or the line `refused N NAME` for what [`migrate`] refuses. Tells the
+/// observer how far the migration has come and why it is refused. The status is 0, or 1 if something was refused or a
+/// write of the output failed.
 ///
-/// Each file of the new disk that a crash may leave since the start, those aside that it could leave before, is no image,
-/// or means what the old one means; with status 0 each file left does the latter. The old disk is only read.
+/// A crash since the start leaves a file of the new disk that is no image, or that means what the old image means; or a
+/// file that the new disk could leave before. With status 0, each file left means what the old image means. The old
+/// disk is only read.
 pub fn migrate_on<O: Disk, N: Disk, W: Write, V: Observer + Follower>(
     alloc: Global,
     old: &mut O,
@@ -85,7 +87,7 @@ fn is_current<O: Disk>(old: &mut O) -> bool
     }
 }
 
-// Why an image can't be moved on, by what it is.
+// Why an image can't be moved.
 fn old_reason<O: Disk>(alloc: Global, old: &mut O, refusal: Refusal) -> Reason
     ensures reads { O.honest old.new → OnlyReads O.now O.past old.old old.new }
     ensures honest { O.honest old.new → O.honest old.old }
@@ -96,7 +98,7 @@ fn old_reason<O: Disk>(alloc: Global, old: &mut O, refusal: Refusal) -> Reason
     diagnose(alloc, old, refusal)
 }
 
-// The length that the new file needs. The observer is told why the old one is refused.
+// The length that the new file needs. If the old file is refused, the observer is told why.
 fn length_of<O: Disk, V: Observer>(
     alloc: Global,
     old: &mut O,
@@ -115,8 +117,8 @@ fn length_of<O: Disk, V: Observer>(
     }
 }
 
-// The new file: as it is, or where there is none at the path, made of so many zero bytes. One that is there and can't be
-// opened is never made anew: its bytes would be lost.
+// Opens the new file as it is. If there is no file at the path, makes one of `len` zero bytes. An existing file that
+// can't be opened is never replaced: its bytes would be lost.
 fn new_file<R: Files<File = File> + AllocGlobal, S: Start>(
     rt: &R,
     path: &str,
@@ -138,21 +140,25 @@ fn new_file<R: Files<File = File> + AllocGlobal, S: Start>(
     }
 }
 
-/// Moves the image of a file on to a new file, and gives both disks back, the new file's first, with the status and the
-/// line of [`migrate_on`]. The new file is used as it is where there is one at the path; else it is made, with the length
-/// that the image needs. The old file is opened to be read alone.
+/// Moves the image of the file `old` to the file `new`. Returns the status of [`migrate_on`], the disk of the new file,
+/// and the disk of the old one; [`migrate_on`] also says which line is printed. A new file that exists is used as it
+/// is. Else it is made, with the length that the image needs. The old file is opened only for reading.
 ///
-/// Whatever the new file held when it was opened (`S`), and the old one (`T`): as long as both were honest, each file
-/// that a crash may leave of the new one since then is no image, or means what the old file means, but for what the new
-/// one could leave before; and with status 0 each does the latter. Of the old file nothing is left that it couldn't leave
-/// when it was opened.
+/// The clauses hold for whatever the new file (`S`) and the old one (`T`) held when they were opened, as long as both
+/// files were honest. A crash since then leaves a new file that is no image, or that means what the old file means; or
+/// a file that it could leave before. With status 0, each new file left means what the old file means. The old file
+/// leaves nothing that it couldn't leave when it was opened.
 ///
-/// Refused are, with nothing printed and no file changed: `Device` for an old file that can't be opened, and its first
-/// fault, as [`migrate`] finds it; `NoMemory`, where there is no room to read it; `Device` for a new file that can't be
-/// opened or made: it is no regular file, another opening has its lock, or a call of the system fails. The observer is
-/// told why. What [`migrate_on`] refuses is its status and its last line.
+/// Errors, with nothing printed and no file changed; the observer is told why:
 ///
-/// That a file is ever opened is no clause: none knows what a folder holds.
+/// - `Device` if the old file can't be opened.
+/// - The first fault of the old file, as [`migrate`] finds it.
+/// - `NoMemory` if there is no room to read the old file.
+/// - `Device` if the new file can't be opened or made: it isn't a regular file, another opening has its lock, a call of
+///   the system fails, or both paths name one file.
+///
+/// If [`migrate_on`] refuses, its status and its last line say so. No clause says that a file is ever opened, because
+/// nothing is known about the contents of a folder.
 pub fn migrate_file<
     R: Files<File = File> + AllocGlobal,
     S: Start,

@@ -1,4 +1,4 @@
-//! Why a file wasn't made, opened or written, as it is told to a person.
+//! Why a file wasn't made, opened or written, in the words for a person.
 
 use im_damage::Damage;
 use im_disk::{Failure, OpenFault};
@@ -11,7 +11,7 @@ use std::os::unix::fs::MetadataExt;
 use std::path::Path;
 use std::rt::Files;
 
-// Whether there is a folder at the path; `.` where it is empty.
+// Whether there is a folder at the path. An empty path stands for `.`.
 fn is_folder<R: Files<File = File>>(rt: &R, path: &str) -> bool {
     match fs::metadata(rt, if path.is_empty() { "." } else { path }) {
         Ok(data) => data.is_dir(),
@@ -19,7 +19,7 @@ fn is_folder<R: Files<File = File>>(rt: &R, path: &str) -> bool {
     }
 }
 
-// Whether the folder isn't there in which the path is looked for.
+// Whether the folder that contains the path doesn't exist.
 fn has_no_folder<R: Files<File = File>>(rt: &R, path: &str) -> bool {
     match Path::new(path).parent() {
         Some(folder) => !is_folder(rt, folder.as_str()),
@@ -27,7 +27,7 @@ fn has_no_folder<R: Files<File = File>>(rt: &R, path: &str) -> bool {
     }
 }
 
-// By what the system says of a path.
+// The reason for what the system says about a path.
 fn of_system<R: Files<File = File>>(rt: &R, path: &str, kind: ErrorKind) -> PathFault {
     if path.is_empty() {
         PathFault::EmptyPath
@@ -38,7 +38,7 @@ fn of_system<R: Files<File = File>>(rt: &R, path: &str, kind: ErrorKind) -> Path
     }
 }
 
-/// Why a file wasn't made or opened.
+/// Returns why a file wasn't made or opened.
 pub(crate) fn reason_of<R: Files<File = File>>(rt: &R, path: &str, fault: FileFault) -> PathFault {
     match fault {
         FileFault::Unsynced => PathFault::Unsynced,
@@ -56,7 +56,7 @@ pub(crate) fn reason_of<R: Files<File = File>>(rt: &R, path: &str, fault: FileFa
     }
 }
 
-/// Which call on an open file failed.
+/// Returns which call on an open file failed.
 pub(crate) fn call_of(failure: Failure) -> CallFault {
     match failure {
         Failure::Length => CallFault::Length,
@@ -66,7 +66,8 @@ pub(crate) fn call_of(failure: Failure) -> CallFault {
     }
 }
 
-/// Why no image was made of a file, by the refusal and by what failed of it; and whether nothing was there before.
+/// Returns why no image was made, from the refusal and from the call that failed. `is_made` says that no file was there
+/// before.
 pub(crate) fn format_reason(refusal: Refusal, failure: Option<Failure>, is_made: bool) -> Reason {
     match (refusal, failure) {
         (Refusal::Device, Some(failure)) => Reason::Unmade(Some(call_of(failure)), !is_made),
@@ -75,7 +76,7 @@ pub(crate) fn format_reason(refusal: Refusal, failure: Option<Failure>, is_made:
     }
 }
 
-/// Whether two paths name one file.
+/// Whether two paths name the same file.
 pub(crate) fn is_one_file<R: Files<File = File>>(rt: &R, one: &str, other: &str) -> bool {
     match (fs::metadata(rt, one), fs::metadata(rt, other)) {
         (Ok(one), Ok(other)) => one.ino() == other.ino() && one.dev() == other.dev(),

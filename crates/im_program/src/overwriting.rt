@@ -1,4 +1,4 @@
-//! Whether a file that is there may be made anew, where somebody can be asked.
+//! Decides whether an existing file may be replaced, by asking if somebody can be asked.
 
 use crate::console::Console;
 use im_disk::Unknown;
@@ -10,12 +10,12 @@ use std::fs::{self, File};
 use std::io::{BufRead, Eprint};
 use std::rt::Files;
 
-// What there is at the path of a file that is to be made. Its text is for a person.
+// What is at the path of the file that is to be made. Its text is for a person.
 #[derive(Clone, Copy)]
 enum Found {
-    // An image that has had so many commands.
+    // An image with this number of commands.
     Image(u64),
-    // Some other file, or an image that can't be read.
+    // Another file, or an image that can't be read.
     Other,
 }
 
@@ -29,7 +29,7 @@ impl Display for Found {
     }
 }
 
-// What there is, where a file is there and isn't empty.
+// What is at the path, if a file is there and isn't empty.
 fn found_at<R: Files<File = File> + AllocGlobal>(rt: &R, path: &str) -> Option<Found> {
     match fs::metadata(rt, path) {
         Ok(data) if data.is_file() && data.len() > 0 => {}
@@ -53,7 +53,7 @@ fn says_yes<R: AllocGlobal, I: BufRead>(rt: &R, input: &mut I) -> bool {
     }
 }
 
-/// Whether a file may be made at the path: nothing is lost by it, or nobody can be asked, or it is answered so.
+/// Whether a file may be made at the path: nothing is lost, nobody can be asked, or the answer is yes.
 pub(crate) fn may_be_made<R: Files<File = File> + AllocGlobal + Eprint, I: BufRead>(
     rt: &R,
     path: &str,

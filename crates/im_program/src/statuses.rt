@@ -1,4 +1,4 @@
-//! How the program ends.
+//! The status that the program ends with.
 ghost use Rattle.std.specs.Prelude.{◌≡◌, ◌≢◌, ◌⊎◌, ◌≤◌, Some, true, false};
 ghost use Rattle.im_damage.specs.declared.damage.Damage.{Damage};
 ghost use Rattle.im_text.specs.Statuses.{status_of_image};
@@ -6,8 +6,8 @@ ghost use Rattle.im_types.specs.declared.refusals.Refusal.{Refusal};
 
 use im_text::{PathFault, Reason};
 
-/// The status that the program ends with, by that of its work and the reason that was told last: the same, but where the
-/// status is to tell refusals apart ([`Reason::status`]) and something was refused.
+/// Returns the status that the program ends with. It is the status of its work, with one exception: if `statuses` is
+/// set, the status is 1 and there is a reason, it is that of the last reason ([`Reason::status`]).
 pub fn status_for(status: u8, statuses: bool, reason: Option<Reason>) -> u8
     ensures same { (statuses ≡ false) ⊎ (status ≢ 1) → result ≡ status }
     ensures few { status ≤ 3 → result ≤ 5 }

@@ -1,4 +1,4 @@
-//! The words of the command line.
+//! Reads the words of the command line.
 ghost use Rattle.std.specs.Prelude.{IfSome, ◌≡◌, [], true, false, Some, IfOk, IfErr, IsOk, IsSome, codes};
 ghost use Rattle.std.specs.Option.{option_map};
 ghost use Rattle.clap.specs.Words.{app_of, fault_of, found_of, kind_of, rows_of, rule_of, subcommand_rows_of, takes};
@@ -15,16 +15,16 @@ use clap::{Arg, ArgAction, ArgMatches, Command, Error};
 use im_script::read_u32;
 use std::alloc::{AllocError, Global};
 
-/// How many cells an image has, where the words don't say.
+/// The number of cells of an image, if the command line doesn't say it.
 pub const DEFAULT_CELLS: u32 = 4_096;
 
-/// How many elements, where they don't.
+/// The number of elements of an image, if the command line doesn't say it.
 pub const DEFAULT_ELEMENTS: u32 = 16;
 
-/// How many journal slots, where they don't.
+/// The number of journal slots of an image, if the command line doesn't say it.
 pub const DEFAULT_SLOTS: u32 = 256;
 
-/// The most seconds that an opening waits for the lock of a file: a day.
+/// The most seconds that the opening of a file waits for its lock: a day.
 const MAX_WAIT: u64 = 86_400;
 
 /// What the program is asked to do.
@@ -32,16 +32,16 @@ const MAX_WAIT: u64 = 86_400;
 pub enum Work<'a> {
     /// The work of one thread.
     Alone(Job<'a>),
-    /// Run a script, each element's requests by threads of its own.
+    /// Run a script, the requests of each element by threads of its own.
     Run {
         /// The image's path.
         image: &'a str,
         /// The script's path.
         script: &'a str,
-        /// Whether its requests are a plan.
+        /// Whether the script is a plan.
         planned: bool,
     },
-    /// Move an image of the first version on to a new file.
+    /// Move an image of the first layout version to a new file.
     Migrate {
         /// The path of the image.
         old: &'a str,
@@ -50,120 +50,125 @@ pub enum Work<'a> {
     },
 }
 
-/// What one thread does.
+/// The work of one thread.
 #[derive(Clone, Copy, Debug, PartialEq, Eq)]
 pub enum Job<'a> {
-    /// No subcommand: a short script on an image in memory.
+    /// No subcommand: serve a short script on an image in memory.
     Demonstration,
     /// Make an image.
     Format {
         /// The image's path.
         image: &'a str,
-        /// How many cells, as given.
+        /// The number of cells, as given.
         cells: u32,
-        /// How many elements, as given.
+        /// The number of elements, as given.
         elements: u32,
-        /// How many journal slots, as given.
+        /// The number of journal slots, as given.
         slots: u32,
-        /// Whether a file that is there is refused.
+        /// Whether an existing file is refused.
         is_new: bool,
     },
-    /// Serve a script's lines in their order.
+    /// Serve the lines of a script in their order.
     Serial {
         /// The image's path.
         image: &'a str,
         /// The script's path.
         script: &'a str,
     },
-    /// Serve a dialogue of standard input.
+    /// Serve a dialogue on standard input.
     Serve {
         /// The image's path.
         image: &'a str,
-        /// Whether requests that waited are told their answers.
+        /// Whether the answers to requests that waited are printed when they come.
         watch: bool,
     },
-    /// Tell what an image means.
+    /// Print what an image means.
     Inspect {
         /// The image's path.
         image: &'a str,
     },
 }
 
-/// What the words ask for, and how the program is to end.
+/// What the command line asks for, and how the program is to end.
 #[derive(Clone, Copy, Debug, PartialEq, Eq)]
 pub struct Order<'a> {
     /// What is to be done.
     pub work: Work<'a>,
-    /// Whether the status tells refusals apart.
+    /// Whether the exit status tells refusals apart.
     pub statuses: bool,
-    /// For how many seconds an opening of a file waits for its lock.
+    /// How many seconds the opening of a file waits for its lock.
     pub wait: u32,
 }
 
-/// Why the words say no work.
+/// Why the command line asks for no work.
 #[derive(Debug, Drop)]
 pub enum WordFault {
     /// There was not enough memory.
     NoMemory,
-    /// What to print, and with which status to end: a bad command line, or the help that was asked for.
+    /// A bad command line, or a request for help or the version. The error has the text to print and the exit status.
     Bad(Error),
 }
 
-/// What `--version` prints behind the program's name: its version, that of the layout which it writes, of which commit
-/// it was built, and whether all of it was proved. `scripts/build-imem` writes the last two over as many letters.
+/// What `--version` prints after the program's name: the program's version, the layout version that it writes, the
+/// commit it was built from, and whether all of it was proved. `scripts/build-imem` overwrites the last two with texts
+/// of the same length.
 const VERSION: &str = "0.1.0, image layout 2, commit ------------, not proved";
 
 const ABOUT: &str = "A durable memory of I-structure and M-structure cells, kept in an image file.";
 
 const EXAMPLES: &str =
-    "With no subcommand imem serves a short script on an image in memory, and prints its replies.
+    "With no subcommand, imem serves a short script on an image in memory, and prints its replies.
 
 Example:
   imem format --new a.img
   imem run a.img fetch.script
   imem inspect a.img
 
-An image of layout version 1 is inspected, and refused 21 OldVersion elsewhere: imem migrate moves it on.
+An image of layout version 1 can be inspected. The subcommands serial, run and serve refuse it with
+21 OldVersion; 'imem migrate' moves it to a new file of the version in use.
 
-While imem works on an image it holds the file's lock: another imem is refused 8 Device, and a line on
-standard error says that the image is in use. With --wait SECONDS, which each subcommand takes, it tries
-again until so many seconds are over. Any number may inspect it at the same time. The lock is advisory: it
-keeps no other program from writing the file, nor one that makes another file of its name.
+While imem works on an image, it holds the lock of the image's file. Another imem is then refused with
+8 Device, and a line on standard error says that the image is in use. With --wait SECONDS, which each
+subcommand takes, imem tries again for that many seconds. Any number of programs may inspect an image at
+the same time. The lock is advisory: it doesn't keep another program from writing the file, or from making
+another file of the same name.
 
 Exit status: 0 done; 1 refused, with 'refused N NAME' as the last line; 2 a bad command line; 3 the
-elements of a run wait for each other. With --statuses, which each subcommand takes, what was refused with 1
-ends with 4 where a file is in use by another program, which may be tried again; with 5 where there is no
-image, a damaged or an old one, no file or no permission, which is the same when it is tried again; else with 1.
+elements of a run wait for each other. With --statuses, which each subcommand takes, some refusals end
+with another status than 1. The status is 4 if a file is in use by another program: another try may
+succeed. It is 5 if there is no image, if the image is damaged or old, or if there is no such file or no
+permission: another try ends the same.
 
-No subcommand opens a file under the number of a standard stream that is closed.";
+No subcommand opens a file under the descriptor number of a standard stream that is closed.";
 
 const FORMAT: &str =
-    "Make an image: an empty memory of this size, in a new file or over an old one";
+    "Make an image: an empty memory of the given size, in a new file or over an existing one";
 
 const FORMAT_EXAMPLES: &str =
-    "Prints nothing where the image is made. With --new a file that is there is refused, and left as it is. Else an
-older file of that name is lost, also where the new image can't be made, as on a full disk: a file that wasn't
-there before is removed again then. Where standard input is a terminal, a file that isn't empty is asked for
-first: the answer y has it made anew, and any other one ends as --new does. A link is followed.
+    "Prints nothing if the image is made. With --new, an existing file is refused and left as it is. Without
+--new, an existing file of that name is lost, even if the new image can't be made, for example on a full
+disk. A file that didn't exist before is removed again in that case. If standard input is a terminal, imem
+asks before it replaces a file that isn't empty: the answer y replaces the file, and any other answer ends
+as --new does. A link is followed.
 
 Example: an image of 4,096 cells, 16 elements and 256 journal slots, and a small one
   imem format --new a.img
   imem format --new small.img --cells 64 --elements 2 --slots 16
 
-Exit status: 0 the image is made; 1 refused, with 'refused N NAME' as the last line, a number that is out of its
-range too; 2 a bad command line, a number that is none too.";
+Exit status: 0 the image is made; 1 refused, with 'refused N NAME' as the last line, also if a number is
+out of its range; 2 a bad command line, also if a number isn't written in decimal digits.";
 
 const SERIAL: &str = "Serve the requests of a script, in their order, and print each reply";
 
 const SERIAL_EXAMPLES: &str =
-    "Each request prints 'K.N REPLY', K being its element and N its number. At the end each one that had
-to wait prints 'K.N now REPLY'. The image keeps all of it for the next run. SCRIPT is a file, or - for
+    "Each request prints 'K.N REPLY': K is its element, and N its number. At the end, each request that had to
+wait prints 'K.N now REPLY'. The image keeps all of this for the next run. SCRIPT is a file, or - for
 standard input, which is read to its end before the image is opened.
 
-A script has one line for each request; '#' begins a line of comment:
-  setup                 at most once, first: blocks with names, made by element 0
-  alloc NAME KIND LEN   KIND is i (written once) or m (filled and emptied)
-  element K             what follows is asked by element K, 0 to 63
+A script has one line for each request. A line whose first word begins with '#' is a comment.
+  setup                 at most once, first; element 0 makes the named blocks that follow
+  alloc NAME KIND LEN   make a named block; KIND is i (written once) or m (filled and emptied)
+  element K             the lines that follow are requests of element K, 0 to 63
   fetch PLACE           read an i cell, or wait until it is written
   store PLACE VALUE     write an i cell
   take PLACE            empty an m cell, or wait until it is full
@@ -178,21 +183,22 @@ file fetch.script, served on the image a.img
   imem serial a.img fetch.script
 
 Exit status: 0 all was served; 1 something was refused, with 'refused N NAME' as the last line, or the
-output can't be written; 2 a bad command line. Standard error has one line more about a refusal.";
+output can't be written; 2 a bad command line. A refusal also has a line on standard error, which says why.";
 
 const RUN: &str =
     "Serve the requests of a script, those of each element by threads of its own, all at once";
 
 const RUN_EXAMPLES: &str =
-    "SCRIPT is what 'imem serial' reads, or - for standard input. Its setup is served first, and prints its
-lines. Then a thread for each element sends its requests, another serves them and waits for an answer
-where the element's window is full and at its end, and one more keeps checkpoints. At the end each request that was sent prints 'K.N REPLY', by
-elements and then by numbers, with what it was answered in the end.
+    "SCRIPT is what 'imem serial' reads, or - for standard input. The setup is served first, and prints its
+lines. Then each element has two threads: one sends its requests, and the other serves them. The serving
+thread waits for an answer if the element's window is full, and after its last request. One more thread
+keeps checkpoints. At the end, each request that was sent prints 'K.N REPLY' with its final reply, sorted
+by element and then by number.
 
-With --planned the script is a plan: its parts have only fetches, stores and glances, with at most one
-store to a cell, and each i cell that they name is empty when they begin. Then what its requests print
-is the same in every run, in whatever order the elements are served. A script that is no such plan is
-'refused 23 BadPlan' behind the setup, before anything of it is served.
+With --planned, the script is a plan. Its parts have only fetches, stores and glances, with at most one
+store to a cell. Each i cell that they name is empty when they begin. Then the requests print the same
+lines in every run, in whatever order the elements are served. A script that is no such plan ends after
+its setup with 'refused 23 BadPlan', and none of its parts is served.
 
 Example: the lines 'setup', 'alloc x i 1', 'element 1', 'fetch x', 'element 2', 'store x 5' in the
 file fetch.script, run on the image a.img, and as a plan
@@ -201,22 +207,26 @@ file fetch.script, run on the image a.img, and as a plan
 
 Exit status: 0 all was answered; 1 something was refused, with 'refused N NAME' as the last line, or the
 output can't be written; 2 a bad command line; 3 the elements wait for each other, with
-'refused 19 Stalled' as the last line. Standard error has one line more about a refusal.";
+'refused 19 Stalled' as the last line. A refusal also has a line on standard error, which says why.";
 
-const SERVE: &str = "Serve a dialogue: read a line, answer it by a line, until the input ends";
+const SERVE: &str = "Serve a dialogue: read a line, answer it with a line, until the input ends";
 
 const SERVE_EXAMPLES: &str =
-    "Reads standard input line by line, and prints the answer to each once what it tells is on the disk.
-Requests have their numbers, and one that is sent again acts once:
+    "Reads standard input line by line. Prints the answer to each line once what it says is on the disk.
+Each request has a number, and a request that is sent again acts only once:
   E.N alloc i|m LENGTH, E.N release A, E.N reset A, E.N fetch A, E.N store A VALUE, E.N take A, E.N put A VALUE
                         element E's request N: 'E.N REPLY' or 'E.N refused NUMBER NAME'
-  collect E.N           what is kept for it now
+  collect E.N           the reply that is kept for it now
+  entry E.N             what it asked, and the reply that is kept for it now
   confirm E UPTO        drop E's entries below UPTO: 'E confirmed UPTO'
   window E              'E window BASE NEXT': the first number that is kept, and the next new one
-  room, turn, count     room for so many commands; a turn of a checkpoint; so many commands so far
+  room                  how many more commands there is room for
+  turn                  one turn of a checkpoint
+  count                 how many commands there have been
+  about                 the version of the layout, the sizes, the count and the room
   quit                  the end
-Any other line is answered 'error LINE: ' and what was expected, and changes nothing. With --watch a
-request that waited is told again, 'E.N now REPLY', right after the line that brought its answer.
+Any other line is answered 'error LINE: ' and what was expected, and changes nothing. With --watch, a
+request that waited prints 'E.N now REPLY' right after the line that brought its answer.
 
 Example: the lines '1.1 alloc i 1', '1.2 fetch 0' and '2.1 store 0 5' in the file ask.txt
   imem serve a.img < ask.txt
@@ -230,37 +240,37 @@ const INSPECT_EXAMPLES: &str = "The lines, in this order:
   version V
   limits CELLS ELEMENTS SLOTS
   header H generation G area H count C    the header in force
-  journal J room R                        commands behind the header, and room for more
-  block BASE KIND LENGTH                  each block, by its base
-  cell A full V                           each cell that isn't empty, by its address
-  cell A clashed V                        written again while it was full
-  cell A waiting K.N K.N ..               the requests that wait, in their order
+  journal J room R                        J commands after the header, and room for R more
+  block BASE KIND LENGTH                  each block, by base
+  cell A full V                           each cell that isn't empty, by address
+  cell A clashed V                        the cell was written again while it was full
+  cell A waiting K.N K.N ..               the requests that wait at the cell, in their order
   element K base B kept N                 each element that has asked something
-  entry K.N OPERATION -> REPLY            what is kept for it, by numbers
+  entry K.N OPERATION -> REPLY            each entry that is kept for the element, by number
 An image that isn't whole is refused: 'refused N NAME' names its first fault.
 
 Example: the image a.img after 'imem format a.img'
   imem inspect a.img
 
-Exit status: 0 all was told; 1 refused, with 'refused N NAME' as the last line; 2 a bad command line.
-Standard error says where an image is damaged.";
+Exit status: 0 the whole report is printed; 1 refused, with 'refused N NAME' as the last line; 2 a bad
+command line. If an image is damaged, standard error says where.";
 
-const MIGRATE: &str = "Move an image of layout version 1 on to a new file, in the version in use";
+const MIGRATE: &str = "Move an image of layout version 1 to a new file of the version in use";
 
 const MIGRATE_EXAMPLES: &str =
-    "OLD is read and never changed. NEW is the new image: a file that is there is used as it is, and has to have
-the right length, with no image in it; where there is none, it is made. Prints 'migrated COUNT', COUNT being
-the number of commands that the image has had. Its cells, its blocks and all that is kept for its elements
-are those of OLD. A migration that was stopped is begun again by the same command: until it is done, NEW is
-refused 13 NoHeader by every other one.
+    "OLD is only read. NEW is the file of the new image. If NEW exists, it is used as it is: it must have the
+right length, and must not hold an image. If NEW doesn't exist, it is made. Prints 'migrated COUNT': COUNT
+is the number of commands that the image has had. The new image has the cells, the blocks and the kept
+entries of OLD. If a migration was stopped, the same command starts it again. Until the migration is done,
+every other command refuses NEW with 13 NoHeader.
 
-Example: a copy is never needed, as the old image stays
+Example: no copy is needed, because the old image stays
   imem migrate old.img new.img
   imem inspect new.img
 
-Exit status: 0 the image is moved on; 1 refused, with 'refused N NAME' as the last line: 14 BadHeader where OLD
-is of the version in use, 12 WrongLength where NEW has another length, 22 NotBlank where NEW is an image already;
-2 a bad command line. Standard error has one line more about a refusal.";
+Exit status: 0 the image is moved; 1 refused, with 'refused N NAME' as the last line: 14 BadHeader if OLD is
+of the version in use, 12 WrongLength if NEW has another length, 22 NotBlank if NEW is an image already;
+2 a bad command line. A refusal also has a line on standard error, which says why.";
 
 /// An option that takes a number.
 fn number_option<'a>(alloc: Global, id: &'a str, help: &'a str) -> Arg<'a>
@@ -270,7 +280,7 @@ fn number_option<'a>(alloc: Global, id: &'a str, help: &'a str) -> Arg<'a>
     Arg::new(alloc, id).long(id).value_name("N").help(help)
 }
 
-/// An option that is given or not.
+/// A flag: an option without a value.
 fn flag_option<'a>(alloc: Global, id: &'a str, help: &'a str) -> Arg<'a>
     ensures rule { rule_of result ≡ flag_rule id.entry.now }
     ensures local { result.global ≡ false }
@@ -281,7 +291,7 @@ fn flag_option<'a>(alloc: Global, id: &'a str, help: &'a str) -> Arg<'a>
         .help(help)
 }
 
-/// A path that has to be given.
+/// A required path.
 fn path_argument<'a>(alloc: Global, id: &'a str, help: &'a str) -> Arg<'a>
     ensures rule { rule_of result ≡ path_rule id.entry.now }
     ensures local { result.global ≡ false }
@@ -289,7 +299,7 @@ fn path_argument<'a>(alloc: Global, id: &'a str, help: &'a str) -> Arg<'a>
     Arg::new(alloc, id).required(true).help(help)
 }
 
-/// The option by which a subcommand's status tells its refusals apart.
+/// The option `--statuses`, with which the exit status tells refusals apart.
 fn statuses_option<'a>(alloc: Global) -> Arg<'a>
     ensures rule { rule_of result ≡ flag_rule (codes "statuses") }
     ensures local { result.global ≡ false }
@@ -297,11 +307,11 @@ fn statuses_option<'a>(alloc: Global) -> Arg<'a>
     flag_option(
         alloc,
         "statuses",
-        "End with 4 where a file is in use, and with 5 where there is no good image",
+        "End with 4 if a file is in use, and with 5 if there is no good image",
     )
 }
 
-/// The option by which an opening waits for the lock of a file.
+/// The option `--wait`, with which the opening of a file waits for its lock.
 fn wait_option<'a>(alloc: Global) -> Arg<'a>
     ensures rule { rule_of result ≡ wait_rule }
     ensures local { result.global ≡ false }
@@ -310,10 +320,10 @@ fn wait_option<'a>(alloc: Global) -> Arg<'a>
         .long("wait")
         .value_name("SECONDS")
         .value_parser(ValueParser::unsigned(0, MAX_WAIT))
-        .help("Try again so long where a file is in use, 0 to 86400 seconds [default: 0]")
+        .help("Try again for this time if a file is in use, 0 to 86400 seconds [default: 0]")
 }
 
-/// A subcommand that takes a path.
+/// A subcommand that takes a path, with the options that each subcommand takes.
 fn file_command<'a>(
     alloc: Global,
     name: &'a str,
@@ -351,19 +361,19 @@ fn format_command<'a>(alloc: Global) -> Result<Command<'a>, AllocError>
     let cells = number_option(
         alloc,
         "cells",
-        "How many cells, 1 to 1,048,576 [default: 4096]",
+        "The number of cells, 1 to 1,048,576 [default: 4096]",
     );
     let elements = number_option(
         alloc,
         "elements",
-        "How many elements, 1 to 64 [default: 16]",
+        "The number of elements, 1 to 64 [default: 16]",
     );
     let slots = number_option(
         alloc,
         "slots",
-        "How many journal slots, 16 to 4,096 [default: 256]",
+        "The number of journal slots, 16 to 4,096 [default: 256]",
     );
-    let new = flag_option(alloc, "new", "Refuse a file that is there");
+    let new = flag_option(alloc, "new", "Refuse an existing file");
     let one = image.arg(cells)?;
     let two = one.arg(elements)?;
     let three = two.arg(slots)?;
@@ -420,7 +430,7 @@ fn run_command<'a>(alloc: Global) -> Result<Command<'a>, AllocError>
     let planned = flag_option(
         alloc,
         "planned",
-        "Take the script for a plan: fetches and stores, at most one store to a cell",
+        "Serve the script as a plan: fetches, stores and glances, at most one store to a cell",
     );
     let one = script.arg(planned)?;
     Ok(one)
@@ -435,7 +445,7 @@ fn serve_command<'a>(alloc: Global) -> Result<Command<'a>, AllocError>
     let watch = flag_option(
         alloc,
         "watch",
-        "Print 'E.N now REPLY' when the answer to a request that waited comes",
+        "Print 'E.N now REPLY' when a request that waited is answered",
     );
     let one = image.arg(watch)?;
     Ok(one)
@@ -497,7 +507,8 @@ fn imem_command<'a>(alloc: Global) -> Result<Command<'a>, AllocError>
     Ok(six)
 }
 
-/// The number of an option, or `fallback` where it is not given. `None` where it is no decimal number of a u32.
+/// Returns the number of an option, or `fallback` if the option is not given. Returns `None` if its text is not the
+/// decimal number of a u32.
 fn number_or(found: &ArgMatches, id: &str, fallback: u32) -> Option<u32>
     ensures { result ≡ number_in (rows_of (found_of found.now)) id.now fallback }
 {
@@ -507,7 +518,7 @@ fn number_or(found: &ArgMatches, id: &str, fallback: u32) -> Option<u32>
     }
 }
 
-/// The text of a path. It was given, since the command requires it.
+/// Returns the text of a path. The command requires the path, so it is given.
 fn path_of<'a>(found: &ArgMatches<'a>, id: &str) -> &'a str
     ensures { result.now ≡ path_in (rows_of (found_of found.now)) id.now }
 {
@@ -517,14 +528,14 @@ fn path_of<'a>(found: &ArgMatches<'a>, id: &str) -> &'a str
     }
 }
 
-/// Whether an option is given.
+/// Whether a flag is given.
 fn is_given(found: &ArgMatches, id: &str) -> bool
     ensures { result ≡ is_given (rows_of (found_of found.now)) id.now }
 {
     path_of(found, id) == "true"
 }
 
-/// What `format` is asked for. `None` where a number is no decimal number of a u32.
+/// What `format` is asked for. Returns `None` if a number is not the decimal number of a u32.
 fn format_work<'a>(found: &ArgMatches<'a>) -> Option<Work<'a>>
     ensures { option_map task_of result ≡ format_task (rows_of (found_of found.now)) }
 {
@@ -598,7 +609,7 @@ fn migrate_work<'a>(found: &ArgMatches<'a>) -> Work<'a>
     }
 }
 
-/// What the words ask for. `None` where a number is no decimal number of a u32.
+/// What the command line asks for. Returns `None` if a number is not the decimal number of a u32.
 fn work_of<'a>(matches: &ArgMatches<'a>) -> Option<Work<'a>>
     ensures { option_map task_of result ≡ task_in (subcommand_rows_of matches.now) }
 {
@@ -622,7 +633,7 @@ fn work_of<'a>(matches: &ArgMatches<'a>) -> Option<Work<'a>>
     }
 }
 
-/// Whether the subcommand is to end by the kind of what it refuses.
+/// Whether the subcommand's exit status is to tell refusals apart.
 fn statuses_of(matches: &ArgMatches<'_>) -> bool
     ensures { result ≡ has_statuses (subcommand_rows_of matches.now) }
 {
@@ -632,7 +643,7 @@ fn statuses_of(matches: &ArgMatches<'_>) -> bool
     }
 }
 
-/// What stands behind a plus, where the text begins with one; else the text.
+/// Returns the text after a leading plus. A text without one is returned whole.
 fn behind_plus(text: &[u8]) -> &[u8]
     ensures { result.now ≡ behind_plus text.now }
 {
@@ -642,7 +653,7 @@ fn behind_plus(text: &[u8]) -> &[u8]
     if text[0] == b'+' { &text[1..] } else { text }
 }
 
-/// The seconds that a text says in decimal digits, before which a plus may stand. clap has refused any other text.
+/// Returns the seconds that a text gives in decimal digits, after an optional plus. clap has refused any other text.
 fn read_seconds(text: &[u8]) -> u32
     ensures { result ≡ seconds_of text.now }
 {
@@ -652,7 +663,7 @@ fn read_seconds(text: &[u8]) -> u32
     }
 }
 
-/// For how many seconds an opening of the subcommand waits.
+/// How many seconds the subcommand's openings wait.
 fn wait_of(matches: &ArgMatches<'_>) -> u32
     ensures { result ≡ wait_in (subcommand_rows_of matches.now) }
 {
@@ -662,8 +673,8 @@ fn wait_of(matches: &ArgMatches<'_>) -> u32
     }
 }
 
-/// The work, how the program is to end, and how long its openings wait. `None` where a number is no decimal number of
-/// a u32.
+/// The work, how the program is to end, and how long its openings wait. Returns `None` if a number is not the decimal
+/// number of a u32.
 fn order_of<'a>(matches: &ArgMatches<'a>) -> Option<Order<'a>>
     ensures work { option_map (λ (order : Order). task_of order.work) result
         ≡ task_in (subcommand_rows_of matches.now) }
@@ -691,7 +702,7 @@ fn fault(error: Error) -> WordFault
     }
 }
 
-/// The first option of `format` whose text is no decimal number of a u32, with its text.
+/// Returns the first option of `format` whose text is not the decimal number of a u32, with its text.
 fn bad_option<'a>(found: &ArgMatches<'a>) -> Option<(&'static str, &'a str)> {
     for id in ["cells", "elements", "slots"] {
         let Some(text) = found.get_str(id) else {
@@ -704,7 +715,7 @@ fn bad_option<'a>(found: &ArgMatches<'a>) -> Option<(&'static str, &'a str)> {
     None
 }
 
-/// The fault of a number that is none, with the usage of `format`.
+/// The error for a text that is no number, with the usage of `format`.
 fn bad_number(alloc: Global, matches: &ArgMatches<'_>) -> Result<Error, AllocError> {
     let (id, text) = match matches.subcommand() {
         Some((_, found)) => bad_option(found).unwrap_or(("cells", "")),
@@ -717,7 +728,7 @@ fn bad_number(alloc: Global, matches: &ArgMatches<'_>) -> Result<Error, AllocErr
     command.error(ErrorKind::ValueValidation, message.as_str())
 }
 
-/// The fault of a number that is none, where there is memory for its text.
+/// The fault for a text that is no number, or `NoMemory` if there is no memory for its message.
 fn number_fault(alloc: Global, matches: &ArgMatches<'_>) -> WordFault {
     match bad_number(alloc, matches) {
         Ok(error) => WordFault::Bad(error),
@@ -725,8 +736,9 @@ fn number_fault(alloc: Global, matches: &ArgMatches<'_>) -> WordFault {
     }
 }
 
-/// Reads the words of a command line, the program's own name first. [`WordFault::Bad`] has what clap found, or that a
-/// number is not written in decimal digits below 2^32; `--help` and `--version` are such faults too, with status 0.
+/// Reads the words of a command line, with the program's own name first. [`WordFault::Bad`] has the error
+/// that clap found, or says that a number is not written in decimal digits below 2^32. `--help` and `--version` are
+/// such faults too, with status 0.
 pub fn read_words<'a>(alloc: Global, words: &'a [&'a str]) -> Result<Order<'a>, WordFault>
     ensures work { IfOk result (λ order. asked (texts words.entry.now) ≡ Some (task_of order.work)) }
     ensures statuses { IfOk result (λ order. order.statuses ≡ asks_statuses (texts words.entry.now)) }

@@ -1,4 +1,4 @@
-//! The work that the program is asked for.
+//! The work that the program does.
 ghost use Rattle.std.specs.Prelude.{◌≡◌, ◌⊎◌, ◌↔◌, ◌≤◌, ℕ, List, [], IsOk, IfOk, IfErr, OnErr, IfSome, IfNone};
 ghost use Rattle.std.specs.Io.KnownBytes.{Keeps};
 ghost use Rattle.im_types.specs.declared.refusals.Refusal.TheVariants.{BadScript, Device, NoMemory, WrongLength};
@@ -44,7 +44,7 @@ use std::rt::Files;
 use std::sync::Wait;
 use std::thread::Threads;
 
-/// The script that is served where no work is named.
+/// The script that is served if no work is named.
 const DEMONSTRATION: &str = "setup
 alloc x i 2
 element 1
@@ -53,7 +53,7 @@ element 2
 store x+0 42
 ";
 
-/// The limits of an image. `BadLimits` where a number is out of its range.
+/// Returns the limits of an image, or `BadLimits` if a number is out of its range.
 fn limits_of(cells: u32, elements: u32, slots: u32) -> Result<Limits, Refusal>
     ensures limits { IfOk result (λ l. (l.cells ≡ cells) × (l.elements ≡ elements) × (l.slots ≡ slots)) }
     ensures found { IsOk result ↔ AreLimits cells elements slots }
@@ -65,7 +65,7 @@ fn limits_of(cells: u32, elements: u32, slots: u32) -> Result<Limits, Refusal>
     Limits::new(cells, elements, slots).ok_or(Refusal::BadLimits)
 }
 
-// Which of the numbers is out of its range, the first one first.
+// The first number that is out of its range.
 fn limits_reason(cells: u32, elements: u32, slots: u32) -> Reason {
     if cells == 0 || cells > MAX_CELLS {
         Reason::Cells(cells)
@@ -76,7 +76,7 @@ fn limits_reason(cells: u32, elements: u32, slots: u32) -> Reason {
     }
 }
 
-/// The refusal of an image that isn't made or opened. The observer is told why.
+/// Returns the refusal for an image that isn't made or opened, and tells the observer why.
 pub(crate) fn refusal_of<R: Files<File = File>, N: Observer>(
     rt: &R,
     image: &str,
@@ -89,16 +89,17 @@ pub(crate) fn refusal_of<R: Files<File = File>, N: Observer>(
     Refusal::from(fault)
 }
 
-/// Makes an image of a file, and gives its disk back: the file is made, or an older one's bytes are lost; where a new one
-/// is asked for, a file that is there is refused. As long as the file was honest, each file that a crash may leave is the
-/// new image, byte for byte.
+/// Makes an image at the path and returns its disk. An existing file loses its bytes; if a new file is asked for, it is
+/// refused. As long as the file was honest, each file that a crash may leave is the new image, byte for byte.
 ///
-/// Refused are, with nothing changed: `Device` where another opening has the file's lock, where what is at the path is no
-/// regular file, or where it is there and a new one is asked for. `Device` where another call of the system fails, and
-/// what [`Engine::format`] refuses: then a file that wasn't there before is removed, and the bytes of an older one are
-/// lost. The observer is told why.
+/// Errors, of which the observer is told why:
 ///
-/// That an image is ever made is no clause: none knows what a folder holds.
+/// - `Device`, with nothing changed, if another opening has the file's lock, if what is at the path isn't a regular
+///   file, or if a file exists and a new one is asked for.
+/// - `Device` if another call of the system fails, and the refusals of [`Engine::format`]. A file that didn't exist
+///   before is then removed, and the bytes of an existing one are lost.
+///
+/// No clause says that an image is ever made, because nothing is known about the contents of a folder.
 pub fn format_file<R: Files<File = File> + AllocGlobal, S: Start, N: Observer>(
     rt: &R,
     _held: &Descriptors,
@@ -127,8 +128,8 @@ pub fn format_file<R: Files<File = File> + AllocGlobal, S: Start, N: Observer>(
     }
 }
 
-// Removes a file that was made and holds no image or a torn one. Where it was there before it stays, with a note where a
-// sync of it failed.
+// Removes a file that was made and holds no image or a torn one. A file that existed before stays. If a sync of it
+// failed, a note is left.
 fn give_up<R: Files<File = File> + AllocGlobal, S: Start>(
     rt: &R,
     image: &str,
@@ -143,7 +144,7 @@ fn give_up<R: Files<File = File> + AllocGlobal, S: Start>(
     let _removed = remove_image(rt, image, disk, is_made);
 }
 
-// The refusal of an image that was made or opened. The observer is told why.
+// Returns the refusal of an image that was made or opened, and tells the observer why.
 fn told<N: Observer>(refusal: Refusal, observer: &mut N) -> Refusal
     ensures { result ≡ refusal }
 {
@@ -151,7 +152,7 @@ fn told<N: Observer>(refusal: Refusal, observer: &mut N) -> Refusal
     refusal
 }
 
-// The text of a script: that of a file, or of the input where the path is `-`.
+// The text of a script: that of the file, or of the input if the path is `-`.
 fn text_of<R: Files<File = File> + AllocGlobal, I: Read>(
     rt: &R,
     script: &str,
@@ -166,7 +167,7 @@ fn text_of<R: Files<File = File> + AllocGlobal, I: Read>(
     }
 }
 
-// The refusal of a script. The observer is told why.
+// Returns the refusal of a script, and tells the observer why.
 fn refuse_script<N: Observer>(reason: Reason, observer: &mut N) -> Refusal
     ensures { (result ≡ BadScript) ⊎ (result ≡ NoMemory) }
 {
@@ -179,7 +180,7 @@ fn refuse_script<N: Observer>(reason: Reason, observer: &mut N) -> Refusal
     }
 }
 
-// The text of a script. `BadScript` where it can't be read.
+// Returns the text of a script, or `BadScript` if it can't be read.
 fn read_file<R: Files<File = File> + AllocGlobal, I: Read, N: Observer>(
     rt: &R,
     held: &Descriptors,
@@ -199,7 +200,8 @@ fn read_file<R: Files<File = File> + AllocGlobal, I: Read, N: Observer>(
     }
 }
 
-// The script that a text is, which may have glances or not. `BadScript` where it isn't in the grammar.
+// Returns the script in a text, or `BadScript` if the text isn't in the grammar. `glances` says whether it may have
+// glances.
 fn script_in<'a, N: Observer>(
     alloc: Global,
     text: &'a [u8],
@@ -219,18 +221,22 @@ fn script_in<'a, N: Observer>(
     }
 }
 
-/// Serves the script of a file on the image of another, and gives the image's disk back, with the status and the lines
-/// of [`serial_on`]. The script is read first; the path `-` is `input`, which is read to its end.
+/// Serves the script of one file on the image of another. Returns the status of [`serial_on`] and the image's disk;
+/// [`serial_on`] also says which lines are printed. The script is read first. The path `-` stands for `input`, which is
+/// read to its end.
 ///
-/// Whatever the image held when it was opened (`S`): as long as the file was honest, a crash at any moment since then
-/// leaves what [`serial_on`] says.
+/// The clauses hold for whatever the image held when it was opened (`S`), as long as the file was honest. A crash at
+/// any moment since then leaves what [`serial_on`] says.
 ///
-/// Refused are, with nothing printed and the image as it was: `BadScript` for a script that can't be read or isn't in
-/// the grammar, and `NoMemory` for one that there is no room for; `Device` for an image that can't be opened: it is no
-/// regular file, another opening has its lock, or a call of the system fails. The observer is told why. What
-/// [`serial_on`] refuses is its status and its last line.
+/// Errors, with nothing printed and the image as it was; the observer is told why:
 ///
-/// That an image is ever opened is no clause: none knows what a folder holds.
+/// - `BadScript` if the script can't be read or isn't in the grammar.
+/// - `NoMemory` if there is no room for the script.
+/// - `Device` if the image can't be opened: it isn't a regular file, another opening has its lock, or a call of the
+///   system fails.
+///
+/// If [`serial_on`] refuses, its status and its last line say so. No clause says that an image is ever opened, because
+/// nothing is known about the contents of a folder.
 pub fn serve_file<R: Files<File = File> + AllocGlobal, S: Start, I: Read, W: Write, N: Observer>(
     rt: &R,
     held: &Descriptors,
@@ -262,19 +268,22 @@ pub fn serve_file<R: Files<File = File> + AllocGlobal, S: Start, I: Read, W: Wri
     }
 }
 
-/// Runs the script of a file, which may have glances, on the image of another, each element's requests by threads of
-/// its own, and gives the image's disk back, with the status and the lines of [`run_on`]. Its requests are a plan where
-/// it is planned. The script is read first; the path `-` is `input`, which is read to its end.
+/// Runs the script of one file on the image of another, each element's requests by threads of its own. The script may
+/// have glances, and is a plan if `planned`. Returns the status of [`run_on`] and the image's disk; [`run_on`] also
+/// says which lines are printed. The script is read first. The path `-` stands for `input`, which is read to its end.
 ///
-/// Whatever the image held when it was opened (`S`): as long as the file was honest, a crash at any moment since then
-/// leaves what [`run_on`] says.
+/// The clauses hold for whatever the image held when it was opened (`S`), as long as the file was honest. A crash at
+/// any moment since then leaves what [`run_on`] says.
 ///
-/// Refused are, with nothing printed and the image as it was: `BadScript` for a script that can't be read or isn't in
-/// the grammar, and `NoMemory` for one that there is no room for; `Device` for an image that can't be opened: it is no
-/// regular file, another opening has its lock, or a call of the system fails. The observer is told why. What
-/// [`run_on`] refuses is its status and its last line.
+/// Errors, with nothing printed and the image as it was; the observer is told why:
 ///
-/// That an image is ever opened is no clause: none knows what a folder holds.
+/// - `BadScript` if the script can't be read or isn't in the grammar.
+/// - `NoMemory` if there is no room for the script.
+/// - `Device` if the image can't be opened: it isn't a regular file, another opening has its lock, or a call of the
+///   system fails.
+///
+/// If [`run_on`] refuses, its status and its last line say so. No clause says that an image is ever opened, because
+/// nothing is known about the contents of a folder.
 pub fn run_file<
     R: Files<File = File> + AllocGlobal + Threads + Wait + Sync,
     S: Start + Send,
@@ -328,16 +337,17 @@ pub fn run_file<
     }
 }
 
-/// Serves a dialogue on the image of a file, and gives its disk back, with the status and the lines of [`dialogue_on`].
+/// Serves a dialogue on the image of a file. Returns the status of [`dialogue_on`] and the image's disk;
+/// [`dialogue_on`] also says which lines are printed.
 ///
-/// Whatever the image held when it was opened (`S`): as long as the file was honest, a crash at any moment since then
-/// leaves what [`dialogue_on`] says.
+/// The clauses hold for whatever the image held when it was opened (`S`), as long as the file was honest. A crash at
+/// any moment since then leaves what [`dialogue_on`] says.
 ///
-/// Refused is, with nothing printed, no line read, and the image as it was, `Device` for an image that can't be opened:
-/// it is no regular file, another opening has its lock, or a call of the system fails. The observer is told why. What
-/// [`dialogue_on`] refuses is its status and its last line.
+/// Returns `Device`, with nothing printed, no line read and the image as it was, if the image can't be opened: it isn't
+/// a regular file, another opening has its lock, or a call of the system fails. The observer is told why. If
+/// [`dialogue_on`] refuses, its status and its last line say so.
 ///
-/// That an image is ever opened is no clause: none knows what a folder holds.
+/// No clause says that an image is ever opened, because nothing is known about the contents of a folder.
 pub fn talk_file<
     R: Files<File = File> + AllocGlobal,
     S: Start,
@@ -367,23 +377,25 @@ pub fn talk_file<
     }
 }
 
-/// What is told of a file that is read although a note of this boot stands beside it.
+/// Warns about a file that is read although a note of this boot is beside it.
 pub(crate) fn warn<N: Observer>(is_unsynced: bool, observer: &mut N) {
     if is_unsynced {
         observer.warned(Warning::Unsynced);
     }
 }
 
-/// Tells what the image of a file means, and gives its disk back, with the status and the lines of [`inspect_on`].
+/// Prints the report of the image of a file. Returns the status of [`inspect_on`] and the image's disk; [`inspect_on`]
+/// also says which lines are printed.
 ///
-/// Whatever the image held when it was opened (`S`): where the file was honest and the status is 0, the report of those
-/// bytes is written to `out`; and a crash leaves nothing that it couldn't leave then.
+/// The clauses hold for whatever the image held when it was opened (`S`), as long as the file was honest. With status 0
+/// the report of those bytes is written to `out`. A crash leaves nothing that the file couldn't leave when it was
+/// opened.
 ///
-/// Refused is, with nothing printed and the image as it was, `Device` for an image that can't be opened: it is no
-/// regular file, an opening that writes has its lock, or a call of the system fails. The observer is told why. What
-/// [`inspect_on`] refuses is its status and its last line.
+/// Returns `Device`, with nothing printed and the image as it was, if the image can't be opened: it isn't a regular
+/// file, an opening that writes has its lock, or a call of the system fails. The observer is told why. If
+/// [`inspect_on`] refuses, its status and its last line say so.
 ///
-/// That an image is ever opened is no clause: none knows what a folder holds.
+/// No clause says that an image is ever opened, because nothing is known about the contents of a folder.
 pub fn inspect_file<R: Files<File = File> + AllocGlobal, S: Start, W: Write, N: Observer>(
     rt: &R,
     _held: &Descriptors,
@@ -409,7 +421,7 @@ pub fn inspect_file<R: Files<File = File> + AllocGlobal, S: Start, W: Write, N: 
     }
 }
 
-/// An image of the usual limits in memory.
+/// Makes an image of the default limits in memory.
 fn usual_image(alloc: Global) -> Result<MemDisk, Refusal> {
     let limits = limits_of(DEFAULT_CELLS, DEFAULT_ELEMENTS, DEFAULT_SLOTS)?;
     let Ok(disk) = MemDisk::new(alloc, image_length(limits)) else {
@@ -441,7 +453,8 @@ fn demonstrate<W: Write, N: Observer>(
     Ok(status)
 }
 
-/// Makes the image that the words ask for. `BadLimits` where a number is out of its range; then no file is made.
+/// Makes the image that the command line asks for. Returns `BadLimits` if a number is out of its range; then no file is
+/// made.
 fn format_image<R: Files<File = File> + AllocGlobal, S: Start, N: Observer>(
     rt: &R,
     held: &Descriptors,
@@ -468,7 +481,7 @@ fn format_image<R: Files<File = File> + AllocGlobal, S: Start, N: Observer>(
     format_file(rt, held, image, limits, is_new, observer, start)
 }
 
-/// Does the job. The status, and the disk of the file that was opened for it, if one was.
+/// Does the job. Returns the status, and the disk of the file if one was opened.
 fn do_job<R: Files<File = File> + AllocGlobal, S: Start, I: BufRead + Ear, W: Write, N: Observer>(
     rt: &R,
     held: &Descriptors,
@@ -520,7 +533,7 @@ fn do_job<R: Files<File = File> + AllocGlobal, S: Start, I: BufRead + Ear, W: Wr
     }
 }
 
-// The path of the image that a job is of.
+// The path of the job's image.
 fn image_of<'a>(job: &Job<'a>) -> &'a str {
     match *job {
         Job::Demonstration => "",
@@ -529,7 +542,7 @@ fn image_of<'a>(job: &Job<'a>) -> &'a str {
     }
 }
 
-// Whether the job may be done: nobody is asked, or it is answered so.
+// Whether the job may be done: nobody is asked, or the answer is yes.
 fn may_do<R: Files<File = File> + AllocGlobal + Eprint, I: BufRead>(
     rt: &R,
     job: &Job,
@@ -546,7 +559,7 @@ fn may_do<R: Files<File = File> + AllocGlobal + Eprint, I: BufRead>(
     }
 }
 
-// Tells what failed of the image's disk, if it was opened, and leaves a note where a sync of it did.
+// Prints which call on the image's disk failed, if a disk was opened. Leaves a note if a sync failed.
 fn settle<R: Files<File = File> + AllocGlobal + Eprint, S: Start>(
     rt: &R,
     image: &str,
@@ -587,18 +600,23 @@ fn work_alone<
     }
 }
 
-/// Does the job of one thread, and answers the status that the program ends with: 0, or 1 where something was refused
-/// or a write of the output failed; and the disk of the image, where its file was made or opened. A dialogue reads
-/// `input`, and so does a script whose path is `-`. What it prints goes to `out`, a refusal as its last line `refused N
-/// NAME`. Standard error has one line of reason for a refusal, and a line `K.N now REPLY` for a request that waited
-/// when the image was opened and whose entry is confirmed; and, where somebody watches, how far a long script has come.
-/// Where a call of the disk failed the reason says which, and where it was a sync, that the file system is to be
-/// mounted anew: a note is left beside the image then. Where standard input is a terminal, a file that isn't empty is
-/// asked for before an image is made of it.
+/// Does the job of one thread. Returns the status that the program ends with: 0, or 1 if something was refused or a
+/// write of the output failed. Also returns the disk of the image, if its file was made or opened. A dialogue reads
+/// `input`, and so does a script with the path `-`. The output goes to `out`, a refusal as its last line `refused N
+/// NAME`.
 ///
-/// Refused are: `Device` for a file that isn't to be made anew; `BadLimits` for an image with a number out of its range, and then no file is made; and what
-/// [`format_file`], [`serve_file`], [`talk_file`] and [`inspect_file`] refuse. Where there is a disk, its status and
-/// what was printed are those of the one that was called; where there is none, the status is 1, but for the
+/// Standard error has these lines:
+///
+/// - The reason of a refusal. If a call of the disk failed, it says which. If that was a sync, it also says that the
+///   file system is to be mounted anew, and a note is left beside the image.
+/// - `K.N now REPLY` for a request that waited when the image was opened and whose entry is confirmed.
+/// - How far a long script has come, if somebody watches.
+///
+/// If standard input is a terminal, a person is asked before an image replaces a file that isn't empty.
+///
+/// Refusals: `Device` for a file that isn't to be replaced; `BadLimits` for a number out of its range, and then no file
+/// is made; and the errors of [`format_file`], [`serve_file`], [`talk_file`] and [`inspect_file`]. If a disk is
+/// returned, the status and the output are those of the function that was called. Else the status is 1, except for the
 /// demonstration.
 ///
 /// `start` stands for what the image holds when it is opened. It is used up, and no code reads it.
@@ -665,7 +683,7 @@ fn run_at_once<
     }
 }
 
-/// Runs a script by the threads of its elements. The status, and the disk of the image, where it was opened.
+/// Runs a script with threads for its elements. Returns the status, and the disk of the image if it was opened.
 fn act_at_once<
     R: Files<File = File> + AllocGlobal + Eprint + Threads + Wait + Sync,
     S: Start + Send,
@@ -696,7 +714,8 @@ fn act_at_once<
     (status, disk)
 }
 
-/// Moves an image on to a new file. The status, and the disks of the new file and of the old one, where both were opened.
+/// Moves an image to a new file. Returns the status, and the disks of the new file and of the old one if both were
+/// opened.
 fn act_on_two<R: Files<File = File> + AllocGlobal + Eprint, S: Start, T: Start, W: Write>(
     rt: &R,
     held: &Descriptors,
@@ -727,13 +746,15 @@ fn act_on_two<R: Files<File = File> + AllocGlobal + Eprint, S: Start, T: Start, 
     }
 }
 
-/// Does the work, and answers the status that the program ends with: that of [`act_alone`], or for a run that of
-/// [`run_file`], 3 where its elements wait for each other, or for a migration that of [`migrate_file`]; and the disk of
-/// the image, where its file was made or opened; of a migration that of the new file, and that of the old one, where both
-/// were opened. What is printed and refused is what these three say.
+/// Does the work and returns the status that the program ends with. It is that of [`act_alone`], of [`run_file`] for a
+/// run (3 if its elements wait for each other), or of [`migrate_file`] for a migration. These three functions also say
+/// what is printed and refused.
 ///
-/// `start` stands for what the image holds when it is opened, of a migration what the new file holds, and `other` for what
-/// the old one does. They are used up, and no code reads them.
+/// Also returns the disk of the image, if its file was made or opened. For a migration, returns the disk of the new
+/// file and that of the old one, if both were opened.
+///
+/// `start` stands for what the image, or the new file of a migration, holds when it is opened. `other` stands for what
+/// the old file holds. They are used up, and no code reads them.
 pub fn act<
     R: Files<File = File> + AllocGlobal + Eprint + Threads + Wait + Sync,
     S: Start + Send,
@@ -780,7 +801,7 @@ pub fn act<
     }
 }
 
-/// Prints the line of a refusal, and answers its status, 1.
+/// Prints the line of a refusal and returns the status 1.
 pub fn refuse<W: Write>(alloc: Global, refusal: Refusal, out: &mut W) -> u8
     ensures status { result ≡ 1 }
     ensures last { (last : List ℕ) × (IsLast last × Begins (W.contents out.old) (W.contents out.new) last) }

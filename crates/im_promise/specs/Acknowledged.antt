@@ -1,4 +1,4 @@
--- Whether events were answered as the sequential memory answers them, and how many calls left something in doubt. (Own.)
+-- Whether events were answered as the sequential memory answers them, and how many calls left commands in doubt. (Own.)
 use Rattle.std.specs.Prelude.{◌≡◌, ◌⊎◌, ℕ, ◌+◌, ◌<◌, max, Bool, true, false, List, [], ◌∷◌, length, map, Ok, Err, if◌then◌else◌}
 use Rattle.im_types.specs.declared.refusals.Refusal.TheVariants.{JournalFull, Device, Failed}
 use Rattle.im_types.specs.Contents.{Contents}
@@ -17,14 +17,14 @@ abbrev pub calls_in_doubt : List Answer → ℕ
 calls_in_doubt [] = 0
 calls_in_doubt (answer ∷ answers) = (if is_doubt answer then 1 else 0) + calls_in_doubt answers
 
--- the most commands that one of these events has: one of a command, the members' of a group, and none of a turn
+-- the maximum number of commands of an event: one for a command, the members of a group, and none for a turn or a sweep
 abbrev pub most_of : Event → ℕ
 most_of (Serve command) = 1
 most_of (Together members) = length members
 most_of Turn = 0
 most_of (Sweep most) = 0
 
--- the most that one event of a list has
+-- the maximum for one event of a list
 abbrev pub most_of_one : List Event → ℕ
 most_of_one [] = 0
 most_of_one (event ∷ events) = max (most_of event) (most_of_one events)
@@ -58,9 +58,9 @@ IsFailed (Sweep most) (Grouped room served) = ⊥
 IsFailed (Sweep most) (TookTurn answer) = ⊥
 IsFailed (Sweep most) (DidSweep answer) = answer ≡ Err Failed
 
--- A command is answered what it comes to on this memory, or that the journal is full or the disk failed where it would change the
--- memory. The members of a group are answered what they come to one after another, those that find no room that the journal is
--- full; or all of them that the disk failed, where one would have been put on it.
+-- What an answer may be. A command gets its answer on this memory. If it would change the memory, it may get
+-- `JournalFull` or `Device` instead. The members of a group get their answers one after another, and those without room
+-- get `JournalFull`. If a member would have been put on the disk, all members may get `Device` instead.
 abbrev pub IsAnswer : Contents → ℕ → Event → Answer → Type 0
 IsAnswer m count (Serve command) (Told answer) =
     ((step m command).answer ≡ answer) ⊎ ((is_accepted m command ≡ true) × ((answer ≡ Err JournalFull) ⊎ (answer ≡ Err Device)))
@@ -82,8 +82,8 @@ IsAnswer m count (Sweep most) (Grouped room served) = ⊥
 IsAnswer m count (Sweep most) (TookTurn answer) = ⊥
 IsAnswer m count (Sweep most) (DidSweep answer) = Unit {0}
 
--- Each event is answered in its turn, on the memory and the count after the commands that were acknowledged before it; and all is
--- answered `Failed` once a call of the disk has failed.
+-- Each event is answered in its turn, on the memory and the count after the commands acknowledged before it. After a
+-- call of the disk has failed, everything is answered `Failed`.
 abbrev pub AreAnswers : Bool → Contents → ℕ → List Event → List Answer → Type 0
 AreAnswers failed m count [] [] = Unit {0}
 AreAnswers failed m count [] (answer ∷ answers) = ⊥

@@ -1,4 +1,4 @@
--- What a recovery gives of a group, and what a group is told that is sent again. (Own.)
+-- What a recovery gives of a group, and the answers to a group that is sent again. (Own.)
 use Rattle.std.specs.Prelude.{◌≡◌, ◌⊎◌, ◌+◌, ◌<◌, false, List, [], ◌∷◌, length, Ok}
 use Rattle.im_types.specs.declared.operations.Entry.{Entry}
 use Rattle.im_types.specs.declared.commands.Request.{Request}
@@ -21,16 +21,17 @@ pub record HasMore {D E : Type 0} (old : EngineState D) (commands : List Command
   pub memory : now.memory ≡ after old.memory commands
   pub count : now.count ≡ old.count + length commands
 
--- An engine served a group, and its members were answered so; its disk stopped, or not; a crash left what it left; and the image was opened
--- again, with the engine `now`. Either the members were answered as one after another, and all commands of the group are there; or all
--- members were answered `Device`, and none of the commands is there or all are.
+-- An engine served a group with these answers. Its disk stopped, or not, and a crash left a file. The image was opened
+-- again, with the engine `now`. Either the members got their answers one after another, and all commands of the group
+-- are there. Or all members got `Device`, and either none or all of the commands are there.
 abbrev pub RecoversGroup : {D E : Type 0} → EngineState D → List Request → List Served → EngineState E → Type 0
 RecoversGroup old members answers now =
     ((answers ≡ answers_in old members) × HasMore old (group_put old members) now)
     ⊎ ((answers ≡ all_refused Device members) × (HasMore old [] now ⊎ HasMore old (group_put old members) now))
 
--- The group was sent on `before` and is sent again on `now`: each member that was told an entry is told it again, or the answer that has come
--- since, or `Forgotten` where it was confirmed, and isn't put on the disk again; one after another.
+-- The group was sent on `before` and is sent again on `now`, one member after another. Each member that was told an
+-- entry is told it again, or the answer that has come since, or `Forgotten` if it was confirmed. It isn't put on the
+-- disk again.
 abbrev pub AreSaidAgain : Reached → Reached → List Request → Type 0
 AreSaidAgain before now [] = Unit {0}
 AreSaidAgain before now (r ∷ rs) =
@@ -42,21 +43,22 @@ abbrev pub AreTold : Reached → List Request → Type 0
 AreTold before [] = Unit {0}
 AreTold before (r ∷ rs) = ((entry : Entry) × (answer_of before r ≡ Ok (Tells entry))) × AreTold (reached_by_one before r) rs
 
--- what a group is answered that was sent on `before` and is sent again, and what it comes to
+-- the answers to a group that was sent on `before` and is sent again, and the engine after it
 pub record GroupSaidAgain {D : Type 0} (before : Reached) (old : EngineState D) (members : List Request) (answers : List Served) (new : EngineState D) : Type 0 where
-  -- its members are answered as one after another, or `Device` where one of them is new
+  -- its members are answered one after another, or all `Device` if one of them is new
   pub answered : (answers ≡ answers_in old members) ⊎ ((answers ≡ all_refused Device members) × (0 < length (group_put old members)))
-  -- those that were told an entry as before, and they don't act
+  -- those that were told an entry are answered as before, and don't act
   pub again : AreSaidAgain before (reached_in old) members
-  -- where all were told one, nothing changes, and no call of the disk is made
+  -- if all were told one, nothing changes, and no call of the disk is made
   pub still : AreTold before members → (answers ≡ answers_in old members) × (new ≡ old)
 
--- A group was served, and no member was answered `Device`; events were served and answered; the disk stopped, or not; a crash left what it
--- left; the image was opened; and the group was sent again.
+-- A group was served, and no member was answered `Device`. Events were served and answered. The disk stopped, or not,
+-- and a crash left a file. The image was opened, and the group was sent again.
 pub record GroupAskedOverACrash {D E : Type 0} (old : EngineState D) (members : List Request) (events : List Event) (answers : List Answer) (said : List Served) (new : EngineState E) : Type 0 where
-  -- the engine that the opening gave: it works, and has the memory and the count after the group, once, and after what a recovery gives of the events
+  -- The engine of the opening works. It has the memory and the count after the group, once, and after what a recovery
+  -- gives of the events.
   pub opened : EngineState E
   pub works : opened.failed ≡ false
   pub once : Recovers (after_group old members).memory (after_group old members).count events answers opened.memory opened.count
-  -- each member that was told an entry is told it again, or as it was answered since, and doesn't act again
+  -- each member that was told an entry is told it again, or the answer that has come since, and doesn't act again
   pub again : GroupSaidAgain (reached_in old) opened members said new

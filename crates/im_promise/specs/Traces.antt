@@ -13,15 +13,15 @@ use Rattle.im_types.specs.Agreement.{WaitingAgrees}
 use Rattle.im_types.specs.Step.{asker, is_accepted}
 use Rattle.im_types.specs.Trace.{IsLegal, end_of}
 
--- the line in which a request is answered so
+-- the line that answers a request with this answer
 abbrev pub line_answering : Request → Result Outcome Refusal → Line
 line_answering r answer = record { call = Commands (Asks r); answer = answer }
 
--- the line in which it is told this entry
+-- the line that tells a request this entry
 abbrev pub line_telling : Request → Entry → Line
 line_telling r entry = line_answering r (Ok (Tells entry))
 
--- the one line stands in a trace, and the other one somewhere behind it
+-- the one line stands in a trace, and the other one somewhere after it
 pub record StandBehind (trace : List Line) (one other : Line) : Type 0 where
   pub earlier : List Line
   pub between : List Line
@@ -32,7 +32,7 @@ pub record StandBehind (trace : List Line) (one other : Line) : Type 0 where
 abbrev pub at_other : Contents → {trace : List Line} → {one other : Line} → StandBehind trace one other → Contents
 at_other m {trace} {one} {other} it = end_of m (it.earlier ++ (one ∷ it.between))
 
--- a legal trace tells a request one entry, and behind it another
+-- a legal trace tells a request an entry, and later another one
 pub record ToldTwice (m : Contents) (trace : List Line) (r : Request) (first second : Entry) : Type 0 where
   pub agrees : WaitingAgrees m
   pub legal : IsLegal m trace

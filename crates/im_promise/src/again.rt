@@ -1,4 +1,4 @@
-//! A request that is sent again.
+//! Requests that are sent again.
 ghost use Rattle.std.specs.Prelude.{◌≡◌, List, false, Ok, IfOk, IfErr, ◌⊎◌};
 ghost use Rattle.im_types.specs.declared.operations.Entry.{Entry};
 ghost use Rattle.im_types.specs.declared.commands.Command.{Command};
@@ -20,21 +20,21 @@ use im_laws::{
 use im_types::{Command, Outcome, Refusal, Request};
 use std::alloc::Global;
 
-/// What came of events, and of a request that was sent again to the engine that a crash and an opening gave.
+/// The answers to events, and to a request that was sent again after a crash and an opening.
 #[derive(Drop)]
 pub struct Asked {
     /// The answers to the events, in their order.
     pub answers: Vec<Answer>,
     /// The answer to the request.
     pub again: Result<Outcome, Refusal>,
-    /// The engine over what the crash left, after that.
+    /// The engine over what the crash left, after the request.
     pub engine: Engine<MemDisk>,
 }
 
-/// Sends a request again that was answered at some time, after a recovery or not, and after any commands: it is
-/// answered as before, or with the answer that it has got since, or `Forgotten` once it was confirmed. The memory
-/// stays, and no call of the disk is made. Each memory of an engine agrees as is asked here of the one that answered:
-/// `Memory::cells` says so of it.
+/// Sends a request again that was told an entry before, after any commands, with or without a recovery. It is told the
+/// same entry, or the answer that has come since, or `Forgotten` after it was confirmed. The memory stays, and no call
+/// of the disk is made. The clause asks that waiters and entries agree in the memory that answered. `Memory::cells`
+/// says so of each memory of an engine.
 pub fn ask_again<D: Disk>(engine: &mut Engine<D>, request: Request) -> Result<Outcome, Refusal>
     ensures { engine.old.failed ≡ false → (before : Contents) (later : List Command) (entry : Entry)
         → WaitingAgrees before → IsAnswered before request entry
@@ -47,9 +47,9 @@ pub fn ask_again<D: Disk>(engine: &mut Engine<D>, request: Request) -> Result<Ou
     engine.serve(&Command::Request(request))
 }
 
-/// Sends a request twice. Where the memory has used no such number, as where a recovery doesn't hold the request, the
-/// request hasn't acted since whichever memory came before. Once it is answered it has acted, and when it is sent again
-/// it doesn't act: the memory is that after it, once.
+/// Sends a request twice. If the memory has used no such number, the request hasn't acted since any earlier memory.
+/// That is so after a recovery without the request. Once the request is told an entry, it has acted. Sent again, it
+/// doesn't act: the memory has its effect once.
 pub fn send_twice<D: Disk>(
     engine: &mut Engine<D>,
     request: Request,
@@ -74,14 +74,13 @@ pub fn send_twice<D: Disk>(
     (first, second)
 }
 
-/// Sends a request; runs any events, whose disk may fail at any call; crashes the disk, opens what is left, and sends
-/// the request again. The first answer is that to the request at first. Nothing is asked of the memory that the
-/// engine had.
+/// Sends a request, runs events on a disk that may fail at any call, crashes the disk, opens what is left, and sends
+/// the request again. The first result is the request's first answer. Nothing is asked of the engine's memory.
 ///
-/// Where the request was told an entry, it is told it again, or the answer that it has got since, or `Forgotten`
-/// where an event confirmed it; and it has acted once: the memory is that after it, and after the events that were
-/// acknowledged. The second is `NoMemory` or `Device` then, where `alloc` or the record of the disk in memory refused
-/// room; never a fault of the image.
+/// If the request was first told an entry, it is told it again, or the answer that has come since, or `Forgotten` if an
+/// event confirmed it. It has acted once: the memory is the one after it and after the acknowledged events. The second
+/// result may then be `NoMemory` or `Device`, if `alloc` or the record of the disk in memory refused room. It is never
+/// a fault of the image.
 pub fn ask_over_a_crash(
     alloc: Global,
     mut engine: Engine<FuseDisk>,
@@ -100,7 +99,7 @@ pub fn ask_over_a_crash(
     // So that it is known below that waiters and entries agree.
     let _cells = engine.memory().cells();
     let command = Command::Request(request);
-    // A stop leaves it on the disk or not: where it is answered, it is there.
+    // A stop leaves it on the disk or not. If it is answered, it is there.
     let first = engine.serve(&command);
     match recover(alloc, engine, events, crash) {
         Ok(recovered) => {
@@ -120,9 +119,9 @@ pub fn ask_over_a_crash(
     }
 }
 
-/// Sends a request, which the disk may fail at any call, so that nobody knows whether it is there; crashes the disk,
-/// opens what is left, and sends the request again. Once it is told an entry then, it has acted once, whatever it was
-/// answered at first, and wherever the disk stopped.
+/// Sends a request on a disk that may fail at any call, so that nobody knows whether the request is there. Then it
+/// crashes the disk, opens what is left, and sends the request again. If the request is told an entry then, it has
+/// acted once, whatever its first answer was and wherever the disk stopped.
 pub fn send_over_a_crash(
     alloc: Global,
     mut engine: Engine<FuseDisk>,

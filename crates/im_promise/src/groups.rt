@@ -1,4 +1,4 @@
-//! What a crash leaves of a group, and a group that is sent again.
+//! A group over a crash, and a group that is sent again.
 ghost use Rattle.std.specs.Prelude.{◌≡◌, ◌⊎◌, List, false, [], IfOk, IfErr};
 ghost use Rattle.im_types.specs.declared.commands.Command.{Command};
 ghost use Rattle.im_types.specs.declared.refusals.Refusal.TheVariants.{NoMemory, Device};
@@ -20,10 +20,11 @@ use im_laws::{
 use im_types::{Refusal, Request, Served};
 use std::alloc::Global;
 
-/// Serves a group of requests on an engine, whose disk may fail at any call; crashes the disk, and opens what is left.
-/// The answers go into `served`, in the members' order.
+/// Serves a group of requests on an engine whose disk may fail at any call, crashes the disk, and opens what is left.
+/// It puts the answers into `served`, in the members' order.
 ///
-/// `NoMemory` and `Device`, where `alloc` or the record of the disk in memory refused room; never a fault of the image.
+/// Returns `NoMemory` or `Device` if `alloc` or the record of the disk in memory refused room. It never returns a fault
+/// of the image.
 pub fn recover_group(
     alloc: Global,
     mut engine: Engine<FuseDisk>,
@@ -31,7 +32,7 @@ pub fn recover_group(
     served: &mut ArrayVec<Served, 16>,
     crash: Crash,
 ) -> Result<Engine<MemDisk>, Refusal>
-    // Each element asks once at most.
+    // Each element has one request at most.
     requires apart { AreApart members.now.items }
     requires empty { served.old.items ≡ [] }
     ensures recovers { IfOk result (λ e. engine.failed ≡ false
@@ -46,18 +47,18 @@ pub fn recover_group(
     open_crashed(alloc, engine.close().into_inner(), crash)
 }
 
-/// Sends a group again whose commands the memory has, after a recovery or not, and after any commands. A member that
-/// was told an entry is told it again, or the answer that it has got since, or `Forgotten` once it was confirmed, and
-/// doesn't act again; one that was refused acts as if it were sent for the first time. Where all were told one, the
-/// memory stays, and no call of the disk is made. The answers go into `served`, in the members' order.
+/// Sends a group again after any commands, with or without a recovery. The memory has the group's commands. A member
+/// that was told an entry is told it again, or the answer that has come since, or `Forgotten` after it was confirmed.
+/// It doesn't act again. A member that was refused acts as if sent for the first time. If all were told an entry, the
+/// memory stays, and no call of the disk is made. It puts the answers into `served`, in the members' order.
 ///
-/// All are answered `Device` where one of them is new and the disk fails, and `Failed` where it failed before.
+/// All members are answered `Device` if one of them is new and the disk fails, and `Failed` if the disk failed before.
 pub fn ask_group_again<D: Disk>(
     engine: &mut Engine<D>,
     members: &ArrayVec<Request, 16>,
     served: &mut ArrayVec<Served, 16>,
 )
-    // Each element asks once at most.
+    // Each element has one request at most.
     requires apart { AreApart members.now.items }
     requires empty { served.old.items ≡ [] }
     ensures { engine.old.failed ≡ false → (before : Reached) (later : List Command) → WaitingAgrees before.contents
@@ -73,14 +74,13 @@ pub fn ask_group_again<D: Disk>(
     engine.serve_group(members, served)
 }
 
-/// Serves a group of requests; runs any events, whose disk may fail at any call; crashes the disk, opens what is
-/// left, and sends the group again. The answers go into `served` and `again`, in the members' order. Nothing is asked
-/// of the memory that the engine had.
+/// Serves a group of requests, runs events on a disk that may fail at any call, crashes the disk, opens what is left,
+/// and sends the group again. It puts the answers into `served` and `again`, in the members' order. Nothing is asked of
+/// the engine's memory.
 ///
-/// Where no member was answered `Device`, the group is there once, and each member that was told an entry is told it
-/// again, or the answer that it has got since, or `Forgotten` where an event confirmed it. It is refused with
-/// `NoMemory` or `Device` then, where `alloc` or the record of the disk in memory refused room; never for a fault of
-/// the image.
+/// If no member was answered `Device`, the group is there once. Each member that was told an entry is told it again, or
+/// the answer that has come since, or `Forgotten` if an event confirmed it. The refusal is then `NoMemory` or `Device`,
+/// if `alloc` or the record of the disk in memory refused room. It is never a fault of the image.
 pub fn ask_group_over_a_crash(
     alloc: Global,
     mut engine: Engine<FuseDisk>,
@@ -90,7 +90,7 @@ pub fn ask_group_over_a_crash(
     crash: Crash,
     again: &mut ArrayVec<Served, 16>,
 ) -> Result<Recovered, Refusal>
-    // Each element asks once at most.
+    // Each element has one request at most.
     requires apart { AreApart members.now.items }
     requires empty { served.old.items ≡ [] }
     requires none { again.old.items ≡ [] }
@@ -116,7 +116,7 @@ pub fn ask_group_over_a_crash(
                 answers,
                 mut engine,
             } = recovered;
-            // The same of those members that are new.
+            // The same holds for the members that are new.
             engine.serve_group(members, again);
             Ok(Recovered { answers, engine })
         }

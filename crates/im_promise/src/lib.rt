@@ -1,10 +1,9 @@
-//! The promise, as the contracts of public functions over the public calls alone: a client's view of the whole.
+//! The promise: contracts of public functions over public calls alone. This is a client's view of the whole.
 //!
-//! An image is formatted, or opened. Commands, groups of requests, turns and sweeps are put to its engine until the
-//! disk stops at some call, or not. A crash leaves the file in any way that the model of a disk lets it, and the
-//! image is opened again: it has the memory after all commands that were acknowledged, and after those of the one
-//! call in doubt, or not: the command, or all of the group's. A request that is sent again is answered as before and
-//! acts once.
+//! An image is formatted or opened. Its engine gets commands, groups of requests, turns and sweeps, and the disk may
+//! stop at any call. A crash leaves any file that the model of a disk allows, and the image is opened again. It then
+//! has the memory after all acknowledged commands, with or without those of the one call in doubt: a single command, or
+//! all of a group. A request that is sent again is answered as before, and acts once.
 #![tactic(auto)]
 
 mod again;

@@ -1,4 +1,4 @@
-//! What a crash and an opening give.
+//! The result of a crash and an opening.
 ghost use Rattle.std.specs.Prelude.{◌≡◌, ◌⊎◌, ℕ, List, false, IfOk, IfErr};
 ghost use Rattle.im_types.specs.declared.refusals.Refusal.TheVariants.{NoMemory, Device, WrongLength};
 ghost use Rattle.im_types.specs.Contents.{empty_contents};
@@ -15,7 +15,7 @@ use im_laws::{accepted_where_changed, groups_are_runs};
 use im_types::{Limits, Refusal};
 use std::alloc::Global;
 
-/// What came of a run: the answer to each event, and the engine that the image was opened with after the crash.
+/// The result of a run: the answer to each event, and the engine opened after the crash.
 #[derive(Drop)]
 pub struct Recovered {
     /// The answers, in the order of the events.
@@ -24,10 +24,11 @@ pub struct Recovered {
     pub engine: Engine<MemDisk>,
 }
 
-/// Runs commands, groups, turns and sweeps on an engine, whose disk may fail at any call; crashes the disk, and opens
+/// Runs commands, groups, turns and sweeps on an engine whose disk may fail at any call, crashes the disk, and opens
 /// what is left.
 ///
-/// `NoMemory` and `Device`, where `alloc` or the record of the disk in memory refused room; never a fault of the image.
+/// Returns `NoMemory` or `Device` if `alloc` or the record of the disk in memory refused room. It never returns a fault
+/// of the image.
 pub fn recover(
     alloc: Global,
     mut engine: Engine<FuseDisk>,
@@ -48,16 +49,17 @@ pub fn recover(
         Ok(answers) => answers,
         Err(refusal) => return Err(refusal),
     };
-    // Whatever the crash leaves could be left, and means the memory with those in doubt, all or none of them.
+    // The crash leaves a file that could be left. It means the memory with all or none of the commands in doubt.
     match Engine::open(alloc, engine.close().into_inner().crash(crash)) {
         Ok(engine) => Ok(Recovered { answers, engine }),
         Err((refusal, _)) => Err(refusal),
     }
 }
 
-/// The same of an image that is formatted first, on a disk that fails in this mode after so many calls.
+/// Does the same as [`recover`] for an image that it formats first, on a disk that fails in this mode after `passes`
+/// calls.
 ///
-/// `WrongLength` where the disk hasn't the length of such an image.
+/// Returns `WrongLength` if the disk doesn't have the length of such an image.
 pub fn recover_from_format(
     alloc: Global,
     disk: MemDisk,
@@ -78,10 +80,11 @@ pub fn recover_from_format(
     }
 }
 
-/// The same of an engine that an image was opened with, as after an earlier crash: so any number of crashes is covered.
-/// Its image is opened again, on a disk that fails in this mode after so many calls, those of the opening included.
+/// Does the same as [`recover`] for an engine that came from an opening, as after an earlier crash. So any number of
+/// crashes is covered. It opens the image again, on a disk that fails in this mode after `passes` calls, including
+/// those of the opening.
 ///
-/// `Device` where the opening was stopped: [`reopen`] says what is there then.
+/// Returns `Device` if the opening was stopped. [`reopen`] says what is there then.
 pub fn recover_again(
     alloc: Global,
     engine: Engine<MemDisk>,
@@ -102,7 +105,7 @@ pub fn recover_again(
     }
 }
 
-// Opens an image on a disk that may fail, and gives the disk back, whether it was opened or not.
+// Opens an image on a disk that may fail, and gives the disk back in either case.
 fn open_and_close(alloc: Global, disk: MemDisk, passes: u64, mode: Mode) -> FuseDisk
     ensures { (file : List ℕ) → Left result.disk.moment file → Left disk.moment file }
 {
@@ -130,8 +133,8 @@ pub(crate) fn open_crashed(
     }
 }
 
-/// Opens an engine's image again on a disk that fails in this mode after so many calls, so that the opening may be
-/// stopped at each of its calls; crashes the disk, and opens what is left: the memory and the count are as they were.
+/// Opens an engine's image again on a disk that fails in this mode after `passes` calls. So the opening may stop at
+/// each of its calls. Then it crashes the disk and opens what is left. The memory and the count are as they were.
 pub fn reopen(
     alloc: Global,
     engine: Engine<MemDisk>,

@@ -1,4 +1,4 @@
-//! A law of traces: the contract of a function that does nothing.
+//! A law of traces, as the contract of a function that does nothing.
 ghost use Rattle.std.specs.Prelude.{◌≡◌, false, List};
 ghost use Rattle.im_types.specs.declared.operations.Entry.{Entry};
 ghost use Rattle.im_types.specs.declared.commands.Request.{Request};
@@ -14,9 +14,9 @@ use im_laws::{
     trace_is_a_run, traces_join, waiting_agrees,
 };
 
-/// A request that two lines of a legal trace tell an entry is told alike: the later line has the entry of the earlier
-/// one, or the answer that has come since, and the request isn't accepted there. Of two requests under one number the
-/// later one isn't accepted where the earlier one was: a number acts once.
+/// If two lines of a legal trace tell a request an entry, they agree: the later line has the same entry, or the answer
+/// that has come since, and doesn't accept the request. If a trace has two requests under one number and accepts the
+/// earlier one, it doesn't accept the later one. So a number acts once.
 pub fn traces_tell_a_request_alike()
     ensures alike { (m : Contents) (trace : List Line) (r : Request) (first second : Entry)
         → ToldTwice m trace r first second → IsSameOrAnswer first second }

@@ -12,7 +12,7 @@ use Rattle.im_records.specs.Rows.{Spells}
 abbrev pub FitEntries : List Kept → Type 0
 FitEntries kept = (i : ℕ) (k : Kept) → slice_get kept i ≡ Some k → FitsPlace (Some k)
 
--- of the entries in an array the first count are a window's
+-- the first `count` entries of an array are the entries of a window
 pub record AreEntries (count : ℕ) (entries : List Kept) : Type 0 where
   pub few : count ≤ WINDOW
   pub fit : FitEntries entries

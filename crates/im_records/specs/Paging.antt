@@ -1,4 +1,4 @@
--- The pages of an area, one by one: which record stands at which place of which page. (Own.)
+-- The pages of an area, one by one: which record is at which place of which page. (Own.)
 use Rattle.std.specs.Prelude.{◌≡◌, ℕ, zero, suc, ◌+◌, ◌*◌, ◌<◌, List, [], ◌++◌, length, Option, None, Some, slice_get}
 use Rattle.std.specs.Prelude.{slice_index_or}
 use Rattle.im_types.specs.declared.TheConstants.{NONE}
@@ -12,18 +12,18 @@ use Rattle.im_types.specs.declared.records.NodeRecord.TheVariants.{Free as FreeN
 use Rattle.im_types.specs.Records.{cell_bytes, node_bytes, session_bytes, FitsCell, FitsNode, FitsWindow}
 use Rattle.im_types.specs.Pages.{Records}
 
--- the bytes of a record, or zeros where there is none
+-- the bytes of a record, or zeros for `None`
 abbrev pub bytes_or_zeros : {X : Type 0} → ℕ → (X → List ℕ) → Option X → List ℕ
 bytes_or_zeros size spelled None = zeros size
 bytes_or_zeros size spelled (Some x) = spelled x
 
--- page i of a row of records: at place k stands record number per * i + k, or zeros where there is none
+-- page i of a row of records: place k has record number per * i + k, or zeros if there is none
 pub record IsPageOf {X : Type 0} (size per : ℕ) (spelled : X → List ℕ) (row : List X) (i : ℕ)
     (page : List ℕ) : Type 0 where
   pub long : length page ≡ page_bytes
   pub each : (k : ℕ) → k < per → record_at size page k ≡ bytes_or_zeros size spelled (slice_get row (per * i + k))
 
--- page i of the cells, with as many of them as a page has
+-- page i of the cells, with as many cells as fit a page
 abbrev pub IsCellPage : Records → ℕ → List ℕ → Type 0
 IsCellPage r i page = IsPageOf cell_record_bytes (on_a_page cell_record_bytes) cell_bytes r.cells i page
 
@@ -44,7 +44,7 @@ pub record ArePages (s : Sizes) (r : Records) (page : ℕ → List ℕ) : Type 0
   pub sessions : (i : ℕ) → i < session_pages layout_in_use s
       → IsSessionPage r i (page (cell_pages s + node_pages layout_in_use s + i))
 
--- there are as many records of each kind as there should be, each within its bounds
+-- the number of records of each kind is right, and each is within its bounds
 pub record FitRecords (s : Sizes) (r : Records) : Type 0 where
   pub many_cells : length r.cells ≡ s.cells
   pub cells : (i : ℕ) → i < s.cells → FitsCell s.cells (node_count layout_in_use s)
@@ -55,7 +55,7 @@ pub record FitRecords (s : Sizes) (r : Records) : Type 0 where
   pub many_windows : length r.windows ≡ s.elements
   pub windows : (i : ℕ) → i < s.elements → FitsWindow layout_in_use (slice_index_or r.windows i new_window)
 
--- the first n pages, one behind the other
+-- the first n pages, joined
 abbrev pub joined : ℕ → (ℕ → List ℕ) → List ℕ
 joined zero page = []
 joined (suc n) page = joined n page ++ page n

@@ -1,4 +1,4 @@
--- Records in a row, without what stands behind them. (Own.)
+-- Records in a row, without what is behind them. (Own.)
 use Rattle.std.specs.Prelude.{◌≡◌, ℕ, ◌+◌, ◌<◌, List, length, take, drop, slice_index_or}
 use Rattle.im_types.specs.declared.TheConstants.{NONE}
 use Rattle.im_types.specs.Contents.{Window, new_window}
@@ -16,37 +16,37 @@ pub record Spells {X : Type 0} (spelled : X → List ℕ) (Fits : X → Type 0) 
   pub is : bytes ≡ spelled x
   pub fits : Fits x
 
--- bytes begin with so many records of a size, each spelled as it should be
+-- bytes begin with this many records of a size, each spelled as it should be
 pub record BeginWith {X : Type 0} (size : ℕ) (spelled : X → List ℕ) (Fits : X → Type 0) (none : X) (count : ℕ)
     (bytes : List ℕ) (row : List X) : Type 0 where
   pub many : length row ≡ count
   pub each : (i : ℕ) → i < count → Spells spelled Fits (record_at size bytes i) (slice_index_or row i none)
 
--- bytes begin with so many cells, of so many cells and nodes
+-- bytes begin with the records of this many cells, within the bounds of these numbers of cells and nodes
 abbrev pub BeginWithCells : ℕ → ℕ → ℕ → List ℕ → List CellRecord → Type 0
 BeginWithCells count cells nodes bytes row =
     BeginWith cell_record_bytes cell_bytes (FitsCell cells nodes) (FreeCell 0 NONE) count bytes row
 
--- bytes begin with so many waiter nodes, of so many nodes
+-- bytes begin with this many waiter nodes, within the bounds of this number of nodes
 abbrev pub BeginWithNodes : ℕ → ℕ → List ℕ → List NodeRecord → Type 0
 BeginWithNodes count nodes bytes row =
     BeginWith node_record_bytes node_bytes (FitsNode nodes) (FreeNode NONE) count bytes row
 
--- bytes begin with so many sessions
+-- bytes begin with this many sessions
 abbrev pub BeginWithSessions : Layout → ℕ → List ℕ → List Window → Type 0
 BeginWithSessions l count bytes row =
     BeginWith (session_record_bytes l) (session_bytes l) (FitsWindow l) new_window count bytes row
 
--- bytes are the records of so many cells, of so many nodes, and zeros
+-- bytes are the records of this many cells, within the bounds of this number of nodes, and zeros
 abbrev pub AreCells : ℕ → ℕ → List ℕ → List CellRecord → Type 0
 AreCells cells nodes bytes row =
     IsRow cell_record_bytes cell_bytes (FitsCell cells nodes) (FreeCell 0 NONE) cells bytes row
 
--- bytes are so many waiter nodes, and zeros
+-- bytes are this many waiter nodes, and zeros
 abbrev pub AreNodes : ℕ → List ℕ → List NodeRecord → Type 0
 AreNodes nodes bytes row = IsRow node_record_bytes node_bytes (FitsNode nodes) (FreeNode NONE) nodes bytes row
 
--- bytes are so many sessions, and zeros
+-- bytes are this many sessions, and zeros
 abbrev pub AreSessions : Layout → ℕ → List ℕ → List Window → Type 0
 AreSessions l elements bytes row =
     IsRow (session_record_bytes l) (session_bytes l) (FitsWindow l) new_window elements bytes row
@@ -55,17 +55,18 @@ AreSessions l elements bytes row =
 abbrev pub StandsAt : ℕ → List ℕ → List ℕ → Type 0
 StandsAt at piece area = piece ≡ take (length piece) (drop at area)
 
--- where a piece stands at a place of an area, behind the cells of the one row, the area begins with those of the other
+-- If a piece is at a place of an area that begins with the cells of `old`, the area begins with the cells of `new`.
 abbrev pub LeadsOn : ℕ → ℕ → ℕ → ℕ → List ℕ → List CellRecord → List CellRecord → Type 0
 LeadsOn cells nodes count at piece old new = (area : List ℕ) → StandsAt at piece area
     → BeginWithCells (length old) cells nodes area old → BeginWithCells (length old + count) cells nodes area new
 
--- where a part of so many bytes stands at a place of an area, behind the cells of the one row, the other has all cells
+-- If the area begins with the cells of `row`, and this last part of its cells is at this place, then `all` has all its
+-- cells.
 abbrev pub FillsUp : ℕ → ℕ → ℕ → ℕ → List ℕ → List CellRecord → List CellRecord → Type 0
 FillsUp cells nodes at size part row all = (n : ℕ) (area : List ℕ) → at + size ≡ n → StandsAt at part area
     → BeginWithCells (length row) cells nodes area row → AreCells cells nodes (take n area) all
 
--- where a part of so many bytes stands at a place of an area, no row has all cells
+-- If this last part of an area's cells is at this place, no row has all its cells.
 abbrev pub NoneFillsUp : ℕ → ℕ → ℕ → ℕ → List ℕ → Type 0
 NoneFillsUp cells nodes at size part = (n : ℕ) (area : List ℕ) (all : List CellRecord) → at + size ≡ n
     → StandsAt at part area → AreCells cells nodes (take n area) all → ⊥
@@ -74,7 +75,7 @@ NoneFillsUp cells nodes at size part = (n : ℕ) (area : List ℕ) (all : List C
 abbrev pub AreFirstCells : Layout → Sizes → List ℕ → List CellRecord → Type 0
 AreFirstCells l s area row = BeginWithCells (length row) s.cells (node_count l s) area row
 
--- where a piece stands at a place of an area, behind the cells of the one row, those of the other are its first ones
+-- If a piece is at a place of an area whose first cells are `old`, its first cells are `new` too.
 abbrev pub CarriesOn : Layout → Sizes → ℕ → List ℕ → List CellRecord → List CellRecord → Type 0
 CarriesOn l s at piece old new =
     (area : List ℕ) → StandsAt at piece area → AreFirstCells l s area old → AreFirstCells l s area new

@@ -1,4 +1,4 @@
--- Bytes that are compared by so many at once. (Own.)
+-- Bytes that are compared several at a time. (Own.)
 use Rattle.std.specs.Prelude.{◌≡◌, ℕ, ◌+◌, ◌<◌, List, slice_index}
 
 -- the same n bytes from a place on

@@ -17,8 +17,8 @@ use im_types::{Limits, NodeRecord, Refusal};
 use std::alloc::Global;
 use std::marker::Model;
 
-/// The records of an area: of each cell by its address, of each waiter node by its number, and of each element's
-/// window. The cells lie in the room that a table of them takes.
+/// The records of an area: each cell by its address, each waiter node by its number, and each element's window. The
+/// cells lie in memory that a table of them can take over.
 #[derive(Drop)]
 pub struct AreaRecords {
     cells: CellRow,
@@ -56,7 +56,7 @@ impl AreaRecords {
         &self.windows
     }
 
-    /// The cells and the windows alone: the nodes are given back.
+    /// Returns only the cells and the windows, and frees the nodes.
     pub fn into_parts(self) -> (CellRow, Vec<WindowRecord>)
         ensures cells { result.0 ≡ self.cells }
         ensures windows { result.1.items ≡ self.windows }
@@ -66,12 +66,12 @@ impl AreaRecords {
     }
 }
 
-/// Puts the cells of a piece of an area, which is read some at a time, behind those before it: as many as have their
-/// record whole in the piece. The row has the area's first cells, and the piece begins with the record of the next.
+/// Reads the cells of the next piece of an area and puts them behind the earlier ones: all cells whose record lies
+/// whole in the piece. The row has the area's first cells, and the piece begins with the next cell's record.
 ///
-/// `BadPage` where a record of it isn't spelled as it should be or isn't within its bounds, so that no area with this
-/// piece there spells records. `NoMemory` where the row has no room for a cell and is refused it. After either, some
-/// cells of the piece may stand in the row. The time is proportional to the bytes.
+/// Returns `BadPage` if a record in the piece isn't spelled as it should be or isn't within its bounds. Then no area
+/// with this piece there spells records. Returns `NoMemory` if the row needs room for a cell and gets none. After
+/// either, some cells of the piece may stand in the row. The time is proportional to the bytes.
 pub fn read_more_cells(
     cells: &mut CellRow,
     version: Version,
@@ -144,12 +144,12 @@ fn windows_of(
     read_sessions(alloc, version, limits.elements, part)
 }
 
-/// The records that the bytes of an area of a version spell, of which the first cells were read, none or more
-/// ([`read_more_cells`]), and these are the bytes behind them. `BadPage` where no area with them at its end spells
-/// records: one isn't spelled as it should be, a number isn't within its bounds, or a byte behind the last record of a
-/// kind isn't zero. `NoMemory` where there is no room for the records.
+/// Reads the records of an area of a version. The first cells, none or more, were read before ([`read_more_cells`]);
+/// `rest` is the bytes behind them. Returns `BadPage` only if no area with these bytes at its end spells records: a
+/// record isn't spelled as it should be, a number isn't within its bounds, or a byte behind the last record of a kind
+/// isn't zero. Returns `NoMemory` if there is no room for the records.
 ///
-/// The time is proportional to the bytes. Of which memory the records are isn't asked here: links may lead anywhere
+/// The time is proportional to the bytes. This doesn't check which memory the records show: links may lead anywhere
 /// within their range.
 pub fn read_rest_of_area(
     alloc: Global,
@@ -196,11 +196,11 @@ pub fn read_rest_of_area(
     }
 }
 
-/// The records that the bytes of an area of a version spell. `BadPage` exactly where they spell none: a record isn't
-/// spelled as it should be, a number isn't within its bounds, or a byte behind the last record of a kind isn't zero.
-/// `NoMemory` where there is no room for the records.
+/// Reads the records that the bytes of an area of a version spell. Returns `BadPage` only if they spell none: a record
+/// isn't spelled as it should be, a number isn't within its bounds, or a byte behind the last record of a kind isn't
+/// zero. Returns `NoMemory` if there is no room for the records.
 ///
-/// The time is proportional to the bytes. Of which memory the records are isn't asked here: links may lead anywhere
+/// The time is proportional to the bytes. This doesn't check which memory the records show: links may lead anywhere
 /// within their range.
 pub fn read_area(
     alloc: Global,

@@ -1,4 +1,4 @@
-// Whether a record is within its bounds.
+// Checks whether a record is within its bounds.
 ghost use Rattle.std.specs.Prelude.{◌≡◌, ◌↔◌, length, IsTrue};
 ghost use Rattle.im_types.specs.Bytes.{zeros};
 ghost use Rattle.im_types.specs.Records.{IsLink, FitsTag, FitsCell, FitsNode};
@@ -22,8 +22,8 @@ fn fits_tag(nodes: u32, tag: PresenceTag) -> bool
     }
 }
 
-/// Whether the record of a cell is within its bounds: a hole and a block are no longer than there are cells, and a link
-/// leads to one of them.
+/// Returns whether the record of a cell is within its bounds: a hole is at most as long as there are cells, a block
+/// ends within the cells, and each link is within its range.
 pub(crate) fn fits_cell(cells: u32, nodes: u32, cell: CellRecord) -> bool
     ensures { IsTrue result ↔ FitsCell cells nodes cell }
 {
@@ -35,7 +35,7 @@ pub(crate) fn fits_cell(cells: u32, nodes: u32, cell: CellRecord) -> bool
     }
 }
 
-/// Whether a waiter node is within its bounds: its link leads to a node.
+/// Returns whether a waiter node is within its bounds: its link leads to a node or is none.
 pub(crate) fn fits_node(nodes: u32, node: NodeRecord) -> bool
     ensures { IsTrue result ↔ FitsNode nodes node }
 {
@@ -45,7 +45,7 @@ pub(crate) fn fits_node(nodes: u32, node: NodeRecord) -> bool
     }
 }
 
-/// Whether all bytes are zero.
+/// Returns whether all bytes are zero.
 pub(crate) fn are_zero(bytes: &[u8]) -> bool
     ensures { IsTrue result ↔ (bytes.now ≡ zeros (length bytes.now)) }
 {

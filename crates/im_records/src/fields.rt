@@ -1,4 +1,4 @@
-// The codes and the numbers of an entry, a kind and a presence tag, and back.
+// Turns an entry, a kind and a presence tag into codes and numbers, and back.
 ghost use Rattle.std.specs.Prelude.{◌≡◌};
 ghost use Rattle.im_types.specs.Bytes.{entry_code, entry_number, kind_code};
 ghost use Rattle.im_types.specs.Records.{tag_code, tag_first, tag_last, tag_value};

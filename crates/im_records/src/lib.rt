@@ -1,17 +1,17 @@
-//! The records of an area of the image: how a cell, a waiter node and a session are spelled and read, record by record,
-//! and how an area's pages are read into a list of records of each kind.
+//! The records of an area of the image. This crate spells and reads a cell, a waiter node and a session, record by
+//! record. It also reads an area's pages into a list of records of each kind.
 //!
-//! The bytes are `im_types`' definitions, and their laws are in `im_formats`. Which memory records show is a matter of
-//! the layer above.
+//! The bytes are defined in `im_types`, and their laws are in `im_formats`. The layer above says which memory the
+//! records show.
 #![tactic(auto)]
 
-// An area, read at once or some at a time.
+// An area, read at once or in pieces.
 mod area;
 // Whether a record is within its bounds.
 mod bounds;
 // Codes of entries, kinds and presence tags.
 mod fields;
-// What an area's bytes say, as laws.
+// Laws about what an area's bytes say.
 mod laws;
 // A page, record by record.
 mod page;

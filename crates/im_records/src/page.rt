@@ -1,8 +1,8 @@
-//! How a page of an area is made, record by record.
+//! Makes a page of an area, record by record.
 //!
-//! Page i of an area's cells has the cells from [`CELLS_ON_A_PAGE`] * i on, page i of its waiter nodes the nodes from
-//! [`NODES_ON_A_PAGE`] * i on, and page i of its sessions the elements from [`SESSIONS_ON_A_PAGE`] * i on. A page is
-//! made by putting each of its records at its place, and zeros where there is none.
+//! Page i of an area's cells has the cells from [`CELLS_ON_A_PAGE`] * i on. Page i of its waiter nodes has the nodes
+//! from [`NODES_ON_A_PAGE`] * i on. Page i of its sessions has the elements from [`SESSIONS_ON_A_PAGE`] * i on. Making
+//! a page puts each record at its place, and zeros in the places without a record.
 ghost use Rattle.std.specs.Prelude.{◌≡◌, ◌≢◌, ◌<◌, ℕ, option_map};
 ghost use Rattle.im_types.specs.Layout.{layout_in_use, record_at};
 ghost use Rattle.im_types.specs.Records.{cell_bytes, node_bytes, session_bytes};
@@ -27,7 +27,7 @@ fn cell_or_zeros(cell: Option<CellRecord>) -> [u8; CELL_RECORD]
     }
 }
 
-/// Puts the record of a cell, or zeros where there is none, at a place of a page of cells. All else on the page stays.
+/// Puts the record of a cell at a place of a page of cells, or zeros for `None`. All else on the page stays.
 pub fn put_cell(page: &mut [u8; PAGE], place: usize, cell: Option<CellRecord>)
     requires { place < CELLS_ON_A_PAGE }
     ensures here { record_at CELL_RECORD page.new place ≡ bytes_or_zeros CELL_RECORD cell_bytes cell }
@@ -46,7 +46,7 @@ fn node_or_zeros(node: Option<NodeRecord>) -> [u8; NODE_RECORD]
     }
 }
 
-/// Puts a waiter node, or zeros where there is none, at a place of a page of waiter nodes. All else on the page stays.
+/// Puts a waiter node at a place of a page of waiter nodes, or zeros for `None`. All else on the page stays.
 pub fn put_node(page: &mut [u8; PAGE], place: usize, node: Option<NodeRecord>)
     requires { place < NODES_ON_A_PAGE }
     ensures here { record_at NODE_RECORD page.new place ≡ bytes_or_zeros NODE_RECORD node_bytes node }
@@ -66,8 +66,8 @@ fn session_or_zeros(window: Option<&WindowRecord>) -> [u8; SESSION_RECORD]
     }
 }
 
-/// Puts the session record of a window, or zeros where there is none, at a place of a page of sessions. All else on the
-/// page stays.
+/// Puts the session record of a window at a place of a page of sessions, or zeros for `None`. All else on the page
+/// stays.
 pub fn put_session(page: &mut [u8; PAGE], place: usize, window: Option<&WindowRecord>)
     requires { place < SESSIONS_ON_A_PAGE }
     ensures here { record_at SESSION_RECORD page.new place

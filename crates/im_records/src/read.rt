@@ -1,4 +1,4 @@
-//! How the records of an area are read: the fields say what a record may be, and its spelling says whether it is.
+//! Reads the records of an area. The fields say which record the bytes may be, and its spelling says whether they are.
 ghost use Rattle.std.specs.Prelude.{◌≡◌, ◌≤◌, ◌+◌, ◌*◌, ◌↔◌, IsTrue, length, Some, None, if◌then◌else◌};
 ghost use Rattle.im_types.specs.Bytes.{same_bytes, number_at};
 ghost use Rattle.im_types.specs.Records.{node_bytes};
@@ -29,7 +29,7 @@ fn block_cell(
     })
 }
 
-// The record that the fields stand for, whatever the other bytes are.
+// The record that the fields stand for. It ignores all other bytes.
 #[tactic(auto, unfolding(im_formats::specs::Reading::cell_in))]
 fn cell_in(bytes: &[u8; CELL_RECORD]) -> Option<CellRecord>
     ensures { result ≡ cell_in bytes.now }
@@ -61,7 +61,7 @@ fn word(bytes: &[u8; CELL_RECORD], at: usize) -> u64
     LittleEndian::read_u64(&bytes[at..at + 8])
 }
 
-// Whether eight bytes at a place are the same.
+// Returns whether both have the same eight bytes at a place.
 fn has_same_word(bytes: &[u8; CELL_RECORD], others: &[u8; CELL_RECORD], at: usize) -> bool
     requires { at + 8 ≤ CELL_RECORD }
     ensures { IsTrue result ↔ SameAt bytes.now others.now at 8 }
@@ -69,7 +69,7 @@ fn has_same_word(bytes: &[u8; CELL_RECORD], others: &[u8; CELL_RECORD], at: usiz
     word(bytes, at) == word(others, at)
 }
 
-// Whether bytes are these, eight at once.
+// Compares the bytes, eight at a time.
 fn are_same(bytes: &[u8; CELL_RECORD], others: &[u8; CELL_RECORD]) -> bool
     ensures { result ≡ same_bytes bytes.now others.now }
 {
@@ -91,7 +91,7 @@ fn cell_if(bytes: &[u8; CELL_RECORD], cell: CellRecord) -> Option<CellRecord>
     }
 }
 
-/// The record of a cell that these bytes spell, if they spell one.
+/// Returns the record of a cell that these bytes spell, or `None`.
 pub fn read_cell(bytes: &[u8]) -> Option<CellRecord>
     ensures { result ≡ read_cell bytes.now }
 {
@@ -127,7 +127,7 @@ fn node_if(bytes: &[u8; NODE_RECORD], node: NodeRecord) -> Option<NodeRecord>
     }
 }
 
-/// The waiter node that these bytes spell, if they spell one.
+/// Returns the waiter node that these bytes spell, or `None`.
 pub fn read_node(bytes: &[u8]) -> Option<NodeRecord>
     ensures { result ≡ read_node bytes.now }
 {
@@ -168,7 +168,7 @@ fn place_if(bytes: &[u8; PLACE], place: Option<Kept>) -> Option<Option<Kept>>
     }
 }
 
-/// The place of a session record that these bytes spell, if they spell one: a kept entry, or none.
+/// Returns what these bytes spell as a place of a session record, or `None`. A place is a kept entry, or empty.
 pub fn read_place(bytes: &[u8]) -> Option<Option<Kept>>
     ensures { result ≡ read_place bytes.now }
 {

@@ -1,4 +1,4 @@
-// The rows of records that the parts of an area are.
+// The rows of records in the parts of an area.
 ghost use Rattle.std.specs.Prelude.{◌≡◌, ◌⊎◌, ◌+◌, ◌*◌, ◌≤◌, ℕ, List, length, take, Some, IfSome, IfOk, OnOk, IfErr};
 ghost use Rattle.std.specs.Prelude.{IsErrOf};
 ghost use Rattle.im_types.specs.Records.{cell_bytes, node_bytes, FitsCell, FitsNode};
@@ -14,7 +14,7 @@ use im_types::layout::{CELL_RECORD, NODE_RECORD};
 use im_types::{CellRecord, NodeRecord, Refusal};
 use std::alloc::Global;
 
-// The record of a cell that these bytes spell, if it is within its bounds.
+// Returns the record of a cell that these bytes spell, if it is within its bounds.
 fn cell_within(cells: u32, nodes: u32, bytes: &[u8]) -> Option<CellRecord>
     ensures found { IfSome result (λ cell. Spells cell_bytes (FitsCell cells nodes) bytes.now cell) }
     ensures only { (cell : CellRecordSpec) → Spells cell_bytes (FitsCell cells nodes) bytes.now cell
@@ -28,9 +28,9 @@ fn cell_within(cells: u32, nodes: u32, bytes: &[u8]) -> Option<CellRecord>
     }
 }
 
-/// Puts so many records of a piece of the cells' part of an area behind those before it. `BadPage` where one of them
-/// isn't spelled as it should be or isn't within its bounds, `NoMemory` where the row has no room for it; then those
-/// before it may stand in the row.
+/// Reads `count` records of a piece of the cells' part and puts them behind the earlier ones. Returns `BadPage` if one
+/// of them isn't spelled as it should be or isn't within its bounds. Returns `NoMemory` if the row gets no room for it.
+/// Then the records before it may stand in the row.
 pub(crate) fn push_cells(
     row: &mut CellRow,
     count: usize,
@@ -62,9 +62,9 @@ pub(crate) fn push_cells(
     Ok(())
 }
 
-/// The records of the cells of an area, of which the first are in the row, and the others in what is left of their
-/// part. `BadPage` where one of those isn't spelled as it should be or isn't within its bounds, or where a byte behind
-/// the records isn't zero.
+/// Reads the remaining cells of an area. The first ones are in the row; `part` is what is left of the cells' part.
+/// Returns `BadPage` if a remaining record isn't spelled as it should be or isn't within its bounds, or if a byte
+/// behind the records isn't zero.
 pub(crate) fn rest_of_cells(
     row: CellRow,
     cells: u32,
@@ -90,7 +90,7 @@ pub(crate) fn rest_of_cells(
     }
 }
 
-// The waiter node that these bytes spell, if it is within its bounds.
+// Returns the waiter node that these bytes spell, if it is within its bounds.
 fn node_within(nodes: u32, bytes: &[u8]) -> Option<NodeRecord>
     ensures found { IfSome result (λ node. Spells node_bytes (FitsNode nodes) bytes.now node) }
     ensures only { (node : NodeRecordSpec) → Spells node_bytes (FitsNode nodes) bytes.now node → result ≡ Some node }
@@ -127,8 +127,8 @@ fn first_nodes(alloc: Global, nodes: u32, bytes: &[u8]) -> Result<Vec<NodeRecord
     Ok(row)
 }
 
-/// The waiter nodes in their part of an area. `BadPage` where a node isn't spelled as it should be or its link leads
-/// nowhere, or where a byte behind the nodes isn't zero.
+/// Reads the waiter nodes of their part of an area. Returns `BadPage` if a node isn't spelled as it should be, its link
+/// is out of range, or a byte behind the nodes isn't zero. Returns `NoMemory` if there is no room for them.
 pub(crate) fn read_nodes(alloc: Global, nodes: u32, part: &[u8]) -> Result<Vec<NodeRecord>, Refusal>
     requires { NODE_RECORD * nodes ≤ length part.now }
     ensures found { IfOk result (λ row. AreNodes nodes part.now row.items) }

@@ -1,4 +1,4 @@
-//! How a session record is spelled and read, in each version of the layout.
+//! Spells and reads a session record, in each version of the layout.
 ghost use Rattle.std.specs.Prelude.{◌≡◌, ◌↔◌, ◌⊎◌, ◌<◌, ◌≤◌, ◌*◌, ◌-◌, ◌∷◌, ◌++◌, List, length, slice_get, Some};
 ghost use Rattle.std.specs.Prelude.{IfSome};
 ghost use Rattle.std.specs.Prelude.{IfOk, IfErr, IsErrOf, IsTrue};
@@ -21,7 +21,7 @@ use im_types::layout::{PLACE, SESSION_RECORD, Version};
 use im_types::{Entry, Kept, LAST, Op, Refusal, Reply};
 use std::alloc::Global;
 
-// What stands before the places of a session record.
+// The bytes before the places of a session record.
 fn spell_head(window: &WindowRecord) -> [u8; PLACE]
     ensures { result ≡ little_bytes 8 window.now.base ++ length window.now.kept ∷ zeros 23 }
 {
@@ -31,7 +31,7 @@ fn spell_head(window: &WindowRecord) -> [u8; PLACE]
     bytes
 }
 
-// The bytes of a session record of a version, and zeros behind them.
+// The bytes of a session record of a version, filled up with zeros.
 fn spell_in(version: Version, window: &WindowRecord) -> [u8; SESSION_RECORD]
     ensures { result ≡ session_bytes (layout_of version) window.now
         ++ zeros (SESSION_RECORD - session_record_bytes (layout_of version)) }
@@ -48,15 +48,15 @@ fn spell_in(version: Version, window: &WindowRecord) -> [u8; SESSION_RECORD]
     bytes
 }
 
-/// The bytes of a session record of the layout in use: the base, how many entries there are, and each entry at the
-/// place that its number, divided by [`WINDOW`](im_types::WINDOW), leaves.
+/// Spells a session record of the layout in use: the base, the number of entries, and the entries. Each entry stands at
+/// the place that is its number modulo [`WINDOW`](im_types::WINDOW).
 pub fn spell_session(window: &WindowRecord) -> [u8; SESSION_RECORD]
     ensures { result ≡ session_bytes layout_in_use window.now }
 {
     spell_in(Version::Two, window)
 }
 
-// The entry that stands so many numbers past the base.
+// The entry whose number is `past` more than the base.
 fn entry_past(version: Version, bytes: &[u8], base: u64, past: usize) -> Option<Kept>
     requires length { length bytes.now ≡ session_record_bytes (layout_of version) }
     requires few { past < (layout_of version).window }
@@ -70,7 +70,7 @@ fn entry_past(version: Version, bytes: &[u8], base: u64, past: usize) -> Option<
     }
 }
 
-// The window that the fields stand for, whatever the other bytes are.
+// The window that the fields stand for. It ignores all other bytes.
 fn window_in(version: Version, bytes: &[u8]) -> Option<WindowRecord>
     requires length { length bytes.now ≡ session_record_bytes (layout_of version) }
     ensures { (w : Window) → SpellsSession (layout_of version) bytes.now w → result ≡ Some w }
@@ -87,21 +87,22 @@ fn window_in(version: Version, bytes: &[u8]) -> Option<WindowRecord>
     Some(window)
 }
 
-// Whether what is kept is of a reset.
+// Returns whether the kept entry is of a reset.
 fn is_of_reset(kept: &Kept) -> bool
     ensures { result ≡ is_of_reset kept.now }
 {
     matches!(kept.op, Op::Reset(_)) || matches!(kept.entry, Entry::Answered(Reply::Cleared))
 }
 
-// Whether something of a reset is kept.
+// Returns whether any kept entry is of a reset.
 fn has_reset(kept: &[Kept]) -> bool
     ensures { result ≡ list_any is_of_reset kept.now }
 {
     kept.iter().any(|kept| is_of_reset(kept))
 }
 
-/// Whether a version has room for a window, and knows each of its entries: the first one has 16 places, and no reset.
+/// Returns whether a version has room for a window and knows each of its entries. The first version has 16 places and
+/// knows no reset.
 pub fn has_room_for(version: Version, window: &WindowRecord) -> bool
     ensures { result ≡ has_room_for (layout_of version) window.now }
 {
@@ -111,7 +112,7 @@ pub fn has_room_for(version: Version, window: &WindowRecord) -> bool
     }
 }
 
-// Whether a window's numbers are in their ranges.
+// Returns whether a window's numbers are in their ranges.
 fn are_numbers(window: &WindowRecord) -> bool
     ensures { IsTrue result ↔ AreNumbers window.now }
 {
@@ -119,22 +120,22 @@ fn are_numbers(window: &WindowRecord) -> bool
     1 <= window.base() && window.base() <= LAST + 1 && window.base() + count <= LAST + 1
 }
 
-// Whether a window is within the bounds of a version.
+// Returns whether a window is within the bounds of a version.
 fn fits_window(version: Version, window: &WindowRecord) -> bool
     ensures { IsTrue result ↔ FitsWindow (layout_of version) window.now }
 {
     window.kept().len() <= version.window() && are_numbers(window) && has_room_for(version, window)
 }
 
-// Whether bytes spell a window as a session record of a version.
+// Returns whether the bytes spell the window as a session record of a version.
 fn is_spelled(version: Version, window: &WindowRecord, bytes: &[u8]) -> bool
     ensures { IsTrue result ↔ SpellsSession (layout_of version) bytes.now window.now }
 {
     fits_window(version, window) && bytes == &spell_in(version, window)[..version.session_record()]
 }
 
-/// The window that these bytes spell as a session record of a version, if they spell one: its base is 1 to
-/// [`LAST`](im_types::LAST) + 1, no entry is past the last number, and the first version has none of a reset.
+/// Returns the window that these bytes spell as a session record of a version, or `None`. Its base is 1 to
+/// [`LAST`](im_types::LAST) + 1, and no entry is past the last number. The first version has no entry of a reset.
 pub fn read_session(version: Version, bytes: &[u8]) -> Option<WindowRecord>
     ensures found { IfSome result (λ w. SpellsSession (layout_of version) bytes.now w) }
     ensures only { (w : Window) → SpellsSession (layout_of version) bytes.now w → result ≡ Some w }
@@ -177,8 +178,8 @@ fn first_sessions(
     Ok(row)
 }
 
-/// The windows in their part of an area. `BadPage` where a session record isn't spelled as it should be, or where a
-/// byte behind the records isn't zero.
+/// Reads the windows of their part of an area. Returns `BadPage` if a session record isn't spelled as it should be, or
+/// a byte behind the records isn't zero. Returns `NoMemory` if there is no room for them.
 pub(crate) fn read_sessions(
     alloc: Global,
     version: Version,

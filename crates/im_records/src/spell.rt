@@ -1,4 +1,4 @@
-//! How the records of an area are spelled. All numbers are little endian, and what isn't a field is zero.
+//! Spells the records of an area. All numbers are little endian, and bytes outside the fields are zero.
 ghost use Rattle.std.specs.Prelude.{◌≡◌};
 ghost use Rattle.im_types.specs.Records.{cell_bytes, node_bytes, place_bytes};
 
@@ -8,7 +8,7 @@ use im_types::codes::{address_of, op_code, op_value};
 use im_types::layout::{CELL_RECORD, NODE_RECORD, PLACE};
 use im_types::{CellRecord, Kept, NodeRecord};
 
-/// The bytes of a cell.
+/// Returns the bytes of a cell.
 pub fn spell_cell(cell: &CellRecord) -> [u8; CELL_RECORD]
     ensures { result ≡ cell_bytes cell.now }
 {
@@ -33,7 +33,7 @@ pub fn spell_cell(cell: &CellRecord) -> [u8; CELL_RECORD]
     bytes
 }
 
-/// The bytes of a waiter node.
+/// Returns the bytes of a waiter node.
 pub fn spell_node(node: &NodeRecord) -> [u8; NODE_RECORD]
     ensures { result ≡ node_bytes node.now }
 {
@@ -50,7 +50,7 @@ pub fn spell_node(node: &NodeRecord) -> [u8; NODE_RECORD]
     bytes
 }
 
-/// The bytes of a place of a session record: of a kept entry, or of none.
+/// Returns the bytes of a place of a session record: a kept entry, or an empty place.
 pub fn spell_place(place: Option<Kept>) -> [u8; PLACE]
     ensures { result ≡ place_bytes place }
 {

@@ -1,4 +1,4 @@
-//! An element's window of kept entries, and the session record that it is spelled as.
+//! An element's window of kept entries. A session record spells it.
 ghost use Rattle.std.specs.Prelude.{◌≡◌, ◌<◌, ◌≤◌, ◌+◌, ◌-◌, ◌%◌, ◌∷◌, ◌++◌, [], length};
 ghost use Rattle.im_types.specs.Layout.{layout_of};
 ghost use Rattle.im_types.specs.Records.{entry_at};
@@ -8,12 +8,12 @@ use im_types::layout::Version;
 use im_types::{Entry, Kept, Op, WINDOW};
 use std::marker::Model;
 
-/// The most entries of a window.
+/// The maximum number of entries in a window.
 pub(crate) const PLACES: usize = WINDOW as usize;
 
-/// The entries that are kept for an element, numbered from a base on. Contracts see the base and the entries.
+/// The entries kept for an element, numbered from a base on. Contracts see the base and the entries.
 ///
-/// There are at most [`WINDOW`](im_types::WINDOW) of them, and they lie in the value itself: nothing is allocated.
+/// There are at most [`WINDOW`](im_types::WINDOW) of them. They lie in the value itself, so nothing is allocated.
 #[derive(Drop)]
 pub struct WindowRecord {
     base: u64,
@@ -49,7 +49,7 @@ impl WindowRecord {
         }
     }
 
-    /// Keeps one more entry, under the next number.
+    /// Adds an entry under the next number.
     pub fn push(&mut self, kept: Kept)
         requires { length self.old.kept < WINDOW }
         ensures { self.new ≡ record { base = self.old.base; kept = self.old.kept ++ kept ∷ [] } }
@@ -74,7 +74,7 @@ impl WindowRecord {
         &self.entries[..self.count]
     }
 
-    /// The entry at a place of the ring that a version has.
+    /// Returns the entry at a place of a version's ring.
     pub(crate) fn entry_at(&self, version: Version, place: usize) -> Option<Kept>
         requires { place < (layout_of version).window }
         ensures { result ≡ entry_at (layout_of version).window self.now place }
@@ -83,7 +83,7 @@ impl WindowRecord {
     }
 }
 
-// How many numbers past the base those of this place of a version's ring are.
+// How far past the base the numbers of this place of a version's ring are.
 fn past_of(version: Version, base: u64, place: usize) -> usize
     requires { place < (layout_of version).window }
     ensures { result
@@ -95,7 +95,7 @@ fn past_of(version: Version, base: u64, place: usize) -> usize
     }
 }
 
-/// At which place of a version's ring the number stands that is so many past the base.
+/// Returns the place in a version's ring of the number that is `past` more than the base.
 pub(crate) fn place_of(version: Version, base: u64, past: usize) -> usize
     requires { past < (layout_of version).window }
     ensures at { result ≡ (base % (layout_of version).window + past) % (layout_of version).window }

@@ -1,4 +1,4 @@
--- What inspecting an image tells. (Own.)
+-- What inspecting an image reports. (Own.)
 use Rattle.std.specs.Prelude.{ℕ, ◌+◌, List, Option, Ok}
 use Rattle.std.specs.Io.KnownBytes.{Appends}
 use Rattle.im_types.specs.Contents.{Contents}

@@ -1,4 +1,4 @@
--- The text of a report: what an inspector tells of an image. (Own.)
+-- The text of a report: what an inspector says of an image. (Own.)
 use Rattle.std.specs.Prelude.{ℕ, ◌+◌, List, [], ◌∷◌, ◌++◌, length, codes, decimal, ◌&&◌, ◌==◌, if◌then◌else◌, Option, None, Some, slice_get}
 use Rattle.im_types.specs.declared.operations.Waiter.{Waiter}
 use Rattle.im_types.specs.declared.operations.Block.{Block}
@@ -28,7 +28,7 @@ header_line h = codes "header " ++ decimal h.area ++ codes " generation " ++ dec
 abbrev pub journal_line : ℕ → ℕ → List ℕ
 journal_line run room = codes "journal " ++ decimal run ++ codes " room " ++ decimal room ++ line_feed
 
--- a block, told at its base alone
+-- a block, reported only at its base
 abbrev pub block_line : ℕ → Option Block → List ℕ
 block_line a None = []
 block_line a (Some b) = if b.base == a then codes "block " ++ decimal b.base ++ codes " " ++ kind_text b.kind ++ codes " " ++ decimal b.length ++ line_feed else []
@@ -37,12 +37,12 @@ block_line a (Some b) = if b.base == a then codes "block " ++ decimal b.base ++ 
 abbrev pub waiter_text : Waiter → List ℕ
 waiter_text who = codes " " ++ decimal who.element ++ codes "." ++ decimal who.number
 
--- those that wait at a cell, in their order
+-- the requests that wait at a cell, in their order
 unfoldable pub waiters_text : List Waiter → List ℕ
 waiters_text [] = []
 waiters_text (who ∷ others) = waiter_text who ++ waiters_text others
 
--- a cell that isn't empty, with those that wait at it
+-- a cell that isn't empty, with the requests that wait at it
 abbrev pub cell_line : ℕ → Option Cell → List Waiter → List ℕ
 cell_line a None waiters = []
 cell_line a (Some IsEmpty) waiters = []
@@ -61,20 +61,20 @@ element_line element base kept = codes "element " ++ decimal element ++ codes " 
 
 -- ---- the report
 
--- the entries of a window, by their numbers
+-- the entries of a window, by number
 abbrev pub entries_text : ℕ → Window → List ℕ
 entries_text element w = texts_below (λ i. entry_line element (w.base + i) (slice_get w.kept i)) (length w.kept)
 
--- an element and its entries; nothing where it has asked nothing yet
+-- an element and its entries; nothing if it has asked nothing yet
 abbrev pub window_text : ℕ → Option Window → List ℕ
 window_text element None = []
 window_text element (Some w) = if (w.base == 1) && (length w.kept == 0) then [] else element_line element w.base (length w.kept) ++ entries_text element w
 
--- all blocks, by their bases
+-- all blocks, by base
 abbrev pub blocks_text : Contents → List ℕ
 blocks_text m = texts_below (λ a. block_line a (block_at m.cells a)) (length m.cells)
 
--- all cells that aren't empty, by their addresses
+-- all cells that aren't empty, by address
 abbrev pub cells_text : Contents → List ℕ
 cells_text m = texts_below (λ a. cell_line a (presence_in (held_at m.cells a)) (waiters_at m.cells a)) (length m.cells)
 

@@ -1,4 +1,4 @@
-//! What an image means, told line by line.
+//! Prints what an image means, line by line.
 ghost use Rattle.std.specs.Prelude.{◌≡◌, ◌≤◌, IfOk, OnOk, string_bytes};
 ghost use Rattle.im_image.specs.Headers.{seen};
 ghost use Rattle.im_disk.specs.Runs.{ReadsAlone};
@@ -42,14 +42,14 @@ fn tell<D: Disk, W: Write>(alloc: Global, disk: &mut D, out: &mut W) -> Result<(
     }
 }
 
-// What is odd of an image that was told.
+// Warns of an old open slot of an image that was reported.
 fn warn<N: Observer>(older: Option<Older>, observer: &mut N) {
     if let Some(older) = older {
         observer.warned(Warning::Older(older));
     }
 }
 
-// Writes the report of the image on a disk, and looks for what is odd of an image that was told.
+// Writes the report of the image on a disk, and then looks for an old open slot.
 fn tell_all<D: Disk, W: Write, N: Observer>(
     alloc: Global,
     disk: &mut D,
@@ -69,20 +69,20 @@ fn tell_all<D: Disk, W: Write, N: Observer>(
     }
 }
 
-/// Tells what the image on a disk means, and gives the disk back. It only reads, the bytes as they are now. The report
-/// goes to `out`, or at last the line `refused N NAME`:
+/// Reports what the image on a disk means, and gives the disk back. It only reads the bytes as they are now. The report
+/// goes to `out`; if something is refused, the last line is `refused N NAME`:
 ///
-/// - `version V`, `limits CELLS ELEMENTS SLOTS`, `header H generation G area H count C` of the header in force, and
-///   `journal J room R`: how many commands stand behind it, and the room for more;
-/// - of the memory after those commands, `block BASE KIND LENGTH` for each block, by their bases;
-/// - `cell A full V`, `cell A clashed V` or `cell A waiting K.N ..` for each cell that isn't empty, by their addresses;
-/// - `element K base B kept N` for each element that has asked anything, by their numbers, each followed by
-///   `entry K.N OPERATION -> REPLY` for each request that it keeps, by theirs.
+/// - `version V`, `limits CELLS ELEMENTS SLOTS` and `header H generation G area H count C` are from the header in
+///   force. `journal J room R` gives the number of commands behind it, and the room for more.
+/// - The other lines are from the memory after those commands. `block BASE KIND LENGTH` is a block, by base.
+/// - `cell A full V`, `cell A clashed V` or `cell A waiting K.N ..` is a cell that isn't empty, by address.
+/// - `element K base B kept N` is an element that has asked anything, by number. A request that it keeps follows as
+///   `entry K.N OPERATION -> REPLY`, by number.
 ///
-/// The status is 0, or 1 where something was refused: the image's first fault, as [`inspect`] tells it; `Device` where
-/// a call of the disk failed; `NoMemory` where `alloc` refused the room for the report, of which nothing is written
-/// then; or where a write failed. The observer is told why; and of an image that was told it is warned where a slot of the
-/// journal stands open that is older than any which can.
+/// The status is 0, or 1 if something was refused. The reason is the image's first fault, as [`inspect`] returns it, or
+/// a failed write. It is `Device` if a call of the disk failed. It is `NoMemory` if `alloc` refused the room for the
+/// report, and then none of it is written. The observer gets the reason. For an image that was reported, the observer
+/// gets a warning if a slot of the journal stands open that is too old to be there.
 pub fn inspect_on<D: Disk, W: Write, N: Observer>(
     alloc: Global,
     mut disk: D,

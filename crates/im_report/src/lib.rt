@@ -1,4 +1,4 @@
-//! What an image means, told line by line.
+//! Prints what an image means, line by line.
 #![tactic(auto)]
 
 mod inspecting;

@@ -55,7 +55,7 @@ fn add_journal(out: &mut String, run: u64, room: u32) -> Result<(), AllocError>
     writeln!(out, "journal {run} room {room}")
 }
 
-/// Adds the line of a block, where this address is its base.
+/// Adds the line of a block if this address is its base.
 fn add_block(out: &mut String, a: u32, block: Option<Block>) -> Result<(), AllocError>
     ensures { OnOk result (string_bytes out.new ≡ string_bytes out.old ++ block_line a block) }
 {
@@ -71,7 +71,7 @@ fn add_block(out: &mut String, a: u32, block: Option<Block>) -> Result<(), Alloc
     writeln!(out, "block {base} {kind} {length}")
 }
 
-/// Adds the lines of all blocks, by their bases.
+/// Adds the lines of all blocks, by base.
 fn add_blocks(out: &mut String, memory: &Memory) -> Result<(), AllocError>
     ensures { OnOk result (string_bytes out.new ≡ string_bytes out.old ++ blocks_text memory.now.contents) }
 {
@@ -89,7 +89,7 @@ fn add_waiter(out: &mut String, waiter: Waiter) -> Result<(), AllocError>
     write!(out, " {element}.{number}")
 }
 
-/// Adds those that wait at a cell, in their order.
+/// Adds the requests that wait at a cell, in their order.
 fn add_waiters(out: &mut String, memory: &Memory, a: u32) -> Result<(), AllocError>
     ensures { OnOk result (string_bytes out.new ≡ string_bytes out.old
         ++ waiters_text (waiters_at memory.now.contents.cells a)) }
@@ -100,7 +100,7 @@ fn add_waiters(out: &mut String, memory: &Memory, a: u32) -> Result<(), AllocErr
     Ok(())
 }
 
-/// Adds the line of a cell that is waited for.
+/// Adds the line of a cell with waiters.
 fn add_waiting(out: &mut String, memory: &Memory, a: u32) -> Result<(), AllocError>
     ensures { OnOk result (string_bytes out.new ≡ string_bytes out.old
         ++ cell_line a (Some Cell.Waiting) (waiters_at memory.now.contents.cells a)) }
@@ -110,7 +110,7 @@ fn add_waiting(out: &mut String, memory: &Memory, a: u32) -> Result<(), AllocErr
     out.push_str("\n")
 }
 
-/// Adds the line of a cell, where it isn't empty.
+/// Adds the line of a cell if it isn't empty.
 fn add_cell(out: &mut String, memory: &Memory, a: u32) -> Result<(), AllocError>
     ensures { OnOk result (string_bytes out.new ≡ string_bytes out.old
         ++ cell_line a (presence_in (held_at memory.now.contents.cells a)) (waiters_at memory.now.contents.cells a)) }
@@ -123,7 +123,7 @@ fn add_cell(out: &mut String, memory: &Memory, a: u32) -> Result<(), AllocError>
     }
 }
 
-/// Adds the lines of all cells that aren't empty, by their addresses.
+/// Adds the lines of all cells that aren't empty, by address.
 fn add_cells(out: &mut String, memory: &Memory) -> Result<(), AllocError>
     ensures { OnOk result (string_bytes out.new ≡ string_bytes out.old ++ cells_text memory.now.contents) }
 {
@@ -133,7 +133,7 @@ fn add_cells(out: &mut String, memory: &Memory) -> Result<(), AllocError>
     Ok(())
 }
 
-/// Adds the line of what is kept under an element's number, if anything is.
+/// Adds the line of what is kept under an element's number, if anything is kept.
 fn add_kept(
     out: &mut String,
     element: u16,
@@ -152,7 +152,7 @@ fn add_kept(
     out.push_str("\n")
 }
 
-/// Adds the lines of an element's entries, whose numbers are those from `base` on and before `next`.
+/// Adds the lines of an element's entries. Their numbers run from `base` up to, but not including, `next`.
 fn add_entries(
     out: &mut String,
     memory: &Memory,
@@ -170,21 +170,21 @@ fn add_entries(
     Ok(())
 }
 
-/// Whether an element whose window begins at this base, with so many entries, has asked nothing yet.
+/// Returns whether an element with this window base and this many entries has asked nothing yet.
 fn is_new(base: u64, kept: u64) -> bool
     ensures { result ≡ ((base == 1) && (kept == 0)) }
 {
     base == 1 && kept == 0
 }
 
-/// Adds the line of an element: the base of its window, and how many entries it keeps.
+/// Adds the line of an element: the base of its window, and the number of its entries.
 fn add_bounds(out: &mut String, element: u16, base: u64, kept: u64) -> Result<(), AllocError>
     ensures { OnOk result (string_bytes out.new ≡ string_bytes out.old ++ element_line element base kept) }
 {
     writeln!(out, "element {element} base {base} kept {kept}")
 }
 
-/// Adds the lines of an element, where it has asked anything yet.
+/// Adds the lines of an element if it has asked anything.
 fn add_element(out: &mut String, memory: &Memory, element: u16) -> Result<(), AllocError>
     ensures { OnOk result (string_bytes out.new ≡ string_bytes out.old
         ++ window_text element (slice_get memory.now.contents.windows element)) }
@@ -200,7 +200,7 @@ fn add_element(out: &mut String, memory: &Memory, element: u16) -> Result<(), Al
     add_entries(out, memory, element, base, next)
 }
 
-/// Adds the lines of all elements that have asked anything yet.
+/// Adds the lines of all elements that have asked anything.
 fn add_elements(out: &mut String, memory: &Memory) -> Result<(), AllocError>
     ensures { OnOk result (string_bytes out.new ≡ string_bytes out.old ++ elements_text memory.now.contents) }
 {

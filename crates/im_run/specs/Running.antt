@@ -29,11 +29,11 @@ use Rattle.im_run.specs.declared.run.TheConstants.{STALLED}
 use Rattle.im_run.specs.declared.served.Did.{Did}
 use Rattle.im_run.specs.declared.served.Did.TheVariants.{Sent, Glanced}
 
--- why a run is refused where a call of the disk failed
+-- the reason that a call of the disk failed
 abbrev pub disk_failed : Reason
 disk_failed = Image Device Unknown
 
--- what the observer is told of a refusal: that a call of the disk failed, where a request came behind one that did
+-- the reason that the observer is told: that a call of the disk failed, if a request came after such a call
 abbrev pub told_as : Reason → Reason
 told_as (Request element Failed) = disk_failed
 told_as reason = reason
@@ -43,7 +43,7 @@ abbrev pub AreThere : Contents → List Order → Type 0
 AreThere m [] = Unit {0}
 AreThere m (order ∷ orders) = (order.element < length m.windows) × AreThere m orders
 
--- what is kept for a request, or what it was told once it is forgotten
+-- what is kept for a request, or what its server was told if it is forgotten
 abbrev pub kept_or : Entry → Result Entry Refusal → Entry
 kept_or told (Ok entry) = entry
 kept_or told (Err refusal) = told
@@ -71,31 +71,33 @@ final_line m (Some (Glanced element address value)) = glance_line element addres
 abbrev pub finals : Contents → List Did → ℕ → List ℕ
 finals m did many = texts_below (λ i. final_line m (slice_get did i)) many
 
--- the lines of some of these more
+-- the lines of the first of these were printed after what was printed before
 abbrev pub PrintsFinals : Option (List ℕ) → Lines → Option (List ℕ) → Lines → Contents → List Did → Type 0
 PrintsFinals was before is after m did = (many : ℕ) × (many ≤ length did) × PrintsMore was before is after (finals m did many)
 
--- a beginning of this text was written: what was printed before, the lines of the first of these, and of a refusal
+-- a prefix of this text was written: what was printed before, the lines of the first of these, and the line of a
+-- refusal
 abbrev pub BeginsFinals : Option (List ℕ) → Option (List ℕ) → List ℕ → Contents → List Did → Type 0
 BeginsFinals start is text m did = (many : ℕ) × ((many ≤ length did) × ((last : List ℕ) × (IsLast last × Begins start is (text ++ finals m did many ++ last))))
 
--- Behind what was printed before, the lines of the first of these and of a refusal are written, as far as the writer took
--- them; and where the status is 0, the lines of all of these.
+-- After what was printed before, the lines of the first of these and of a refusal are written, as far as the writer
+-- took them. If the status is 0, the lines of all of these are.
 abbrev pub Closes : Option (List ℕ) → Lines → Option (List ℕ) → Contents → List Did → ℕ → Type 0
 Closes was before is m did status = (start : Option (List ℕ)) (text : List ℕ) → Prints start was before text
     → BeginsFinals start is text m did × (status ≡ 0 → Appends start is (text ++ finals m did (length did)))
 
--- the second memory is what a legal history of calls from the first comes to
+-- a legal history of calls leads from the first memory to the second
 abbrev pub Follows : Contents → Contents → Type 0
 Follows m n = (trace : List Line) × IsLegal m trace × (end_of m trace ≡ n)
 
--- what elements' servers left since they began: their trace leads to the engine's memory, and a crash left a beginning of it
+-- what elements' servers left since they began: their trace leads to the engine's memory, and a crash left a prefix of
+-- it
 pub record ServedOn {D : Type 0} (now : D → Moment) (past : D → List Moment) (failures : D → ℕ) (b : Begun) (m : Contents) (engine : EngineState D) : Type 0 where
   pub trace : List Line
   pub ends : end_of m trace ≡ engine.memory
   pub kept : HasKept now past failures b m (accepted_in m trace) engine
 
--- an engine's servers ended, the engine was closed, and the status given
+-- an engine's servers ended, the engine was closed, and this status was given
 pub record EndedOn {D : Type 0} (now : D → Moment) (past : D → List Moment) (failures : D → ℕ) (begun : EngineState D) (disk : D) (was : Option (List ℕ)) (before : Lines) (is : Option (List ℕ)) (status : ℕ) : Type 0 where
   pub engine : EngineState D
   pub disk_is : disk ≡ engine.disk
@@ -105,9 +107,10 @@ pub record EndedOn {D : Type 0} (now : D → Moment) (past : D → List Moment) 
   pub did : List Did
   pub printed : Closes was before is engine.memory did status
 
--- Since the image was opened these commands were put on it: those of the setup, then those of the elements' servers, each
--- accepted in its turn. All were acknowledged but those in doubt, of which there are some only where a call of the disk failed.
--- A crash leaves the memory after a beginning of them; and now it has all that were acknowledged, and those in doubt all or none.
+-- Since the image was opened these commands were put on it: those of the setup, then those of the elements' servers.
+-- Each was accepted in its turn. All were acknowledged but those in doubt. There are commands in doubt only if a call
+-- of the disk failed. A crash leaves the memory after a prefix of all of them. Now it has all acknowledged commands,
+-- and those in doubt all or none.
 pub record Puts {D : Type 0} (now : D → Moment) (past : D → List Moment) (failures : D → ℕ) (start : EngineState D) (old new : D) (setup told doubt : List Command) : Type 0 where
   pub first : (others : List Command) × (told ++ doubt ≡ setup ++ others)
   pub accepted : accept_each start.memory (told ++ doubt) ≡ Some (after start.memory (told ++ doubt))
@@ -115,14 +118,15 @@ pub record Puts {D : Type 0} (now : D → Moment) (past : D → List Moment) (fa
   pub last : LeavesNow (now new) (MeansWithOrWithout start told doubt)
   pub sure : (doubt ≡ []) ⊎ Rises (failures old) (failures new)
 
--- where the status says that no call of the disk failed, nothing is in doubt, and each file means one memory
+-- if the status says that no call of the disk failed, nothing is in doubt, and each file means one memory
 abbrev pub Settles : {D : Type 0} → (D → Moment) → EngineState D → D → List Command → List Command → ℕ → Type 0
 Settles now start new told doubt status = (status ≡ 0) ⊎ (status ≡ STALLED)
     → (doubt ≡ []) × ((room : ℕ) × LeavesNow (now new) (Means (after start.memory told) (start.count + length told) room))
 
--- What was printed, at the end: a beginning of this text, and where the status is 0 all of it. It is the lines of the first
--- commands of the setup, each of which is in every file that a crash leaves; then of what was done: of the requests that were
--- sent, each with its final entry in the memory after all acknowledged commands, and of the glances; then of a refusal.
+-- What was printed, at the end: a prefix of this text, and all of it if the status is 0. The text is first the lines of
+-- the first commands of the setup, each of which is in every file that a crash leaves. Then come the lines of what was
+-- done: of the requests that were sent, each with its final entry in the memory after all acknowledged commands, and of
+-- the glances. Then comes the line of a refusal.
 pub record Says {D : Type 0} (now : D → Moment) (start : EngineState D) (new : D) (setup told doubt : List Command) (was is : Option (List ℕ)) (status : ℕ) : Type 0 where
   pub said : List Command
   pub others : List Command
@@ -132,7 +136,7 @@ pub record Says {D : Type 0} (now : D → Moment) (start : EngineState D) (new :
   pub begins : BeginsFinals was is (replies start.memory said) (after start.memory told) did
   pub whole : status ≡ 0 → Appends was is (replies start.memory setup ++ finals (after start.memory told) did (length did))
 
--- An engine was closed, and the status given, after a run on it.
+-- An engine was closed, and this status was given, after a run on it.
 pub record RunOn {D : Type 0} (now : D → Moment) (past : D → List Moment) (failures : D → ℕ) (start : EngineState D) (disk : D) (was is : Option (List ℕ)) (status : ℕ) : Type 0 where
   pub setup : List Command
   pub told : List Command
@@ -152,15 +156,16 @@ pub record RanOn {D : Type 0} (now : D → Moment) (past : D → List Moment) (f
   pub settles : Settles now start new told doubt status
   pub printed : Says now start new setup told doubt was is status
 
--- The same of a disk that was opened at this moment, before which there was none; or the image was not opened.
+-- The same of a disk that is at this moment, and has no moment before it; or the image was not opened.
 pub record RanFrom {D : Type 0} (now : D → Moment) (past : D → List Moment) (failures : D → ℕ) (first : Moment) (new : D) (was is : Option (List ℕ)) (status : ℕ) : Type 0 where
   pub old : D
   pub begins : now old ≡ first
   pub none : past old ≡ []
   pub run : NotOpened now past old new was is status ⊎ RanOn now past failures old new was is status
 
--- At the end each file that a crash may leave means one memory. Where the status is 0, what was printed is the setup's lines,
--- then the lines of what was done: of the requests that were sent, each with its final entry in that memory, and of the glances.
+-- At the end each file that a crash may leave means one memory. If the status is 0, what was printed is the setup's
+-- lines, then the lines of what was done: of the requests that were sent, each with its final entry in that memory, and
+-- of the glances.
 pub record Ran {D : Type 0} (now : D → Moment) (disk : D) (was is : Option (List ℕ)) (status : ℕ) : Type 0 where
   pub memory : Contents
   pub count : ℕ

@@ -1,6 +1,6 @@
-//! A script's requests, each element's by a server of its own, all at once on the image of a disk.
+//! Runs a script's requests on the image of a disk: each element's by a server of its own, all at once.
 //!
-//! Stands on `im_serving`. The setup is served first, through the engine.
+//! The crate stands on `im_serving`. The setup is served first, through the engine.
 #![tactic(auto)]
 
 mod orders;

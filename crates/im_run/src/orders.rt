@@ -12,12 +12,12 @@ use im_types::MAX_ELEMENTS;
 use std::alloc::{AllocError, Global};
 use std::io::Write;
 
-/// What an element asks for, in its order.
+/// What an element asks for, in order.
 #[derive(Drop)]
 pub struct Order {
     /// The element.
     pub element: u16,
-    /// The least of its numbers that is kept.
+    /// The least of its numbers that is still kept.
     pub base: u64,
     /// The number of its next request.
     pub next: u64,
@@ -25,7 +25,7 @@ pub struct Order {
     pub intents: Vec<Intent>,
 }
 
-// An order of each element that a script can name, which asks for nothing yet.
+// Makes an order for each element that a script can name. It asks for nothing yet.
 fn no_orders(alloc: Global) -> Result<Vec<Order>, AllocError> {
     let mut orders = Vec::with_capacity(alloc, MAX_ELEMENTS as usize)?;
     for element in 0..MAX_ELEMENTS {
@@ -97,7 +97,7 @@ fn take_heard<D: Disk, W: Write, N: Observer>(
     }
 }
 
-// Does what each line says, one after another.
+// Does what each line says, in order.
 fn take_lines<D: Disk, W: Write, N: Observer>(
     alloc: Global,
     server: &mut Server<D>,
@@ -157,7 +157,8 @@ fn set_up<D: Disk, W: Write, N: Observer>(
     }
 }
 
-// The orders that ask for something, with their elements' numbers. An element that isn't there has none.
+// Returns the orders that ask for something, with their elements' numbers. The numbers of an element that doesn't exist
+// are 0.
 fn number_orders(alloc: Global, memory: &Memory, orders: Vec<Order>) -> Result<Vec<Order>, Reason> {
     let Ok(mut numbered) = Vec::with_capacity(alloc, orders.len()) else {
         return Err(Reason::Memory);
@@ -180,11 +181,11 @@ fn number_orders(alloc: Global, memory: &Memory, orders: Vec<Order>) -> Result<V
     Ok(numbered)
 }
 
-/// Serves the setup of a script, whose lines are printed at once, and answers what each element asks for, from the
-/// least. Nothing behind the setup is served.
+/// Serves the setup of a script, and prints its lines at once. Returns what each element asks for, from the least
+/// element. Nothing after the setup is served.
 ///
-/// Refused is what serving a block is refused, `Place` where a request's place lies past the last address, and
-/// `Memory`.
+/// It is refused with what serving a block is refused with, with `Place` if a request's place lies past the last
+/// address, and with `Memory`.
 pub fn read_orders<D: Disk, W: Write, N: Observer>(
     alloc: Global,
     server: &mut Server<D>,

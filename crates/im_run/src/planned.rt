@@ -15,7 +15,7 @@ use std::alloc::{AllocError, Global};
 use std::collections::BTreeSet;
 use std::sync::Wait;
 
-// The element of an order that isn't there, if there is one.
+// Returns the element of an order that doesn't exist, if there is one.
 fn missing_element(memory: &Memory, orders: &[Order]) -> Option<u16>
     ensures none { IfNone result (AreThere memory.now.contents orders.now) }
     ensures some { IfSome result (λ element. length memory.now.contents.windows ≤ element) }
@@ -28,7 +28,7 @@ fn missing_element(memory: &Memory, orders: &[Order]) -> Option<u16>
     None
 }
 
-// Adds an element's requests, from its next number on. Glances are none.
+// Adds an element's requests, from its next number on. Glances aren't among them.
 fn add_requests(requests: &mut Vec<Request>, order: &Order) -> Result<(), AllocError> {
     let mut number = order.next;
     for intent in order.intents.as_slice() {
@@ -44,7 +44,7 @@ fn add_requests(requests: &mut Vec<Request>, order: &Order) -> Result<(), AllocE
     Ok(())
 }
 
-// The requests of all elements, under the numbers that they will have.
+// Returns the requests of all elements, under the numbers that they will have.
 fn requests_of(alloc: Global, orders: &[Order]) -> Result<Vec<Request>, AllocError> {
     let mut requests = Vec::new(alloc);
     for order in orders {
@@ -53,7 +53,7 @@ fn requests_of(alloc: Global, orders: &[Order]) -> Result<Vec<Request>, AllocErr
     Ok(requests)
 }
 
-// Whether no plan that fits the memory has this operation, beside stores to these addresses.
+// Returns true if no plan that fits the memory has this operation beside stores to these addresses.
 fn is_bad(memory: &Memory, stored: &mut BTreeSet<u32>, op: Op) -> bool {
     let address = match op {
         Op::Fetch(address) => address,
@@ -71,7 +71,8 @@ fn is_bad(memory: &Memory, stored: &mut BTreeSet<u32>, op: Op) -> bool {
     }
 }
 
-// Whose requests make these no plan that fits the memory: the first element with one that can't be in it.
+// Returns the refusal for orders that make no plan that fits the memory. It names the first element with a request that
+// can't be in one.
 fn bad_plan(alloc: Global, memory: &Memory, orders: &[Order]) -> Reason {
     let mut stored = BTreeSet::new(alloc);
     let mut element = 0;
@@ -88,7 +89,7 @@ fn bad_plan(alloc: Global, memory: &Memory, orders: &[Order]) -> Reason {
     Reason::Request(element, Refusal::BadPlan) // Its numbers reach the last that there is.
 }
 
-// The plan that elements' orders are.
+// Makes the plan of these orders.
 fn plan_of(alloc: Global, memory: &Memory, orders: &[Order]) -> Result<Plan, Reason> {
     let Ok(requests) = requests_of(alloc, orders) else {
         return Err(Reason::Memory);
@@ -100,7 +101,7 @@ fn plan_of(alloc: Global, memory: &Memory, orders: &[Order]) -> Result<Plan, Rea
     }
 }
 
-// Begins under the plan that elements' orders are.
+// Opens for a run under the plan of these orders.
 fn begin_planned<D: Disk + Drop, R: Wait>(
     rt: &R,
     alloc: Global,
@@ -122,7 +123,7 @@ fn begin_planned<D: Disk + Drop, R: Wait>(
     }
 }
 
-// Begins without a plan.
+// Opens for a run without a plan.
 fn begin_free<D: Disk + Drop, R: Wait>(
     rt: &R,
     alloc: Global,
@@ -138,9 +139,12 @@ fn begin_free<D: Disk + Drop, R: Wait>(
     }
 }
 
-/// Makes room for what the elements ask for, before any thread starts. `NoElement` where one of them isn't there, and
-/// then, where it is planned, `BadPlan` where their requests are no plan: a request is no fetch or store, two store
-/// to one address, a cell that one names isn't empty or is waited for, or a number lies past the last one.
+/// Makes room for what the elements ask for, before any thread starts. Returns `NoElement` if one of the elements
+/// doesn't exist.
+///
+/// If the run is planned, it then returns `BadPlan` if the requests make no plan. They make none if a request is no
+/// fetch or store, or two requests store to one address. They also make none if a cell that a request names isn't empty
+/// or has a waiter, or a number lies past the last one.
 pub fn begin<D: Disk + Drop, R: Wait>(
     rt: &R,
     alloc: Global,

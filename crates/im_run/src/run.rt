@@ -1,4 +1,4 @@
-//! A script on the image of a disk, from its opening to its end.
+//! A script on the image of a disk, from opening to end.
 ghost use Rattle.std.specs.Prelude.{◌≡◌, ◌⊎◌, ◌≤◌, [], false, IsOk};
 ghost use Rattle.im_disk.specs.Since.{LeavesNow};
 ghost use Rattle.im_engine.specs.State.{MeansState};
@@ -23,13 +23,13 @@ use std::marker::Brand;
 use std::sync::Wait;
 use std::thread::Threads;
 
-/// The status of a run in which servers waited for each other, and nothing else was refused.
+/// The status of a run in which servers waited for each other and nothing else was refused.
 pub const STALLED: u8 = 3;
 
-// How many lines the trace has room for, which are as many as servers leave: for each request one as it is asked for
-// and one as it is found answered, and before it, where its window is full, a confirmation and an entry that still
-// waits; and for each entry that an element's window had before, one as it is found answered. Glances, which leave
-// none, are counted too.
+// How many lines the trace has room for: as many as servers leave at most. A request leaves one line when it is asked
+// for and one when it is found answered. If its window is full, there are two more before it: a confirmation, and an
+// entry that still waits. Each entry that an element's window had before leaves one line when it is found answered.
+// Glances leave none, but are counted too.
 fn trace_room(orders: &[Order], elements: u16) -> usize {
     let mut room = (elements as usize).saturating_mul(WINDOW as usize);
     for order in orders {
@@ -38,7 +38,7 @@ fn trace_room(orders: &[Order], elements: u16) -> usize {
     room
 }
 
-// What the servers were refused, if anything was.
+// Returns the refusal of the servers as a reason, if there is one.
 fn reason_of(refused: Option<(u16, Refusal)>) -> Result<(), Reason> {
     match refused {
         None => Ok(()),
@@ -46,19 +46,20 @@ fn reason_of(refused: Option<(u16, Refusal)>) -> Result<(), Reason> {
     }
 }
 
-// Whether servers that wait for each other are all that ended it.
+// Returns whether the run ended only because servers wait for each other.
 fn is_stalled(done: &Result<(), Reason>) -> bool {
     matches!(done, Err(Reason::Request(_, Refusal::Stalled)))
 }
 
-// That a call of the disk failed.
+// The reason that a call of the disk failed.
 fn disk_failed() -> Reason
     ensures { result ≡ disk_failed }
 {
     Reason::Image(Refusal::Device, Damage::Unknown)
 }
 
-// What was refused, which is the disk's fault where nothing else was but a wait.
+// Returns the reason that the run ended. If the disk failed, and there is no other reason or only a wait, the disk's
+// failure is the reason.
 fn with_disk(done: Result<(), Reason>, failed: bool) -> Result<(), Reason>
     ensures done { IsOk result → IsOk done }
 {
@@ -68,7 +69,8 @@ fn with_disk(done: Result<(), Reason>, failed: bool) -> Result<(), Reason>
     done
 }
 
-/// Who is told that a call of the disk failed, where a request is refused as it came behind that call.
+/// An observer in front of another one. It tells that a call of the disk failed if a request is refused because it came
+/// after that call.
 #[derive(Drop)]
 struct Behind<'a, N> {
     observer: &'a mut N,
@@ -88,7 +90,7 @@ impl<N: Observer> Observer for Behind<'_, N> {
     }
 }
 
-// What the observer is told of a refusal.
+// Returns the reason that the observer is told.
 fn told_as(reason: Reason) -> Reason
     ensures { result ≡ told_as reason }
 {
@@ -98,7 +100,7 @@ fn told_as(reason: Reason) -> Reason
     }
 }
 
-// What was refused first, if anything was.
+// Returns the first refusal, if there is one.
 fn both(served: Result<(), Reason>, told: Result<(), Reason>) -> Result<(), Reason>
     ensures served { IsOk result → IsOk served }
     ensures told { IsOk result → IsOk told }
@@ -109,7 +111,7 @@ fn both(served: Result<(), Reason>, told: Result<(), Reason>) -> Result<(), Reas
     }
 }
 
-// The status, which is 1 where the disk failed.
+// Returns the status. It is 1 if the disk failed.
 fn status_of(failed: bool, stalled: bool, status: u8) -> u8
     requires { status ≤ 1 }
     ensures status { (result ≤ 1) ⊎ (result ≡ STALLED) }
@@ -125,7 +127,7 @@ fn status_of(failed: bool, stalled: bool, status: u8) -> u8
     }
 }
 
-// Prints the lines of what was done, and what was refused; and gives the engine's disk back.
+// Prints the lines of what was done, and the refusal. Returns the status and the engine's disk.
 fn close<D: Disk, W: Write, N: Observer>(
     alloc: Global,
     engine: Engine<D>,
@@ -163,7 +165,7 @@ fn close<D: Disk, W: Write, N: Observer>(
     (status_of(failed, stalled, status), engine.close())
 }
 
-// Serves what each element asks for on an engine, and gives its disk back.
+// Serves what each element asks for on an engine. Returns the status and the engine's disk.
 fn serve_on<
     D: Disk + Drop + Send,
     W: Write,
@@ -203,7 +205,7 @@ fn serve_on<
     }
 }
 
-// Serves a script on an engine, and gives its disk back.
+// Serves a script on an engine. Returns the status and the engine's disk.
 fn run_engine<
     D: Disk + Drop + Send,
     W: Write,
@@ -243,35 +245,46 @@ fn run_engine<
     }
 }
 
-/// Serves a script, which may have glances, on the image of a disk, each element's requests by a server of its own,
-/// all at once, and gives the disk back. What it prints goes to `out`: the lines `0.N REPLY` of the setup, which is
-/// served first; then for each element from the least its requests in order as `K.N REPLY`, K being its element and N
-/// its number, each with its final entry, and among them each glance in its place as `K glance A value V` or `K
-/// glance A none`; and at last `refused N NAME` where something was refused. A request that wasn't sent, or a glance
-/// not made, has no line.
+/// Serves a script, which may have glances, on the image of a disk, and gives the disk back. Each element's requests
+/// have a server of their own, and all run at once. What it prints goes to `out`, in this order:
 ///
-/// A server waits for what its element asked for, and confirms it as its window fills. The gate is called round each
-/// request. Where the journal is full servers make turns of a checkpoint, beside the thread that keeps them, which
-/// tells the watcher how many servers wait and what room there is.
+/// - The lines `0.N REPLY` of the setup, which is served first.
+/// - For each element from the least, its requests in order as `K.N REPLY`. K is the element, N the number, and REPLY
+///   tells the final entry. Among them stands each glance in its place, as `K glance A value V` or `K glance A none`. A
+///   request that wasn't sent, or a glance that wasn't made, has no line.
+/// - At last `refused N NAME`, if something was refused.
 ///
-/// The status is 0; or 3, with `refused 19 Stalled`, where servers that wait for each other are all that was refused;
-/// or 1: the image is refused at opening; a block of the setup can't be made, or a place lies past the last address
-/// (`BadScript`), or an element isn't there (`NoElement`), and then no element's request is served; `NoMemory`; a
-/// call of the disk failed; a write of the output failed; or a server was refused something else than `Stalled`: the
-/// least such element's refusal is printed, and the others went on. The observer is told why; where that refusal is
-/// `Failed`, as its request came behind a call of the disk that failed, for another element or for a checkpoint, that
-/// call is told of.
+/// A server waits for what its element asked for, and confirms it as its window fills. The gate is called before and
+/// after each request. If the journal is full, servers make turns of a checkpoint, beside the thread that keeps them.
+/// That thread tells the watcher how many servers wait and what room there is.
 ///
-/// Where the image isn't opened, a crash leaves nothing that it couldn't leave before. From the opening on, a crash at
-/// any moment leaves the memory after a beginning of the accepted commands that were put on the image, those of the
-/// setup first, then those of all servers in the order of the lock; and at the end after all that were acknowledged,
-/// and where a call of the disk failed those too that it left in doubt, all of them or none. What was written is at
-/// each return a beginning of the lines: each line of the setup is of a command, and each entry of an element's is in
-/// a memory, that every file has which a crash leaves, or was told to a server that confirmed it.
+/// The status is 0, 3 or 1. It is 3, with `refused 19 Stalled`, if the only refusals are of servers that wait for each
+/// other. It is 1 if one of these happens:
 ///
-/// Where the status is 0 or 3, each file that a crash may leave at the return means one memory; where it is 0, all
-/// lines are written, and the elements' tell the entries that this memory keeps, or what a server was told of an
-/// entry that it confirmed, and what was seen at glances.
+/// - The image is refused at opening.
+/// - A block of the setup can't be made, or a place lies past the last address (`BadScript`), or an element doesn't
+///   exist (`NoElement`). Then no element's request is served.
+/// - There is not enough memory (`NoMemory`).
+/// - A call of the disk failed, or a write of the output failed.
+/// - A server was refused something other than `Stalled`. The refusal of the least such element is printed; the others
+///   continued.
+///
+/// The observer is told why. If the refusal is `Failed`, the request came after a call of the disk that failed, for
+/// another element or for a checkpoint. Then the observer is told of that call.
+///
+/// If the image isn't opened, a crash leaves nothing that it couldn't leave before. From the opening on, a crash at any
+/// moment leaves the memory after a prefix of the accepted commands that were put on the image. The setup's commands
+/// come first, then those of all servers in the order of the lock. At the end a crash leaves the memory after all
+/// acknowledged commands. If a call of the disk failed, the commands that it left in doubt may be there too, all of
+/// them or none.
+///
+/// What was written is at each return a prefix of the lines. Each line of the setup is of a command that is in every
+/// file that a crash leaves. Each entry of an element's line is in the memory of every such file, or was told to a
+/// server that confirmed it.
+///
+/// If the status is 0 or 3, each file that a crash may leave at the return means one memory. If it is 0, all lines are
+/// written. The elements' lines tell the entries that this memory keeps, or what a server was told of an entry that it
+/// confirmed, and what was seen at glances.
 pub fn run_on<
     D: Disk + Drop + Send,
     W: Write,

@@ -1,4 +1,4 @@
-//! All elements served through one controller.
+//! Serves all elements through one controller.
 ghost use Rattle.std.specs.Prelude.{◌≡◌, false};
 ghost use Rattle.im_types.specs.Trace.{IsLegal, end_of};
 ghost use Rattle.im_types.specs.declared.commands.Line.{Line};
@@ -19,20 +19,20 @@ use std::thread::Threads;
 /// What was done for an element.
 #[derive(Clone, Copy, Debug, PartialEq, Eq)]
 pub enum Did {
-    /// A request was sent; its entry as its server was last told.
+    /// A request was sent. Its entry is what its server was last told.
     Sent(Waited),
-    /// The element glanced at the cell at an address; the value, where it was full.
+    /// The element glanced at the cell at an address. The value is there if the cell was full.
     Glanced(u16, u32, Option<u64>),
 }
 
-/// What the servers came to.
+/// What the servers did.
 #[derive(Drop)]
 pub struct Outcome<D: Disk> {
     /// The engine.
     pub engine: Engine<D>,
-    /// What was done, by elements and in the order of each.
+    /// What was done, by elements, and for each element in order.
     pub did: Vec<Did>,
-    /// The refusal of the least element that has one, `Stalled` only where there is no other.
+    /// The refusal of the least element that has one. It is `Stalled` only if there is no other.
     pub refused: Option<(u16, Refusal)>,
 }
 
@@ -45,7 +45,7 @@ struct Notes<K: Name> {
 }
 
 impl<K: Name> Notes<K> {
-    // Nothing was noted.
+    // Starts with nothing noted.
     fn new(alloc: Global) -> Notes<K> {
         Notes {
             ports: Vec::new(alloc),
@@ -64,7 +64,7 @@ impl<K: Name> Notes<K> {
         };
     }
 
-    // Notes those of an element's glances that were made behind so many requests, and gives the later ones.
+    // Notes those of an element's glances that were made after at most `behind` requests, and returns the later ones.
     fn add_glances<'a>(
         &mut self,
         element: u16,
@@ -121,7 +121,7 @@ impl<K: Name> Notes<K> {
     }
 }
 
-// A port for an element, which serves from its next number on, and its reader.
+// Makes a port for an element, which serves from its next number on, and its reader.
 fn make_part<D: Disk, K: Name, R: Wait>(
     rt: &R,
     alloc: Global,
@@ -155,8 +155,8 @@ fn make_part<D: Disk, K: Name, R: Wait>(
     })
 }
 
-// A port for each element that asks for something. An element that isn't there is noted as refused, and so is one for
-// whose part there is no room: no port is made for it, as one that nobody serves would be waited for.
+// Makes a port for each element that asks for something. An element is noted as refused if it doesn't exist or there is
+// no room for its part. No port is made for it, since others would wait for a port that nobody serves.
 fn make_parts<D: Disk, K: Name, R: Wait>(
     rt: &R,
     alloc: Global,
@@ -182,8 +182,8 @@ fn make_parts<D: Disk, K: Name, R: Wait>(
 /// Serves what each element asks for, all at once, through a controller over an engine, and gives the engine back. The
 /// thread that keeps checkpoints tells the watcher how things stand.
 ///
-/// An element that isn't there is refused with `NoElement`, one for which there is no memory or thread with
-/// `NoMemory`: then nothing of it is served. Another's requests go on.
+/// An element that doesn't exist is refused with `NoElement`, and one for which memory or a thread is missing with
+/// `NoMemory`. Nothing of it is served then. The requests of the others continue.
 pub fn serve_orders<
     D: Disk + Drop + Send,
     K: Name + Send + Sync,

@@ -1,4 +1,4 @@
-//! What is printed of what was done.
+//! Prints what was done.
 ghost use Rattle.std.specs.Prelude.{◌≡◌, ◌++◌, ℕ, OnOk, MatchResult, length, slice_get, string_bytes};
 ghost use Rattle.std.specs.Prelude.{Some};
 ghost use Rattle.im_text.specs.Printing.{PrintsMore, PrintsOn};
@@ -12,7 +12,8 @@ use im_types::Entry;
 use std::alloc::AllocError;
 use std::io::Write;
 
-// The final entry of a request: what the memory keeps for it, or what its server was told before it was forgotten.
+// Returns the final entry of a request: what the memory keeps for it, or what its server was told before it was
+// forgotten.
 fn final_entry(memory: &Memory, sent: Waited) -> Entry
     ensures { result ≡ final memory.now.contents sent }
 {
@@ -22,7 +23,7 @@ fn final_entry(memory: &Memory, sent: Waited) -> Entry
     }
 }
 
-// What was done at a place.
+// Returns what was done at an index.
 fn did_at(did: &[Did], at: usize) -> Option<Did>
     ensures { result ≡ slice_get did.now at }
 {
@@ -54,7 +55,7 @@ fn make_glance(
     line.push_str("\n")
 }
 
-// Makes the line of a request with its final entry.
+// Makes the line of a request, with its final entry.
 fn make_sent(line: &mut String, memory: &Memory, sent: Waited) -> Result<(), AllocError>
     ensures { OnOk result (string_bytes line.new ≡ final_line memory.now.contents (Some (Sent sent))) }
 {
@@ -76,7 +77,7 @@ fn make_final(line: &mut String, memory: &Memory, did: Option<Did>) -> Result<()
     }
 }
 
-// Prints the line of what was done, a request's with its final entry.
+// Prints the line of what was done. A request's line has its final entry.
 fn print_final<W: Write>(
     memory: &Memory,
     did: Option<Did>,

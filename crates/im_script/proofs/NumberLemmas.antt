@@ -12,7 +12,7 @@ use Rattle.std.proofs.lemmas.List.{at_drop_more}
 use Rattle.std.proofs.lemmas.Str.{digit_value_digit}
 use Rattle.im_script.specs.Grammar.{digit_after, number_up_to}
 
--- what the digits of bs make of n, where it is at most `most`
+-- the number that the digits bs append to n, if it is at most `most`
 abbrev pub number_past : ℕ → ℕ → List ℕ → Option ℕ
 number_past most n bs = if all_ascii_digits bs && nat_le (digits_value_after 10 n bs) most then Some
     (digits_value_after 10 n bs) else None

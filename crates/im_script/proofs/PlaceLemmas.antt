@@ -35,7 +35,7 @@ position_found p xs r n e f = elim (cases_lt (position_or_len p xs) (length xs))
       absurd (cc)
 ]
 
--- and past the end where it finds none
+-- and past the end if it finds none
 pub position_missing : (p : ℕ → Bool) (xs : List ℕ) (r : Option ℕ) → r ≡ position p xs → r ≡ None → length xs
     ≡ position_or_len p xs
 position_missing p xs r e f = elim (cases_lt (position_or_len p xs) (length xs)) [
@@ -59,7 +59,7 @@ place_by_parts names word name rest index offset name_is rest_is index_is offset
     (λ i. option_map (Named i) (offset_of (drop (position_or_len (λ byte. byte == 43) word) word))))
     (index_is ∙ ap (λ (n : List ℕ). position (bytes_eq n) names) name_is)
 
--- a new name goes behind the others
+-- a new name comes after the others
 pub texts_insert : (keys : List (Bor (List ℕ))) (k : Bor (List ℕ))
     → list_any (λ (x : Bor (List ℕ)). bytes_eq k.now x.now) keys ≡ false
     → texts (insert_key (λ (x y : Bor (List ℕ)). bytes_eq x.now y.now) keys k) ≡ texts keys ++ k.now ∷ []

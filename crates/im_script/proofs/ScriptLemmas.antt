@@ -23,13 +23,13 @@ module _ (g : Bool) where
   lines_past None xs ys h = refl
   lines_past (Some r) xs ys h = h r.0
 
-  -- lines behind others
+  -- lines after others
   lines_append : (d : Draft) (xs ys : List (List ℕ)) → lines_after g d (xs ++ ys)
       ≡ option_and_then (λ e. lines_after g e ys) (lines_after g d xs)
   lines_append d [] ys = refl
   lines_append d (x ∷ xs) ys = lines_past (heard g d x) xs ys (λ e. lines_append e xs ys)
 
-  -- the lines up to the one at i, behind those before it
+  -- the lines up to the one at i, after those before it
   line_at : (d : Draft) (all : List (List ℕ)) (i : ℕ) (line : List ℕ) → i < length all → line ≡ get_or all i line
       → lines_after g new_draft (take i all) ≡ Some d
       → lines_after g new_draft (take (i + 1) all) ≡ option_and_then (λ r. Some r.0) (heard g d line)
@@ -141,7 +141,7 @@ module _ (g : Bool) where
       → Type 0 = λ t. IfErr t (λ fault. IfSome (line_of fault) (IsFirstFault g text)) in
       subst Q (sym now) (first_told text d i n line f inside is so_far number (subst P was h))
 
-  -- nor is it told of the text's size
+  -- nor is it a fault of the text's size
   pub passes_size : (f : ScriptFault) (r : Result Heard ScriptFault) (s : Result Script ScriptFault) → r ≡ Err f → s
       ≡ Err f → IfErr r (λ fault. is_of_size fault ≡ false) → IfErr s (λ fault. is_of_size fault ≡ false)
   passes_size f r s was now h =

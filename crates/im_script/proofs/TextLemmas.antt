@@ -4,7 +4,7 @@ use Rattle.std.specs.Prelude.{Option, None, Some, IfSome}
 use Rattle.std.proofs.lemmas.Bool.{cases_lt}
 use Rattle.std.proofs.lemmas.List.{length-take, length-take-le, take_all}
 
--- what was read of so many bytes at most and one, and has so many at most, is all of them
+-- at most n + 1 bytes were read, and there are at most n: these are all of the text
 pub read_whole : (o : Option (List ℕ)) (text : List ℕ) (most : ℕ) → IfSome o (λ xs. text ≡ take (most + 1) xs)
     → length text ≤ most → IfSome o (λ xs. text ≡ xs)
 read_whole None text most is few = tt
@@ -15,7 +15,7 @@ read_whole (Some xs) text most is few = elim (cases_lt most (length xs)) [
   | inr within ↦ is ∙ take_all (most + 1) xs (omega arith)
 ]
 
--- and what has more than so many is of more
+-- and more than n bytes are part of a longer text
 pub read_more : (o : Option (List ℕ)) (text : List ℕ) (most : ℕ) → IfSome o (λ xs. text ≡ take (most + 1) xs)
     → most < length text → IfSome o (λ xs. most < length xs)
 read_more None text most is more = tt

@@ -10,13 +10,13 @@ use Rattle.im_script.specs.declared.faults.LineFault.{LineFault}
 use Rattle.im_script.specs.declared.faults.LineFault.TheVariants.{TooLong}
 use Rattle.im_script.specs.Script.{Draft, heard, lines_after, lines_of, new_draft}
 
--- the number of the line that a fault tells, from 1
+-- the number of the line that a fault names, from 1
 abbrev pub line_of : ScriptFault → Option ℕ
 line_of NoMemory = None
 line_of TooLarge = None
 line_of (BadLine line fault) = Some line
 
--- the refusal that a fault is
+-- the refusal of a fault
 abbrev pub refusal_of : ScriptFault → Refusal
 refusal_of NoMemory = refusal.NoMemory
 refusal_of TooLarge = refusal.BadScript
@@ -27,7 +27,7 @@ abbrev pub is_of_size : ScriptFault → Bool
 is_of_size TooLarge = true
 is_of_size fault = false
 
--- a text isn't read as it is too large
+-- a text isn't read because it is too large
 abbrev pub is_too_large : TextFault → Bool
 is_too_large (Bad fault) = is_of_size fault
 is_too_large (Unread kind) = false
@@ -37,12 +37,12 @@ abbrev pub is_of_length : LineFault → Bool
 is_of_length TooLong = true
 is_of_length fault = false
 
--- the same of the fault that tells the line
+-- the same for the fault that names the line
 abbrev pub tells_length : ScriptFault → Bool
 tells_length (BadLine line fault) = is_of_length fault
 tells_length fault = false
 
--- line n of a text, from 1, isn't in the grammar where it stands, and each line before it is; with glances, or without
+-- line n of a text, from 1, isn't in the grammar at its place, but each line before it is; with glances, or without
 pub record IsFirstFault (glances : Bool) (text : List ℕ) (n : ℕ) : Type 0 where
   pub before : List (List ℕ)
   pub line : List ℕ

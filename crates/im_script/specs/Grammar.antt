@@ -26,13 +26,13 @@ is_line line = is_short line && list_all is_ascii line
 abbrev pub texts : List (Bor (List ℕ)) → List (List ℕ)
 texts borrowed = map (λ t. t.now) borrowed
 
--- the words of a line: its parts between spaces, but for the empty ones
+-- the words of a line: its non-empty parts between spaces
 abbrev pub words_of : List ℕ → List (List ℕ)
 words_of line = filter (λ word. not (length word == 0)) (slice_split (λ byte. byte == 32) line)
 
 -- ---- numbers
 
--- n with a digit after its own, where the byte is one and a u64 has the number
+-- n with a digit appended, if the byte is a digit and the number fits in a u64
 abbrev pub digit_after : ℕ → ℕ → Option ℕ
 digit_after n digit = if is_ascii_digit digit && nat_lt (n * 10 + (digit - 48)) (2 ^ 64) then Some (n * 10 + (digit - 48)) else None
 
@@ -40,7 +40,7 @@ digit_after n digit = if is_ascii_digit digit && nat_lt (n * 10 + (digit - 48)) 
 abbrev pub is_numeral : List ℕ → Bool
 is_numeral text = nat_lt 0 (length text) && all_ascii_digits text
 
--- the number that a text writes in decimal digits, where it is at most `most`
+-- the number in a text of decimal digits, if it is at most `most`
 abbrev pub number_up_to : ℕ → List ℕ → Option ℕ
 number_up_to most text = if is_numeral text && nat_le (digits_value 10 text) most then Some (digits_value 10 text) else None
 
@@ -60,12 +60,12 @@ is_name word = is_ascii_lowercase (slice_index_or word 0 0) && (nat_le (length w
 
 -- ---- places
 
--- the offset that follows a name: none, or a plus and a number up to 1,048,575
+-- the offset after a name: nothing, or a plus and a number up to 1,048,575
 abbrev pub offset_of : List ℕ → Option ℕ
 offset_of [] = Some 0
 offset_of (plus ∷ digits) = number_up_to 1048575 digits
 
--- a place that begins with one of the names: what stands before the first plus, or all of it, is the name
+-- a place that begins with one of the names: the name is what comes before the first plus, or all of it
 abbrev pub place_past : List (List ℕ) → List ℕ → Option Place
 place_past names word =
     option_and_then (λ index. option_map (Named index) (offset_of (drop (position_or_len (λ byte. byte == 43) word) word)))

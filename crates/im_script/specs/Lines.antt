@@ -32,18 +32,18 @@ action_past names word first second =
     if bytes_eq word (codes "alloc") then option_map (λ b. Alloc b.kind b.length) (block_of first second)
     else option_and_then (λ place. option_and_then (valued_action word place) (number_up_to 18446744073709551615 second)) (place_of names first)
 
--- a line of a part, where the setup gave these names
+-- a line in a part; the setup gave these names
 abbrev pub action_of : List (List ℕ) → List (List ℕ) → Option Action
 action_of names (word ∷ place ∷ []) = option_and_then (plain_action word) (place_of names place)
 action_of names (word ∷ first ∷ second ∷ []) = action_past names word first second
 action_of names _ = None
 
--- glance PLACE, a line of a part where glances may stand: the place
+-- glance PLACE, a line in a part that may have glances: the place
 abbrev pub glanced : List (List ℕ) → List (List ℕ) → Option Place
 glanced names (word ∷ place ∷ []) = if bytes_eq word (codes "glance") then place_of names place else None
 glanced names _ = None
 
--- alloc NAME KIND LEN, a line of the setup: the name, which was not given before, and the block
+-- alloc NAME KIND LEN, a line in the setup: the name, which no earlier line gave, and the block
 abbrev pub named_block : List (List ℕ) → List (List ℕ) → Option (List ℕ × Allocation)
 named_block names (word ∷ name ∷ kind ∷ len ∷ []) =
     if bytes_eq word (codes "alloc") && (is_name name && not (is_some (position (bytes_eq name) names)))

@@ -1,4 +1,4 @@
--- What a place and an action come to, once the setup's bases are known. (Own.)
+-- The address of a place and the operation of an action, once the setup's bases are known. (Own.)
 use Rattle.std.specs.Prelude.{ℕ, ◌+◌, ◌^◌, nat_lt, List, Option, Some, None, slice_get, if◌then◌else◌}
 use Rattle.std.specs.Option.{option_map, option_and_then}
 use Rattle.im_types.specs.declared.operations.Op.{Op}
@@ -8,16 +8,16 @@ use Rattle.im_script.specs.declared.places.Place.TheVariants.{Address, Named}
 use Rattle.im_script.specs.declared.places.Action.{Action}
 use Rattle.im_script.specs.declared.places.Action.TheVariants.{Alloc, Release, Fetch, Store, Take, Put, Reset}
 
--- n, where a u32 has it
+-- n, if it fits in a u32
 abbrev pub as_u32 : ℕ → Option ℕ
 as_u32 n = if nat_lt n (2 ^ 32) then Some n else None
 
--- the address of a place, where the setup's allocations have these bases
+-- the address of a place, if the setup's allocations have these bases
 abbrev pub address_of : List ℕ → Place → Option ℕ
 address_of bases (Address a) = Some a
 address_of bases (Named index offset) = option_and_then (λ base. as_u32 (base + offset)) (slice_get bases index)
 
--- the operation of an action, where they have
+-- the operation of an action, if they have these bases
 abbrev pub op_of : List ℕ → Action → Option Op
 op_of bases (Alloc kind length) = Some (op.Alloc kind length)
 op_of bases (Release place) = option_map op.Release (address_of bases place)

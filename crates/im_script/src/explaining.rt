@@ -1,4 +1,4 @@
-//! Where a line that is refused goes wrong.
+//! Explains where a refused line goes wrong.
 ghost use Rattle.std.specs.Prelude.{◌≡◌, false, IfSome};
 ghost use Rattle.im_script.specs.Faults.{is_of_length};
 
@@ -9,10 +9,10 @@ use crate::grammar::{
 use crate::script::{LAST_ELEMENT, Stage};
 use indexmap::IndexSet;
 
-/// A byte-order mark, as UTF-8 spells it.
+/// A byte-order mark in UTF-8.
 const MARK: &[u8] = b"\xef\xbb\xbf";
 
-/// What a line begins with, by where it stands and whether a glance may stand there.
+/// What the first word of a line must be, by where the line stands and whether it may be a glance.
 fn beginning(stage: Stage, glances: bool) -> Expected {
     match stage {
         Stage::Start => Expected::Start,
@@ -27,7 +27,7 @@ fn beginning(stage: Stage, glances: bool) -> Expected {
     }
 }
 
-/// What a request has behind its word. `None` where no request begins with the word.
+/// Returns what follows the first word of a request. Returns `None` if no request has this first word.
 pub fn behind_request(word: &[u8]) -> Option<&'static [Expected]> {
     if word == b"alloc".as_slice() {
         Some(&[Expected::Kind, Expected::Length])
@@ -44,7 +44,7 @@ pub fn behind_request(word: &[u8]) -> Option<&'static [Expected]> {
     }
 }
 
-/// What a line of a part has behind its first word. `None` where none begins with the word.
+/// Returns what follows the first word of a line in a part. Returns `None` if no such line has this first word.
 fn behind_in_part(word: &[u8], glances: bool) -> Option<&'static [Expected]> {
     if glances && word == b"glance".as_slice() {
         Some(&[Expected::Place])
@@ -53,7 +53,8 @@ fn behind_in_part(word: &[u8], glances: bool) -> Option<&'static [Expected]> {
     }
 }
 
-/// What a line has behind its first word. `None` where no line begins with the word where it stands.
+/// Returns what follows the first word of a line that stands at `stage`. Returns `None` if no such line has this first
+/// word.
 fn behind(stage: Stage, word: &[u8], glances: bool) -> Option<&'static [Expected]> {
     if word == b"element".as_slice() {
         return Some(&[Expected::Element]);
@@ -68,7 +69,7 @@ fn behind(stage: Stage, word: &[u8], glances: bool) -> Option<&'static [Expected
     }
 }
 
-/// What is expected of a word that has to be a new name. `None` where it is one.
+/// Checks a word that must be a new name. Returns what is expected instead, or `None` if the word is a new name.
 fn name_fault(names: &IndexSet<&[u8]>, word: &[u8]) -> Option<Expected> {
     if !can_name(word) {
         Some(Expected::Name)
@@ -79,7 +80,7 @@ fn name_fault(names: &IndexSet<&[u8]>, word: &[u8]) -> Option<Expected> {
     }
 }
 
-/// What is expected of a word that has to be a place. `None` where it is one.
+/// Checks a word that must be a place. Returns what is expected instead, or `None` if the word is a place.
 fn place_fault(names: &IndexSet<&[u8]>, word: &[u8]) -> Option<Expected> {
     if read_place(names, word).is_some() {
         None
@@ -90,7 +91,7 @@ fn place_fault(names: &IndexSet<&[u8]>, word: &[u8]) -> Option<Expected> {
     }
 }
 
-/// What is expected of a word that isn't what it has to be. `None` where it is.
+/// Checks a word against what is expected. Returns what is expected instead, or `None` if the word fits.
 fn word_fault(names: &IndexSet<&[u8]>, word: &[u8], expected: Expected) -> Option<Expected> {
     let fits = match expected {
         Expected::Name => return name_fault(names, word),
@@ -104,7 +105,7 @@ fn word_fault(names: &IndexSet<&[u8]>, word: &[u8], expected: Expected) -> Optio
     if fits { None } else { Some(expected) }
 }
 
-/// A word that isn't what is expected of it.
+/// The fault of a word that isn't what is expected.
 fn wrong(word: &[u8], expected: Expected) -> LineFault
     ensures { is_of_length result ≡ false }
 {
@@ -115,7 +116,7 @@ fn wrong(word: &[u8], expected: Expected) -> LineFault
     }
 }
 
-/// Where the words behind a line's first one go wrong.
+/// Where the words after the first word of a line go wrong.
 fn rest_fault(names: &IndexSet<&[u8]>, words: &[&[u8]], expected: &[Expected]) -> LineFault
     ensures { is_of_length result ≡ false }
 {
@@ -133,7 +134,7 @@ fn rest_fault(names: &IndexSet<&[u8]>, words: &[&[u8]], expected: &[Expected]) -
     }
 }
 
-/// Whether the words are those of a remark.
+/// Whether the words are a remark.
 fn is_remark(words: &[&[u8]]) -> bool {
     match words.first() {
         Some(word) => word.first() == Some(&b'#'),
@@ -141,7 +142,7 @@ fn is_remark(words: &[&[u8]]) -> bool {
     }
 }
 
-/// What is wrong with a word that is no ASCII, the one at this place among the words.
+/// The fault of a word that isn't ASCII; `at` is its index among the words.
 fn not_ascii(words: &[&[u8]], at: usize, word: &[u8]) -> LineFault
     ensures { is_of_length result ≡ false }
 {
@@ -154,7 +155,7 @@ fn not_ascii(words: &[&[u8]], at: usize, word: &[u8]) -> LineFault
     }
 }
 
-/// What in the words is no ASCII, if something is.
+/// The fault of the first word that isn't ASCII, if there is one.
 fn ascii_fault(words: &[&[u8]]) -> Option<LineFault>
     ensures { IfSome result (λ fault. is_of_length fault ≡ false) }
 {
@@ -166,7 +167,7 @@ fn ascii_fault(words: &[&[u8]]) -> Option<LineFault>
     None
 }
 
-/// Whether the last word ends in a carriage return. No line with such a word is in the grammar, but a remark.
+/// Whether the last word ends in a carriage return. The grammar has no line with such a word, except a remark.
 fn ends_in_return(words: &[&[u8]]) -> bool {
     match words.last() {
         Some(word) => word.last() == Some(&b'\r'),
@@ -174,7 +175,8 @@ fn ends_in_return(words: &[&[u8]]) -> bool {
     }
 }
 
-/// What is wrong with a line's words whatever it says: one is no ASCII, or the last one ends in a carriage return.
+/// Returns a fault that doesn't depend on what the line says: a word isn't ASCII, or the last word ends in a carriage
+/// return.
 pub fn bytes_fault(words: &[&[u8]]) -> Option<LineFault>
     ensures { IfSome result (λ fault. is_of_length fault ≡ false) }
 {
@@ -188,8 +190,8 @@ pub fn bytes_fault(words: &[&[u8]]) -> Option<LineFault>
     }
 }
 
-/// Where a line goes wrong that is refused where it stands though it isn't too long, by its words and the names that
-/// were given before, and by whether glances may stand in the script.
+/// Explains where a line goes wrong that is refused at `stage` and isn't too long. `names` are the names that earlier
+/// lines gave, and `glances` says whether the script may have glances.
 pub fn explain(stage: Stage, names: &IndexSet<&[u8]>, words: &[&[u8]], glances: bool) -> LineFault
     ensures { is_of_length result ≡ false }
 {

@@ -9,34 +9,34 @@ use thiserror::Error;
 /// The most bytes of a word that a fault quotes.
 const MOST_QUOTED: usize = 32;
 
-/// What the grammar has where a word stands, or is missing. Its text is the words for it.
+/// What the grammar expects in the place of a wrong or missing word. Its text says it in words.
 #[derive(Clone, Copy, Debug, PartialEq, Eq)]
 pub enum Expected {
-    /// The first word of a line before which none counts.
+    /// The first word of the first line that counts.
     Start,
-    /// The first word of a line of the setup.
+    /// The first word of a line in the setup.
     Setup,
-    /// The first word of a line of a part.
+    /// The first word of a line in a part.
     Request,
-    /// The first word of a line of a part where glances may stand.
+    /// The first word of a line in a part that may have glances.
     RequestOrGlance,
     /// The number of an element.
     Element,
     /// A name.
     Name,
-    /// A name that no line before gave.
+    /// A name that no earlier line gave.
     NewName,
     /// A kind of cells.
     Kind,
-    /// How many cells a block has.
+    /// The number of cells in a block.
     Length,
     /// Where a request acts.
     Place,
-    /// How many cells that lies past a name's base.
+    /// The number of cells from a name's base to the place.
     Offset,
-    /// What a store or a put writes.
+    /// The value that a store or a put writes.
     Value,
-    /// No word more.
+    /// The end of the line.
     End,
     /// A word of ASCII.
     Ascii,
@@ -95,8 +95,8 @@ impl fmt::Display for Expected {
     }
 }
 
-/// A word as a fault quotes it: its first 32 bytes. Its text has what is no printable ASCII as an escape, and two dots
-/// where the word is longer.
+/// The first 32 bytes of a word, as a fault quotes it. Its text writes other bytes than printable ASCII as escapes, and
+/// ends in two dots if the word is longer.
 #[derive(Clone, Copy, Debug, PartialEq, Eq)]
 pub struct Quoted {
     bytes: [u8; MOST_QUOTED],
@@ -105,7 +105,7 @@ pub struct Quoted {
 }
 
 impl Quoted {
-    /// The beginning of a word.
+    /// Quotes a word.
     pub fn of(word: &[u8]) -> Quoted {
         let mut bytes = [0; MOST_QUOTED];
         let length = word.len();
@@ -124,19 +124,19 @@ impl fmt::Display for Quoted {
     }
 }
 
-/// Where a line isn't in the grammar.
+/// What in a line isn't in the grammar.
 #[derive(Clone, Copy, Debug, PartialEq, Eq, Error)]
 pub enum LineFault {
-    /// The line ends where a word is missing.
+    /// The line ends, but a word is missing.
     #[error("the line ends, where {0} is expected")]
     Ends(Expected),
-    /// The first word that isn't what the grammar has in its place.
+    /// The first word that isn't what the grammar expects.
     #[error("{0}, where {1} is expected")]
     Word(Quoted, Expected),
-    /// The first such word begins a remark, and the line has words before it.
+    /// The first wrong word begins a remark, but the line has words before it.
     #[error("{0}, where {1} is expected: a remark needs a line of its own")]
     Remark(Quoted, Expected),
-    /// The line ends in a carriage return, which is no space.
+    /// The line ends in a carriage return, which isn't a space.
     #[error("the line ends in a carriage return: is it a Windows file?")]
     Return,
     /// The line begins with the three bytes of a byte-order mark.
@@ -153,21 +153,21 @@ pub enum ScriptFault {
     /// There was not enough memory.
     #[error("not enough memory for the script")]
     NoMemory,
-    /// It has more than 256 MiB.
+    /// The text has more than 256 MiB.
     #[error("the script is too large: it may have 268435456 bytes, which are 256 MiB")]
     TooLarge,
-    /// A line isn't in the grammar where it stands.
+    /// A line isn't in the grammar at its place in the script.
     #[error("line {line}: {fault}")]
     BadLine {
         /// The line's number, from 1.
         line: usize,
-        /// Where in the line.
+        /// What is wrong in the line.
         fault: LineFault,
     },
 }
 
 impl ScriptFault {
-    /// The refusal that it is: `NoMemory` or `BadScript`.
+    /// Returns the refusal for this fault: `NoMemory` or `BadScript`.
     pub fn refusal(self) -> Refusal
         ensures { result ≡ refusal_of self }
     {

@@ -1,4 +1,4 @@
-//! The words of a line, and what one word says.
+//! Splits a line into words, and reads single words.
 ghost use Rattle.std.specs.Prelude.{◌≡◌, ◌==◌, ◌≤◌, IfOk, codes, drop, is_some, length};
 ghost use Rattle.std.specs.List.{before_first, list_all, list_any, position, position_or_len};
 ghost use Rattle.std.specs.Char.{is_ascii};
@@ -14,7 +14,7 @@ use im_types::Kind;
 use indexmap::IndexSet;
 use std::alloc::{AllocError, Global};
 
-/// The words of a line: its parts between spaces, but for the empty ones.
+/// Returns the words of a line: its non-empty parts between spaces.
 pub fn split_words<'a>(alloc: Global, line: &'a [u8]) -> Result<Vec<&'a [u8]>, AllocError>
     ensures { IfOk result (λ words. texts words.items ≡ words_of line.entry.now) }
 {
@@ -23,8 +23,7 @@ pub fn split_words<'a>(alloc: Global, line: &'a [u8]) -> Result<Vec<&'a [u8]>, A
         .collect(alloc)
 }
 
-/// The number whose last digit follows those of `number`. `None` where the byte is no digit, or a u64 does not have the
-/// number.
+/// Appends a decimal digit to a number. Returns `None` if the byte is no digit or the result doesn't fit in a u64.
 fn append_digit(number: u64, digit: u8) -> Option<u64>
     ensures { result ≡ digit_after number digit }
 {
@@ -34,7 +33,7 @@ fn append_digit(number: u64, digit: u8) -> Option<u64>
     number.checked_mul(10)?.checked_add(u64::from(digit - b'0'))
 }
 
-/// The number that a text writes in decimal digits, where it is at most `most`.
+/// Reads a number in decimal digits. Returns `None` if the text isn't one, or if the number is greater than `most`.
 pub fn read_number(text: &[u8], most: u64) -> Option<u64>
     ensures { result ≡ number_up_to most text.now }
 {
@@ -48,8 +47,8 @@ pub fn read_number(text: &[u8], most: u64) -> Option<u64>
     if number <= most { Some(number) } else { None }
 }
 
-/// The number that a text writes in decimal digits, from 0 to 4,294,967,295; zeros may stand before it. `None` where
-/// the text is empty or has a byte that is no digit, or where the number is greater.
+/// Reads a number in decimal digits, from 0 to 4,294,967,295; leading zeros are allowed. Returns `None` if the text is
+/// empty, a byte is no digit, or the number is greater.
 pub fn read_u32(text: &[u8]) -> Option<u32>
     ensures { result ≡ number_up_to u32.MAX text.now }
 {
@@ -59,7 +58,7 @@ pub fn read_u32(text: &[u8]) -> Option<u32>
     }
 }
 
-/// The kind that a word names.
+/// Returns the kind that a word names.
 pub fn read_kind(word: &[u8]) -> Option<Kind>
     ensures { result ≡ kind_of word.now }
 {
@@ -72,7 +71,7 @@ pub fn read_kind(word: &[u8]) -> Option<Kind>
     }
 }
 
-/// Whether a byte may stand in a name.
+/// Whether a name may contain a byte.
 fn may_name(byte: u8) -> bool
     ensures { result ≡ is_name_byte byte }
 {
@@ -86,14 +85,14 @@ pub fn is_plain(text: &[u8]) -> bool
     text.iter().all(|byte| byte.is_ascii())
 }
 
-/// Whether a line may be read: it has 4,096 bytes at most, and each is ASCII.
+/// Whether a line may be read: it has at most 4,096 bytes, all of them ASCII.
 pub fn is_line(line: &[u8]) -> bool
     ensures { result ≡ is_line line.now }
 {
     line.len() <= MAX_LINE && is_plain(line)
 }
 
-/// Whether each byte of a word may stand in a name.
+/// Whether a name may contain each byte of a word.
 fn may_all_name(word: &[u8]) -> bool
     ensures { result ≡ list_all is_name_byte word.now }
 {
@@ -110,7 +109,7 @@ pub fn can_name(word: &[u8]) -> bool
     }
 }
 
-/// Where a name stands among the names.
+/// Returns the index of a name among the names.
 pub fn find_name(names: &IndexSet<&[u8]>, name: &[u8]) -> Option<usize>
     ensures place { result ≡ position (bytes_eq name.now) (texts names.now.keys) }
     ensures found { is_some result ≡ list_any (λ given. bytes_eq name.now given.now) names.now.keys }
@@ -118,7 +117,7 @@ pub fn find_name(names: &IndexSet<&[u8]>, name: &[u8]) -> Option<usize>
     names.get_index_of(name)
 }
 
-/// How many bytes of a place are its name: those before the first plus, or all.
+/// Returns the number of bytes in the name of a place: those before the first plus, or all of them.
 fn name_len(word: &[u8]) -> usize
     ensures len { result ≡ position_or_len (λ byte. byte == 43) word.now }
     ensures within { result ≤ length word.now }
@@ -129,7 +128,7 @@ fn name_len(word: &[u8]) -> usize
     }
 }
 
-/// The name in a place, and what follows it.
+/// Splits a place into its name and what follows the name.
 fn split_name(word: &[u8]) -> (&[u8], &[u8])
     ensures name { result.0.now ≡ before_first (λ byte. byte == 43) word.now }
     ensures rest { result.1.now ≡ drop (position_or_len (λ byte. byte == 43) word.now) word.now }
@@ -137,7 +136,7 @@ fn split_name(word: &[u8]) -> (&[u8], &[u8])
     word.split_at(name_len(word))
 }
 
-/// The offset that follows a name in its place: none, or a plus and a number.
+/// Reads the offset after the name in a place: nothing, or a plus and a number.
 fn read_offset(rest: &[u8]) -> Option<u32>
     ensures { result ≡ offset_of rest.now }
 {
@@ -150,7 +149,7 @@ fn read_offset(rest: &[u8]) -> Option<u32>
     }
 }
 
-/// A place by a name's index and an offset, where there are both.
+/// Makes a place of a name's index and an offset, if both are there.
 fn make_place(index: Option<usize>, offset: Option<u32>) -> Option<Place>
     ensures { result ≡ option_and_then (λ i. option_map (λ o. Place.Named i o) offset) index }
 {
@@ -160,7 +159,7 @@ fn make_place(index: Option<usize>, offset: Option<u32>) -> Option<Place>
     })
 }
 
-/// A place that begins with one of the names.
+/// Reads a place that begins with one of the names.
 fn read_named(names: &IndexSet<&[u8]>, word: &[u8]) -> Option<Place>
     ensures { result ≡ place_past (texts names.now.keys) word.now }
 {
@@ -174,7 +173,7 @@ pub fn has_name(names: &IndexSet<&[u8]>, word: &[u8]) -> bool {
     find_name(names, name).is_some()
 }
 
-/// A place: an address, or one of the names with its offset.
+/// Reads a place: an address, or one of the names with its offset.
 pub fn read_place(names: &IndexSet<&[u8]>, word: &[u8]) -> Option<Place>
     ensures { result ≡ place_of (texts names.now.keys) word.now }
 {

@@ -1,4 +1,4 @@
-//! Scripts of requests: what a text says, line by line, and where each request acts once its names have bases.
+//! Reads scripts of requests: what each line says, and at which address each request acts once its names have bases.
 #![tactic(auto)]
 
 mod explaining;
@@ -23,11 +23,11 @@ pub use script::{
 /// The most bytes of a script: 256 MiB.
 pub const MAX_SCRIPT: usize = 268_435_456;
 
-/// The most bytes of a line, without its line feed: of a script, and of a dialogue.
+/// The most bytes of a line in a script or a dialogue, without its line feed.
 pub const MAX_LINE: usize = 4_096;
 
 /// The most bytes of a name.
 pub const MAX_NAME: usize = 16;
 
-/// The most cells that a place lies past its name's base.
+/// The most cells from a name's base to a place.
 pub const MAX_OFFSET: u64 = 1_048_575;

@@ -1,4 +1,4 @@
-//! What a line says, by its words.
+//! Reads a line from its words.
 ghost use Rattle.std.specs.Prelude.{◌≡◌, false, IfSome};
 ghost use Rattle.std.specs.List.{list_any};
 ghost use Rattle.std.specs.Option.{option_map};
@@ -12,7 +12,7 @@ use crate::places::{Action, Place};
 use crate::script::Allocation;
 use indexmap::IndexSet;
 
-/// A block, by the words of its kind and its length.
+/// Reads a block from the words for its kind and its length.
 fn read_block(kind: &[u8], length: &[u8]) -> Option<Allocation>
     ensures { result ≡ block_of kind.now length.now }
 {
@@ -64,7 +64,7 @@ fn read_long(names: &IndexSet<&[u8]>, word: &[u8], first: &[u8], second: &[u8]) 
     read_valued(word, place, read_number(second, u64::MAX)?)
 }
 
-/// A request: a line of a part.
+/// Reads a request, which is a line in a part.
 pub fn read_action(names: &IndexSet<&[u8]>, words: &[&[u8]]) -> Option<Action>
     ensures { result ≡ action_of (texts names.now.keys) (texts words.now) }
 {
@@ -75,7 +75,7 @@ pub fn read_action(names: &IndexSet<&[u8]>, words: &[&[u8]]) -> Option<Action>
     }
 }
 
-/// The cell of a glance: a line of a part where glances may stand.
+/// Reads the place of a glance, which is a line in a part that may have glances.
 pub fn read_glance(names: &IndexSet<&[u8]>, words: &[&[u8]]) -> Option<Place>
     ensures { result ≡ glanced (texts names.now.keys) (texts words.now) }
 {
@@ -91,7 +91,7 @@ pub fn read_glance(names: &IndexSet<&[u8]>, words: &[&[u8]]) -> Option<Place>
     }
 }
 
-/// A line of the setup: a name that is not given yet, and its block.
+/// Reads a line in the setup: a new name and its block.
 pub fn read_named_block<'a>(
     names: &IndexSet<&'a [u8]>,
     words: &[&'a [u8]],
@@ -112,7 +112,7 @@ pub fn read_named_block<'a>(
     }
 }
 
-/// The number of a line that begins a part.
+/// Returns the number in a line that begins a part.
 pub fn read_part<'a>(words: &[&'a [u8]]) -> Option<&'a [u8]>
     ensures { option_map (λ number. number.now) result ≡ part_number (texts words.now) }
 {

@@ -1,26 +1,26 @@
-//! Where a script's requests act.
+//! Where the requests of a script act.
 ghost use Rattle.std.specs.Prelude.{◌≡◌};
 ghost use Rattle.im_script.specs.Places.{address_of, op_of};
 
 use im_types::{Kind, Op};
 
-/// Where a line of a script acts: known at once, or once the setup is served.
+/// Where a line of a script acts. The place is known at once, or once the setup is served.
 #[derive(Clone, Copy, Debug, PartialEq, Eq)]
 pub enum Place {
     /// This address.
     Address(u32),
-    /// So many cells past the base that a setup allocation is answered with.
+    /// The given number of cells past the base of a setup allocation.
     Named {
-        /// Which setup allocation, from 0.
+        /// The index of the setup allocation, from 0.
         index: usize,
-        /// Up to 1,048,575.
+        /// The number of cells, up to 1,048,575.
         offset: u32,
     },
 }
 
 impl Place {
-    /// The address, where `bases` has the base of each setup allocation in order. `None` where it has none for this
-    /// name, or where the sum does not fit.
+    /// Returns the address; `bases` has the base of each setup allocation, in order. Returns `None` if `bases` has none
+    /// for this name, or if the sum doesn't fit.
     pub fn address(&self, bases: &[u32]) -> Option<u32>
         ensures { result ≡ address_of bases.now self.now }
     {
@@ -31,10 +31,10 @@ impl Place {
     }
 }
 
-/// What a line of a script asks for: an operation whose place may still be a name.
+/// The operation that a line asks for. Its place may still be a name.
 #[derive(Clone, Copy, Debug, PartialEq, Eq)]
 pub enum Action {
-    /// Makes a block of so many cells.
+    /// Makes a block with the given number of cells.
     Alloc(Kind, u32),
     /// Gives back the block with this base.
     Release(Place),
@@ -51,8 +51,8 @@ pub enum Action {
 }
 
 impl Action {
-    /// The operation, where `bases` has the base of each setup allocation in order. `None` where its place has no
-    /// address there.
+    /// Returns the operation; `bases` has the base of each setup allocation, in order. Returns `None` if its place has
+    /// no address there.
     pub fn op(&self, bases: &[u32]) -> Option<Op>
         ensures { result ≡ op_of bases.now self.now }
     {

@@ -1,4 +1,4 @@
-//! The text of a script, as a reader gives it.
+//! Reads the text of a script.
 ghost use Rattle.std.specs.Prelude.{◌≡◌, ◌≤◌, ◌<◌, [], IfErr, IfOk, IfSome, OnOk, false, length, take, true};
 ghost use Rattle.im_script.specs.Faults.{is_too_large};
 
@@ -8,10 +8,10 @@ use std::alloc::Global;
 use std::io::{ErrorKind, Read};
 use thiserror::Error;
 
-/// Why the text of a script isn't read.
+/// Why the text of a script can't be read.
 #[derive(Clone, Copy, Debug, PartialEq, Eq, Error)]
 pub enum TextFault {
-    /// It is too large, or there was not enough memory.
+    /// The text is too large, or there was not enough memory.
     #[error("{0}")]
     Bad(ScriptFault),
     /// The reader failed.
@@ -30,7 +30,7 @@ fn fault_of(kind: ErrorKind) -> TextFault
     }
 }
 
-// Reads so many bytes, or all that there are.
+// Reads the given number of bytes, or all that there are.
 fn read_up_to<I: Read>(input: &mut I, most: u64, text: &mut Vec<u8>) -> Result<(), ErrorKind>
     requires empty { text.old.items ≡ [] }
     ensures { OnOk result (IfSome (I.remaining input.old) (λ bytes. text.new.items ≡ take most bytes)) }
@@ -41,9 +41,8 @@ fn read_up_to<I: Read>(input: &mut I, most: u64, text: &mut Vec<u8>) -> Result<(
     }
 }
 
-/// Reads the text of a script, to its end: all that the reader gives, where that is 256 MiB at most. Of a longer one no
-/// more is read than shows it, one byte, and it is `TooLarge`. Where a growth was refused it is `NoMemory`, and where
-/// the reader failed `Unread`.
+/// Reads the text of a script to its end, if it has at most 256 MiB. Of a longer text it reads one byte more than that,
+/// and returns `TooLarge`. Returns `NoMemory` if a growth was refused, and `Unread` if the reader failed.
 pub fn read_text<I: Read>(alloc: Global, input: &mut I) -> Result<Vec<u8>, TextFault>
     ensures few { IfOk result (λ text. length text.items ≤ MAX_SCRIPT) }
     ensures found { IfOk result (λ text. IfSome (I.remaining input.old) (λ bytes. text.items ≡ bytes)) }

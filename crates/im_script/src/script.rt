@@ -1,4 +1,4 @@
-//! Scripts, read line by line.
+//! Reads scripts line by line.
 ghost use Rattle.std.specs.Prelude.{◌≡◌, ◌⊎◌, ◌↔◌, ◌<◌, ◌∷◌, [], ℕ, List, None, Some, IfOk, IfErr, IfSome, IsSome};
 ghost use Rattle.std.specs.Prelude.{OnOk};
 ghost use Rattle.std.specs.Prelude.{Err, false, length, not, true};
@@ -19,15 +19,15 @@ use indexmap::IndexSet;
 use std::alloc::{AllocError, Global};
 use std::marker::Model;
 
-/// The most that an element's number is in a script.
+/// The greatest element number in a script.
 pub const LAST_ELEMENT: u64 = 63;
 
 /// A block that the setup makes.
 #[derive(Clone, Copy, Debug, PartialEq, Eq)]
 pub struct Allocation {
-    /// What its cells are for.
+    /// The kind of its cells.
     pub kind: Kind,
-    /// How many cells it has.
+    /// The number of its cells.
     pub length: u32,
 }
 
@@ -43,9 +43,9 @@ pub struct ScriptLine {
 /// What a line of a script says.
 #[derive(Clone, Copy, Debug, PartialEq, Eq)]
 pub enum Said {
-    /// Nothing to be served: it is empty or a remark, or begins the setup.
+    /// Nothing to be served: the line is empty, a remark, or the beginning of the setup.
     Nothing,
-    /// The setup makes a block. A place names one by its index among them.
+    /// The setup makes a block. A place refers to it by its index among these blocks.
     Block(Allocation),
     /// A part of this element begins.
     Begins(u16),
@@ -53,17 +53,17 @@ pub enum Said {
     Asks(ScriptLine),
 }
 
-/// What a line says of a script that may have glances.
+/// What a line says in a script that may have glances.
 #[derive(Clone, Copy, Debug, PartialEq, Eq)]
 pub enum Heard {
-    /// What a line of any script says.
+    /// What a line of any script may say.
     Says(Said),
-    /// The element reads the cell at this place, and waits for nobody.
+    /// The element reads the cell at this place, and doesn't wait.
     Glances(u16, Place),
 }
 
-/// A text that is a script, with glances or without: each of its lines is in the grammar where it stands. It borrows
-/// the text, and keeps nothing of it.
+/// A text that is a script, with or without glances: each of its lines is in the grammar at its place. It borrows the
+/// text and stores nothing else.
 #[derive(Debug, Drop)]
 pub struct Script<'a> {
     text: &'a [u8],
@@ -76,7 +76,7 @@ impl<'a> Model for Script<'a> {
 }
 
 impl<'a> Script<'a> {
-    /// The text, for a [`Reader`] to go over its lines.
+    /// Returns the text, so that a [`Reader`] can read its lines.
     pub fn text(&self) -> &'a [u8]
         ensures { result.now ≡ self.now }
     {
@@ -84,10 +84,10 @@ impl<'a> Script<'a> {
     }
 }
 
-/// Where in a script a line stands.
+/// Where a line stands in a script.
 #[derive(Clone, Copy, Debug, PartialEq, Eq)]
 pub enum Stage {
-    /// Before all lines.
+    /// Before all lines that count.
     Start,
     /// In the setup.
     Setup,
@@ -95,12 +95,12 @@ pub enum Stage {
     Part(u16),
 }
 
-/// Reads the lines of a text, one after another. It keeps where the next one stands, and the names that the setup gave.
+/// Reads the lines of a text, one after another. It keeps the stage of the next line and the names that the setup gave.
 #[derive(Drop)]
 pub struct Reader<'a> {
     /// Where the next line stands.
     pub stage: Stage,
-    /// The name of each block of the setup.
+    /// The names of the setup's blocks, in order.
     pub names: IndexSet<&'a [u8]>,
 }
 
@@ -111,7 +111,7 @@ impl<'a> Reader<'a> {
     ghost use Rattle.im_script.specs.Script.{Follows, Hears, asked, begun_part, begun_setup, counted, draft_of};
     ghost use Rattle.im_script.specs.Script.{glance_at, heard, heard_in, line_after, named, new_draft, words_after};
 
-    /// Nothing was read.
+    /// Makes a reader that has read nothing.
     pub fn new(alloc: Global) -> Reader<'a>
         ensures { draft_of result ≡ new_draft }
     {
@@ -121,7 +121,7 @@ impl<'a> Reader<'a> {
         }
     }
 
-    /// Reads the first line that counts, where no part begins there.
+    /// Reads the first line that counts, if no part begins there.
     fn begin_setup(&mut self, words: &[&'a [u8]]) -> Result<Said, Refusal>
         ensures { Follows result (begun_setup (draft_of self.old) (texts words.now)) (draft_of self.new) }
     {
@@ -132,7 +132,7 @@ impl<'a> Reader<'a> {
         Ok(Said::Nothing)
     }
 
-    /// Reads a line that begins a part, by its number.
+    /// Reads a line that begins the part of the element with this number.
     fn begin_part(&mut self, number: &[u8]) -> Result<Said, Refusal>
         ensures { Follows result (begun_part (draft_of self.old) number.now) (draft_of self.new) }
     {
@@ -144,7 +144,7 @@ impl<'a> Reader<'a> {
         Ok(Said::Begins(element))
     }
 
-    /// Reads a line of the setup.
+    /// Reads a line in the setup.
     #[tactic(auto, using(crate::proofs::PlaceLemmas::texts_insert))]
     fn name_block(&mut self, words: &[&'a [u8]]) -> Result<Said, Refusal>
         ensures { Follows result (named (draft_of self.old) (texts words.now)) (draft_of self.new) }
@@ -156,7 +156,7 @@ impl<'a> Reader<'a> {
         Ok(Said::Block(block))
     }
 
-    /// Reads a line of a part.
+    /// Reads a line in a part.
     fn ask(&mut self, element: u16, words: &[&'a [u8]]) -> Result<Said, Refusal>
         ensures { Follows result (asked (draft_of self.old) element (texts words.now)) (draft_of self.new) }
     {
@@ -166,7 +166,7 @@ impl<'a> Reader<'a> {
         }
     }
 
-    /// Reads a line that counts, by its words.
+    /// Reads a line that counts, from its words.
     fn read_words(&mut self, words: &[&'a [u8]]) -> Result<Said, Refusal>
         ensures { Follows result (line_after (draft_of self.old) (texts words.now)) (draft_of self.new) }
     {
@@ -180,7 +180,7 @@ impl<'a> Reader<'a> {
         }
     }
 
-    /// Reads a line by its words: one without any says nothing, nor does a comment.
+    /// Reads a line from its words. An empty line and a remark say nothing.
     fn take_words(&mut self, words: &[&'a [u8]]) -> Result<Said, Refusal>
         ensures { Follows result (words_after (draft_of self.old) (texts words.now)) (draft_of self.new) }
     {
@@ -201,7 +201,7 @@ impl<'a> Reader<'a> {
         self.take_words(words.as_slice())
     }
 
-    /// The fault of the line with this number, which was refused, in a script that may have glances or not.
+    /// Returns the fault of a refused line with this number. `glances` says whether the script may have glances.
     fn fault(&self, alloc: Global, line: usize, text: &'a [u8], glances: bool) -> ScriptFault
         ensures line { IfSome (line_of result) (λ number. number ≡ line) }
         ensures size { is_of_size result ≡ false }
@@ -222,9 +222,9 @@ impl<'a> Reader<'a> {
         }
     }
 
-    /// Reads the line with this number, from 1: what it says where it stands. Its fault has the number, and where in
-    /// the line it is, which is `TooLong` exactly where it has more than 4,096 bytes; `NoMemory` comes where a growth
-    /// was refused. A reader that answered a fault is of no use any more.
+    /// Reads the line with this number, from 1, and returns what it says at its place. The fault has the line's number
+    /// and says what is wrong: it is `TooLong` if and only if the line has more than 4,096 bytes. Returns `NoMemory` if
+    /// a growth was refused. After a fault, the reader is no longer of use.
     pub fn read(
         &mut self,
         alloc: Global,
@@ -245,7 +245,7 @@ impl<'a> Reader<'a> {
         }
     }
 
-    /// The glance that words are, where they stand.
+    /// Returns the glance in these words, if the line may be one here.
     fn glance(&self, words: &[&'a [u8]]) -> Option<Heard>
         ensures { result ≡ glance_at (draft_of self.now) self.now.stage (texts words.now) }
     {
@@ -269,7 +269,7 @@ impl<'a> Reader<'a> {
         }
     }
 
-    /// Reads a line by its words, which may be a glance.
+    /// Reads a line from its words; it may be a glance.
     fn hear_words(&mut self, words: &[&'a [u8]]) -> Result<Heard, Refusal>
         ensures { Hears result (heard_in (draft_of self.old) (texts words.now)) (draft_of self.new) }
     {
@@ -282,7 +282,7 @@ impl<'a> Reader<'a> {
         }
     }
 
-    /// Reads a line of a script that may have glances.
+    /// Reads a line in a script that may have glances.
     fn hear_any(&mut self, alloc: Global, line: &'a [u8]) -> Result<Heard, Refusal>
         ensures { Hears result (heard true (draft_of self.old) line.entry.now) (draft_of self.new) }
     {
@@ -293,7 +293,7 @@ impl<'a> Reader<'a> {
         self.hear_words(words.as_slice())
     }
 
-    /// Reads a line of a script that may have glances or not.
+    /// Reads a line. `glances` says whether the script may have glances.
     fn hear_line(&mut self, alloc: Global, line: &'a [u8], glances: bool) -> Result<Heard, Refusal>
         ensures { Hears result (heard glances (draft_of self.old) line.entry.now) (draft_of self.new) }
     {
@@ -304,7 +304,7 @@ impl<'a> Reader<'a> {
         }
     }
 
-    /// Reads the line with this number of a script that may have glances or not.
+    /// Reads the line with this number. `glances` says whether the script may have glances.
     fn hear(
         &mut self,
         alloc: Global,
@@ -327,7 +327,7 @@ impl<'a> Reader<'a> {
         }
     }
 
-    /// Reads the line with this number, from 1, of a script that may have glances, as [`Reader::read`] does.
+    /// Reads the line with this number, from 1, in a script that may have glances. All else is as in [`Reader::read`].
     pub fn read_with_glances(
         &mut self,
         alloc: Global,
@@ -346,7 +346,8 @@ impl<'a> Reader<'a> {
     }
 }
 
-/// The first line of a text, and the text behind its line feed; none where the text ends with the line.
+/// Splits a text after its first line. Returns the line and the text after its line feed, or `None` for the latter if
+/// the text ends with the line.
 pub fn split_line(text: &[u8]) -> (&[u8], Option<&[u8]>)
     ensures { lines_of text.now ≡ result.0.now ∷ option_map_or (λ rest. lines_of rest.now) result.1 [] }
 {
@@ -358,7 +359,7 @@ pub fn split_line(text: &[u8]) -> (&[u8], Option<&[u8]>)
     (text, None)
 }
 
-/// Reads a text that isn't too large, and may have glances or not.
+/// Reads a text that isn't too large. `glances` says whether it may have glances.
 fn read_lines(alloc: Global, text: &[u8], glances: bool) -> Result<Script<'_>, ScriptFault>
     requires few { is_few text.now ≡ true }
     ensures size { IfErr result (λ fault. is_of_size fault ≡ false) }
@@ -376,7 +377,7 @@ fn read_lines(alloc: Global, text: &[u8], glances: bool) -> Result<Script<'_>, S
     Ok(Script { text })
 }
 
-/// Reads a text that may have glances or not.
+/// Reads a text. `glances` says whether it may have glances.
 fn read_any(alloc: Global, text: &[u8], glances: bool) -> Result<Script<'_>, ScriptFault>
     ensures text { IfOk result (λ script. script ≡ text.now) }
     ensures ok { OnOk result (IsSome (script_of glances text.now)) }
@@ -390,9 +391,9 @@ fn read_any(alloc: Global, text: &[u8], glances: bool) -> Result<Script<'_>, Scr
     read_lines(alloc, text, glances)
 }
 
-/// Reads a text, and answers that it is a script without glances. The fault of a text that is none is `TooLarge`
-/// where it has more than 256 MiB, and else its first line that isn't in the grammar where it stands; `NoMemory`
-/// comes where a growth was refused. Beside the setup's names no memory is kept.
+/// Reads a text that must be a script without glances. Returns `TooLarge` if it has more than 256 MiB. Else the fault
+/// is that of the first line that isn't in the grammar at its place. Returns `NoMemory` if a growth was refused. It
+/// keeps no memory but for the names of the setup.
 pub fn read_script(alloc: Global, text: &[u8]) -> Result<Script<'_>, ScriptFault>
     ensures text { IfOk result (λ script. script ≡ text.now) }
     ensures ok { OnOk result (IsSome (script_of false text.now)) }
@@ -403,8 +404,8 @@ pub fn read_script(alloc: Global, text: &[u8]) -> Result<Script<'_>, ScriptFault
     read_any(alloc, text, false)
 }
 
-/// Reads a text, and answers that it is a script, which may have glances: the line `glance PLACE` may stand in a part.
-/// All else is as [`read_script`] has it.
+/// Reads a text that must be a script, which may have glances: a part may have the line `glance PLACE`. All else is as
+/// in [`read_script`].
 pub fn read_script_with_glances(alloc: Global, text: &[u8]) -> Result<Script<'_>, ScriptFault>
     ensures text { IfOk result (λ script. script ≡ text.now) }
     ensures ok { OnOk result (IsSome (script_of true text.now)) }

@@ -15,9 +15,9 @@ use Rattle.im_text.specs.Printing.{Begins, IsLast, Prints, nows, replies, waits,
 
 -- ---- while it is served
 
--- Since the start these commands were put on the disk, each accepted in its turn: a crash leaves the memory after a
--- beginning of them, and now after all of them, or all but the last where the engine has failed. The count of failures rose
--- exactly then.
+-- Since the start these commands were put on the disk, each accepted in its turn. A crash leaves the memory after a
+-- prefix of them. Now it leaves the memory after all of them, or after all but the last if the engine has failed. The
+-- count of failures rose exactly if the engine has failed.
 pub record HasPut {D : Type 0} (now : D → Moment) (past : D → List Moment) (failures : D → ℕ) (start engine : EngineState D) (put : List Command) : Type 0 where
   pub accepted : accept_each start.memory put ≡ Some (after start.memory put)
   pub memory : engine.failed ≡ false → engine.memory ≡ after start.memory put
@@ -29,19 +29,20 @@ pub record HasPut {D : Type 0} (now : D → Moment) (past : D → List Moment) (
 
 -- ---- what was told of it
 
--- the file means what the engine is after a beginning of these commands, of which so many are among it
+-- the file means the engine's state after a prefix of these commands that has at least the given number of them
 abbrev pub MeansAtLeast : {D : Type 0} → EngineState D → List Command → ℕ → List ℕ → Type 0
 MeansAtLeast s commands least file = (many : ℕ) × (least ≤ many) × (many ≤ length commands) × MeansAfter s commands many file
 
--- It goes on: the engine works, and these are the lines of all commands that were put, and those of them that had to wait.
+-- It continues: the engine works, and these are the lines of all commands that were put, and those of them that had to
+-- wait.
 pub record GoesWith {D : Type 0} (now : D → Moment) (past : D → List Moment) (failures : D → ℕ) (start engine : EngineState D) (put : List Command) (text : List ℕ) (names : List Waiter) : Type 0 where
   pub has : HasPut now past failures start engine put
   pub works : engine.failed ≡ false
   pub lines : text ≡ replies start.memory put
   pub waiting : names ≡ waits start.memory put
 
--- It goes on or was ended: these are the lines of the first commands that were put, each of which is in every file that a
--- crash leaves, and the first of them that had to wait.
+-- It continues or was ended. These are the lines of the first commands that were put, each of which is in every file
+-- that a crash leaves, and the first of them that had to wait.
 pub record HaltsWith {D : Type 0} (now : D → Moment) (past : D → List Moment) (failures : D → ℕ) (start engine : EngineState D) (put : List Command) (text : List ℕ) (names : List Waiter) : Type 0 where
   pub told : List Command
   pub others : List Command
@@ -60,7 +61,7 @@ Goes now past failures honest start engine text names = honest engine.disk → h
 abbrev pub Halted : {D : Type 0} → (D → Moment) → (D → List Moment) → (D → ℕ) → (D → Type 0) → EngineState D → EngineState D → List ℕ → List Waiter → Type 0
 Halted now past failures honest start engine text names = honest engine.disk → honest start.disk × ((put : List Command) × HaltsWith now past failures start engine put text names)
 
--- from the one engine to the other nothing was put on the disk but commands that have no line
+-- between the two engines nothing was put on the disk but commands that have no line
 abbrev pub GoesOn : {D : Type 0} → (D → Moment) → (D → List Moment) → (D → ℕ) → (D → Type 0) → EngineState D → EngineState D → Type 0
 GoesOn {D} now past failures honest old new = (start : EngineState D) (text : List ℕ) (names : List Waiter) → Goes now past failures honest start old text names → Goes now past failures honest start new text names
 
@@ -89,7 +90,7 @@ Going now past failures honest start held s = (text : List ℕ) × (Goes now pas
 abbrev pub Ended : {D : Type 0} → (D → Moment) → (D → List Moment) → (D → ℕ) → (D → Type 0) → EngineState D → Option (List ℕ) → Server D → Type 0
 Ended now past failures honest start held s = (text : List ℕ) × (Halted now past failures honest start s.engine text (map who_of s.waited) × Prints held s.held s.lines text)
 
--- from the one to the other nothing was put on the disk but commands, and their lines were printed
+-- between the two servers nothing was put on the disk but commands, and their lines were printed
 abbrev pub Serves : {D : Type 0} → (D → Moment) → (D → List Moment) → (D → ℕ) → (D → Type 0) → Server D → Server D → Type 0
 Serves {D} now past failures honest old new = (start : EngineState D) (held : Option (List ℕ)) → Going now past failures honest start held old → Going now past failures honest start held new
 
@@ -97,9 +98,9 @@ Serves {D} now past failures honest old new = (start : EngineState D) (held : Op
 abbrev pub Ends : {D : Type 0} → (D → Moment) → (D → List Moment) → (D → ℕ) → (D → Type 0) → Server D → Server D → Type 0
 Ends {D} now past failures honest old new = (start : EngineState D) (held : Option (List ℕ)) → Going now past failures honest start held old → Ended now past failures honest start held new
 
--- What was printed of the commands that were put, at the end: a beginning of this text, and where the status is 0 all of it.
--- It is the lines of the first of them, each of which is in every file that a crash leaves; then of requests that had to wait;
--- then of a refusal.
+-- What was printed of the commands that were put, at the end: a prefix of this text, and all of it if the status is 0.
+-- The text is the lines of the first of them, each of which is in every file that a crash leaves, then those of
+-- requests that had to wait, then that of a refusal.
 pub record Told {D : Type 0} (now : D → Moment) (start : EngineState D) (put : List Command) (disk : D) (was is : Option (List ℕ)) (status : ℕ) : Type 0 where
   pub told : List Command
   pub others : List Command
@@ -115,7 +116,7 @@ pub record Told {D : Type 0} (now : D → Moment) (start : EngineState D) (put :
 
 -- ---- at its end
 
--- An engine was closed, and the status given, after these commands were put on its disk.
+-- An engine was closed, and this status was given, after these commands were put on its disk.
 pub record Closed {D : Type 0} (now : D → Moment) (past : D → List Moment) (failures : D → ℕ) (start : EngineState D) (disk : D) (was is : Option (List ℕ)) (status : ℕ) : Type 0 where
   pub put : List Command
   pub accepted : accept_each start.memory put ≡ Some (after start.memory put)
@@ -124,9 +125,9 @@ pub record Closed {D : Type 0} (now : D → Moment) (past : D → List Moment) (
   pub done : status ≡ 0 → LeavesNow (now disk) (MeansAfter start put (length put))
   pub printed : Told now start put disk was is status
 
--- The image was opened, with the meaning of a file that a crash could leave then, and these commands were put on it:
--- from then on a crash leaves the memory after a beginning of them, and at the end after all of them, or all but the last
--- where a call of the disk failed. Where the status is 0, after all of them.
+-- The image was opened, with the meaning of a file that a crash could leave then, and these commands were put on it.
+-- From then on a crash leaves the memory after a prefix of them. At the end it leaves the memory after all of them, or
+-- after all but the last if a call of the disk failed. If the status is 0, it is after all of them.
 pub record Served {D : Type 0} (now : D → Moment) (past : D → List Moment) (failures : D → ℕ) (old new : D) (was is : Option (List ℕ)) (status : ℕ) : Type 0 where
   pub start : EngineState D
   pub put : List Command
@@ -143,7 +144,7 @@ pub record NotOpened {D : Type 0} (now : D → Moment) (past : D → List Moment
   pub printed : (last : List ℕ) × (IsLast last × Begins was is last)
   pub leaves : Leaves (now old) (now new) (past old) (past new) (Left (now old))
 
--- The same of a disk that was opened at this moment, before which there was none.
+-- The same of a disk that is at this moment, and has no moment before it.
 pub record ServedFrom {D : Type 0} (now : D → Moment) (past : D → List Moment) (failures : D → ℕ) (first : Moment) (new : D) (before after : Option (List ℕ)) (status : ℕ) : Type 0 where
   pub old : D
   pub was : now old ≡ first

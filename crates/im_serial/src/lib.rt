@@ -1,4 +1,4 @@
-//! A script's requests, served one after another on the image of a disk.
+//! Serves a script's requests one after another on the image of a disk.
 #![tactic(auto)]
 
 mod room;

@@ -1,4 +1,4 @@
-//! Room for the next request: in the journal, and in its element's window.
+//! Makes room for the next request: in the journal, and in its element's window.
 ghost use Rattle.std.specs.Prelude.{◌≡◌, ℕ, false, Ok, IfOk, MatchResult};
 ghost use Rattle.im_types.specs.Window.{bounds};
 ghost use Rattle.im_serial.specs.Serving.{GoesOn, Halts};
@@ -10,11 +10,11 @@ use im_text::{Progress, Reason};
 use im_types::layout::MOST_AREA_PAGES;
 use im_types::{Command, Entry, Refusal};
 
-// As many turns as two checkpoints take at the largest sizes, each with its beginning, its pages, its sync, its header
-// and a sweep. The rest of one that is under way and a whole one end with room, or with nothing left to do.
+// As many turns as two checkpoints take at the largest sizes. Each has a beginning, pages, a sync, a header and a
+// sweep. The rest of one that is under way, and a whole one, end with room or with nothing left to do.
 const MOST_TURNS: usize = 2 * (MOST_AREA_PAGES + 4);
 
-// Counts a checkpoint that was put in force.
+// Counts a checkpoint that came into force.
 fn count(progress: &mut Progress, done: TurnDone) {
     if let TurnDone::InForce = done {
         progress.checkpoints = progress.checkpoints.saturating_add(1);
@@ -36,7 +36,7 @@ fn take_turn<D: Disk>(engine: &mut Engine<D>, progress: &mut Progress) -> Result
     }
 }
 
-/// Takes turns of a checkpoint while there is no room for a command, and something is left to do.
+/// Takes turns of a checkpoint while there is no room for a command and something is left to do.
 pub fn make_room<D: Disk>(engine: &mut Engine<D>, progress: &mut Progress) -> Result<(), Refusal>
     ensures goes { MatchResult result
         (λ _. GoesOn D.now D.past D.failures D.honest engine.old engine.new)
@@ -69,7 +69,7 @@ fn serve_confirm<D: Disk>(engine: &mut Engine<D>, element: u16, upto: u64) -> Re
     }
 }
 
-/// Confirms an element's entries below a number, once there is room for it.
+/// Makes room, and then confirms an element's entries below a number.
 pub fn confirm<D: Disk>(
     engine: &mut Engine<D>,
     progress: &mut Progress,
@@ -84,7 +84,7 @@ pub fn confirm<D: Disk>(
     serve_confirm(engine, element, upto)
 }
 
-/// The first number from `base` on, and before `next`, whose entry still waits. `next`, where none does.
+/// Returns the first number, from `base` on and before `next`, whose entry still waits. Returns `next` if none does.
 pub fn first_waiting<D: Disk>(engine: &Engine<D>, element: u16, base: u64, next: u64) -> u64 {
     for number in base..next {
         if engine.collect(element, number) == Ok(Entry::Waiting) {
@@ -94,7 +94,7 @@ pub fn first_waiting<D: Disk>(engine: &Engine<D>, element: u16, base: u64, next:
     next
 }
 
-// How many of these numbers' entries wait.
+// Returns how many entries of these numbers wait.
 fn count_waiting<D: Disk>(engine: &Engine<D>, element: u16, base: u64, next: u64) -> u64 {
     let mut waiting = 0_u64;
     for number in base..next {
@@ -105,7 +105,7 @@ fn count_waiting<D: Disk>(engine: &Engine<D>, element: u16, base: u64, next: u64
     waiting
 }
 
-/// Why an element's request is refused. Of a window that is full it says how many of its requests wait.
+/// Returns why an element's request is refused. If the window is full, the reason says how many of its requests wait.
 pub fn reason_of<D: Disk>(engine: &Engine<D>, element: u16, refusal: Refusal) -> Reason {
     match (refusal, engine.window(element)) {
         (Refusal::WindowFull, Ok((base, next))) => {
@@ -120,7 +120,7 @@ pub fn reason_of<D: Disk>(engine: &Engine<D>, element: u16, refusal: Refusal) ->
     }
 }
 
-/// The number of an element's next request.
+/// Returns the number of an element's next request.
 pub fn next_number<D: Disk>(engine: &Engine<D>, element: u16) -> Result<u64, Refusal>
     ensures { IfOk result (λ next. engine.now.failed ≡ false
         → (base : ℕ) × (bounds engine.now.memory.windows element ≡ Ok (base, next))) }

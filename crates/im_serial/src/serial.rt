@@ -12,27 +12,32 @@ use im_text::{Observer, Reason, diagnose, end, finish};
 use std::alloc::Global;
 use std::io::Write;
 
-/// Serves a script on the image of a disk, and gives the disk back. What it prints goes to `out`: the line `K.N REPLY`
-/// for each request, in order, K being its element and N its number, then `K.N now REPLY` for each that had to wait,
-/// with its entry as last kept, and at last `refused N NAME` where something was refused. That ends the script. Before
-/// a request of an element whose window is full, its entries before the first that still waits are confirmed. Of
-/// a request that waited when the image was opened the observer is told what it is answered, before its entry is
-/// confirmed, and at the end at the latest. Before each request and each confirmation turns of a checkpoint are taken
+/// Serves a script on the image of a disk, and gives the disk back. What it prints goes to `out`, in this order:
+///
+/// - The line `K.N REPLY` for each request, in order. K is its element and N its number.
+/// - `K.N now REPLY` for each request that had to wait, with its entry as last kept.
+/// - At last `refused N NAME`, if something was refused. That ends the script.
+///
+/// If an element's window is full, its entries before the first that still waits are confirmed before its next request.
+/// If a request that waited when the image was opened gets its answer, the observer is told: before its entry is
+/// confirmed, and at the end at the latest. Before each request and each confirmation, turns of a checkpoint are taken
 /// while there is no room for a command.
 ///
-/// Each line is written whole once its command is on the disk, in batches of at most 4,096 bytes, and the rest at the
+/// Each line is written whole after its command is on the disk, in batches of at most 4,096 bytes, and the rest at the
 /// end. A write that fails ends the script: nothing more is served or written.
 ///
-/// The status is 0, or 1 where something was refused: the image, at opening; a request; `BadScript` where a block of
-/// the setup can't be made; `NoMemory` where `alloc` refused the room for what is kept of the script; or where a write
-/// failed. The observer is told why.
+/// The status is 0, or 1 if something was refused: the image, at opening; a request; a block of the setup that can't be
+/// made (`BadScript`); the room for what is kept of the script (`NoMemory`); or a write that failed. The observer is
+/// told why.
 ///
-/// Where the image isn't opened, a crash leaves nothing that it couldn't leave before. From the opening on, a crash
-/// leaves the memory after a beginning of the accepted commands that were put on the image, and at the end after all of
-/// them, or after all but the last where a call of the disk failed. Where the status is 0, it leaves the memory after
-/// all of them. Each command whose line was written is among those that every file has which a crash leaves: what was
-/// written is at each return a beginning of the lines of such commands, then of those that had to wait, then of the
-/// refusal; and where the status is 0, all of it.
+/// If the image isn't opened, a crash leaves nothing that it couldn't leave before. From the opening on, a crash leaves
+/// the memory after a prefix of the accepted commands that were put on the image. At the end it leaves the memory after
+/// all of them, or after all but the last if a call of the disk failed. If the status is 0, it leaves the memory after
+/// all of them.
+///
+/// Each command whose line was written is in every file that a crash leaves. What was written is at each return a
+/// prefix of this text: the lines of such commands, then those of requests that had to wait, then that of the refusal.
+/// If the status is 0, it is all of it.
 pub fn serial_on<D: Disk, W: Write, N: Observer>(
     alloc: Global,
     disk: D,
@@ -59,7 +64,7 @@ pub fn serial_on<D: Disk, W: Write, N: Observer>(
     }
 }
 
-// Serves a script on an engine, and gives its disk back.
+// Serves a script on an engine. Returns the status and the engine's disk.
 fn serve_on<D: Disk, W: Write, N: Observer>(
     alloc: Global,
     engine: Engine<D>,
@@ -89,12 +94,12 @@ fn serve_on<D: Disk, W: Write, N: Observer>(
         out,
         observer,
     );
-    // Where the disk failed, a refusal was printed: the status is 1 already.
+    // If the disk failed, a refusal was printed: the status is 1 already.
     let failed = engine.failed();
     (status_at(failed, status), engine.close())
 }
 
-// What was refused first, if anything was.
+// Returns the first refusal, if there is one.
 fn both(served: Result<(), Reason>, told: Result<(), Reason>) -> Result<(), Reason>
     ensures served { IsOk result → IsOk served }
     ensures told { IsOk result → IsOk told }
@@ -105,7 +110,7 @@ fn both(served: Result<(), Reason>, told: Result<(), Reason>) -> Result<(), Reas
     }
 }
 
-// The status, which is 1 where the disk failed.
+// Returns the status. It is 1 if the disk failed.
 fn status_at(failed: bool, status: u8) -> u8
     requires { status ≤ 1 }
     ensures few { result ≤ 1 }

@@ -19,17 +19,17 @@ use std::io::Write;
 // The most bytes of a line.
 const LINE: usize = 64;
 
-/// What serving takes besides the engine.
+/// The room that serving takes, besides the engine.
 #[derive(Drop)]
 pub struct Desk {
     places: Places,
-    /// What is printed.
+    /// The lines that are printed.
     pub lines: Lines,
     line: String,
 }
 
 impl Desk {
-    /// Takes all room that serving needs, but for the list of those that have to wait.
+    /// Takes all room that serving needs, except for the list of the requests that have to wait.
     pub fn new(alloc: Global) -> Result<Desk, AllocError>
         ensures pending { IfOk result (λ desk. desk.lines.pending.items ≡ []) }
     {
@@ -41,7 +41,7 @@ impl Desk {
     }
 }
 
-/// What is printed.
+/// Where lines are made and printed.
 #[derive(Drop)]
 pub struct Paper {
     /// The lines on their way to the writer.
@@ -57,19 +57,19 @@ pub struct Server<D: Disk> {
     pub engine: Engine<D>,
     /// The base of each block of the setup.
     pub bases: Vec<u32>,
-    /// The requests that had to wait, in their order.
+    /// The requests that had to wait, in order.
     pub waited: Vec<Waited>,
-    /// What is printed.
+    /// The lines that are printed.
     pub lines: Lines,
-    // Where each of those that had to wait stands, while it is kept.
+    // The place of each request that had to wait, while it is kept.
     places: Places,
-    // The line that is made.
+    // The room in which a line is made.
     line: String,
     progress: Progress,
 }
 
 impl<D: Disk> Server<D> {
-    /// A server over an engine, which has served nothing yet. It marks who waits already.
+    /// Makes a server over an engine. It has served nothing yet, and marks the requests that already wait.
     pub fn new(alloc: Global, engine: Engine<D>, desk: Desk) -> Server<D>
         ensures engine { result.engine ≡ engine }
         ensures lines { result.lines ≡ desk.lines }
@@ -96,7 +96,7 @@ impl<D: Disk> Server<D> {
         }
     }
 
-    /// The engine, and what is printed.
+    /// Returns the engine, and where lines are printed.
     pub fn leave(self) -> (Engine<D>, Paper)
         ensures engine { result.0 ≡ self.engine }
         ensures lines { result.1.lines ≡ self.lines }
@@ -113,7 +113,7 @@ impl<D: Disk> Server<D> {
         (engine, Paper { lines, line })
     }
 
-    // Confirms the entries of a full window up to the first that still waits.
+    // If an element's window is full, confirms its entries before the first that still waits.
     fn make_place<N: Observer>(&mut self, element: u16, observer: &mut N) -> Result<(), Refusal>
         ensures goes { MatchResult result
             (λ _. GoesOn D.now D.past D.failures D.honest self.old.engine self.new.engine)
@@ -140,7 +140,7 @@ impl<D: Disk> Server<D> {
         confirm(&mut self.engine, &mut self.progress, element, upto)
     }
 
-    // Has a place in an element's window, and room in the journal, for its next request.
+    // Makes a place in an element's window, and room in the journal, for its next request.
     fn prepare<N: Observer>(&mut self, element: u16, observer: &mut N) -> Result<(), Refusal>
         ensures goes { MatchResult result
             (λ _. GoesOn D.now D.past D.failures D.honest self.old.engine self.new.engine)
@@ -152,7 +152,7 @@ impl<D: Disk> Server<D> {
         make_room(&mut self.engine, &mut self.progress)
     }
 
-    // Prints what a request was answered.
+    // Prints a request's entry.
     fn print<W: Write>(&mut self, who: (u16, u64), entry: Entry, out: &mut W) -> Result<(), Reason>
         ensures engine { self.new.engine ≡ self.old.engine }
         ensures names { self.new.waited.items ≡ self.old.waited.items }
@@ -184,7 +184,7 @@ impl<D: Disk> Server<D> {
         }
     }
 
-    // Serves an element's request with its next number, and prints what is kept for it.
+    // Serves an element's request, which has its next number, and prints what is kept for it.
     fn ask<W: Write>(&mut self, request: Request, out: &mut W) -> Result<Entry, Reason>
         requires next { self.old.engine.failed ≡ false → (base : ℕ)
             × (bounds self.old.engine.memory.windows request.element ≡ Ok (base, request.number)) }
@@ -258,11 +258,12 @@ impl<D: Disk> Server<D> {
         }
     }
 
-    /// Makes a block of the setup, prints what it was answered, and keeps its base. Where element 0's window is full
-    /// its entries before the first that still waits are confirmed first, and turns of a checkpoint are taken while
-    /// there is no room for a command. What is accepted is on the disk before its line is kept for printing.
+    /// Makes a block of the setup, prints its answer, and keeps its base. If element 0's window is full, its entries
+    /// before the first that still waits are confirmed first. Turns of a checkpoint are taken while there is no room
+    /// for a command. An accepted command is on the disk before its line is kept for printing.
     ///
-    /// Refused is what the engine refuses, `Block` where the block isn't made, `Memory`, or a write of the output.
+    /// It is refused with what the engine refuses, with `Block` if the block isn't made, with `Memory`, or because a
+    /// write of the output failed.
     pub fn make_block<W: Write, N: Observer>(
         &mut self,
         block: Allocation,
@@ -336,7 +337,7 @@ impl<D: Disk> Server<D> {
         }
     }
 
-    // Writes what is kept back, where each line is wanted as soon as it is true.
+    // Writes what is kept back, if each line is wanted as soon as it is true.
     fn show<W: Write, N: Observer>(&mut self, out: &mut W, observer: &N) -> Result<(), Reason>
         ensures serves { Serves D.now D.past D.failures D.honest
             (at self.old.engine (W.contents out.old) self.old.lines self.old.waited.items)
@@ -349,7 +350,7 @@ impl<D: Disk> Server<D> {
         }
     }
 
-    // Serves what a line says, and shows it.
+    // Serves what a line says, and writes it if that is wanted.
     fn serve_and_show<W: Write, N: Observer>(
         &mut self,
         said: Said,
@@ -370,7 +371,7 @@ impl<D: Disk> Server<D> {
         }
     }
 
-    // Serves the whole script, line by line as they are read, until a request is refused.
+    // Serves the script line by line as it is read, until a request is refused.
     pub(crate) fn serve<W: Write, N: Observer>(
         &mut self,
         alloc: Global,
@@ -406,7 +407,8 @@ impl<D: Disk> Server<D> {
         Ok(())
     }
 
-    // Learns what is kept at the end for the requests that had to wait, and tells of those that waited before.
+    // Learns what is kept at the end for the requests that had to wait, and tells the observer about those that waited
+    // before.
     pub(crate) fn learn_all<N: Observer>(&mut self, observer: &mut N)
         ensures engine { self.new.engine ≡ self.old.engine }
         ensures lines { self.new.lines ≡ self.old.lines }
@@ -429,7 +431,7 @@ impl<D: Disk> Server<D> {
     }
 }
 
-// Tells how far the work has come, before one request more.
+// Tells the observer the progress, before one more request.
 fn follow<N: Observer>(progress: &mut Progress, room: u32, observer: &mut N) {
     progress.room = room;
     observer.progressed(*progress);
@@ -453,7 +455,7 @@ fn print_nows<W: Write>(
     Ok(())
 }
 
-// Prints what became of one that had to wait.
+// Prints what became of a request that had to wait.
 fn push_now<W: Write>(
     waited: Option<Waited>,
     line: &mut String,

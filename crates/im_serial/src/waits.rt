@@ -8,14 +8,14 @@ use im_types::{Entry, MAX_ELEMENTS, WINDOW};
 use std::alloc::{AllocError, Global};
 use std::mem;
 
-/// Who waited in a place of a window.
+/// Who waits at a place of a window.
 #[derive(Clone, Copy, Debug, PartialEq, Eq)]
 pub enum Mark {
     /// Nobody.
     Nobody,
-    /// A request that waited already when the image was opened.
+    /// A request that already waited when the image was opened.
     Earlier,
-    /// The request at this place among those of the script that had to wait.
+    /// A request of the script that had to wait. The number is its index among them.
     Here(usize),
 }
 
@@ -25,13 +25,13 @@ pub struct Places {
     marks: Vec<Mark>,
 }
 
-// Where a number's mark stands. Two numbers of one window stand apart.
+// The index of a number's mark. Two numbers of one window have different marks.
 fn index_of(element: u16, number: u64) -> usize {
     element as usize * WINDOW as usize + (number % WINDOW) as usize
 }
 
 impl Places {
-    /// Nobody waits. All room that there will be need of is taken here.
+    /// Makes marks that say that nobody waits. It takes all room that will be needed.
     pub fn new(alloc: Global) -> Result<Places, AllocError> {
         let mut marks = Vec::with_capacity(alloc, index_of(MAX_ELEMENTS, 0))?;
         for _place in 0..index_of(MAX_ELEMENTS, 0) {
@@ -40,14 +40,14 @@ impl Places {
         Ok(Places { marks })
     }
 
-    /// Marks a number's place.
+    /// Sets the mark of a number.
     pub fn set(&mut self, element: u16, number: u64, mark: Mark) {
         if let Some(place) = self.marks.get_mut(index_of(element, number)) {
             *place = mark;
         }
     }
 
-    /// Takes the mark from a number's place.
+    /// Returns the mark of a number, and removes it.
     pub fn take(&mut self, element: u16, number: u64) -> Mark {
         match self.marks.get_mut(index_of(element, number)) {
             Some(place) => mem::replace(place, Mark::Nobody),
@@ -55,7 +55,7 @@ impl Places {
         }
     }
 
-    // Marks the requests of an element that wait, among these numbers.
+    // Marks those of an element's requests that wait, among these numbers.
     fn mark_element(&mut self, memory: &Memory, element: u16, base: u64, next: u64) {
         for number in base..next {
             if memory.collect(element, number) == Ok(Entry::Waiting) {
@@ -74,7 +74,7 @@ impl Places {
     }
 }
 
-// Keeps another entry for one that waited.
+// Keeps another entry for a request that waited.
 fn set_entry(waited: &mut [Waited], at: usize, entry: Entry)
     ensures { map who_of waited.new ≡ map who_of waited.old }
 {
@@ -92,7 +92,7 @@ fn set_entry(waited: &mut [Waited], at: usize, entry: Entry)
     }
 }
 
-// Keeps what a request was answered that waited here, or tells it where it waited before.
+// Keeps the answer of a request that waited here. Tells the observer the answer of one that waited before.
 fn settle<N: Observer>(
     waited: &mut [Waited],
     mark: Mark,
@@ -110,7 +110,7 @@ fn settle<N: Observer>(
     }
 }
 
-/// Learns what an element's numbers from `base` on and before `upto` were answered, before they are confirmed.
+/// Learns the answers under an element's numbers from `base` on and before `upto`, before they are confirmed.
 pub fn learn<N: Observer>(
     waited: &mut [Waited],
     places: &mut Places,
@@ -130,7 +130,7 @@ pub fn learn<N: Observer>(
     }
 }
 
-/// Learns what is kept at the end for all that had to wait.
+/// Learns what is kept at the end for all requests that had to wait.
 pub fn learn_all(waited: &mut [Waited], memory: &Memory)
     ensures { map who_of waited.new ≡ map who_of waited.old }
 {
@@ -146,7 +146,7 @@ pub fn learn_all(waited: &mut [Waited], memory: &Memory)
     }
 }
 
-// Tells what an element's requests were answered that waited when the image was opened.
+// Tells the observer the answers of an element's requests that waited when the image was opened.
 fn tell_element<N: Observer>(
     places: &mut Places,
     memory: &Memory,
@@ -165,7 +165,7 @@ fn tell_element<N: Observer>(
     }
 }
 
-/// Tells what all requests were answered that waited when the image was opened.
+/// Tells the observer the answers of all requests that waited when the image was opened.
 pub fn tell_earlier<N: Observer>(places: &mut Places, memory: &Memory, observer: &mut N) {
     for element in 0..memory.elements() {
         if let Ok(numbers) = memory.window(element) {
@@ -204,7 +204,7 @@ pub fn note(
     }
 }
 
-/// The one at this place among those that had to wait.
+/// Returns the request at this index among those that had to wait.
 pub fn waited_at(waited: &[Waited], at: usize) -> Option<Waited>
     ensures { result ≡ slice_get waited.now at }
 {

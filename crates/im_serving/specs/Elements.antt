@@ -1,4 +1,4 @@
--- What becomes of elements that are served all at once. (Own.)
+-- What becomes of elements that are all served at once. (Own.)
 use Rattle.std.specs.Prelude.{◌≡◌, ℕ, Bool, true, List, [], ◌∷◌, Option, Result, Err, OnOk}
 use mathlib.Core.List.{IsPrefix}
 use Rattle.im_types.specs.declared.operations.Entry.{Entry}
@@ -24,24 +24,25 @@ pub record Asked : Type 0 where
   pub deeds : Deeds
   pub intents : List Intent
 
--- how a part has ended: what was done for its element, and what was refused, if anything was
+-- how a part has ended: what was done for its element, and the refusal, if there is one
 pub record End : Type 0 where
   pub deeds : Deeds
   pub result : Result (Unit {0}) Refusal
 
--- A server came from these deeds to those, where this was asked for: it did it in its order, all of it where nothing was refused, else a beginning of it. And
--- each glance tells what the element had seen. What was done is counted from the start, so nothing was done before.
+-- A server came from the first deeds to the second, given what was asked for. It did all of it, in order, if nothing
+-- was refused, and else a prefix of it. Each glance tells what the element had seen. What was done is counted from the
+-- start, so nothing was done before.
 pub record HasServed (m : Contents) (p q : Deeds) (result : Result (Unit {0}) Refusal) (intents : List Intent) : Type 0 where
   pub element : q.element ≡ p.element
   pub begun : AreDone p.entries p.made [] → HasBegun q.entries q.made intents
   pub done : OnOk result (AreDone p.entries p.made [] → AreDone q.entries q.made intents)
   pub seen : AreGlanced m p.element p.last p.seen p.made → AreGlanced m p.element q.last q.seen q.made
 
--- a part has ended so, by what it asks for
+-- a part has ended so, given what it asks for
 abbrev pub IsEnded : Contents → Asked → End → Type 0
 IsEnded m p d = HasServed m p.deeds d.deeds d.result p.intents
 
--- so has each of these, in their order
+-- the same of each of these, in order
 abbrev pub AreEnded : Contents → List Asked → List End → Type 0
 AreEnded m [] [] = Unit {0}
 AreEnded m [] (d ∷ ends) = ⊥
@@ -52,10 +53,10 @@ AreEnded m (p ∷ parts) (d ∷ ends) = IsEnded m p d × AreEnded m parts ends
 abbrev pub IsUnserved : Contents → Deeds → End → Type 0
 IsUnserved m p d = HasServed m p d.deeds d.result [] × (d.result ≡ Err NoMemory)
 
--- a server did what it received, and where nothing was refused it received the end mark
+-- a server did what it received; if nothing was refused, it received the end mark
 abbrev pub HasStopped : Contents → Deeds → End → PipeEnd Intent → Type 0
 HasStopped m p d outlet = HasServed m p d.deeds d.result outlet.items × OnOk d.result (outlet.ended ≡ true)
 
--- what was sent into a pipe is a beginning of what is asked for, and all of it where nothing was handed back
+-- what was sent into a pipe is a prefix of what is asked for, and all of it if nothing was handed back
 abbrev pub HasSent : PipeId Intent → List Intent → PipeEnd Intent → Bool → Type 0
 HasSent pipe intents finished all = (finished.pipe ≡ pipe) × IsPrefix finished.items intents × (all ≡ true → finished.items ≡ intents)

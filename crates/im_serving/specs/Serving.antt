@@ -25,8 +25,8 @@ IsAskedIn memory element number op entry =
 
 -- ---- glances
 
--- Of all that is shown, an element has seen what was shown when its request with this number was answered: the full cells of the opening, and
--- the changes of a legal trace that ends in that answer; or no request was answered yet, and it has seen the opening.
+-- An element has seen what was shown when its request with this number was answered: the full cells of the opening, and
+-- the changes of a legal trace that ends in that answer. If no request was answered yet, it has seen the opening.
 abbrev pub HasLearnt : Contents → ℕ → Option ℕ → List Change → Type 0
 HasLearnt m element None seen = IsPrefix (opening m) seen
 HasLearnt m element (Some number) seen =
@@ -34,11 +34,12 @@ HasLearnt m element (Some number) seen =
     × EndsIn history (line_of (Commands (Asks (record { element = element; number = number; op = op }))) (Ok (Tells entry)))
     × IsPrefix (shown_by m history) seen
 
--- a glance tells the cell as it is after changes that the element had seen, with all that was shown at its last answer
+-- a glance tells the cell as it is after changes that the element had seen, which include all that was shown at its
+-- last answer
 abbrev pub IsGlanced : Contents → ℕ → Glanced → Type 0
 IsGlanced m element g = (seen : List Change) × HasLearnt m element g.after seen × (g.value ≡ value_after g.address None seen)
 
--- so does each of these, and the reader has seen so much
+-- the same of each of these glances, and the reader has seen these changes
 abbrev pub AreGlanced : Contents → ℕ → Option ℕ → List Change → List Glanced → Type 0
 AreGlanced m element last seen made = HasLearnt m element last seen × All (IsGlanced m element) made
 
@@ -48,7 +49,8 @@ requests [] = 0
 requests (Request op ∷ intents) = suc (requests intents)
 requests (Glance a ∷ intents) = requests intents
 
--- the glances among these behind n requests: behind how many each stands, and its address
+-- the glances among these, the first of which stands after n requests: after how many requests each stands, and its
+-- address
 abbrev pub sites : ℕ → List Intent → List (ℕ × ℕ)
 sites n [] = []
 sites n (Request op ∷ intents) = sites (suc n) intents
@@ -59,6 +61,6 @@ pub record AreDone (entries : List Entry) (made : List Glanced) (intents : List 
   pub count : length entries ≡ requests intents
   pub places : map (λ g. (g.behind, g.address)) made ≡ sites 0 intents
 
--- a beginning of these was done
+-- a prefix of these was done
 abbrev pub HasBegun : List Entry → List Glanced → List Intent → Type 0
 HasBegun entries made intents = (first : List Intent) × IsPrefix first intents × AreDone entries made first

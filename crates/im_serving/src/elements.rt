@@ -1,4 +1,4 @@
-//! All elements at once: for each one thread that sends and one that serves, beside the thread that keeps checkpoints.
+//! All elements at once. Each has one thread that sends and one that serves, beside the thread that keeps checkpoints.
 ghost use Rattle.std.specs.Prelude.{◌≡◌, ◌⊎◌, ◌≤◌, [], Err, false, true, IfOk, IfErr, MatchResult, length};
 ghost use Rattle.std.specs.Prelude.{vec_capacity};
 ghost use mathlib.Core.List.{IsPrefix};
@@ -27,17 +27,17 @@ use std::thread::{JoinHandle, Promise, PromisedHandle, Scope, Threads};
 /// How many messages a pipe holds.
 pub const PIPE: usize = 8;
 
-/// An element's port, what is known of its numbers, its reader, and what it is to serve. Contracts see what was done
-/// for the element, and what it asks for.
+/// An element's port, its numbers, its reader, and what it asks for. Contracts see what was done for the element, and
+/// what it asks for.
 #[derive(Drop)]
 pub struct Part<K: Name> {
     /// The port.
     pub port: Port<K>,
-    /// Its numbers.
+    /// What is known of its numbers.
     pub served: Served,
     /// Its reader.
     pub glances: Glances<K>,
-    /// What it asks for, in its order.
+    /// What it asks for, in order.
     pub intents: Vec<Intent>,
 }
 
@@ -58,7 +58,7 @@ impl<K: Name> Model for Part<K> {
     } };
 }
 
-/// A port that has served, with what its requests came to, and what was refused, if anything was. Contracts see what
+/// An element at its end: its port, the entries of its requests, and its refusal, if there is one. Contracts see what
 /// was done for the element, and the refusal.
 #[derive(Drop)]
 pub struct Done<K: Name> {
@@ -68,7 +68,7 @@ pub struct Done<K: Name> {
     pub served: Served,
     /// Its glances.
     pub glances: Glances<K>,
-    /// What ended it, if not the last of its operations.
+    /// The refusal, if one ended it before the last of its operations.
     pub done: Result<(), Refusal>,
 }
 
@@ -89,7 +89,7 @@ impl<K: Name> Model for Done<K> {
     } };
 }
 
-// What a server's thread begins with, but its end of the pipe. Contracts see what was done before.
+// What a server's thread starts with, besides its end of the pipe. Contracts see what was done before.
 #[derive(Drop)]
 struct Server<K: Name> {
     port: Port<K>,
@@ -111,14 +111,14 @@ impl<K: Name> Model for Server<K> {
     } };
 }
 
-// What a server's thread ends with: what was done, and its end of the pipe.
+// What a server's thread returns: what was done, and its end of the pipe.
 #[derive(Drop)]
 struct Stopped<K: Name> {
     done: Done<K>,
     outlet: Outlet<Intent>,
 }
 
-// What a server's thread will have done that begins so, with this end of a pipe.
+// What a server's thread promises, given what it starts with and its end of the pipe.
 #[derive(Drop)]
 struct Serves<K: Name> {
     server: Snapshot<Server<K>>,
@@ -133,7 +133,7 @@ impl<K: Name> Promise<Stopped<K>> for Serves<K> {
         × HasStopped K.memory p.server.value r.done r.outlet };
 }
 
-// What a sender's thread will have sent, of these intents into this end of a pipe.
+// What a sender's thread promises, given its end of the pipe and these intents.
 #[derive(Drop)]
 struct Sends {
     inlet: Snapshot<Inlet<Intent>>,
@@ -146,14 +146,14 @@ impl Promise<Sent> for Sends {
     ghost kept_by = { λ p r. HasSent p.inlet.value.pipe p.intents.value.items r.finished r.all };
 }
 
-// The threads of an element. Where the one that sends couldn't be made, its end of the pipe has ended.
+// The threads of an element. If the sending thread couldn't be made, its end of the pipe has ended.
 #[derive(Drop)]
 struct Pair<K: Name> {
     server: PromisedHandle<Stopped<K>, Serves<K>>,
     sender: Result<PromisedHandle<Sent, Sends>, Sent>,
 }
 
-// An element that is being served, or wasn't. Contracts see its part.
+// An element that is being served, or that couldn't be. Contracts see its part.
 #[derive(Drop)]
 struct Running<K: Name> {
     part: Snapshot<Part<K>>,
@@ -178,7 +178,7 @@ impl<K: Name> Model for Running<K> {
 }
 
 impl<K: Name> Part<K> {
-    // What its server begins with, and what it asks for.
+    // Returns what its server starts with, and what it asks for.
     fn split(self) -> (Server<K>, Vec<Intent>)
         ensures deeds { result.0 ≡ self.deeds }
         ensures intents { result.1.items ≡ self.intents }
@@ -200,7 +200,7 @@ impl<K: Name> Part<K> {
     }
 }
 
-// Serves an element by its pipe's end.
+// Serves an element from its end of the pipe.
 fn serve_part<D: Disk, K: Name, G: Gate, R: Wait>(
     rt: &R,
     controller: &Controller<D, K>,
@@ -251,7 +251,7 @@ fn send_none<R: Wait>(rt: &R, inlet: Inlet<Intent>) -> Sent
     }
 }
 
-// Sends what an element asks for, where that is wanted.
+// Sends what an element asks for, if that is still wanted.
 fn send_intents<R: Wait>(
     rt: &R,
     inlet: Inlet<Intent>,
@@ -268,7 +268,7 @@ fn send_intents<R: Wait>(
     }
 }
 
-// The end of an element that wasn't served for want of memory or of a thread.
+// Ends an element with `NoMemory`, since memory or a thread is missing.
 fn refuse<K: Name>(done: Done<K>) -> Done<K>
     ensures { result ≡ record done { result = Err NoMemory } }
 {
@@ -286,7 +286,7 @@ fn refuse<K: Name>(done: Done<K>) -> Done<K>
     }
 }
 
-// The end of an element for which there is no pipe.
+// Ends an element for which there is no pipe.
 fn give_up<D: Disk, K: Name, R: Wait>(
     rt: &R,
     controller: &Controller<D, K>,
@@ -308,7 +308,7 @@ fn give_up<D: Disk, K: Name, R: Wait>(
     }
 }
 
-// The end of an element whose server has stopped and whose sender has ended. It is refused where not all was sent.
+// Ends an element after its server has stopped and its sender has ended. It is refused if not all was sent.
 fn settle<K: Name>(stopped: Stopped<K>, sent: Sent) -> Done<K>
     requires { stopped.outlet.pipe ≡ sent.finished.pipe }
     ensures begins { IsPrefix stopped.outlet.items sent.finished.items }
@@ -322,7 +322,7 @@ fn settle<K: Name>(stopped: Stopped<K>, sent: Sent) -> Done<K>
     if all { done } else { refuse(done) }
 }
 
-// Begins the thread that sends what an element asks for. Where it can't be made nothing is sent but the end mark.
+// Starts the thread that sends what an element asks for. If it can't be made, only the end mark is sent.
 fn begin_sending<'s, E, R: Threads + Wait + Sync>(
     rt: &'s R,
     alloc: Global,
@@ -354,7 +354,7 @@ fn begin_sending<'s, E, R: Threads + Wait + Sync>(
     }
 }
 
-// Begins the thread that serves an element. Where it can't be made, the pipe is ended, and the server, here, finds
+// Starts the thread that serves an element. If it can't be made, the pipe is ended; then the server runs here, finds
 // nothing to serve and retires.
 fn begin_serving<
     's,
@@ -393,7 +393,7 @@ fn begin_serving<
     }
 }
 
-// Begins to serve an element, by two threads.
+// Starts to serve an element, with two threads.
 fn begin<
     's,
     E,
@@ -434,7 +434,7 @@ fn begin<
     }
 }
 
-// Begins to serve all elements, for which there is room in a list.
+// Starts to serve all elements. The list has room for them.
 fn begin_all<
     's,
     E,
@@ -463,7 +463,7 @@ fn begin_all<
     all
 }
 
-// Keeps checkpoints until the controller ends, and tells how things stand.
+// Keeps checkpoints until the controller ends, and tells the watcher how things stand.
 fn keep_and_tell<D: Disk, K: Name, V: Watcher, R: Wait>(
     rt: &R,
     controller: &Controller<D, K>,
@@ -473,7 +473,7 @@ fn keep_and_tell<D: Disk, K: Name, V: Watcher, R: Wait>(
     controller.keep_checkpoints_and_tell(rt, &mut counted)
 }
 
-// Begins the thread that keeps checkpoints, if one can be made.
+// Starts the thread that keeps checkpoints, if it can be made.
 fn keep<
     's,
     E,
@@ -493,7 +493,7 @@ fn keep<
     }
 }
 
-// What was sent, once the thread that sends has ended.
+// Waits for the thread that sends, and returns what was sent.
 fn end_sending<R: Threads>(rt: &R, sender: Result<PromisedHandle<Sent, Sends>, Sent>) -> Sent
     ensures { MatchResult sender
         (λ s. HasSent s.promise.inlet.value.pipe s.promise.intents.value.items result.finished result.all)
@@ -520,7 +520,7 @@ fn end<K: Name, R: Threads>(rt: &R, running: Running<K>) -> Done<K>
     }
 }
 
-// Waits for the end of all elements, for which there is room in a list.
+// Waits for the end of all elements. The list has room for them.
 fn end_all<K: Name, R: Threads>(rt: &R, all: Vec<Running<K>>, done: Vec<Done<K>>) -> Vec<Done<K>>
     requires room { length all.items ≤ vec_capacity done }
     requires empty { done.items ≡ [] }
@@ -533,7 +533,8 @@ fn end_all<K: Name, R: Threads>(rt: &R, all: Vec<Running<K>>, done: Vec<Done<K>>
     done
 }
 
-// Serves all elements by threads of a scope, with room for a list of them as they run, and as they end.
+// Serves all elements with threads of a scope. The lists have room for the elements that run and for those that have
+// ended.
 fn serve_within<
     's,
     E,
@@ -567,16 +568,18 @@ fn serve_within<
     done
 }
 
-/// Serves all elements at once, each by a thread that sends what it asks for and one that serves it, beside the thread
-/// that keeps checkpoints, which tells the watcher how things stand. The ports come back in the order of the parts,
-/// each retired. An element one of whose threads can't be made is refused with `NoMemory`, and nothing of it is
-/// served. Without a thread that keeps checkpoints the servers make the turns that they need.
+/// Serves all elements at once. Each has a thread that sends what it asks for and one that serves it. Beside them runs
+/// the thread that keeps checkpoints, which tells the watcher how things stand. Without that thread, the servers make
+/// the turns that they need.
 ///
-/// Each port comes back with what was done of what its part asks for, which is a beginning of it, in its order: an
-/// entry for each request, and each glance in its place. It is all of it where nothing was refused.
+/// The ports come back in the order of the parts, each retired. If one of an element's threads can't be made, the
+/// element is refused with `NoMemory`, and nothing of it is served.
 ///
-/// `AllocError` where there is no room for a list of the elements: then no thread began, and the ports are gone with
-/// the parts, not retired.
+/// Each port comes back with what was done of what its part asks for: a prefix of it, in order, with an entry for each
+/// request and each glance in its place. It is all of it if nothing was refused.
+///
+/// Returns `AllocError` if there is no room for a list of the elements. Then no thread has started, and the ports are
+/// dropped with the parts, not retired.
 pub fn serve_elements<
     D: Disk + Drop + Send,
     K: Name + Send + Sync,

@@ -1,13 +1,13 @@
-//! What may hold a server back.
+//! Gates, which may hold a server back.
 
 use std::sync::Wait;
 
-/// What is called round each request that a server submits. A test holds servers back by it.
+/// A gate is called before and after each request that a server submits. A test can hold servers back by it.
 pub trait Gate {
-    /// Is called before an element's request with this number is submitted.
+    /// It is called before an element's request with this number is submitted.
     fn before<R: Wait>(&self, rt: &R, element: u16, number: u64);
 
-    /// Is called once it is answered or refused.
+    /// It is called after the request is answered or refused.
     fn after<R: Wait>(&self, rt: &R, element: u16, number: u64);
 }
 

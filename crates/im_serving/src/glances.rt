@@ -19,11 +19,11 @@ pub struct Glanced {
     pub after: Option<u64>,
     /// The cell's address.
     pub address: u32,
-    /// The value, where it was a full I cell.
+    /// The value, if it was a full I cell.
     pub value: Option<u64>,
 }
 
-/// What an element reads the full cells with, and what it saw.
+/// The reader by which an element reads the full cells, and the glances that it made.
 #[derive(Drop)]
 pub struct Glances<K: Name> {
     /// Its reader.
@@ -35,8 +35,8 @@ pub struct Glances<K: Name> {
 }
 
 impl<K: Name> Glances<K> {
-    /// The reader of an element, which has seen the full cells of the memory that was opened, and no glance yet.
-    /// `NoElement` where there is no such element, and where it has its reader.
+    /// Makes the reader of an element. It has seen the full cells of the memory that was opened, and has made no glance
+    /// yet. Returns `NoElement` if there is no such element or it already has its reader.
     pub fn new<D: Disk, R: Wait>(
         rt: &R,
         alloc: Global,
@@ -56,7 +56,7 @@ impl<K: Name> Glances<K> {
         }
     }
 
-    // Learns what was shown when a command was answered, and says what it came to.
+    // Learns what was shown when a command was answered, and returns the command's outcome.
     pub(crate) fn learn(&mut self, receipt: &Receipt<K>) -> Outcome
         ensures found { result ≡ receipt.now.outcome }
         ensures kept { IsPrefix self.old.glance self.new.glance }
@@ -67,7 +67,7 @@ impl<K: Name> Glances<K> {
         receipt.outcome()
     }
 
-    // Reads a cell behind so many requests.
+    // Reads a cell after the given number of requests.
     pub(crate) fn read(&mut self, behind: usize, address: u32) -> Result<(), Refusal>
         ensures kept { OnOk result (IsPrefix self.old.glance self.new.glance) }
         ensures made { OnOk result (self.new.made.items ≡ self.old.made.items ++ record {

@@ -1,4 +1,4 @@
-//! What an element asks for, line by line.
+//! What one line of an element asks for.
 
 use im_types::Op;
 

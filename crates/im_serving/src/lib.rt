@@ -1,7 +1,7 @@
-//! Element threads: for each element one that sends what it asks for into a pipe, and one that takes it out and serves
-//! it: operations through its port, glances past the lock.
+//! Element threads. Each element has a thread that sends what it asks for into a pipe, and one that takes it out and
+//! serves it: operations through its port, glances past the lock.
 //!
-//! Stands on `im_controller` and `im_pipes`.
+//! The crate stands on `im_controller` and `im_pipes`.
 #![tactic(auto)]
 
 mod elements;

@@ -6,16 +6,16 @@ use crate::intent::Intent;
 use im_pipes::{Finished, Inlet};
 use std::sync::Wait;
 
-/// What a sender came to.
+/// What a sender did.
 #[derive(Drop)]
 pub struct Sent {
-    /// What it sent, and whether the end mark was.
+    /// The intents that it sent, and whether it sent the end mark.
     pub finished: Finished<Intent>,
-    /// Nothing was handed back.
+    /// Whether no intent was handed back.
     pub all: bool,
 }
 
-// Sends intents in their order, until one is handed back. Whether none was.
+// Sends intents in order, until one is handed back. Returns whether none was.
 fn send_each<R: Wait>(rt: &R, inlet: &mut Inlet<Intent>, intents: &[Intent]) -> bool
     requires { inlet.old.items ≡ [] }
     ensures same { inlet.new.pipe ≡ inlet.old.pipe }
@@ -31,8 +31,8 @@ fn send_each<R: Wait>(rt: &R, inlet: &mut Inlet<Intent>, intents: &[Intent]) -> 
     true
 }
 
-/// Sends what an element asks for in its order, and then the end mark. It ends early where one is handed back, and
-/// waits while the pipe is full.
+/// Sends what an element asks for, in order, and then the end mark. It waits while the pipe is full. If an intent is
+/// handed back, it sends no more of them.
 pub fn send_all<R: Wait>(rt: &R, inlet: Inlet<Intent>, intents: &[Intent]) -> Sent
     requires { inlet.items ≡ [] }
     ensures same { result.finished.pipe ≡ inlet.pipe }

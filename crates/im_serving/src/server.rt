@@ -22,21 +22,22 @@ use std::sync::Wait;
 pub struct Served {
     /// The element.
     pub element: u16,
-    /// The number of the first request that it serves.
+    /// The number of the first request that is served.
     pub first: u64,
     /// The least number that is kept.
     pub base: u64,
-    /// What its requests came to as it was last told, from the first on.
+    /// The entry of each request, from the first on, as the server was last told.
     pub entries: Vec<Entry>,
 }
 
 impl Served {
-    // The number of the next request.
+    // Returns the number of the next request.
     fn next(&self) -> u64 {
         self.first.saturating_add(self.entries.len() as u64)
     }
 
-    // Whether it was told a request's answer, which stays until it is confirmed. It may be asked for again where not.
+    // Returns whether the server was told a request's answer. The answer stays until it is confirmed; before it is
+    // told, it may be asked for again.
     fn is_told(&self, number: u64) -> bool {
         if number < self.first {
             return false;
@@ -45,7 +46,7 @@ impl Served {
         at < self.entries.len() && self.entries[at] != Entry::Waiting
     }
 
-    // Notes what is kept for a request, where it is one of its own.
+    // Notes what is kept for a request, if it is one of the server's own.
     fn note(&mut self, number: u64, entry: Entry)
         ensures count { length self.new.entries.items ≡ length self.old.entries.items }
     {
@@ -59,7 +60,8 @@ impl Served {
     }
 }
 
-// Whether it is worth to ask again after this refusal: the journal was full, and a turn of a checkpoint was made.
+// Returns whether it is worth asking again after this refusal. It is if the journal was full and a turn of a checkpoint
+// was made.
 fn help<D: Disk, K: Name, R: Wait>(
     rt: &R,
     controller: &Controller<D, K>,
@@ -77,7 +79,7 @@ fn help<D: Disk, K: Name, R: Wait>(
     }
 }
 
-// What a request was answered.
+// Returns the entry of a request's outcome.
 fn entry_of(outcome: Outcome) -> Result<Entry, Refusal>
     ensures { IfOk result (λ entry. outcome ≡ Outcome.Entry entry) }
 {
@@ -87,7 +89,7 @@ fn entry_of(outcome: Outcome) -> Result<Entry, Refusal>
     }
 }
 
-// Asks for an operation, again after each turn that the full journal needed.
+// Asks for an operation, and asks again after each turn that the full journal needs.
 fn submit<D: Disk, K: Name, R: Wait>(
     rt: &R,
     controller: &Controller<D, K>,
@@ -140,7 +142,7 @@ fn ask<D: Disk, K: Name, R: Wait>(
     }
 }
 
-// Confirms all below a number, again after each turn that the full journal needed.
+// Confirms all entries below a number, and asks again after each turn that the full journal needs.
 fn confirm<D: Disk, K: Name, R: Wait>(
     rt: &R,
     controller: &Controller<D, K>,
@@ -161,7 +163,7 @@ fn confirm<D: Disk, K: Name, R: Wait>(
     unreachable!()
 }
 
-// Waits for the answer under a number, and notes it. Nobody is asked for one that was told.
+// Waits for the answer under a number, and notes it. It asks nothing if the answer was told.
 fn await_one<D: Disk, K: Name, R: Wait>(
     rt: &R,
     controller: &Controller<D, K>,
@@ -184,7 +186,7 @@ fn await_one<D: Disk, K: Name, R: Wait>(
     }
 }
 
-// Whether a number is answered, which is noted. Nobody is asked where it was told.
+// Returns whether a number is answered, and notes the answer. It asks nothing if the answer was told.
 fn is_answered<D: Disk, K: Name, R: Wait>(
     rt: &R,
     controller: &Controller<D, K>,
@@ -208,8 +210,8 @@ fn is_answered<D: Disk, K: Name, R: Wait>(
     }
 }
 
-// Waits for the oldest entry that is kept, and goes on to the first behind it that still waits: its number, or the next
-// one's where none does.
+// Waits for the oldest entry that is kept, and goes through the entries after it. Returns the number of the first that
+// still waits, or the next request's number if none does.
 fn first_waiting<D: Disk, K: Name, R: Wait>(
     rt: &R,
     controller: &Controller<D, K>,
@@ -234,8 +236,8 @@ fn first_waiting<D: Disk, K: Name, R: Wait>(
     Ok(served.next())
 }
 
-// Has a place in the window for the next request: where it is full, the oldest entry is awaited, and all before the
-// first that still waits are confirmed.
+// Makes a place in the window for the next request. If the window is full, it waits for the oldest entry, and confirms
+// all entries before the first that still waits.
 fn make_place<D: Disk, K: Name, R: Wait>(
     rt: &R,
     controller: &Controller<D, K>,
@@ -266,7 +268,7 @@ fn make_place<D: Disk, K: Name, R: Wait>(
     }
 }
 
-// Serves an operation under the next number. There is room for its entry before it is asked for.
+// Serves an operation under the next number. It makes room for the entry before it asks.
 fn serve_one<D: Disk, K: Name, G: Gate, R: Wait>(
     rt: &R,
     controller: &Controller<D, K>,
@@ -305,7 +307,7 @@ fn serve_one<D: Disk, K: Name, G: Gate, R: Wait>(
     }
 }
 
-// Does what a line of the element asks for.
+// Serves what a line of the element asks for.
 fn serve_intent<D: Disk, K: Name, G: Gate, R: Wait>(
     rt: &R,
     controller: &Controller<D, K>,
@@ -334,7 +336,7 @@ fn serve_intent<D: Disk, K: Name, G: Gate, R: Wait>(
     }
 }
 
-// Does what comes out of the pipe, to its end. It is refused where no end mark comes.
+// Serves what comes out of the pipe, up to its end. It is refused if no end mark comes.
 fn serve_all<D: Disk, K: Name, G: Gate, R: Wait>(
     rt: &R,
     controller: &Controller<D, K>,
@@ -375,7 +377,7 @@ fn serve_all<D: Disk, K: Name, G: Gate, R: Wait>(
     unreachable!()
 }
 
-// Receives, without serving, to the pipe's end: so its sender returns.
+// Receives up to the pipe's end and serves nothing, so that the sender returns.
 fn drain<R: Wait>(rt: &R, outlet: &mut Outlet<Intent>)
     requires { outlet.old.ended ≡ false }
     ensures same { outlet.new.pipe ≡ outlet.old.pipe }
@@ -392,7 +394,7 @@ fn drain<R: Wait>(rt: &R, outlet: &mut Outlet<Intent>)
     unreachable!()
 }
 
-// Waits, in order, for the answer to each request of its own that is still kept.
+// Waits, in order, for the answer to each of the server's own requests that is still kept.
 fn await_rest<D: Disk, K: Name, R: Wait>(
     rt: &R,
     controller: &Controller<D, K>,
@@ -411,7 +413,7 @@ fn await_rest<D: Disk, K: Name, R: Wait>(
     Ok(())
 }
 
-// Serves what an element asks for, to the pipe's end, and leaves its port as it is.
+// Serves what an element asks for, up to the pipe's end. It doesn't retire the port.
 fn serve_to_end<D: Disk, K: Name, G: Gate, R: Wait>(
     rt: &R,
     controller: &Controller<D, K>,
@@ -447,20 +449,22 @@ fn serve_to_end<D: Disk, K: Name, G: Gate, R: Wait>(
 }
 
 /// Serves what an element asks for as it comes out of a pipe: its operations through its port, each under the next
-/// number, and its glances in their place among them. The gate is called round each operation. Before a request that
-/// finds its window full it waits for the oldest entry that is kept, and confirms all before the first that still
-/// waits; where the journal is full it makes a turn of a checkpoint and asks again. After the last one it waits, in
-/// order, for each of its requests that is still kept. At the end its port is retired.
+/// number, and its glances in their place among them. The gate is called before and after each operation.
+///
+/// If a request finds its window full, the server first waits for the oldest entry that is kept, and confirms all
+/// entries before the first that still waits. If the journal is full, it makes a turn of a checkpoint and asks again.
+/// After the last request it waits, in order, for each of its requests that is still kept. At the end it retires its
+/// port.
 ///
 /// It leaves at most four lines in the trace for each request, and one for each entry that was kept before the first.
 ///
-/// A glance waits for nobody. What it tells was so after all that was shown when the element's last request was
-/// answered, and maybe after more.
+/// A glance waits for nobody. Its value comes after all that was shown when the element's last request was answered,
+/// and maybe after more.
 ///
-/// Refused with what the port refuses, `JournalFull` where no turn makes room, `PaneGone` where nothing is shown any
-/// more, and `NoMemory` where there is no room for one answer more: then it serves nothing more, but receives until the
-/// pipe ends, so that its sender returns. `NoMemory` too where the pipe ends without an end mark, as where its sender
-/// is gone. What was done then is a beginning of what was received.
+/// It is refused with what the port refuses. It returns `JournalFull` if no turn makes room, `PaneGone` if the pane has
+/// ended, and `NoMemory` if there is no room for one more answer. After a refusal it serves nothing more, but it
+/// receives until the pipe ends, so that its sender returns. It also returns `NoMemory` if the pipe ends without an end
+/// mark, as it does if its sender is gone. What was done by then is a prefix of what was received.
 pub fn serve_element<D: Disk, K: Name, G: Gate, R: Wait>(
     rt: &R,
     controller: &Controller<D, K>,

@@ -1,14 +1,14 @@
-//! Who follows how all elements are served.
+//! Watchers, who follow how all elements are served.
 
 use im_controller::{Standing, Teller};
 
-/// Who is told how things stand while all elements are served. It is asked and told by the thread that keeps
-/// checkpoints, with no lock held.
+/// A watcher is told how things stand while all elements are served. The thread that keeps checkpoints asks and tells
+/// it, with no lock held.
 pub trait Watcher {
-    /// Whether it wants to be told after this turn of that thread, counted from 0.
+    /// Returns whether it wants to be told after this turn of that thread. Turns are counted from 0.
     fn listens(&self, turn: u64) -> bool;
 
-    /// Is told how things stood at that turn's end.
+    /// Takes in how things stood at the end of that turn.
     fn tell(&self, standing: Standing);
 }
 
@@ -32,7 +32,7 @@ pub(crate) struct Counted<'a, W> {
 }
 
 impl<'a, W> Counted<'a, W> {
-    /// At the beginning.
+    /// Starts with the first turn.
     pub(crate) fn of(watcher: &'a W) -> Counted<'a, W> {
         Counted { watcher, turn: 0 }
     }

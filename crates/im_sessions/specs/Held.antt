@@ -1,4 +1,4 @@
--- An entry on one level, and what it shows.
+-- An entry as one flat variant, and the entry that it stands for.
 use Rattle.std.specs.Prelude.{◌≡◌, refl, Option, None, Some}
 use Rattle.im_types.specs.declared.operations.Reply.{Reply}
 use Rattle.im_types.specs.declared.operations.Reply.TheVariants.{Base, NoSpace, BadLength, Value, Stored, Clash}
@@ -16,7 +16,7 @@ use Rattle.im_sessions.specs.declared.place.Held.TheVariants.{NoBlock as HeldNoB
 use Rattle.im_sessions.specs.declared.place.Held.TheVariants.{StillWaiting as HeldStillWaiting}
 use Rattle.im_sessions.specs.declared.place.Held.TheVariants.{Cleared as HeldCleared}
 
--- an answer as it is held
+-- a reply as a flat variant
 abbrev pub held_by : Reply → Held
 held_by (Base base) = HeldBase base
 held_by NoSpace = HeldNoSpace
@@ -31,12 +31,12 @@ held_by NoBlock = HeldNoBlock
 held_by StillWaiting = HeldStillWaiting
 held_by Cleared = HeldCleared
 
--- an entry as it is held
+-- an entry as a flat variant
 abbrev pub held_of : Entry → Held
 held_of Waiting = HeldWaiting
 held_of (Answered reply) = held_by reply
 
--- the answer that is held, if there is one
+-- the reply of a flat variant, if it has one
 abbrev pub reply_of : Held → Option Reply
 reply_of HeldWaiting = None
 reply_of (HeldBase base) = Some (Base base)
@@ -52,16 +52,16 @@ reply_of HeldNoBlock = Some NoBlock
 reply_of HeldStillWaiting = Some StillWaiting
 reply_of HeldCleared = Some Cleared
 
--- an entry with this answer, or with none
+-- an answered entry with this reply, or a waiting entry without one
 abbrev pub entry_with : Option Reply → Entry
 entry_with None = Waiting
 entry_with (Some reply) = Answered reply
 
--- the entry that is held
+-- the entry that a flat variant stands for
 abbrev pub entry_of : Held → Entry
 entry_of held = entry_with (reply_of held)
 
--- nothing is lost
+-- flattening the entry of a flat variant gives that variant
 pub held_of-entry_of : (held : Held) → held_of (entry_of held) ≡ held
 held_of-entry_of HeldWaiting = refl
 held_of-entry_of (HeldBase base) = refl

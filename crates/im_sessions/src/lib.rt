@@ -1,4 +1,5 @@
-//! Windows of kept replies, one for each element: which request is new, which is known, and what it was answered.
+//! Windows of kept replies, one for each element. A window says which requests are new, which are repeats, and which
+//! entries they have.
 #![tactic(auto)]
 
 ghost use Rattle.std.specs.Prelude.{◌≡◌, ◌<◌, length, replicate, slice_get, slice_set, IfOk, IfErr, OnOk, MatchResult};
@@ -17,10 +18,10 @@ use std::marker::Model;
 
 /// A window of kept replies for each element. Contracts see the windows, by element.
 ///
-/// A window holds the operations that were asked for under the latest numbers, at most
-/// [`WINDOW`](im_types::WINDOW) of them, each with its entry. Their room is taken by [`Sessions::new`], and none later.
-/// A request is judged, noted, answered and looked up in one step, however many entries are kept, and a confirmation
-/// takes a step for each entry that it drops.
+/// A window keeps the operations under an element's latest numbers, each with its entry. It keeps at most
+/// [`WINDOW`](im_types::WINDOW) of them. [`Sessions::new`] takes the room for them, and no later call takes any. To
+/// judge, note, answer or look up a request takes one step, however many entries are kept. A confirmation takes one
+/// step for each entry that it drops.
 #[derive(Drop)]
 pub struct Sessions {
     windows: Vec<Ring>,
@@ -39,7 +40,8 @@ impl Model for Sessions {
 }
 
 impl Sessions {
-    /// So many windows, each with no entry and numbered from 1 on. `NoMemory` where there is no room for them.
+    /// Makes the given number of windows. Each has no entry and is numbered from 1 on. Returns `NoMemory` if their
+    /// memory is refused.
     pub fn new(alloc: Global, elements: u16) -> Result<Sessions, Refusal>
         ensures ok { IfOk result (λ s. s ≡ replicate elements new_window) }
         ensures err { IfErr result (λ refusal. refusal ≡ Refusal.NoMemory) }
@@ -53,7 +55,7 @@ impl Sessions {
         Ok(Sessions { windows })
     }
 
-    /// Puts a window with these entries, numbered from a base on, in place of an element's window.
+    /// Replaces an element's window by one with these entries, numbered from `base` on.
     pub fn restore(&mut self, element: u16, base: u64, kept: &[Kept])
         requires element { element < length self.old }
         requires window { IsWindow (record { base = base; kept = kept.now }) }
@@ -62,8 +64,8 @@ impl Sessions {
         self.windows[element as usize] = Ring::restore(base, kept);
     }
 
-    /// How many elements there are. Contracts also learn here that each window is within its bounds: it is numbered
-    /// from 1 on, and keeps few entries, none past the last number.
+    /// Returns the number of elements. Contracts also learn here that each window is within its bounds. It is numbered
+    /// from 1 on, keeps at most [`WINDOW`](im_types::WINDOW) entries, and numbers none past the last number of all.
     pub fn elements(&self) -> usize
         ensures count { result ≡ length self.now }
         ensures windows { AreWindows self.now }
@@ -71,9 +73,10 @@ impl Sessions {
         self.windows.len()
     }
 
-    /// Whether a request is the next new one or one that was served before, with its entry, or why it is refused:
-    /// `NoElement`, `Forgotten` below the window, `Mismatch` where its number is kept for another operation, `Gap`
-    /// past the next number or past the last one, `WindowFull` where it is new and the window has no room.
+    /// Returns whether a request is new, or a repeat with its entry, or why it is refused. The refusals are
+    /// `NoElement`, `Forgotten` below the window, and `Mismatch` if its number is kept for another operation. They are
+    /// also `Gap` past the next number or past the last one of all, and `WindowFull` if the request is new and the
+    /// window has no room.
     #[inline(always)]
     pub fn judge(&self, request: &Request) -> Result<Judged, Refusal>
         ensures { result ≡ judge self.now request.now }
@@ -89,7 +92,7 @@ impl Sessions {
         self.windows[request.element as usize].note(request.op, entry);
     }
 
-    /// Answers a request that waits: its entry is the reply from now on.
+    /// Answers a request that waits. From now on its entry is the reply.
     pub fn answer(&mut self, who: Waiter, reply: Reply)
         requires { ask self.old who ≡ Ok Entry.Waiting }
         ensures { self.new ≡ answer self.old who reply }
@@ -97,9 +100,9 @@ impl Sessions {
         self.windows[who.element as usize].answer(who.number, reply);
     }
 
-    /// Forgets an element's entries below a number; where there is none, nothing changes. `NoElement`, `Gap` where the
-    /// number is past the next one, `NotAnswered` where an entry below it is waiting: where it is refused, nothing
-    /// changes.
+    /// Drops an element's entries below a number. If there is none, nothing changes. The refusals are `NoElement`,
+    /// `Gap` if the number is past the next one, and `NotAnswered` if an entry below it waits. A refusal changes
+    /// nothing.
     pub fn confirm(&mut self, element: u16, upto: u64) -> Result<(), Refusal>
         ensures ok { OnOk result
             ((w : Window) × (confirm_window upto (slice_get self.old element) ≡ Ok w)
@@ -115,30 +118,30 @@ impl Sessions {
         self.windows[element].confirm(upto)
     }
 
-    /// The entry under an element's number, or why there is none: `NoElement`, `Forgotten` below the window, `Gap`
-    /// where no request with this number was served yet.
+    /// Returns the entry under an element's number, or why there is none. The refusals are `NoElement`, `Forgotten`
+    /// below the window, and `Gap` if no request with this number was served yet.
     pub fn entry(&self, element: u16, number: u64) -> Result<Entry, Refusal>
         ensures { result ≡ ask self.now (record { element = element; number = number }) }
     {
         self.ring(element)?.entry(number)
     }
 
-    /// What is kept under an element's number: its operation and its entry.
+    /// Returns the operation and the entry that are kept under an element's number, or `None` if there are none.
     pub fn kept(&self, element: u16, number: u64) -> Option<Kept>
         ensures { result ≡ kept_for self.now (record { element = element; number = number }) }
     {
         self.ring(element).ok()?.kept(number)
     }
 
-    /// The number from which on an element's entries are kept, and the number of its next new request; `NoElement`
-    /// where there is no such element.
+    /// Returns the base of an element's window, and the number of its next new request. The entries are numbered from
+    /// the base on. Returns `NoElement` if there is no such element.
     pub fn window(&self, element: u16) -> Result<(u64, u64), Refusal>
         ensures { result ≡ bounds self.now element }
     {
         Ok(self.ring(element)?.bounds())
     }
 
-    // An element's window.
+    // Returns an element's window, or `NoElement`.
     fn ring(&self, element: u16) -> Result<&Ring, Refusal>
         ensures { MatchResult result
             (λ ring. slice_get self.now element ≡ Some ring.now)

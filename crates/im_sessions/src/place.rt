@@ -1,4 +1,4 @@
-//! One place of a ring: an operation, and what is kept for it.
+//! One place of a ring: an operation and its entry.
 ghost use Rattle.std.specs.Prelude.{◌≡◌};
 ghost use Rattle.im_types.specs.declared.operations.Entry.TheVariants.{Answered};
 ghost use Rattle.im_sessions.specs.Held.{held_by, held_of, entry_of};
@@ -7,7 +7,7 @@ ghost use Rattle.im_types.specs.Window.{is_waiting};
 use im_types::{Entry, Kept, Op, Reply};
 use std::marker::Model;
 
-// What is kept for a request, on one level. An entry that holds a reply would have two tags and take eight bytes more.
+// An entry as one flat variant. An entry with a reply inside would have two tags and take eight bytes more.
 #[derive(Clone, Copy)]
 enum Held {
     Waiting,
@@ -25,7 +25,7 @@ enum Held {
     Cleared,
 }
 
-/// An operation, and what is kept for it, in 32 bytes. Contracts see the two as they are shown.
+/// An operation and its entry, in 32 bytes. Contracts see both.
 #[derive(Clone, Copy)]
 pub struct Place {
     op: Op,
@@ -47,7 +47,7 @@ impl Model for Place {
 
 const _: () = prove!(size_of::<Place>() == 32);
 
-// An answer, on one level.
+// Returns a reply as a flat variant.
 fn held_by(reply: Reply) -> Held
     ensures { result ≡ held_by reply }
 {
@@ -67,7 +67,7 @@ fn held_by(reply: Reply) -> Held
     }
 }
 
-// An entry, on one level.
+// Returns an entry as a flat variant.
 fn held_of(entry: Entry) -> Held
     ensures { result ≡ held_of entry }
 {
@@ -77,7 +77,7 @@ fn held_of(entry: Entry) -> Held
     }
 }
 
-// What is held, as an entry.
+// Returns the entry that a flat variant stands for.
 fn entry_of(held: Held) -> Entry
     ensures { result ≡ entry_of held }
 {
@@ -99,7 +99,7 @@ fn entry_of(held: Held) -> Entry
 }
 
 impl Place {
-    /// A place with this operation and this entry.
+    /// Makes a place with this operation and this entry.
     pub fn new(op: Op, entry: Entry) -> Place
         ensures { result ≡ record { op = op; entry = entry } }
     {
@@ -109,21 +109,21 @@ impl Place {
         }
     }
 
-    /// The operation that is kept here.
+    /// Returns the operation of this place.
     pub fn op(&self) -> &Op
         ensures { result.now ≡ self.now.op }
     {
         &self.op
     }
 
-    /// The entry that is kept here.
+    /// Returns the entry of this place.
     pub fn entry(&self) -> Entry
         ensures { result ≡ self.now.entry }
     {
         entry_of(self.held)
     }
 
-    /// What is kept here.
+    /// Returns the operation and the entry of this place.
     pub fn kept(&self) -> Kept
         ensures { result ≡ self.now }
     {
@@ -133,14 +133,14 @@ impl Place {
         }
     }
 
-    /// Whether the entry is waiting.
+    /// Returns whether the entry is waiting.
     pub fn is_waiting(&self) -> bool
         ensures { result ≡ is_waiting self.now }
     {
         matches!(self.held, Held::Waiting)
     }
 
-    /// The entry is now this answer.
+    /// Answers the entry: it is this reply from now on.
     pub fn answer(&mut self, reply: Reply)
         ensures { self.new ≡ record { op = self.old.op; entry = Answered reply } }
     {

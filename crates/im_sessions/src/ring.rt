@@ -1,5 +1,5 @@
-//! One element's window, as a ring of places: the entry with a number stands where the number, divided by the
-//! window's size, leaves a rest. So an entry is found at once, and none moves when others are dropped.
+//! One element's window, as a ring of places. The place of an entry is its number modulo the size of the window. So
+//! each entry is found at once, and none moves when others are dropped.
 ghost use Rattle.std.specs.Prelude.{◌≡◌, [], ◌+◌, ◌-◌, ◌<◌, ◌≤◌, length, take, drop, slice_get, MatchResult, OnOk};
 ghost use Rattle.std.specs.List.{list_any};
 ghost use Rattle.im_types.specs.Contents.{new_window, kept_under};
@@ -33,14 +33,14 @@ impl Model for Ring {
     ghost invariant = { λ r. AreBounds r.base r.count };
 }
 
-// The place of the entry with this number.
+// Returns the place of the entry with this number.
 fn place_of(number: u64) -> usize
     ensures { result ≡ place_of number }
 {
     (number % WINDOW) as usize
 }
 
-// Whether two operations are the same.
+// Returns whether two operations are the same.
 fn is_same(op: &Op, other: &Op) -> bool
     ensures { result ≡ same_op op.now other.now }
 {
@@ -48,7 +48,7 @@ fn is_same(op: &Op, other: &Op) -> bool
 }
 
 impl Ring {
-    /// A window with no entry, numbered from 1 on.
+    /// Makes a window with no entry, numbered from 1 on.
     pub fn new() -> Ring
         ensures empty { result ≡ new_window }
         ensures bounds { IsWindow result }
@@ -60,7 +60,7 @@ impl Ring {
         }
     }
 
-    /// A window with these entries, numbered from a base on.
+    /// Makes a window with these entries, numbered from `base` on.
     pub fn restore(base: u64, kept: &[Kept]) -> Ring
         requires { IsWindow (record { base = base; kept = kept.now }) }
         ensures restored { result ≡ record { base = base; kept = kept.now } }
@@ -73,7 +73,7 @@ impl Ring {
         ring
     }
 
-    // A window with no entry, numbered from a base on.
+    // Makes a window with no entry, numbered from `base` on.
     fn with_base(base: u64) -> Ring
         requires from_one { 1 ≤ base }
         requires to_last { base ≤ LAST + 1 }
@@ -84,14 +84,14 @@ impl Ring {
         ring
     }
 
-    /// The base, and the number of the next new request.
+    /// Returns the base, and the number of the next new request.
     pub fn bounds(&self) -> (u64, u64)
         ensures { result ≡ (self.now.base, next_number self.now) }
     {
         (self.base, self.base + self.count)
     }
 
-    /// Whether a request is new or known, or why it is refused.
+    /// Returns whether a request is new or a repeat, or why it is refused.
     #[inline(always)]
     pub fn judge(&self, request: &Request) -> Result<Judged, Refusal>
         ensures { result ≡ judge_window request.now (Some self.now) }
@@ -118,7 +118,7 @@ impl Ring {
         }
     }
 
-    /// What is kept under a number.
+    /// Returns the operation and the entry under a number, or `None` if there are none.
     pub fn kept(&self, number: u64) -> Option<Kept>
         ensures { result ≡ kept_under self.now number }
     {
@@ -130,7 +130,7 @@ impl Ring {
         }
     }
 
-    /// The entry under a number, or why there is none.
+    /// Returns the entry under a number, or why there is none.
     pub fn entry(&self, number: u64) -> Result<Entry, Refusal>
         ensures { result ≡ ask_window number (Some self.now) }
     {
@@ -155,7 +155,7 @@ impl Ring {
         self.count += 1;
     }
 
-    /// The entry under a number is now answered.
+    /// Answers the entry under a number.
     pub fn answer(&mut self, number: u64, reply: Reply)
         requires from_base { self.old.base ≤ number }
         requires below_next { number < next_number self.old }
@@ -165,7 +165,7 @@ impl Ring {
         self.places[place_of(number)].answer(reply);
     }
 
-    /// Drops the entries below a number, if each of them is answered; where it is refused, nothing changes.
+    /// Drops the entries below a number if each of them is answered. A refusal changes nothing.
     pub fn confirm(&mut self, upto: u64) -> Result<(), Refusal>
         ensures confirmed { MatchResult result
             (λ _. confirm_window upto (Some self.old) ≡ Ok self.new)
@@ -184,7 +184,7 @@ impl Ring {
         }
     }
 
-    // Drops the first entries.
+    // Drops the first `count` entries.
     fn drop_first(&mut self, count: u64)
         requires { count ≤ length self.old.kept }
         ensures dropped { self.new
@@ -195,7 +195,7 @@ impl Ring {
         self.count -= count;
     }
 
-    // What is kept under a number that the window has.
+    // Returns the place of a number that the window has.
     fn at(&self, number: u64) -> &Place
         requires from_base { self.now.base ≤ number }
         requires below_next { number < next_number self.now }
@@ -204,7 +204,7 @@ impl Ring {
         &self.places[place_of(number)]
     }
 
-    // Whether one of the first entries is waiting.
+    // Returns whether one of the first `count` entries is waiting.
     fn has_waiting(&self, count: u64) -> bool
         requires { count ≤ length self.now.kept }
         ensures { result ≡ list_any is_waiting (take count self.now.kept) }

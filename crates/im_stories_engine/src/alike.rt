@@ -1,11 +1,11 @@
-//! Whether a memory is the plain one, cell for cell and entry for entry.
+//! Compares a memory with the plain one, cell by cell and entry by entry.
 
 use anyhow::{Result, anyhow};
 use im_memory::Memory;
 use im_plain::PlainMemory;
 use im_types::Limits;
 
-// The same requests wait at a cell, in the same order.
+// Checks that the same requests wait at a cell, in the same order.
 fn has_same_waiters(fast: &Memory, plain: &PlainMemory, limits: Limits, a: u32) -> Result<()> {
     for place in 0..(limits.elements as usize * 64 + 1) {
         let waiter = plain.waiter(a, place);
@@ -19,7 +19,7 @@ fn has_same_waiters(fast: &Memory, plain: &PlainMemory, limits: Limits, a: u32) 
     Ok(())
 }
 
-// Every cell with its block and its waiters is the same in both.
+// Checks that every cell with its block and its waiters is the same in both.
 fn has_same_cells(fast: &Memory, plain: &PlainMemory, limits: Limits) -> Result<()> {
     for a in 0..limits.cells.saturating_add(1) {
         if fast.cell(a) != plain.cell(a) {
@@ -33,7 +33,7 @@ fn has_same_cells(fast: &Memory, plain: &PlainMemory, limits: Limits) -> Result<
     Ok(())
 }
 
-// The same entries are kept for an element.
+// Checks that the same entries are kept for an element.
 fn has_same_entries(fast: &Memory, plain: &PlainMemory, element: u16) -> Result<()> {
     let bounds = plain.window(element);
     if fast.window(element) != bounds {
@@ -48,7 +48,7 @@ fn has_same_entries(fast: &Memory, plain: &PlainMemory, element: u16) -> Result<
     Ok(())
 }
 
-/// Sees that every cell with its block and its waiters, and every window with its entries, is the same in both.
+/// Checks that every cell with its block and its waiters, and every window with its entries, is the same in both.
 pub fn are_alike(fast: &Memory, plain: &PlainMemory, limits: Limits) -> Result<()> {
     has_same_cells(fast, plain, limits)?;
     for element in 0..limits.elements.saturating_add(1) {

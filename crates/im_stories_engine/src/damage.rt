@@ -1,4 +1,4 @@
-//! Files that someone has damaged, and what their openings tell.
+//! Files that someone has damaged, and the results of opening them.
 
 use crate::disks::{copy, hex, put};
 use crate::engines::Engines;
@@ -15,7 +15,7 @@ fn add_found(said: &mut String, engine: &Engine<MemDisk>) -> Result<(), AllocErr
     write!(said, "count {count} room {room}")
 }
 
-// Adds what an opening comes to: its count and its room, or why it was refused.
+// Adds the result of an opening: its count and its room, or why it was refused.
 fn add_opening(alloc: Global, disk: MemDisk, said: &mut String) -> Result<(), AllocError> {
     match Engine::open(alloc, disk) {
         Ok(engine) => add_found(said, &engine),
@@ -23,7 +23,7 @@ fn add_opening(alloc: Global, disk: MemDisk, said: &mut String) -> Result<(), Al
     }
 }
 
-// Why an opening was refused, if it was.
+// Returns why an opening was refused, if it was.
 fn refusal_of(alloc: Global, disk: MemDisk) -> Option<Refusal> {
     match Engine::open(alloc, disk) {
         Ok(_) => None,
@@ -31,7 +31,7 @@ fn refusal_of(alloc: Global, disk: MemDisk) -> Option<Refusal> {
     }
 }
 
-// Openings of which those in a row that come to the same are told once, from the first of them on.
+// The results of openings. Those that follow one another and are alike are told once, from the first of them on.
 #[derive(Drop)]
 struct Rows {
     said: String,
@@ -46,7 +46,7 @@ impl Rows {
         }
     }
 
-    // The next opening, and what it is of.
+    // Adds the next opening, and what it is of.
     fn add(&mut self, of: usize, refusal: Option<Refusal>) -> Result<(), AllocError> {
         if self.last == Some(refusal) {
             return Ok(());
@@ -63,7 +63,7 @@ impl Rows {
     }
 }
 
-// Puts bytes at their places, each as PLACE:BYTE.
+// Puts bytes at their places. Each is written PLACE:BYTE.
 fn put_each(disk: &mut MemDisk, words: &[&str]) -> Result<()> {
     for word in words {
         let Some((at, byte)) = word.split_once(':') else {
@@ -74,7 +74,7 @@ fn put_each(disk: &mut MemDisk, words: &[&str]) -> Result<()> {
     Ok(())
 }
 
-// The disk into which something was put.
+// Returns the disk, if something could be put into it.
 fn if_put(disk: MemDisk, put: Result<()>) -> Result<MemDisk> {
     match put {
         Ok(()) => Ok(disk),
@@ -82,14 +82,14 @@ fn if_put(disk: MemDisk, put: Result<()>) -> Result<MemDisk> {
     }
 }
 
-// A copy of a file with these bytes in it.
+// Returns a copy of a file with these bytes in it.
 fn copy_with(alloc: Global, disk: &MemDisk, words: &[&str]) -> Result<MemDisk> {
     let mut other = copy(alloc, disk, disk.bytes().len())?;
     let done = put_each(&mut other, words);
     if_put(other, done)
 }
 
-// A copy of a file with this byte at a place.
+// Returns a copy of a file with this byte at a place.
 fn copy_at(alloc: Global, disk: &MemDisk, at: usize, byte: u8) -> Result<MemDisk> {
     let mut other = copy(alloc, disk, disk.bytes().len())?;
     let done = put(&mut other, at, &[byte]);
@@ -101,7 +101,7 @@ fn open_with(engines: &Engines, alloc: Global, words: &[&str], said: &mut String
     Ok(add_opening(alloc, copy_with(alloc, engines.disk()?, words)?, said)?)
 }
 
-// Adds what copies with a byte at one place come to, for each of these bytes.
+// Adds the results for copies with a byte at one place, for each of these bytes.
 fn add_at(
     said: &mut String,
     alloc: Global,
@@ -118,7 +118,7 @@ fn add_at(
     Ok(())
 }
 
-// A text that was told, if it was.
+// Returns a text, if it could be told.
 fn if_told(said: String, told: Result<()>) -> Result<String> {
     match told {
         Ok(()) => Ok(said),
@@ -126,19 +126,19 @@ fn if_told(said: String, told: Result<()>) -> Result<String> {
     }
 }
 
-// What copies with a byte at one place come to, for each of these bytes.
+// Returns the results for copies with a byte at one place, for each of these bytes.
 fn told_at(alloc: Global, disk: &MemDisk, at: usize, bytes: &[&str]) -> Result<String> {
     let mut said = String::new(alloc);
     let told = add_at(&mut said, alloc, disk, at, bytes);
     if_told(said, told)
 }
 
-// Whether a text is the first one.
+// Returns whether a text is the first one.
 fn is_first(told: Result<String>, first: &str) -> Result<bool> {
     Ok(told?.as_str() == first)
 }
 
-// Sees that they come to the same at each place from one to another.
+// Checks that the results are the same at each place from one to another.
 fn are_same_at(
     alloc: Global,
     disk: &MemDisk,
@@ -154,7 +154,7 @@ fn are_same_at(
     Ok(())
 }
 
-// Tells what they come to, the same at each place from one to another.
+// Tells the results, which are the same at each place from one to another.
 fn tell_places(
     disk: &MemDisk,
     alloc: Global,
@@ -167,7 +167,7 @@ fn tell_places(
     are_same_at(alloc, disk, (from, to), bytes, first.as_str())
 }
 
-// What copies of each length come to, longer ones by zeros.
+// Adds the results for copies of each length. Longer copies end in zeros.
 fn add_lengths(rows: &mut Rows, disk: &MemDisk, alloc: Global, upto: usize) -> Result<()> {
     for length in 0..upto.saturating_add(1) {
         rows.add(length, refusal_of(alloc, copy(alloc, disk, length)?))?;
@@ -181,7 +181,7 @@ fn tell_lengths(disk: &MemDisk, alloc: Global, upto: usize, said: &mut String) -
     Ok(said.push_str(rows.said.as_str())?)
 }
 
-// What copies with each value of the byte at a place come to.
+// Adds the results for copies with each value of the byte at a place.
 fn add_values(rows: &mut Rows, alloc: Global, disk: &MemDisk, at: usize) -> Result<()> {
     for value in 0..=255u8 {
         let refusal = refusal_of(alloc, copy_at(alloc, disk, at, value)?);
@@ -196,7 +196,7 @@ fn told_of_values(alloc: Global, disk: &MemDisk, at: usize) -> Result<String> {
     if_told(rows.said, told)
 }
 
-// Sees that they come to the same at each place behind one, up to another.
+// Checks that the results are the same at each place after one, up to another.
 fn are_same_values(
     alloc: Global,
     disk: &MemDisk,
@@ -212,7 +212,7 @@ fn are_same_values(
     Ok(())
 }
 
-// Tells what they come to, the same at each place from one to another.
+// Tells the results, which are the same at each place from one to another.
 fn tell_values(
     disk: &MemDisk,
     alloc: Global,
@@ -224,7 +224,7 @@ fn tell_values(
     are_same_values(alloc, disk, (from, to), first.as_str())
 }
 
-// What a file of so many zeros comes to.
+// Returns the result for a file of `length` zeros.
 fn told_of_zeros(alloc: Global, length: usize) -> Result<String> {
     let disk = MemDisk::new(alloc, length)?;
     let mut said = String::new(alloc);
@@ -232,7 +232,7 @@ fn told_of_zeros(alloc: Global, length: usize) -> Result<String> {
     Ok(said)
 }
 
-// Sees that files of zeros come to the same for each length from one to another.
+// Checks that files of zeros have the same result for each length from one to another.
 fn are_same_zeros(alloc: Global, (from, to): (usize, usize), first: &str) -> Result<()> {
     for length in from..to.saturating_add(1) {
         if !is_first(told_of_zeros(alloc, length), first)? {
@@ -242,7 +242,7 @@ fn are_same_zeros(alloc: Global, (from, to): (usize, usize), first: &str) -> Res
     Ok(())
 }
 
-// Tells what they come to.
+// Tells this result.
 fn tell_zeros(alloc: Global, (from, to): (usize, usize), said: &mut String) -> Result<()> {
     let first = told_of_zeros(alloc, from)?;
     said.push_str(first.as_str())?;
@@ -265,7 +265,7 @@ fn keep_pages(engines: &mut Engines, alloc: Global, said: &mut String) -> Result
     Ok(write!(said, "{pages}")?)
 }
 
-// Tells what a copy of this length comes to.
+// Tells the result for a copy of this length.
 fn tell_length(disk: &MemDisk, alloc: Global, length: usize, said: &mut String) -> Result<()> {
     Ok(add_opening(alloc, copy(alloc, disk, length)?, said)?)
 }
@@ -274,7 +274,7 @@ fn places(from: &str, to: &str) -> Result<(usize, usize)> {
     Ok((place(from)?, place(to)?))
 }
 
-// Puts into the closed file.
+// Puts bytes into the closed file.
 fn damage(engines: &mut Engines, words: &[&str]) -> Result<()> {
     let Some(disk) = &mut engines.disk else {
         return Err(anyhow!("no disk"));

@@ -1,4 +1,4 @@
-//! Disks: how they fail, what a crash leaves of them, and bytes of theirs.
+//! Disks: how they fail, what a crash leaves of them, and their bytes.
 
 use anyhow::{Result, anyhow};
 use im_disk::{Crash, Disk, FuseDisk, MemDisk, Mode};
@@ -6,7 +6,7 @@ use im_engine::Engine;
 use im_types::{LAST, Limits};
 use std::alloc::Global;
 
-/// A byte: two hexadecimal digits.
+/// Reads a byte: two hexadecimal digits.
 pub fn hex(word: &str) -> Result<u8> {
     match u8::from_str_radix(word, 16) {
         Ok(byte) => Ok(byte),
@@ -14,7 +14,8 @@ pub fn hex(word: &str) -> Result<u8> {
     }
 }
 
-/// How a disk fails: `stop` for good, `once`, or once with a scar, a byte all over what was to be written: `scar:BYTE`.
+/// Reads how a disk fails: `stop` for good, `once`, or once with a scar. A scar, `scar:BYTE`, is a byte all over what
+/// was to be written.
 pub fn mode(word: &str) -> Result<Mode> {
     match word {
         "stop" => Ok(Mode::Stop),
@@ -26,7 +27,7 @@ pub fn mode(word: &str) -> Result<Mode> {
     }
 }
 
-/// What a crash leaves of what wasn't synced: `kept` and `lost`, or a byte all over it.
+/// Reads what a crash leaves of what wasn't synced: `kept`, `lost`, or a byte all over it.
 pub fn crash(word: &str) -> Result<Crash> {
     match word {
         "kept" => Ok(Crash::Kept),
@@ -35,7 +36,7 @@ pub fn crash(word: &str) -> Result<Crash> {
     }
 }
 
-/// The sizes of a memory and of its journal.
+/// Reads the sizes of a memory and of its journal.
 pub fn limits(cells: u32, elements: u16, slots: u32) -> Result<Limits> {
     match Limits::new(cells, elements, slots) {
         Some(limits) => Ok(limits),
@@ -43,12 +44,12 @@ pub fn limits(cells: u32, elements: u16, slots: u32) -> Result<Limits> {
     }
 }
 
-/// A disk that never fails.
+/// Makes a disk that never fails.
 pub fn steady(disk: MemDisk) -> FuseDisk {
     FuseDisk::new(disk, LAST, Mode::Stop)
 }
 
-/// Puts bytes there, as whoever damages the file does.
+/// Puts bytes at a place, as whoever damages the file does.
 pub fn put(disk: &mut MemDisk, at: usize, bytes: &[u8]) -> Result<()> {
     let size = disk.bytes().len();
     if at > size || bytes.len() > size - at {
@@ -60,7 +61,8 @@ pub fn put(disk: &mut MemDisk, at: usize, bytes: &[u8]) -> Result<()> {
     }
 }
 
-/// A file of so many bytes: those of this one as far as it goes, then zeros, all of them on the disk.
+/// Makes a file of `length` bytes. It has the bytes of this one as far as they go, then zeros. All of them are on the
+/// disk.
 pub fn copy(alloc: Global, disk: &MemDisk, length: usize) -> Result<MemDisk> {
     let mut other = MemDisk::new(alloc, length)?;
     let Some(part) = disk.bytes().get(..length.min(disk.bytes().len())) else {
@@ -73,7 +75,7 @@ pub fn copy(alloc: Global, disk: &MemDisk, length: usize) -> Result<MemDisk> {
     }
 }
 
-/// An image that has to open.
+/// Opens an image that has to open.
 pub fn opened<D: Disk + Drop>(alloc: Global, disk: D) -> Result<Engine<D>> {
     match Engine::open(alloc, disk) {
         Ok(engine) => Ok(engine),
@@ -81,7 +83,7 @@ pub fn opened<D: Disk + Drop>(alloc: Global, disk: D) -> Result<Engine<D>> {
     }
 }
 
-/// A new image on a disk that passes so many calls and then fails.
+/// Makes a new image on a disk that passes the given number of calls and then fails.
 pub fn formatted(
     alloc: Global,
     limits: Limits,

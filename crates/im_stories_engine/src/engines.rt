@@ -7,31 +7,31 @@ use im_disk::{FuseDisk, MemDisk, Mode};
 use im_engine::{Answer, Engine, Event};
 use std::alloc::Global;
 
-/// What a story is told of.
+/// What a story is about.
 #[derive(Drop)]
 pub struct Engines {
-    /// Where what is made lies.
+    /// The allocator of what is made.
     alloc: Global,
     /// The engine, unless it is closed.
     pub engine: Option<Engine<FuseDisk>>,
-    /// The disk of the engine that was closed, or that wasn't made.
+    /// The disk of the engine that was closed or couldn't be made.
     pub disk: Option<MemDisk>,
     /// The calls of that disk.
     pub calls: u64,
     /// How the disk of the next format or opening fails.
     pub fuse: Option<(u64, Mode)>,
-    /// What was told of the image.
+    /// The commands that were told of the image.
     pub script: Option<Script>,
     /// What the next run does.
     pub events: Vec<Event>,
-    /// What the last run was answered.
+    /// The answers of the last run.
     pub answers: Vec<Answer>,
     /// The pages of a memory.
     pub pages: Vec<u8>,
 }
 
 impl Engines {
-    /// Nothing yet.
+    /// Starts with nothing.
     pub fn none(alloc: Global) -> Engines {
         Engines {
             alloc,
@@ -46,12 +46,12 @@ impl Engines {
         }
     }
 
-    /// Nothing again.
+    /// Forgets everything.
     pub fn forget(&mut self) {
         *self = Engines::none(self.alloc);
     }
 
-    /// The engine.
+    /// Returns the engine.
     pub fn engine(&self) -> Result<&Engine<FuseDisk>> {
         match &self.engine {
             Some(engine) => Ok(engine),
@@ -59,7 +59,7 @@ impl Engines {
         }
     }
 
-    /// The disk of a closed engine.
+    /// Returns the disk of a closed engine.
     pub fn disk(&self) -> Result<&MemDisk> {
         match &self.disk {
             Some(disk) => Ok(disk),
@@ -67,7 +67,7 @@ impl Engines {
         }
     }
 
-    /// What was told of the image.
+    /// Returns the commands that were told of the image.
     pub fn script(&self) -> Result<&Script> {
         match &self.script {
             Some(script) => Ok(script),
@@ -75,7 +75,7 @@ impl Engines {
         }
     }
 
-    /// This disk, to fail as was told.
+    /// Returns this disk, which fails as was told.
     pub fn fused(&mut self, disk: MemDisk) -> FuseDisk {
         match self.fuse.take() {
             Some((passes, mode)) => FuseDisk::new(disk, passes, mode),
@@ -83,7 +83,7 @@ impl Engines {
         }
     }
 
-    /// Lays this disk down, with its calls.
+    /// Keeps this disk, with its calls.
     pub fn lay_down(&mut self, disk: FuseDisk) {
         self.calls = disk.calls();
         self.disk = Some(disk.into_inner());

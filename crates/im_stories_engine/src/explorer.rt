@@ -1,5 +1,5 @@
-//! An engine beside the plain memory, which has what was answered: random commands, groups, turns and sweeps, a stop
-//! at any call of the disk, and what an opening finds then.
+//! An engine beside the plain memory, which has what was answered. It is given random commands, groups, turns and
+//! sweeps, and a stop at any call of the disk. Then an opening has to find what was answered.
 
 use crate::alike::are_alike;
 use crate::groups::are_refused;
@@ -15,8 +15,8 @@ use std::alloc::Global;
 /// The cells of the memory.
 pub const CELLS: u32 = 24;
 
-/// What was answered: the memory after it, how many commands that is, and the commands of the last call, of which
-/// nobody knows whether all are on the disk or none.
+/// What was answered: the memory after it, and how many commands that is. It also has the commands of the last call,
+/// which are in doubt: all of them or none are on the disk.
 #[derive(Drop)]
 pub struct Answered {
     plain: PlainMemory,
@@ -24,7 +24,7 @@ pub struct Answered {
     doubt: ArrayVec<Command, 16>,
 }
 
-/// Nothing was answered yet.
+/// Starts with nothing answered.
 pub fn nothing(alloc: Global, limits: Limits) -> Result<Answered> {
     Ok(Answered {
         plain: PlainMemory::new(alloc, limits)?,
@@ -33,7 +33,7 @@ pub fn nothing(alloc: Global, limits: Limits) -> Result<Answered> {
     })
 }
 
-/// What a crash leaves, as chance has it.
+/// Returns what a crash leaves, chosen at random.
 pub fn a_crash(walk: &mut Walk) -> Crash {
     match walk.below(4) {
         0 => Crash::Kept,
@@ -43,7 +43,7 @@ pub fn a_crash(walk: &mut Walk) -> Crash {
     }
 }
 
-// Takes a turn. Whether the disk still works.
+// Takes a turn. Returns whether the disk still works.
 fn turns(engine: &mut Engine<FuseDisk>) -> Result<bool> {
     match engine.turn() {
         Ok(_) => Ok(true),
@@ -52,7 +52,7 @@ fn turns(engine: &mut Engine<FuseDisk>) -> Result<bool> {
     }
 }
 
-// Closes some slots together. Whether the disk still works.
+// Closes some slots together. Returns whether the disk still works.
 fn sweeps(engine: &mut Engine<FuseDisk>, most: u32) -> Result<bool> {
     match engine.sweep(most) {
         Ok(_) => Ok(true),
@@ -61,7 +61,7 @@ fn sweeps(engine: &mut Engine<FuseDisk>, most: u32) -> Result<bool> {
     }
 }
 
-// Serves a command, which is answered as the plain memory answers it. Whether the disk still works.
+// Serves a command, which has to be answered as by the plain memory. Returns whether the disk still works.
 fn serves(engine: &mut Engine<FuseDisk>, known: &mut Answered, command: Command) -> Result<bool> {
     let is_accepted = known.plain.judge(&command) == Ok(true);
     match engine.serve(&command) {
@@ -82,7 +82,7 @@ fn serves(engine: &mut Engine<FuseDisk>, known: &mut Answered, command: Command)
     }
 }
 
-// The commands of those members that are accepted and find room, none of which acts.
+// Returns the commands of those members that are accepted and find room. None of them acts.
 fn accepted(
     plain: &PlainMemory,
     members: &ArrayVec<Request, 16>,
@@ -98,7 +98,8 @@ fn accepted(
     commands
 }
 
-// What a member of a group has to be answered, which the plain memory then has too, where so many were accepted.
+// Returns what a member of a group has to be answered, given how many may still be accepted. The plain memory has it
+// then too.
 fn expected(known: &mut Answered, command: Command, left: &mut usize) -> Result<Outcome, Refusal> {
     if known.plain.judge(&command) == Ok(true) {
         if *left == 0 {
@@ -110,7 +111,7 @@ fn expected(known: &mut Answered, command: Command, left: &mut usize) -> Result<
     known.plain.step(&command)
 }
 
-// Whether this is what a member was answered.
+// Returns whether this is what a member was answered.
 fn is_answer(served: Served, answer: Result<Outcome, Refusal>) -> bool {
     match served {
         Served::Done(outcome) => answer == Ok(outcome),
@@ -119,8 +120,8 @@ fn is_answer(served: Served, answer: Result<Outcome, Refusal>) -> bool {
     }
 }
 
-// Serves a group, whose members are answered as the plain memory answers them one after another. Whether the disk still
-// works.
+// Serves a group, whose members have to be answered as by the plain memory one after another. Returns whether the disk
+// still works.
 fn serves_group(
     engine: &mut Engine<FuseDisk>,
     known: &mut Answered,
@@ -149,8 +150,8 @@ fn serves_group(
     Ok(true)
 }
 
-// A turn, a sweep, a group or a command, as chance has it, and mostly a turn where there is no room. Whether the disk
-// still works.
+// Makes a random turn, sweep, group or command; mostly a turn if there is no room. Returns whether the disk still
+// works.
 fn goes(engine: &mut Engine<FuseDisk>, known: &mut Answered, walk: &mut Walk) -> Result<bool> {
     if engine.room() == 0 && walk.below(8) > 0 {
         return turns(engine);
@@ -169,8 +170,8 @@ fn goes(engine: &mut Engine<FuseDisk>, known: &mut Answered, walk: &mut Walk) ->
     }
 }
 
-/// So many commands, groups, turns and sweeps, as chance has it. Whether the disk still works; after its stop nothing
-/// is done.
+/// Makes the given number of random commands, groups, turns and sweeps. Returns whether the disk still works. After the
+/// disk stops nothing is done.
 pub fn goes_on(
     engine: &mut Engine<FuseDisk>,
     known: &mut Answered,
@@ -185,7 +186,7 @@ pub fn goes_on(
     Ok(true)
 }
 
-/// Sees that what an opening found is all that was answered, or that and all commands in doubt. These are known from
+/// Checks that an opening found all that was answered, or that and all commands in doubt. What it found is known from
 /// then on.
 pub fn has_all(engine: &Engine<FuseDisk>, known: &mut Answered, limits: Limits) -> Result<()> {
     if engine.count() != known.count {
@@ -198,7 +199,7 @@ pub fn has_all(engine: &Engine<FuseDisk>, known: &mut Answered, limits: Limits) 
     are_known(engine, known, limits)
 }
 
-/// Sees that an engine has what was answered, and no more.
+/// Checks that an engine has what was answered, and no more.
 pub fn are_known(engine: &Engine<FuseDisk>, known: &Answered, limits: Limits) -> Result<()> {
     if engine.count() != known.count {
         return Err(anyhow!("what was answered is lost, or more was found"));
@@ -207,7 +208,7 @@ pub fn are_known(engine: &Engine<FuseDisk>, known: &Answered, limits: Limits) ->
 }
 
 impl Answered {
-    /// How many commands were answered.
+    /// Returns how many commands were answered.
     pub fn count(&self) -> u64 {
         self.count
     }

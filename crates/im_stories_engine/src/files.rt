@@ -1,4 +1,4 @@
-//! How an image is formatted, closed, crashed and opened again.
+//! Formats, closes, crashes and opens images.
 
 use crate::disks::{crash, limits, mode, put, steady};
 use crate::engines::Engines;
@@ -24,7 +24,7 @@ fn lay_old(
     Ok(said.push_str("closed")?)
 }
 
-// A disk with these bytes, which have to be so many.
+// Makes a disk with these bytes, whose count has to be `length`.
 fn disk_of(alloc: Global, bytes: &[u8], length: usize) -> Result<MemDisk> {
     if bytes.len() != length {
         return Err(anyhow!("it has {} bytes", bytes.len()));
@@ -34,7 +34,7 @@ fn disk_of(alloc: Global, bytes: &[u8], length: usize) -> Result<MemDisk> {
     Ok(disk)
 }
 
-// An engine, or the disk that it was to be on. Tells `made`, or why it wasn't.
+// Keeps an engine, or the disk that it was to be on. Tells `made`, or why it wasn't made.
 fn take_over(
     engines: &mut Engines,
     made: Result<Engine<FuseDisk>, (Refusal, FuseDisk)>,
@@ -97,12 +97,12 @@ fn set_fuse(engines: &mut Engines, fuse: (u64, Mode), said: &mut String) -> Resu
     Ok(said.push_str("set")?)
 }
 
-// The sizes of a memory and of its journal.
+// Reads the sizes of a memory and of its journal.
 fn sizes(cells: &str, elements: &str, slots: &str) -> Result<Limits> {
     limits(address(cells)?, element(elements)?, address(slots)?)
 }
 
-/// Whether the words are `format`, `old image`, `fuse`, `open`, `close` or `crash`.
+/// Makes the call if its word is `format`, `old image`, `fuse`, `open`, `close` or `crash`. Returns whether it is.
 pub fn tell(
     engines: &mut Engines,
     alloc: Global,

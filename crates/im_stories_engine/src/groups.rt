@@ -8,7 +8,7 @@ use im_engine::are_apart;
 use im_story::{add_outcome, request, told};
 use im_types::{Command, Outcome, Refusal, Request, Served};
 
-/// The requests that the words name, with `with` between them.
+/// Reads requests that are written with `with` between them.
 pub fn members(words: &[&str]) -> Result<ArrayVec<Request, 16>> {
     let mut members = ArrayVec::new();
     for part in words.split(|word| *word == "with") {
@@ -19,7 +19,7 @@ pub fn members(words: &[&str]) -> Result<ArrayVec<Request, 16>> {
     Ok(members)
 }
 
-/// The requests that a script has, as one group.
+/// Returns the requests of a script, as one group.
 pub fn all_of(script: &Script) -> Result<ArrayVec<Request, 16>> {
     let mut members = ArrayVec::new();
     for told in script.accepted.iter() {
@@ -33,7 +33,7 @@ pub fn all_of(script: &Script) -> Result<ArrayVec<Request, 16>> {
     Ok(members)
 }
 
-/// Whether each member was refused so.
+/// Returns whether each member was refused with this refusal.
 pub fn are_refused(served: &ArrayVec<Served, 16>, refusal: Refusal) -> bool {
     let mut all = true;
     for answer in served.as_slice() {
@@ -42,7 +42,7 @@ pub fn are_refused(served: &ArrayVec<Served, 16>, refusal: Refusal) -> bool {
     all
 }
 
-/// What a member was answered, as `serve` would say it.
+/// Returns what a member was answered, as `serve` would return it.
 pub fn said_of(served: Served) -> Result<Result<Outcome, Refusal>> {
     match served {
         Served::Done(outcome) => Ok(Ok(outcome)),
@@ -51,7 +51,7 @@ pub fn said_of(served: Served) -> Result<Result<Outcome, Refusal>> {
     }
 }
 
-/// Adds what the members of a group were answered.
+/// Adds the answers of a group's members.
 pub fn add_served(said: &mut String, served: &[Served]) -> Result<()> {
     for (at, answer) in served.iter().enumerate() {
         if at > 0 {
@@ -62,7 +62,7 @@ pub fn add_served(said: &mut String, served: &[Served]) -> Result<()> {
     Ok(())
 }
 
-// Serves a group, and tells what its members were answered.
+// Serves a group, and tells the answers of its members.
 fn serve_together(engines: &mut Engines, words: &[&str], said: &mut String) -> Result<()> {
     let Some(engine) = &mut engines.engine else {
         return Err(anyhow!("no engine"));
@@ -76,7 +76,8 @@ fn serve_together(engines: &mut Engines, words: &[&str], said: &mut String) -> R
     add_served(said, served.as_slice())
 }
 
-/// Whether the words are `together`, and requests of different elements with `with` between them.
+/// Serves a group if the words are `together` and requests of different elements with `with` between them. Returns
+/// whether they are.
 pub fn tell(engines: &mut Engines, words: &[&str], said: &mut String) -> Result<bool> {
     let ["together", rest @ ..] = words else {
         return Ok(false);

@@ -1,18 +1,18 @@
-//! Stories of the engine: what is formatted, served, turned, stopped, crashed and opened again, what is damaged, and
+//! Stories of the engine: images that are formatted, served, turned, stopped, crashed, damaged and opened again, and
 //! random walks beside the plain memory.
 //!
-//! Beside the commands, and `count`, `room`, `failed`, `window`, `collect`, `cell` and `waiting` of the engine, its
+//! Besides the commands, and `count`, `room`, `failed`, `window`, `collect`, `cell` and `waiting` of the engine, its
 //! words are:
 //!
 //! ```text
 //! fuse 11 stop = set              the disk of the next format or opening passes 11 calls, and then stops; or fails
 //!                                 once, or once with a byte all over what was to be written, scar:a5
-//! format 4096 16 256 = formatted  a new image of so many cells, elements and slots; or in a file of so many bytes
+//! format 4096 16 256 = formatted  a new image of these cells, elements and slots; or in a file of a given length
 //! old image 4096 16 256 in 327680 bytes = closed   a new image of the first version, laid down
 //! 16 times 1.1 fetch 0 = 16 nocell    sixteen requests, 1.1 to 1.16
 //! together 0.1 alloc i 2 with 1.1 fetch 0 = base 0, waiting    requests of different elements as one group
 //! turns 3 = began, page 0 to 1; room 3x0
-//! sweep 64 = 16; room 16          closes so many slots at most with one sync
+//! sweep 64 = 16; room 16          closes at most 64 slots with one sync
 //! plan 1.1 fetch 0 = 1 events     what the next run does: commands, groups, turns, sweeps, or all commands as told
 //! run = 1 answers
 //! answers 0 to 0 = nocell
@@ -21,9 +21,9 @@
 //! crash kept = crashed            what a crash leaves of what wasn't synced: kept, lost, or a byte
 //! damage 16:05 = done             puts a byte at a place
 //! open = opened
-//! with 16:05 = count 5 room 256   what the opening of a copy comes to in which this byte stands
+//! with 16:05 = count 5 room 256   the result of opening a copy with this byte
 //! each 0 to 3 as 00 ff = ..       the same for each of these bytes at each of these places
-//! in each length to 9 = ..        what the opening of a copy of each length comes to, those in a row that are alike once
+//! in each length to 9 = ..        the result of opening a copy of each length; equal ones in a row once
 //! in each value of 0 to 3 = ..    the same for each value of each of these bytes
 //! in each serve stop kept = ..    a stop in each call of each serve, a crash, and all is sent again; `stops` has the
 //!                                 others

@@ -18,7 +18,7 @@ fn turn(engines: &mut Engines, said: &mut String) -> Result<()> {
     Ok(add_turn(said, engine.turn())?)
 }
 
-// Makes so many turns, none of which changes the count. Keeps their answers, and the room after each.
+// Makes the given number of turns, none of which may change the count. Keeps their answers, and the room after each.
 fn make_turns(engines: &mut Engines, times: u64, rooms: &mut Vec<u64>) -> Result<()> {
     let Some(engine) = &mut engines.engine else {
         return Err(anyhow!("no engine"));
@@ -41,14 +41,14 @@ fn add_rooms(said: &mut String, answers: &[Answer], rooms: &[u64]) -> Result<()>
     Ok(add_numbers(said, rooms)?)
 }
 
-// Makes so many turns, and tells what they answer, and the room after each.
+// Makes the given number of turns. Tells their answers, and the room after each.
 fn turns(engines: &mut Engines, alloc: Global, times: u64, said: &mut String) -> Result<()> {
     let mut rooms = Vec::new(alloc);
     make_turns(engines, times, &mut rooms)?;
     add_rooms(said, engines.answers.as_slice(), rooms.as_slice())
 }
 
-// Closes so many slots at most with one sync. Tells how many they were, and the room after.
+// Closes at most `most` slots with one sync. Tells how many it closed, and the room after.
 fn sweep(engines: &mut Engines, most: u32, said: &mut String) -> Result<()> {
     let Some(engine) = &mut engines.engine else {
         return Err(anyhow!("no engine"));
@@ -60,7 +60,7 @@ fn sweep(engines: &mut Engines, most: u32, said: &mut String) -> Result<()> {
     Ok(write!(said, "; room {}", engine.room())?)
 }
 
-// The next run serves a command under so many numbers, one after another.
+// Plans that the next run serves a command `times` times, under numbers that follow one another.
 fn plan_commands(engines: &mut Engines, times: u64, first: Command) -> Result<()> {
     for more in 0..times {
         engines.events.push(Event::Command(later(first, more)))?;
@@ -75,12 +75,12 @@ fn plan_turns(engines: &mut Engines, times: u64) -> Result<()> {
     Ok(())
 }
 
-// So many slots at most, where a story names so many.
+// Reads how many slots at most a sweep closes.
 fn slots(word: &str) -> Result<u32> {
     Ok(number(word)?.min(u32::MAX as u64) as u32)
 }
 
-// The next run serves requests of different elements as one group.
+// Plans that the next run serves requests of different elements as one group.
 fn plan_group(engines: &mut Engines, words: &[&str]) -> Result<()> {
     match Group::new(members(words)?) {
         Some(group) => Ok(engines.events.push(Event::Group(group))?),
@@ -88,7 +88,7 @@ fn plan_group(engines: &mut Engines, words: &[&str]) -> Result<()> {
     }
 }
 
-// The next run serves the commands of the story so far.
+// Plans that the next run serves the commands of the story so far.
 fn plan_as_told(engines: &mut Engines) -> Result<()> {
     let Some(script) = &engines.script else {
         return Err(anyhow!("no image was formatted"));
@@ -123,7 +123,7 @@ fn plan_sweep(engines: &mut Engines, most: &str) -> Result<()> {
     Ok(engines.events.push(Event::Sweep(slots(most)?))?)
 }
 
-// What the next run does.
+// Plans what the next run does.
 fn plan(engines: &mut Engines, words: &[&str]) -> Result<()> {
     match words {
         ["as", "told"] => plan_as_told(engines),
@@ -141,7 +141,7 @@ fn tell_plan(engines: &mut Engines, words: &[&str], said: &mut String) -> Result
     Ok(write!(said, "{} events", engines.events.len())?)
 }
 
-/// Whether the words are `turn`, `turns`, `sweep`, `plan`, `run` or `answers`.
+/// Makes the call if its word is `turn`, `turns`, `sweep`, `plan`, `run` or `answers`. Returns whether it is.
 pub fn tell(
     engines: &mut Engines,
     alloc: Global,

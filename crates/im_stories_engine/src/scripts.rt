@@ -1,4 +1,4 @@
-//! What a story has told so far of an image: the commands that were accepted, and what each was answered, at first and
+//! What a story has told of an image so far: the commands that were accepted, and the answers to each, at first and
 //! later.
 
 use crate::groups::said_of;
@@ -8,17 +8,17 @@ use im_engine::Engine;
 use im_types::{Command, Limits, Op, Outcome, Refusal, Request, Served};
 use std::alloc::Global;
 
-/// What a command is answered.
+/// The answer to a command.
 pub type Said = Result<Outcome, Refusal>;
 
-/// A command, its answer, and how many commands had been accepted then.
+/// A command, its answer, and how many commands had been accepted by then.
 #[derive(Clone, Copy)]
 pub struct Told {
     /// The command.
     pub command: Command,
     /// Its answer.
     pub answer: Said,
-    /// How many commands had been accepted, itself among them.
+    /// How many commands had been accepted, this one included.
     pub count: u64,
 }
 
@@ -27,17 +27,17 @@ pub struct Told {
 pub struct Script {
     /// The sizes of the memory and of its journal.
     pub limits: Limits,
-    /// The commands that were accepted, in their order, each with its first answer.
+    /// The commands that were accepted, in order, each with its first answer.
     pub accepted: Vec<Told>,
     /// Each command with each of its answers.
     pub told: Vec<Told>,
     /// How many commands were accepted.
     pub count: u64,
-    /// The room for more, at the last command.
+    /// The room for more commands, at the last command.
     pub room: u32,
 }
 
-// Whether an answer says something of the disk or of the journal in place of the memory.
+// Returns whether an answer is about the disk or the journal and not about the memory.
 fn is_of_the_disk(answer: Said) -> bool {
     matches!(
         answer,
@@ -45,7 +45,7 @@ fn is_of_the_disk(answer: Said) -> bool {
     )
 }
 
-// What an engine keeps for a request, as it would answer it again.
+// Returns what an engine keeps for a request, as it would answer it again.
 fn kept<D: Disk>(engine: &Engine<D>, element: u16, number: u64) -> Said {
     match engine.collect(element, number) {
         Ok(entry) => Ok(Outcome::Entry(entry)),
@@ -54,7 +54,7 @@ fn kept<D: Disk>(engine: &Engine<D>, element: u16, number: u64) -> Said {
 }
 
 impl Script {
-    /// A script with no command yet.
+    /// Makes a script with no command yet.
     pub fn none(alloc: Global, limits: Limits) -> Script {
         Script {
             limits,
@@ -84,8 +84,8 @@ impl Script {
         Ok(())
     }
 
-    /// What a command is answered that is sent again once so many have acted: what it was told last up to there, or at
-    /// first where it hadn't acted yet.
+    /// Returns the answer to a command that is sent again after the first `count` commands have acted. It is the last
+    /// answer that was told up to there, or the first answer if the command hadn't acted yet.
     pub fn answer_after(&self, first: &Told, count: u64) -> Said {
         let mut answer = first.answer;
         for later in self.told.iter() {
@@ -97,7 +97,7 @@ impl Script {
         answer
     }
 
-    // What is kept for an accepted request once so many commands have acted.
+    // Returns what is kept for an accepted request after the first `count` commands have acted.
     fn kept_after(&self, first: &Told, count: u64) -> Said {
         if count < first.count {
             Err(Refusal::Gap)
@@ -106,8 +106,8 @@ impl Script {
         }
     }
 
-    /// Sees that an engine keeps for each request of the script what it was told last, once so many have acted, and
-    /// nothing for one that hasn't acted.
+    /// Checks that an engine keeps for each request of the script what was told last, after the first `count` commands
+    /// have acted. It has to keep nothing for a request that hasn't acted.
     pub fn is_kept<D: Disk>(&self, engine: &Engine<D>, count: u64) -> Result<()> {
         for first in self.accepted.iter() {
             if let Command::Request(
@@ -126,8 +126,8 @@ impl Script {
         Ok(())
     }
 
-    /// Serves the whole script, of which so many commands have acted. Each answer is as it was told, and each command
-    /// has acted once.
+    /// Serves the whole script, of which the first `count` commands have acted. Each answer has to be as it was told,
+    /// and each command acts once.
     pub fn is_told_again<D: Disk>(&self, engine: &mut Engine<D>, count: u64) -> Result<()> {
         for first in self.accepted.iter() {
             let answer = engine.serve(&first.command);
@@ -143,7 +143,7 @@ impl Script {
         self.is_kept(engine, self.count)
     }
 
-    /// The same, with the room that the story told.
+    /// Does the same, and checks the room that the story told.
     pub fn is_answered<D: Disk>(&self, engine: &mut Engine<D>, count: u64) -> Result<()> {
         self.is_told_again(engine, count)?;
         if engine.room() != self.room {
@@ -153,7 +153,7 @@ impl Script {
         Ok(())
     }
 
-    /// Sees that these are the first answers of the script.
+    /// Checks that these are the first answers of the script.
     pub fn is_served(&self, served: &[Served]) -> Result<()> {
         if served.len() != self.accepted.len() {
             return Err(anyhow!("there are {} answers", served.len()));
@@ -166,8 +166,8 @@ impl Script {
         Ok(())
     }
 
-    /// Serves the script to an engine whose disk fails in the command behind the first `served` ones: they are answered
-    /// as they were told, it is answered `Device`, and all behind it `Failed`.
+    /// Serves the script to an engine whose disk fails in the command after the first `served` ones. These have to be
+    /// answered as they were told, that command with `Device`, and all after it with `Failed`.
     pub fn is_cut_short<D: Disk>(&self, engine: &mut Engine<D>, served: u64) -> Result<()> {
         for first in self.accepted.iter() {
             let expected = if first.count <= served {
@@ -184,8 +184,8 @@ impl Script {
         self.is_over(engine, served)
     }
 
-    // Sees that an engine has failed with so many commands: not even a repeat is answered, nor what no memory would
-    // take.
+    // Checks that an engine has failed with this many commands. It answers nothing then, not even a repeat, or a
+    // command that no memory would take.
     fn is_over<D: Disk>(&self, engine: &mut Engine<D>, served: u64) -> Result<()> {
         for first in self.accepted.iter() {
             if engine.serve(&first.command) != Err(Refusal::Failed) {

@@ -1,4 +1,4 @@
-//! What an engine tells of itself and of its memory, and what stands in its file.
+//! What an engine tells of itself and of its memory, and the bytes of its file.
 
 use crate::engines::Engines;
 use crate::texts::{add_block, add_bytes, add_cell};
@@ -21,7 +21,7 @@ fn tell_cell(engine: &Engine<FuseDisk>, a: u32, said: &mut String) -> Result<()>
     }
 }
 
-// Tells who waits at a cell, in their order.
+// Tells who waits at a cell, in order.
 fn tell_waiting(engine: &Engine<FuseDisk>, a: u32, said: &mut String) -> Result<()> {
     for waiter in engine.memory().waiters(a) {
         write!(said, " {}.{}", waiter.element, waiter.number)?;
@@ -42,7 +42,7 @@ fn tell_kept(
     Ok(add_answer(said, engine.collect(element, number))?)
 }
 
-// Tells so many bytes of the file.
+// Tells the given number of bytes of the file.
 fn tell_bytes(engines: &Engines, at: usize, length: usize, said: &mut String) -> Result<()> {
     let Some(end) = at.checked_add(length) else {
         return Err(anyhow!("past the end of the file"));
@@ -64,7 +64,7 @@ fn tell_slot(engines: &Engines, slot: usize, said: &mut String) -> Result<()> {
     )
 }
 
-// Adds what an engine says of itself: its count or its room, or whether it has failed.
+// Adds an engine's count or room, or whether it has failed.
 fn add_state(said: &mut String, engine: &Engine<FuseDisk>, word: &str) -> Result<(), AllocError> {
     match word {
         "count" => write!(said, "{}", engine.count()),
@@ -73,7 +73,7 @@ fn add_state(said: &mut String, engine: &Engine<FuseDisk>, word: &str) -> Result
     }
 }
 
-// The words of the engine's own state.
+// Tells of the engine's own state, if the word asks for it.
 fn tell_state(engines: &Engines, word: &str, said: &mut String) -> Result<bool> {
     match word {
         "count" | "room" | "failed" => add_state(said, engines.engine()?, word)?,
@@ -83,7 +83,8 @@ fn tell_state(engines: &Engines, word: &str, said: &mut String) -> Result<bool> 
     Ok(true)
 }
 
-/// Whether the words are `count`, `room`, `failed`, `calls`, `window`, `collect`, `cell`, `waiting`, `bytes` or `slot`.
+/// Makes the call if its word is `count`, `room`, `failed`, `calls`, `window`, `collect`, `cell`, `waiting`, `bytes` or
+/// `slot`. Returns whether it is.
 pub fn tell(engines: &Engines, words: &[&str], said: &mut String) -> Result<bool> {
     match words {
         [word] => tell_state(engines, word, said),

@@ -1,4 +1,4 @@
-//! A run of commands, turns and sweeps that is stopped at each of its calls of the disk, beside the plain memory.
+//! A run of commands, turns and sweeps is stopped at each of its calls of the disk, beside the plain memory.
 
 use crate::alike::are_alike;
 use crate::disks::{crash, formatted, mode, opened, steady};
@@ -22,7 +22,7 @@ struct Acknowledged {
 }
 
 impl Acknowledged {
-    // Looks at the answer to a command.
+    // Takes in the answer to a command.
     fn hears(&mut self, command: Command, said: Result<Outcome, Refusal>) -> Result<()> {
         let is_accepted = self.plain.judge(&command) == Ok(true);
         if is_accepted && said == Err(Refusal::Device) {
@@ -37,7 +37,7 @@ impl Acknowledged {
         Ok(())
     }
 
-    // Looks at an answer while the disk works.
+    // Takes in an answer while the disk works.
     fn looks_at(&mut self, event: &Event, answer: &Answer) -> Result<()> {
         match (event, answer) {
             (Event::Command(command), Answer::Served(said)) => self.hears(*command, *said),
@@ -53,7 +53,7 @@ impl Acknowledged {
         }
     }
 
-    // Looks at all answers: once the disk has stopped, each is `Failed`.
+    // Takes in all answers. After the disk has stopped, each has to be `Failed`.
     fn looks_at_all(&mut self, events: &[Event], answers: &[Answer]) -> Result<()> {
         if answers.len() != events.len() {
             return Err(anyhow!("there are {} answers", answers.len()));
@@ -78,9 +78,9 @@ fn is_failed(answer: &Answer) -> bool {
     }
 }
 
-// Runs the events on a new image whose disk passes so many calls, and opens what a crash leaves: all that was
-// acknowledged is there, and the command in doubt or not. How many commands are found, or none where the disk didn't
-// stop.
+// Runs the events on a new image whose disk passes the given number of calls, and opens what a crash leaves. All that
+// was acknowledged has to be there, and the command in doubt may be. Returns how many commands are found, or none if
+// the disk didn't stop.
 fn found(
     alloc: Global,
     limits: Limits,
@@ -113,8 +113,8 @@ fn found(
     Ok(Some(known.count))
 }
 
-/// Whether the words are `in each run`, how the disk fails at each call of the run that was planned, and what the crash
-/// behind it leaves: on a new image of the story's sizes. Tells how many commands an opening finds.
+/// Makes the call if the words are `in each run`, how the disk fails at each call of the planned run, and what the
+/// crash after it leaves. It runs on a new image of the story's sizes, and tells how many commands an opening finds.
 pub fn tell(engines: &Engines, alloc: Global, words: &[&str], said: &mut String) -> Result<bool> {
     let ["in", "each", "run", how, left] = words else {
         return Ok(false);

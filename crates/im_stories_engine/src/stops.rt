@@ -1,7 +1,6 @@
-//! Stops and faults of the disk at each call there is, and what is found once the image is opened again.
+//! Stops and faults of the disk at each call there is, and what is found after the image is opened again.
 //!
-//! Each looks at every case, and tells how many commands were found in each, or the first thing that isn't as it must
-//! be.
+//! Each test looks at every case. It tells how many commands were found in each, or the first thing that is wrong.
 
 use crate::alike::are_alike;
 use crate::disks::{copy, crash, formatted, mode, opened, steady};
@@ -19,8 +18,8 @@ use im_story::told;
 use im_types::{LAST, Limits, Refusal, Request};
 use std::alloc::Global;
 
-// What is stopped: an opening of what has the whole script, or of what was stopped in its last command; the script as one
-// group; the turns behind it; or an opening of copies of a file and the turns behind that.
+// What is stopped. It may be an opening of an image with the whole script, or of one that was stopped in its last
+// command; the script as one group; the turns after it; or an opening of copies of a file, with the turns after that.
 #[derive(Clone, Copy)]
 enum Act<'a> {
     Opening,
@@ -30,7 +29,7 @@ enum Act<'a> {
     Call(&'a MemDisk),
 }
 
-// How a disk fails, the crash behind that, and one more behind an opening. With no crash the same disk is opened.
+// How a disk fails, the crash after that, and one more crash after an opening. Without a crash the same disk is opened.
 #[derive(Clone, Copy)]
 struct Way {
     mode: Mode,
@@ -38,7 +37,7 @@ struct Way {
     next: Option<Crash>,
 }
 
-// What a script has come to, and the memory that it has to mean.
+// A script, and the memory that it has to mean.
 #[derive(Clone, Copy)]
 struct Sweep<'a> {
     alloc: Global,
@@ -46,7 +45,7 @@ struct Sweep<'a> {
     plain: &'a PlainMemory,
 }
 
-// The memory that a script means, which answers as was told.
+// Returns the memory that a script means, if it answers as was told.
 fn meant(alloc: Global, script: &Script) -> Result<PlainMemory> {
     let mut plain = PlainMemory::new(alloc, script.limits)?;
     for first in script.accepted.iter() {
@@ -65,7 +64,7 @@ fn after_crash(alloc: Global, disk: FuseDisk, crash: Option<Crash>) -> Result<En
     }
 }
 
-// What an opening that was refused leaves, where a call of its disk has failed.
+// Returns the disk of an opening that was refused because a call of it failed.
 fn where_stopped(refusal: Refusal, disk: FuseDisk) -> Result<FuseDisk> {
     if refusal != Refusal::Device {
         return Err(anyhow!("an opening is refused: {refusal}"));
@@ -73,7 +72,7 @@ fn where_stopped(refusal: Refusal, disk: FuseDisk) -> Result<FuseDisk> {
     Ok(disk)
 }
 
-// What an engine leaves that has stopped, or none of one that hasn't.
+// Returns the disk of an engine that has stopped, or none if it hasn't.
 fn if_stopped(engine: Engine<FuseDisk>, stops: Result<bool>) -> Result<Option<FuseDisk>> {
     let disk = engine.close();
     match stops {
@@ -83,7 +82,7 @@ fn if_stopped(engine: Engine<FuseDisk>, stops: Result<bool>) -> Result<Option<Fu
     }
 }
 
-// The engine of which something was seen to be as it must.
+// Returns the engine, if a check of it passed.
 fn if_so(engine: Engine<FuseDisk>, seen: Result<()>) -> Result<Engine<FuseDisk>> {
     match seen {
         Ok(()) => Ok(engine),
@@ -91,7 +90,7 @@ fn if_so(engine: Engine<FuseDisk>, seen: Result<()>) -> Result<Engine<FuseDisk>>
     }
 }
 
-// So many calls more than those of a format and of so many commands, four each.
+// Returns `more` calls more than a format and the given number of commands make, at four calls each.
 fn past(commands: u64, more: u64) -> u64 {
     commands
         .saturating_mul(4)
@@ -99,7 +98,8 @@ fn past(commands: u64, more: u64) -> u64 {
         .saturating_add(more)
 }
 
-// Sees that an opening behind another one has found the same, and no more than one command in doubt. Whether it has that.
+// Checks that an opening after another one has found the same, and at most one command in doubt. Returns whether it
+// found that one.
 fn has_one_more(first: u64, found: u64, served: u64) -> Result<bool> {
     if found != first || found < served || found - served > 1 {
         return Err(anyhow!("{first} and then {found} commands were found, of {served} and one"));
@@ -107,8 +107,8 @@ fn has_one_more(first: u64, found: u64, served: u64) -> Result<bool> {
     Ok(found > served)
 }
 
-// Takes turns until the disk stops, and then each answers `Failed`. Whether it does stop before they have nothing to
-// do.
+// Takes turns until the disk stops; from then on each has to answer `Failed`. Returns whether it stops before there is
+// nothing left to do.
 fn do_turns_stop(engine: &mut Engine<FuseDisk>) -> Result<bool> {
     for _ in 0..1_000 {
         match engine.turn() {
@@ -122,28 +122,28 @@ fn do_turns_stop(engine: &mut Engine<FuseDisk>) -> Result<bool> {
 }
 
 impl Sweep<'_> {
-    // A new engine whose disk passes so many calls.
+    // Makes a new engine whose disk passes the given number of calls.
     fn begun(&self, passes: u64, mode: Mode) -> Result<Engine<FuseDisk>> {
         formatted(self.alloc, self.script.limits, passes, mode)
     }
 
-    // An engine that has served the script as far as its disk let it: the format makes four calls, and each command
-    // four.
+    // Makes an engine that has served the script as far as its disk let it. The format makes four calls, and each
+    // command four.
     fn cut_short(&self, served: u64, call: u64, mode: Mode) -> Result<Engine<FuseDisk>> {
         let mut engine = self.begun(past(served, call), mode)?;
         let seen = self.script.is_cut_short(&mut engine, served);
         if_so(engine, seen)
     }
 
-    // An engine that has served the whole script, and whose disk passes so many calls more.
+    // Makes an engine that has served the whole script, and whose disk passes `more` more calls.
     fn served(&self, more: u64, mode: Mode) -> Result<Engine<FuseDisk>> {
         let mut engine = self.begun(past(self.script.count, more), mode)?;
         let seen = self.script.is_answered(&mut engine, 0);
         if_so(engine, seen)
     }
 
-    // Sees that what was opened has a beginning of the script, and that all of it acts once when it is sent again. How
-    // many commands it had.
+    // Checks that what was opened has a prefix of the script, and that all of the script acts once when it is sent
+    // again. Returns how many commands it had.
     fn sent_again(&self, engine: &mut Engine<FuseDisk>) -> Result<u64> {
         let found = engine.count();
         self.script.is_kept(engine, found)?;
@@ -152,13 +152,13 @@ impl Sweep<'_> {
         Ok(found)
     }
 
-    // The engine after a failure in this call of a serve.
+    // Returns the engine after a failure in this call of a serve.
     fn after_serve(&self, served: u64, call: u64, way: Way) -> Result<Engine<FuseDisk>> {
         let engine = self.cut_short(served, call, way.mode)?;
         after_crash(self.alloc, engine.close(), way.crash)
     }
 
-    // The same engine, or the one that is opened behind one crash more.
+    // Returns the same engine, or the one that is opened after one more crash.
     fn after_next(&self, engine: Engine<FuseDisk>, way: Way) -> Result<Engine<FuseDisk>> {
         match way.next {
             Some(_) => after_crash(self.alloc, engine.close(), way.next),
@@ -166,7 +166,7 @@ impl Sweep<'_> {
         }
     }
 
-    // After a failure in this call of a serve: whether the command was found.
+    // Returns whether the command is found after a failure in this call of a serve.
     fn is_found(&self, served: u64, call: u64, way: Way) -> Result<bool> {
         let engine = self.after_serve(served, call, way)?;
         let first = engine.count();
@@ -175,7 +175,7 @@ impl Sweep<'_> {
         has_one_more(first, found, served)
     }
 
-    // Of the failures in this call of a serve, one for each command: in how many the command was found.
+    // Lets this call of a serve fail once for each command. Returns in how many cases the command was found.
     fn times_found(&self, call: u64, way: Way) -> Result<u64> {
         let mut times: u64 = 0;
         for served in 0..self.script.count {
@@ -186,7 +186,7 @@ impl Sweep<'_> {
         Ok(times)
     }
 
-    // The same for each of the four calls of a serve.
+    // Tells the same for each of the four calls of a serve.
     fn tell_serves(&self, way: Way, said: &mut String) -> Result<()> {
         for call in 0..4 {
             write!(said, "{} ", self.times_found(call, way)?)?;
@@ -194,7 +194,7 @@ impl Sweep<'_> {
         Ok(write!(said, "of {}", self.script.count)?)
     }
 
-    // An engine that has served the script, or was stopped in its last call.
+    // Makes an engine that has served the script, or was stopped in its last call.
     fn ended(&self, is_whole: bool) -> Result<Engine<FuseDisk>> {
         match self.script.count.checked_sub(1) {
             Some(before) if !is_whole => self.cut_short(before, 3, Mode::Stop),
@@ -202,7 +202,7 @@ impl Sweep<'_> {
         }
     }
 
-    // An opening of its disk that has to be stopped. The disk, or none where it has passed.
+    // Opens its disk with an opening that has to be stopped. Returns the disk, or none if the opening has passed.
     fn stopped(&self, is_whole: bool, passes: u64, mode: Mode) -> Result<Option<FuseDisk>> {
         let disk = self.ended(is_whole)?.close().into_inner();
         match Engine::open(self.alloc, FuseDisk::new(disk, passes, mode)) {
@@ -211,7 +211,8 @@ impl Sweep<'_> {
         }
     }
 
-    // Serves a group. Where the disk stops each member is answered `Device`, and then `Failed`. Whether it does stop.
+    // Serves a group. If the disk stops, each member has to be answered `Device`, and then `Failed`. Returns whether it
+    // stops.
     fn is_group_stopped(
         &self,
         engine: &mut Engine<FuseDisk>,
@@ -234,8 +235,8 @@ impl Sweep<'_> {
         Ok(true)
     }
 
-    // Serves the script as one group on a new image, which has to be stopped. The disk, or none where the group has
-    // passed.
+    // Serves the script as one group on a new image, which has to be stopped. Returns the disk, or none if the group
+    // has passed.
     fn stopped_group(&self, passes: u64, mode: Mode) -> Result<Option<FuseDisk>> {
         let members = all_of(self.script)?;
         let mut engine = self.begun(past(0, passes), mode)?;
@@ -243,7 +244,8 @@ impl Sweep<'_> {
         if_stopped(engine, stops)
     }
 
-    // Sees that an engine has the whole script, of which nothing acts when it is sent again. How many commands it has.
+    // Checks that an engine has the whole script, and that nothing acts when it is sent again. Returns how many
+    // commands it has.
     fn count_of_all(&self, engine: &mut Engine<FuseDisk>) -> Result<u64> {
         self.script.is_kept(engine, self.script.count)?;
         self.script.is_told_again(engine, self.script.count)?;
@@ -251,8 +253,8 @@ impl Sweep<'_> {
         Ok(engine.count())
     }
 
-    // How many commands of the script are found on what a crash leaves of a disk: all, where all were served, and else a
-    // beginning, all of which acts once when it is sent again.
+    // Returns how many commands of the script are found on what a crash leaves of a disk. It has to be all if all were
+    // served, and else a prefix; all of the script acts once when it is sent again.
     fn found_behind(&self, disk: FuseDisk, way: Way, is_whole: bool) -> Result<u64> {
         let mut engine = after_crash(self.alloc, disk, way.crash)?;
         if is_whole {
@@ -262,7 +264,7 @@ impl Sweep<'_> {
         }
     }
 
-    // The same, or none where there is no disk that has stopped.
+    // Returns the same, or none if there is no disk that has stopped.
     fn found_if(&self, disk: Option<FuseDisk>, way: Way, is_whole: bool) -> Result<Option<u64>> {
         match disk {
             Some(disk) => Ok(Some(self.found_behind(disk, way, is_whole)?)),
@@ -270,15 +272,16 @@ impl Sweep<'_> {
         }
     }
 
-    // Takes turns until they are stopped. How many commands are found then, or none where the turns weren't stopped.
+    // Takes turns until they are stopped. Returns how many commands are found then, or none if the turns weren't
+    // stopped.
     fn found_after_turns(&self, engine: Engine<FuseDisk>, way: Way) -> Result<Option<u64>> {
         let mut engine = engine;
         let stops = do_turns_stop(&mut engine);
         self.found_if(if_stopped(engine, stops)?, way, true)
     }
 
-    // Opens a copy of a file on a disk that passes so many calls, and takes turns, until it stops. How many commands are
-    // found, or none where it didn't stop.
+    // Opens a copy of a file on a disk that passes the given number of calls, and takes turns, until it stops. Returns
+    // how many commands are found, or none if it didn't stop.
     fn found_on(&self, disk: &MemDisk, passes: u64, way: Way) -> Result<Option<u64>> {
         let other = copy(self.alloc, disk, disk.bytes().len())?;
         match Engine::open(self.alloc, FuseDisk::new(other, passes, way.mode)) {
@@ -289,8 +292,8 @@ impl Sweep<'_> {
         }
     }
 
-    // How many commands the next opening finds behind an act whose disk passes so many calls, and a crash; or none where
-    // the act has passed.
+    // Returns how many commands the next opening finds, after an act on a disk that passes the given number of calls,
+    // and a crash. Returns none if the act has passed.
     fn found(&self, act: Act, passes: u64, way: Way) -> Result<Option<u64>> {
         match act {
             Act::Opening => self.found_if(self.stopped(true, passes, way.mode)?, way, false),
@@ -301,7 +304,7 @@ impl Sweep<'_> {
         }
     }
 
-    // The same for each call of an act, up to the first that passes.
+    // Finds the same for each call of an act, up to the first that passes.
     fn find_each(&self, act: Act, way: Way, found: &mut Vec<u64>) -> Result<()> {
         for passes in 0..1_000 {
             match self.found(act, passes, way)? {
@@ -312,7 +315,7 @@ impl Sweep<'_> {
         Err(anyhow!("the calls don't end"))
     }
 
-    // Tells them.
+    // Tells what was found.
     fn tell_acts(&self, act: Act, way: Way, said: &mut String) -> Result<()> {
         let mut found = Vec::new(self.alloc);
         self.find_each(act, way, &mut found)?;
@@ -320,7 +323,7 @@ impl Sweep<'_> {
     }
 }
 
-// How the disk fails, and what the crashes behind it leave.
+// Reads how the disk fails, and what the crashes after it leave.
 fn way_of(how: &str, crashes: &[&str]) -> Result<Way> {
     let (first, next) = match crashes {
         [] => (None, None),
@@ -335,7 +338,7 @@ fn way_of(how: &str, crashes: &[&str]) -> Result<Way> {
     })
 }
 
-// Sees that the engine of this story is the memory that its script means.
+// Checks that the engine of this story has the memory that its script means.
 fn is_alike(engines: &Engines, plain: &PlainMemory, limits: Limits) -> Result<()> {
     match &engines.engine {
         Some(engine) => are_alike(engine.memory(), plain, limits),
@@ -343,7 +346,7 @@ fn is_alike(engines: &Engines, plain: &PlainMemory, limits: Limits) -> Result<()
     }
 }
 
-// Fails at each call of an act; of a serve, where there is none.
+// Fails at each call of an act, or of a serve if there is no act.
 fn tell_each(
     engines: &Engines,
     alloc: Global,
@@ -365,7 +368,7 @@ fn tell_each(
     }
 }
 
-// The act of a kind, or none for a serve.
+// Returns the act of a kind, or none for a serve.
 fn act_of<'a>(engines: &'a Engines, of: &str) -> Result<Option<Act<'a>>> {
     match of {
         "serve" => Ok(None),
@@ -378,9 +381,9 @@ fn act_of<'a>(engines: &'a Engines, of: &str) -> Result<Option<Act<'a>>> {
     }
 }
 
-/// Whether the words are `in each serve`, `opening`, `reopening`, `group`, `turn` or `call`, how the disk fails at each
-/// call of that, and what the crashes behind it leave. All but `call` is of an image that the commands of the story so
-/// far are put to, one by one or as one group; `call` is of the closed file.
+/// Makes the call if the words are `in each` with `serve`, `opening`, `reopening`, `group`, `turn` or `call`. Then come
+/// how the disk fails at each call of that, and what the crashes after it leave. All but `call` use an image that gets
+/// the commands of the story so far, one by one or as one group. `call` uses the closed file.
 pub fn tell(engines: &Engines, alloc: Global, words: &[&str], said: &mut String) -> Result<bool> {
     let ["in", "each", of, how, crashes @ ..] = words else {
         return Ok(false);

@@ -55,7 +55,7 @@ fn add_answer(said: &mut String, answer: &Answer) -> Result<()> {
     }
 }
 
-// Whether a turn goes on from the one before it: the next page, or the same again.
+// Returns whether a turn continues the one before it: it is the next page, or the same again.
 fn turns_on(last: Result<TurnDone, Refusal>, next: Result<TurnDone, Refusal>) -> bool {
     match (last, next) {
         (Ok(TurnDone::Page(one)), Ok(TurnDone::Page(other))) => one < other && other - one == 1,
@@ -63,7 +63,8 @@ fn turns_on(last: Result<TurnDone, Refusal>, next: Result<TurnDone, Refusal>) ->
     }
 }
 
-// Whether an answer goes on from the one before it: the next page, or the same again. That to a group stands alone.
+// Returns whether an answer continues the one before it: it is the next page, or the same again. An answer to a group
+// stands alone.
 fn goes_on(last: &Answer, next: &Answer) -> bool {
     match (last, next) {
         (Answer::Served(one), Answer::Served(other)) => *one == *other,
@@ -72,7 +73,7 @@ fn goes_on(last: &Answer, next: &Answer) -> bool {
     }
 }
 
-// Adds a row of answers, each of which goes on from the one before: `page 0 to 36`, `6 swept`, `synced`.
+// Adds a row of answers, each of which continues the one before: `page 0 to 36`, `6 swept`, `synced`.
 fn add_row(said: &mut String, row: &[Answer]) -> Result<()> {
     let Some(first) = row.first() else {
         return Ok(());
@@ -91,7 +92,7 @@ fn add_row(said: &mut String, row: &[Answer]) -> Result<()> {
     add_answer(said, first)
 }
 
-// How many answers from the first one on make a row.
+// Returns how many answers from the first one on make a row.
 fn row_length(answers: &[Answer]) -> usize {
     let mut length: usize = 0;
     let mut rest = answers;
@@ -111,7 +112,7 @@ fn row_length(answers: &[Answer]) -> usize {
     length
 }
 
-/// Adds answers in their order, those that go on from one another as one.
+/// Adds answers in order. A row of them is added as one.
 pub fn add_answers(said: &mut String, answers: &[Answer]) -> Result<()> {
     let mut rest = answers;
     for _ in 0..answers.len() {
@@ -131,7 +132,7 @@ pub fn add_answers(said: &mut String, answers: &[Answer]) -> Result<()> {
     Ok(())
 }
 
-// Adds a number, and before it how often it came where that is more than once.
+// Adds a number, and how often it came in front of it if that is more than once.
 fn add_times(said: &mut String, value: u64, times: u64) -> Result<(), AllocError> {
     match times {
         0 => Ok(()),
@@ -140,7 +141,7 @@ fn add_times(said: &mut String, value: u64, times: u64) -> Result<(), AllocError
     }
 }
 
-/// Adds numbers in their order, those that are the same as one: ` 19 4x20`.
+/// Adds numbers in order. A row of equal numbers is added as one: ` 19 4x20`.
 pub fn add_numbers(said: &mut String, numbers: &[u64]) -> Result<(), AllocError> {
     let mut value = 0;
     let mut times: u64 = 0;
@@ -155,7 +156,7 @@ pub fn add_numbers(said: &mut String, numbers: &[u64]) -> Result<(), AllocError>
     add_times(said, value, times)
 }
 
-/// Adds bytes as hexadecimal digits, eight together, and counts the zeros behind the last eight that aren't all zero.
+/// Adds bytes as hexadecimal digits, eight together. It counts the zeros after the last eight that aren't all zero.
 pub fn add_bytes(said: &mut String, bytes: &[u8]) -> Result<(), AllocError> {
     let mut zeros: usize = 0;
     for group in bytes.chunks(8) {

@@ -30,12 +30,12 @@ fn asker_of(plain: &PlainMemory, element: u16) -> Asker {
 }
 
 impl Walk {
-    /// A walk that begins with this seed.
+    /// Makes a walk that begins with this seed.
     pub fn new(seed: u64) -> Walk {
         Walk { seed }
     }
 
-    /// A number below a bound.
+    /// Returns a number below a bound.
     pub fn below(&mut self, bound: u64) -> u64
         requires { 0 < bound }
         ensures { result < bound }
@@ -47,7 +47,7 @@ impl Walk {
         (self.seed >> 33) % bound
     }
 
-    // An operation that never waits, on a cell at an address up to `cells`, or for a block of up to five cells.
+    // Returns an operation that never waits, on a cell at an address up to `cells`, or for a block of up to five cells.
     fn answered_at_once(&mut self, cells: u32) -> Op {
         let a = self.below(cells as u64 + 1) as u32;
         let value = self.below(100);
@@ -61,7 +61,7 @@ impl Walk {
         }
     }
 
-    // One of the eight operations, on a cell at an address up to `cells`. One in two may wait.
+    // Returns one of the eight operations, on a cell at an address up to `cells`. One in two may wait.
     fn operation(&mut self, cells: u32) -> Op {
         let a = self.below(cells as u64 + 1) as u32;
         match self.below(4) {
@@ -71,7 +71,7 @@ impl Walk {
         }
     }
 
-    // A number that the asker may name: most often its next one, else one about its window.
+    // Returns a number that the asker may name: most often its next one, else one in or near its window.
     fn number(&mut self, asker: Asker) -> u64 {
         match self.below(16) {
             0 => asker.base.saturating_sub(1),
@@ -81,8 +81,8 @@ impl Walk {
         }
     }
 
-    // A request of this asker. Element 0 asks for nothing that may wait, so that there is always one that goes on. One
-    // in two requests under a number that is kept asks for what was asked for before.
+    // Returns a request of this asker. Element 0 asks for nothing that may wait, so that one element always continues.
+    // One in two requests under a number that is kept asks for what was asked for before.
     fn asked(&mut self, plain: &PlainMemory, asker: Asker, cells: u32) -> Request {
         let op = if asker.element == 0 {
             self.answered_at_once(cells)
@@ -103,12 +103,12 @@ impl Walk {
         }
     }
 
-    // A request of an element.
+    // Returns a request of an element.
     fn request(&mut self, plain: &PlainMemory, element: u16, cells: u32) -> Request {
         self.asked(plain, asker_of(plain, element), cells)
     }
 
-    /// A command of an element of a memory, or of one more: one in five confirms.
+    /// Returns a command of an element of a memory, or of one element more. One in five confirms.
     pub fn command(&mut self, plain: &PlainMemory, cells: u32) -> Command {
         let element = self.below(plain.elements() as u64 + 1) as u16;
         let asker = asker_of(plain, element);
@@ -119,8 +119,9 @@ impl Walk {
         Command::Request(self.asked(plain, asker, cells))
     }
 
-    /// One request for each element of a memory at most, each of another element of it, or of one more. Memories have
-    /// six or sixteen elements here: seven and seventeen are prime numbers, so any step goes through all of them.
+    /// Returns at most one request for each element of a memory, each of another element of it, or of one element more.
+    /// Memories have six or sixteen elements here. Seven and seventeen are prime numbers, so any step goes through all
+    /// of them.
     pub fn group(&mut self, plain: &PlainMemory, cells: u32) -> ArrayVec<Request, 16> {
         let mut members = ArrayVec::new();
         let elements = if plain.elements() == 6 { 6 } else { 16 };

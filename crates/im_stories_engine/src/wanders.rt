@@ -1,5 +1,5 @@
-//! Random walks: the fast memory beside the plain one; an engine that is stopped again and again, and one that is
-//! stopped at each call in turn, with the plain memory beside it.
+//! Random walks. One compares the fast memory with the plain one. One stops an engine again and again, and one stops it
+//! at each call in turn, with the plain memory beside it.
 
 use crate::alike::are_alike;
 use crate::disks::{formatted, limits, opened, steady};
@@ -18,20 +18,20 @@ use std::alloc::Global;
 // The elements of an engine that is stopped again and again.
 const ELEMENTS: u16 = 16;
 
-// Those of an engine that is stopped at each call in turn: each has a page of its own in both areas of the image, which
-// is made anew for each call.
+// The elements of an engine that is stopped at each call in turn. Each has a page of its own in both areas of the
+// image, which is made anew for each call.
 const SIX_ELEMENTS: u16 = 6;
 
-// Those of the memories that are only compared.
+// The elements of the memories that are only compared.
 const FEW_ELEMENTS: u16 = 4;
 
-// A whole group has room, and a checkpoint with its sweeps has to make it soon.
+// A whole group has room, and a checkpoint with its sweeps has to make room soon.
 const SLOTS: u32 = 24;
 
-// How many events there are between two stops at the most.
+// The most events between two stops.
 const EVENTS: u64 = 100;
 
-// Puts a command to both memories, which judge and answer it alike. Whether it is accepted.
+// Puts a command to both memories, which have to judge and answer it alike. Returns whether it is accepted.
 fn step_both(fast: &mut Memory, plain: &mut PlainMemory, command: Command) -> Result<bool> {
     let judged = plain.judge(&command);
     if fast.judge(&command) != judged {
@@ -43,7 +43,7 @@ fn step_both(fast: &mut Memory, plain: &mut PlainMemory, command: Command) -> Re
     Ok(judged == Ok(true))
 }
 
-// Puts so many commands to both memories, and compares them after each 500. How many were accepted.
+// Puts `commands` commands to both memories, and compares them after every 500. Returns how many were accepted.
 fn walk_both(fast: &mut Memory, plain: &mut PlainMemory, commands: u64, seed: u64) -> Result<u64> {
     let limits = limits(CELLS, FEW_ELEMENTS, SLOTS)?;
     let mut walk = Walk::new(seed);
@@ -68,7 +68,7 @@ fn walk(alloc: Global, commands: u64, seed: u64) -> Result<u64> {
     walk_both(&mut fast, &mut plain, commands, seed)
 }
 
-// Opens what a crash left. Now and then that is stopped too, and a crash comes again.
+// Opens what a crash left. Now and then that is stopped too, and another crash comes.
 fn opens(alloc: Global, mut disk: MemDisk, walk: &mut Walk) -> Result<Engine<FuseDisk>> {
     for _ in 0..2 {
         match Engine::open(alloc, FuseDisk::new(disk, walk.below(200), Mode::Stop)) {
@@ -80,7 +80,7 @@ fn opens(alloc: Global, mut disk: MemDisk, walk: &mut Walk) -> Result<Engine<Fus
     opened(alloc, FuseDisk::new(disk, 100, Mode::Stop))
 }
 
-// The disk of a new engine.
+// Makes the disk of a new engine.
 fn new_disk(alloc: Global, limits: Limits) -> Result<MemDisk> {
     match Engine::format(alloc, MemDisk::new(alloc, image_length(limits))?, limits) {
         Ok(engine) => Ok(engine.close()),
@@ -88,7 +88,7 @@ fn new_disk(alloc: Global, limits: Limits) -> Result<MemDisk> {
     }
 }
 
-// What an opening found is what was answered, and it goes on so many events.
+// Checks that an opening found what was answered, and continues with the given number of events.
 fn goes_from(
     engine: &mut Engine<FuseDisk>,
     known: &mut Answered,
@@ -100,7 +100,7 @@ fn goes_from(
     goes_on(engine, known, walk, events)
 }
 
-// What a crash leaves of an engine that has gone on as it must.
+// Returns what a crash leaves of an engine, if it continued as it must.
 fn crashed(engine: Engine<FuseDisk>, went: Result<bool>, crash: Crash) -> Result<MemDisk> {
     let disk = engine.close().into_inner().crash(crash);
     match went {
@@ -109,7 +109,7 @@ fn crashed(engine: Engine<FuseDisk>, went: Result<bool>, crash: Crash) -> Result
     }
 }
 
-// Opens what a crash left, goes on, and crashes.
+// Opens what a crash left, continues, and crashes.
 fn stop(
     alloc: Global,
     disk: MemDisk,
@@ -132,14 +132,14 @@ fn stop_each(alloc: Global, known: &mut Answered, stops: u64, seed: u64) -> Resu
     Ok(())
 }
 
-// Stops an engine so many times, at any call of any turn, command or opening. How many commands were accepted.
+// Stops an engine `stops` times, at any call of any turn, command or opening. Returns how many commands were accepted.
 fn wander(alloc: Global, stops: u64, seed: u64) -> Result<u64> {
     let mut known = nothing(alloc, limits(CELLS, ELEMENTS, SLOTS)?)?;
     stop_each(alloc, &mut known, stops, seed)?;
     Ok(known.count())
 }
 
-// How a disk fails at a call, and the crash behind that.
+// The ways in which a disk fails at a call, each with the crash after that.
 fn ways() -> [(Mode, Crash); 6] {
     [
         (Mode::Stop, Crash::Kept),
@@ -151,7 +151,7 @@ fn ways() -> [(Mode, Crash); 6] {
     ]
 }
 
-// So many events that begin with a seed, on a disk that passes so many calls, how it fails, and the crash behind that.
+// A case: how many events, their seed, how many calls the disk passes, how it fails, and the crash after that.
 #[derive(Drop)]
 struct Case {
     events: u64,
@@ -160,7 +160,7 @@ struct Case {
     way: (Mode, Crash),
 }
 
-// Goes on in a new image. Whether the disk still works, and what a crash leaves of it.
+// Runs a case on a new image. Returns whether the disk still works, and what a crash leaves of it.
 fn went(
     alloc: Global,
     known: &mut Answered,
@@ -174,7 +174,7 @@ fn went(
     Ok((works?, disk))
 }
 
-// What an opening found is what was answered, and it serves what is asked then.
+// Checks that an opening found what was answered, and that it serves what is asked then.
 fn serves_then(engine: &mut Engine<FuseDisk>, known: &mut Answered, walk: &mut Walk) -> Result<()> {
     let limits = limits(CELLS, SIX_ELEMENTS, SLOTS)?;
     let _works = goes_from(engine, known, walk, limits, 8)?;
@@ -188,13 +188,13 @@ fn stops_in(alloc: Global, known: &mut Answered, walk: &mut Walk, case: &Case) -
     Ok(!works)
 }
 
-// Goes on in a case, and opens what a crash leaves. Whether the disk has stopped.
+// Runs a case, and opens what a crash leaves. Returns whether the disk has stopped.
 fn stops(alloc: Global, case: &Case) -> Result<bool> {
     let mut known = nothing(alloc, limits(CELLS, SIX_ELEMENTS, SLOTS)?)?;
     stops_in(alloc, &mut known, &mut Walk::new(case.seed), case)
 }
 
-// Whether the disk stops in each way that fails at a call.
+// Returns whether the disk stops in each of the ways to fail at a call.
 fn stops_each(alloc: Global, events: u64, seed: u64, passes: u64) -> Result<bool> {
     for way in ways() {
         let case = Case {
@@ -210,7 +210,7 @@ fn stops_each(alloc: Global, events: u64, seed: u64, passes: u64) -> Result<bool
     Ok(true)
 }
 
-// Stops an engine at each call of the same events in turn, in each way. How many calls there were.
+// Stops an engine at each call of the same events in turn, in each way. Returns how many calls there were.
 fn explore(alloc: Global, events: u64, seed: u64) -> Result<u64> {
     // A format makes four calls.
     for passes in 4..100_000u64 {
@@ -221,7 +221,7 @@ fn explore(alloc: Global, events: u64, seed: u64) -> Result<u64> {
     Err(anyhow!("the calls don't end"))
 }
 
-// There have to be more than so many commands, or calls.
+// Adds the text if there are more than `least` commands or calls; else it is an error.
 fn tell_enough(found: u64, least: u64, text: &str, said: &mut String) -> Result<()> {
     if found <= least {
         return Err(anyhow!("there are {found}"));
@@ -229,8 +229,8 @@ fn tell_enough(found: u64, least: u64, text: &str, said: &mut String) -> Result<
     Ok(said.push_str(text)?)
 }
 
-/// Whether the words are `walk`, `wander` or `explore`: so many commands, stops or events, a seed, and how many
-/// commands are to be accepted, or calls to be stopped at.
+/// Makes the call if its word is `walk`, `wander` or `explore`. Then come how many commands, stops or events, a seed,
+/// and how many commands have to be accepted, or calls to be stopped at.
 pub fn tell(alloc: Global, words: &[&str], said: &mut String) -> Result<bool> {
     match words {
         ["walk", commands, "from", seed, "over", least] => {

@@ -1,4 +1,4 @@
-//! What is asked of a memory, what it answers, and what an engine shows of it.
+//! What a memory is asked, what it answers, and what an engine shows of it.
 
 use anyhow::{Result, anyhow};
 use im_disk::FuseDisk;
@@ -12,8 +12,8 @@ pub const ALL: usize = 4;
 /// How many of them make the block.
 pub const FIRST: usize = 1;
 
-/// The requests by their place: one makes a block of two cells, the others are a store and two fetches there. So none
-/// is answered otherwise when it is asked again.
+/// Returns the request at a place. One makes a block of two cells; the others are a store and two fetches there. So
+/// each gets the same answer when it is asked again.
 pub fn asked(at: usize) -> Request {
     let (element, number, op) = match at {
         0 => (0, 1, Op::Alloc(Kind::I, 2)),
@@ -28,7 +28,7 @@ pub fn asked(at: usize) -> Request {
     }
 }
 
-// What is kept for them.
+// Returns what is kept for a request.
 fn answer(at: usize) -> Entry {
     match at {
         0 => Entry::Answered(Reply::Base(0)),
@@ -46,7 +46,7 @@ pub fn add_answer(said: &mut String, outcome: Outcome) -> Result<()> {
     Ok(())
 }
 
-// Whether the request of this place was answered, or else its number isn't used.
+// Returns whether the request at this place was answered, or else its number isn't used.
 fn is_kept(engine: &Engine<FuseDisk>, at: usize, is_answered: bool) -> bool {
     let Request {
         element,
@@ -59,7 +59,7 @@ fn is_kept(engine: &Engine<FuseDisk>, at: usize, is_answered: bool) -> bool {
     }
 }
 
-/// Whether a memory has answered so many of the requests, and nothing else was asked.
+/// Returns whether a memory has answered the first `many` requests, and nothing else was asked.
 pub fn has_first(engine: &Engine<FuseDisk>, many: usize) -> bool {
     for at in 0..ALL {
         if !is_kept(engine, at, at < many) {
@@ -69,20 +69,20 @@ pub fn has_first(engine: &Engine<FuseDisk>, many: usize) -> bool {
     engine.count() == many as u64
 }
 
-/// What an engine shows beside its memory.
+/// What an engine shows besides its memory.
 #[derive(Clone, Copy, PartialEq, Eq)]
 pub struct State {
     /// The calls of its disk so far.
     pub calls: u64,
     /// The commands so far.
     pub count: u64,
-    /// The room for more.
+    /// The room for more commands.
     pub room: u64,
     /// Whether its disk has failed.
     pub failed: bool,
 }
 
-/// What an engine shows now.
+/// Returns what an engine shows now.
 pub fn state_of(engine: &Engine<FuseDisk>) -> State {
     State {
         calls: engine.disk().calls(),
@@ -92,7 +92,7 @@ pub fn state_of(engine: &Engine<FuseDisk>) -> State {
     }
 }
 
-/// By which bytes are known again.
+/// Returns a sum by which bytes are recognised.
 pub fn sum_of(bytes: &[u8]) -> u64 {
     let mut sum = 0u64;
     for byte in bytes {
@@ -101,7 +101,7 @@ pub fn sum_of(bytes: &[u8]) -> u64 {
     sum
 }
 
-/// Sees that a call which makes none of the disk is refused for want of memory, and that all is as it was.
+/// Checks that a call that makes no call of the disk is refused for want of memory, and that all is as it was.
 pub fn lacks_memory(refusal: Refusal, is_same: bool) -> Result<()> {
     if is_same && refusal == Refusal::NoMemory {
         return Ok(());
@@ -109,7 +109,7 @@ pub fn lacks_memory(refusal: Refusal, is_same: bool) -> Result<()> {
     Err(anyhow!("refused {refusal}, as it was before: {is_same}"))
 }
 
-/// Sees the same of a call that may be refused by the disk, whose record can't grow.
+/// Checks the same of a call that may be refused by the disk, since the disk's record can't grow.
 pub fn is_refused(refusal: Refusal, is_same: bool) -> Result<()> {
     if is_same && refusal == Refusal::Device {
         return Ok(());

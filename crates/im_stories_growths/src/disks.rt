@@ -1,5 +1,5 @@
-//! Disks, images on them, and engines over these. Of a call that is refused the disk comes back: its bytes are the same
-//! where memory was wanted.
+//! Disks, images on them, and engines over these. If a call is refused, the disk comes back, and its bytes are the same
+//! if memory was wanted.
 
 use crate::asked::{asked, is_refused, lacks_memory, sum_of};
 use anyhow::{Result, anyhow};
@@ -10,7 +10,7 @@ use im_types::layout::image_length;
 use im_types::{Command, LAST, Limits, Refusal};
 use std::alloc::Global;
 
-// A disk of zero bytes.
+// Makes a disk of zero bytes.
 fn blank(alloc: Global, limits: Limits) -> Result<MemDisk> {
     let length = image_length(limits);
     match MemDisk::new(alloc, length) {
@@ -34,7 +34,7 @@ fn open(alloc: Global, disk: MemDisk) -> Result<Engine<FuseDisk>, (Refusal, Fuse
     Engine::open(alloc, FuseDisk::new(disk, LAST, Mode::Stop))
 }
 
-// What has to be made at the second time.
+// Returns the engine that has to be made the second time.
 fn engine_of(answer: Result<Engine<FuseDisk>, (Refusal, FuseDisk)>) -> Result<Engine<FuseDisk>> {
     match answer {
         Ok(engine) => Ok(engine),
@@ -42,7 +42,7 @@ fn engine_of(answer: Result<Engine<FuseDisk>, (Refusal, FuseDisk)>) -> Result<En
     }
 }
 
-// Formats a blank disk again: where memory was wanted no call of the disk was made.
+// Formats a blank disk again. If memory was wanted, no call of the disk was made.
 fn format_again(
     alloc: Global,
     refusal: Refusal,
@@ -58,7 +58,7 @@ fn format_again(
     }
 }
 
-/// A new image.
+/// Makes a new image.
 pub fn formatted(alloc: Global, limits: Limits) -> Result<Engine<FuseDisk>> {
     match blank(alloc, limits) {
         Ok(disk) => match format(alloc, disk, limits) {
@@ -69,7 +69,7 @@ pub fn formatted(alloc: Global, limits: Limits) -> Result<Engine<FuseDisk>> {
     }
 }
 
-// Opens an image again, whose bytes have to have this sum: an opening writes nothing, however it is refused.
+// Opens an image again. Its bytes have to have this sum: an opening writes nothing, however it is refused.
 fn open_again(
     alloc: Global,
     refusal: Refusal,
@@ -82,7 +82,7 @@ fn open_again(
     }
 }
 
-/// An image that is opened.
+/// Opens an image.
 pub fn opened(alloc: Global, disk: MemDisk) -> Result<Engine<FuseDisk>> {
     let sum = sum_of(disk.bytes());
     match open(alloc, disk) {
@@ -91,7 +91,7 @@ pub fn opened(alloc: Global, disk: MemDisk) -> Result<Engine<FuseDisk>> {
     }
 }
 
-// Whether an engine refuses all, since its disk has failed.
+// Returns whether an engine refuses everything, since its disk has failed.
 fn refuses_all(engine: &mut Engine<FuseDisk>) -> bool {
     let serves = engine.serve(&Command::Request(asked(0)));
     let turns = engine.turn();
@@ -102,7 +102,7 @@ fn refuses_all(engine: &mut Engine<FuseDisk>) -> bool {
         && asks == Err(Refusal::Failed)
 }
 
-/// Opens the disk of an engine that it has failed.
+/// Opens the disk of an engine that its disk has failed.
 pub fn opened_again(alloc: Global, engine: Engine<FuseDisk>) -> Result<Engine<FuseDisk>> {
     let mut engine = engine;
     let refuses = refuses_all(&mut engine);
@@ -114,7 +114,7 @@ pub fn opened_again(alloc: Global, engine: Engine<FuseDisk>) -> Result<Engine<Fu
     }
 }
 
-// The count and the room of an image.
+// Returns the count and the room of an image.
 fn look(alloc: Global, disk: &mut MemDisk) -> Result<(u64, u32), Refusal> {
     match inspect(alloc, disk) {
         Ok(report) => Ok((report.header.count.saturating_add(report.run), report.room)),
@@ -122,7 +122,7 @@ fn look(alloc: Global, disk: &mut MemDisk) -> Result<(u64, u32), Refusal> {
     }
 }
 
-/// The same, looked at again where it is refused.
+/// Returns the same, and looks again if that is refused.
 pub fn inspected(alloc: Global, disk: &mut MemDisk) -> Result<(u64, u32)> {
     let sum = sum_of(disk.bytes());
     match look(alloc, disk) {

@@ -1,5 +1,5 @@
-//! What engines do by themselves: requests, turns and runs. They take no memory, but for the answers of a run, so it is
-//! the disk that fails. Then the same one is opened again, and has what was answered, or one request more.
+//! What engines do by themselves: requests, turns and runs. They take no memory, except for the answers of a run, so it
+//! is the disk that fails. Then the same disk is opened again, and has what was answered, or one request more.
 
 use crate::asked::{ALL, add_answer, asked, has_first, lacks_memory, state_of};
 use crate::disks::opened_again;
@@ -13,7 +13,7 @@ use std::alloc::Global;
 // More turns than there are.
 const TURNS: u32 = 100;
 
-/// Serves requests from a place on up to another, or up to the first at which the disk fails: its place.
+/// Serves the requests from one place to another, up to the first at which the disk fails. Returns its place.
 pub fn serve_from(
     engine: &mut Engine<FuseDisk>,
     from: usize,
@@ -30,7 +30,7 @@ pub fn serve_from(
     Ok(upto)
 }
 
-// The engine where it has answered all that was to be.
+// Returns the engine if it has answered all that was to be answered.
 fn done(engine: Engine<FuseDisk>, many: usize) -> Result<Engine<FuseDisk>> {
     if has_first(&engine, many) {
         Ok(engine)
@@ -56,7 +56,7 @@ fn serve_opened(
     }
 }
 
-/// Serves the rest of the requests, from a place on up to another, where the disk has failed.
+/// Serves the rest of the requests, from one place to another, after the disk has failed.
 pub fn serve_again(
     alloc: Global,
     engine: Engine<FuseDisk>,
@@ -102,7 +102,7 @@ fn take_turns(engine: &mut Engine<FuseDisk>) -> Result<(), Refusal> {
     Err(Refusal::JournalFull)
 }
 
-// Takes turns again: those that were refused have changed no memory.
+// Takes turns again. The turns that were refused have changed no memory.
 fn turn_opened(engine: Engine<FuseDisk>) -> Result<Engine<FuseDisk>> {
     let mut engine = engine;
     if !has_first(&engine, ALL) {
@@ -130,7 +130,7 @@ pub fn turned(alloc: Global, engine: Engine<FuseDisk>) -> Result<Engine<FuseDisk
     }
 }
 
-/// All requests as events.
+/// Returns all requests as events.
 pub fn events(alloc: Global) -> Result<Vec<Event>> {
     let mut events = match Vec::with_capacity(alloc, ALL) {
         Ok(events) => events,
@@ -142,7 +142,7 @@ pub fn events(alloc: Global) -> Result<Vec<Event>> {
     Ok(events)
 }
 
-// Adds the answers of a run, up to the first at which the disk fails. How many they are.
+// Adds the answers of a run, up to the first at which the disk fails. Returns how many there are.
 fn add_answers(said: &mut String, answers: &[Answer]) -> Result<usize> {
     let mut at = 0usize;
     for answer in answers {
@@ -156,7 +156,7 @@ fn add_answers(said: &mut String, answers: &[Answer]) -> Result<usize> {
     Ok(at)
 }
 
-// Tells a run. What is left of it, where the disk has failed, is served.
+// Tells a run. If the disk has failed, the rest of the run is served.
 fn add_run(
     alloc: Global,
     engine: Engine<FuseDisk>,
@@ -175,7 +175,7 @@ fn add_run(
     }
 }
 
-// Runs events again, where their answers had no room: nothing was done.
+// Runs events again, if there was no room for their answers. Nothing was done then.
 fn run_again(
     alloc: Global,
     engine: Engine<FuseDisk>,

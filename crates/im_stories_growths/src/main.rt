@@ -1,6 +1,6 @@
-//! Calls that take memory, of which any one growth may be refused: the call answers `NoMemory`, all is as it was, and
-//! asked again it does what it does. Where it is the record of the disk in memory that can't grow, the call answers
-//! `Device`, and the same disk is opened again. So what is told here is the same, whichever growth is refused
+//! Calls that take memory, of which any one growth may be refused. The call then returns `NoMemory`, all is as it was,
+//! and when it is asked again it does its work. If it is the record of the disk in memory that can't grow, the call
+//! returns `Device`, and the same disk is opened again. So what is told here is the same, whichever growth is refused
 //! (`scripts/refuse-each-growth im_stories_growths`).
 #![tactic(auto)]
 
@@ -26,10 +26,10 @@ use im_types::{Limits, Refusal};
 use std::alloc::Global;
 use std::sync::Wait;
 
-// Room for what is told, so that none of it grows later.
+// Room for all that is told, so that none of it grows later.
 const ROOM: usize = 4_096;
 
-// Bytes, items or lines.
+// The number of bytes, items or lines that is too much.
 const TOO_MUCH: usize = 1 << 60;
 
 // Tells how many commands an engine has.
@@ -40,7 +40,7 @@ fn add_count(said: &mut String, engine: Engine<FuseDisk>) -> Result<Engine<FuseD
     }
 }
 
-// A new image and its requests, then a checkpoint of them.
+// Makes a new image and its requests, then a checkpoint of them.
 fn show_turned(alloc: Global, limits: Limits, said: &mut String) -> Result<Engine<FuseDisk>> {
     said.push_str("  served:")?;
     let engine = serve_first(alloc, formatted(alloc, limits)?, ALL, said)?;
@@ -49,7 +49,7 @@ fn show_turned(alloc: Global, limits: Limits, said: &mut String) -> Result<Engin
     Ok(engine)
 }
 
-// The same requests by one run.
+// Makes the same requests in one run.
 fn show_run(alloc: Global, limits: Limits, said: &mut String) -> Result<Engine<FuseDisk>> {
     said.push_str("  run:")?;
     let events = events(alloc)?;
@@ -57,7 +57,7 @@ fn show_run(alloc: Global, limits: Limits, said: &mut String) -> Result<Engine<F
     add_count(said, engine)
 }
 
-// What is found on the disk of an engine, and by an opening.
+// Shows what is found on the disk of an engine, and by an opening.
 fn show_opened(alloc: Global, engine: Engine<FuseDisk>, said: &mut String) -> Result<()> {
     let mut disk = engine.close().into_inner();
     let (count, room) = inspected(alloc, &mut disk)?;
@@ -68,7 +68,7 @@ fn show_opened(alloc: Global, engine: Engine<FuseDisk>, said: &mut String) -> Re
     Ok(())
 }
 
-// The same requests by ports, but for the one that makes the block.
+// Makes the same requests through ports, except for the one that makes the block.
 fn show_ports<R: Wait>(
     rt: &R,
     alloc: Global,
@@ -84,7 +84,7 @@ fn show_ports<R: Wait>(
     Ok(())
 }
 
-// What goes through a pipe.
+// Passes items through a pipe.
 fn pass<R: Wait>(rt: &R, inlet: Inlet<u64>, outlet: Outlet<u64>, said: &mut String) -> Result<()>
     requires { outlet.ended ≡ false }
 {
@@ -108,7 +108,7 @@ fn show_pipe<R: Wait>(rt: &R, alloc: Global, said: &mut String) -> Result<()> {
     }
 }
 
-// Ends a controller over a trace that can't be.
+// Ends a controller over a trace that can't be made.
 fn end_trace<R: Wait>(
     rt: &R,
     alloc: Global,
@@ -137,7 +137,7 @@ fn add_no_trace(
     Ok(())
 }
 
-// Asks for a trace that can't be, over an engine on a disk with this sum.
+// Asks for a trace that can't be made, over an engine on a disk with this sum.
 fn start_too_much<R: Wait>(
     rt: &R,
     alloc: Global,
@@ -160,7 +160,7 @@ fn show_no_trace<R: Wait>(rt: &R, alloc: Global, disk: MemDisk, said: &mut Strin
     }
 }
 
-// More than there can be is refused whenever it is asked for.
+// Asks for more than there can be, which is refused each time.
 fn show_too_much<R: Wait>(rt: &R, alloc: Global, limits: Limits, said: &mut String) -> Result<()> {
     said.push_str("  too much:")?;
     if let Err(refusal) = MemDisk::new(alloc, TOO_MUCH) {
@@ -173,7 +173,7 @@ fn show_too_much<R: Wait>(rt: &R, alloc: Global, limits: Limits, said: &mut Stri
     show_no_trace(rt, alloc, disk, said)
 }
 
-// Shows each call that takes memory, but for those of threads.
+// Shows each call that takes memory, except for those of threads.
 fn show<R: Wait>(rt: &R, alloc: Global, said: &mut String) -> Result<()> {
     let Some(limits) = Limits::new(4, 3, 16) else {
         return Err(anyhow!("these are no sizes"));

@@ -1,4 +1,4 @@
-//! A controller gets a name, and its ports are asked.
+//! Gives a controller a name, and asks its ports.
 
 ghost use Rattle.std.specs.Prelude.{◌≡◌};
 ghost use Rattle.im_controller.specs.Kept.{begun_in};
@@ -34,7 +34,7 @@ fn act_named<K: Name, R: Wait>(
     ask(rt, alloc, opening.named::<K>(), before, said)
 }
 
-/// Asks the ports of a controller of its own, over an engine that showed this.
+/// Makes a controller over an engine in this state, and asks its ports.
 pub fn act_on<R: Wait>(
     rt: &R,
     alloc: Global,

@@ -14,14 +14,14 @@ use std::sync::Wait;
 // How many lines a trace has room for.
 const LINES: usize = 8;
 
-// What ports were told: the place of the next request, and how many of the numbers they asked for weren't used.
+// What ports were told: the place of the next request, and how many of the numbers that they asked for weren't used.
 #[derive(Drop)]
 struct Told {
     next: usize,
     unused: usize,
 }
 
-// All requests but the first ones, as a plan.
+// Returns all requests but the first ones, as a plan.
 fn plan(alloc: Global) -> Result<Plan, Refusal> {
     let Ok(mut requests) = Vec::with_capacity(alloc, ALL) else {
         return Err(Refusal::NoMemory);
@@ -34,7 +34,7 @@ fn plan(alloc: Global) -> Result<Plan, Refusal> {
     Plan::new(alloc, requests)
 }
 
-// Makes room for a trace, under a plan or with none.
+// Makes room for a trace, under a plan or without one.
 fn begin<R: Wait>(
     rt: &R,
     alloc: Global,
@@ -83,7 +83,7 @@ pub fn begun<R: Wait>(
     }
 }
 
-// Asks a port for the request of a place.
+// Asks a port for the request at a place.
 fn submit<K: Name, R: Wait>(
     rt: &R,
     controller: &Controller<FuseDisk, K>,
@@ -97,7 +97,7 @@ fn submit<K: Name, R: Wait>(
     }
 }
 
-// Asks again, where there was no memory: the number isn't used, and that is a line.
+// Asks again if there was no memory. The number isn't used, and that is a line.
 fn submit_again<K: Name, R: Wait>(
     rt: &R,
     controller: &Controller<FuseDisk, K>,
@@ -114,7 +114,7 @@ fn submit_again<K: Name, R: Wait>(
     Ok(submit(rt, controller, port, told.next)?)
 }
 
-// Sees that nothing is answered any more where the disk has failed.
+// Checks that nothing is answered any longer after the disk has failed.
 fn is_over<K: Name, R: Wait>(
     rt: &R,
     controller: &Controller<FuseDisk, K>,
@@ -127,7 +127,7 @@ fn is_over<K: Name, R: Wait>(
     }
 }
 
-// Asks a port for the next request. Whether it was answered: else the disk has failed.
+// Asks a port for the next request. Returns whether it was answered; if not, the disk has failed.
 fn ask_port<K: Name, R: Wait>(
     rt: &R,
     controller: &Controller<FuseDisk, K>,
@@ -181,7 +181,7 @@ fn ask_ports<K: Name, R: Wait>(
     Ok(())
 }
 
-// What an engine shows behind so many requests more, of which each makes four calls of the disk.
+// Returns the state of an engine after `many` more requests, each of which makes four calls of the disk.
 fn after(before: State, many: usize) -> State {
     let commands = many as u64;
     State {
@@ -192,8 +192,8 @@ fn after(before: State, many: usize) -> State {
     }
 }
 
-// Sees what a controller has come to. There is a line for each request that was answered, and for each number that
-// wasn't used, and no other; where the disk has failed the same one is opened again, and asked for the rest.
+// Checks the result of a controller. It has a line for each request that was answered and for each number that wasn't
+// used, and no other. If the disk has failed, the same disk is opened again and asked for the rest.
 fn see_end(
     alloc: Global,
     ended: Finished<FuseDisk>,
@@ -217,7 +217,7 @@ fn see_end(
     }
 }
 
-/// Asks ports for the requests behind the first, over an engine that showed this.
+/// Asks ports for the requests after the first, over an engine in this state.
 pub fn ask<K: Name, R: Wait>(
     rt: &R,
     alloc: Global,

@@ -1,11 +1,11 @@
-//! A disk of which no proof knows what it holds, so that a story may put any bytes on it.
+//! A disk whose contents no proof knows, so that a story may put any bytes on it.
 ghost use Rattle.std.specs.Prelude.{[], ◌≤◌};
 ghost use Rattle.im_disk.specs.Moment.{Rises};
 
 use im_disk::{Crash, DeviceFault, Disk, FuseDisk, MemDisk, Mode};
 use im_types::LAST;
 
-/// A disk in memory over a fuse. A range past its end is a fault, and no call of the disk beneath.
+/// A disk in memory over a fuse. A range past its end is a fault, and makes no call of the disk beneath.
 #[derive(Drop)]
 pub struct Blind {
     disk: FuseDisk,
@@ -13,12 +13,12 @@ pub struct Blind {
 }
 
 impl Blind {
-    /// A disk all of whose calls pass.
+    /// Makes a disk all of whose calls pass.
     pub fn new(disk: MemDisk) -> Blind {
         Blind::fused(disk, LAST, Mode::Stop)
     }
 
-    /// A disk that passes so many calls, and then fails as the mode says.
+    /// Makes a disk that passes the given number of calls, and then fails as the mode says.
     pub fn fused(disk: MemDisk, passes: u64, mode: Mode) -> Blind {
         Blind {
             disk: FuseDisk::new(disk, passes, mode),
@@ -26,17 +26,17 @@ impl Blind {
         }
     }
 
-    /// The disk with no fuse.
+    /// Returns the disk without a fuse.
     pub fn into_inner(self) -> MemDisk {
         self.disk.into_inner()
     }
 
-    /// The disk after a crash of this kind, all of whose calls pass.
+    /// Returns the disk after a crash of this kind. All its calls pass.
     pub fn crash(self, crash: Crash) -> Blind {
         Blind::new(self.into_inner().crash(crash))
     }
 
-    /// How many calls there were since the fuse was set.
+    /// Returns how many calls there were since the fuse was set.
     pub fn calls(&self) -> u64 {
         self.disk.calls()
     }

@@ -1,9 +1,9 @@
-//! Bytes, in words and in answers: two hex digits each; eight or more of one byte in a row are `00*8`.
+//! Bytes, in words and in answers. A byte is two hex digits; eight or more equal bytes in a row are `00*8`.
 
 use anyhow::{Result, anyhow};
 use std::alloc::{AllocError, Global};
 
-/// A byte, by two hex digits.
+/// Reads a byte: two hex digits.
 pub fn hex_byte(word: &str) -> Result<u8> {
     match u8::from_str_radix(word, 16) {
         Ok(byte) => Ok(byte),
@@ -11,7 +11,7 @@ pub fn hex_byte(word: &str) -> Result<u8> {
     }
 }
 
-/// Bytes, by two hex digits each.
+/// Reads bytes: two hex digits each.
 pub fn hex_bytes(alloc: Global, words: &[&str]) -> Result<Vec<u8>> {
     let mut bytes = Vec::new(alloc);
     for word in words {
@@ -20,7 +20,7 @@ pub fn hex_bytes(alloc: Global, words: &[&str]) -> Result<Vec<u8>> {
     Ok(bytes)
 }
 
-// The same byte, so many times.
+// Adds the same byte, `count` times.
 fn add_run(said: &mut String, byte: u8, count: usize) -> Result<(), AllocError> {
     if count >= 8 {
         return write!(said, "{byte:02x}*{count} ");

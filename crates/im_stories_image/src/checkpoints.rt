@@ -2,7 +2,7 @@
 //!
 //! ```text
 //! checkpoint CELLS ELEMENTS SLOTS    an empty memory, a new journal, and no checkpoint yet
-//! serve COMMAND                  puts the command on the disk, and then it acts
+//! serve COMMAND                  puts the command on the disk; then it acts
 //! turn                           a turn of the checkpoint
 //! ```
 ghost use Rattle.std.specs.Prelude.{◌≡◌};
@@ -40,7 +40,7 @@ impl Model for Kept {
 }
 
 impl Kept {
-    // An empty memory, a new journal and no checkpoint, of an image of generation 1.
+    // Makes an empty memory, a new journal and no checkpoint, of an image of generation 1.
     fn new(alloc: Global, limits: Limits) -> Result<Kept, Refusal> {
         let header = Header {
             version: VERSION,
@@ -56,12 +56,12 @@ impl Kept {
         })
     }
 
-    /// The journal.
+    /// Returns the journal.
     pub fn journal(&self) -> &Journal {
         &self.journal
     }
 
-    // Puts a command on the disk, and then it acts.
+    // Puts a command on the disk. Then it acts.
     fn serve(&mut self, disk: &mut Blind, command: &Command) -> Result<Outcome, Refusal> {
         self.journal.append(disk, command)?;
         self.checkpoint.before(&self.memory, command);
@@ -85,7 +85,7 @@ fn add_turn(said: &mut String, answer: Result<TurnDone, Refusal>) -> Result<(), 
     }
 }
 
-// The disk, and what goes to it.
+// Returns the disk, and what goes to it.
 fn both(here: &mut Place) -> Result<(&mut Blind, &mut Kept)> {
     match (&mut here.disk, &mut here.kept) {
         (Some(disk), Some(kept)) => Ok((disk, kept)),
@@ -93,7 +93,7 @@ fn both(here: &mut Place) -> Result<(&mut Blind, &mut Kept)> {
     }
 }
 
-/// Makes a call on the checkpoint. Whether the words name one.
+/// Makes a call on the checkpoint. Returns whether the words name one.
 pub fn tell_of_checkpoint(
     alloc: Global,
     here: &mut Place,

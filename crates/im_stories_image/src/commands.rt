@@ -1,9 +1,9 @@
-//! Commands, in the words by which they are told.
+//! Commands, in the words of a story.
 
 use im_types::{Block, Command, Kind, Op};
 use std::alloc::AllocError;
 
-/// The letter of a kind of cells.
+/// Returns the letter of a kind of cells.
 pub fn letter(kind: Kind) -> char {
     match kind {
         Kind::I => 'i',

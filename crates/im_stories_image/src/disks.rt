@@ -1,15 +1,15 @@
 //! Calls on a disk in memory.
 //!
 //! ```text
-//! disk N                         a new one, of so many zero bytes
-//! fuse stop|once N, fuse scar N BYTE     from now on it passes so many calls, and then fails
+//! disk N                         a new disk, of N zero bytes
+//! fuse stop|once N, fuse scar N BYTE     from now on it passes N calls, and then fails
 //! read AT N, write AT BYTE.., sync, length
 //! fail write AT N [BYTE], fail sync      a call that fails, and may leave a byte all over its range
-//! gate AT a5 BYTE..              writes the bytes, of which the first is an open gate, behind it
+//! gate AT a5 BYTE..              writes the bytes, the first of which is an open gate, behind it
 //! gate AT                        opens a gate
 //! six calls                      a dot for each that passed, and an x for each that failed
 //! crash KIND                     a crash: kept, lost, or a byte
-//! bytes, calls                   all bytes, with no call and no fuse from then on; how many calls there were
+//! bytes, calls                   all bytes, with no call, and no fuse from then on; how many calls there were
 //! ```
 
 use crate::blind::Blind;
@@ -39,7 +39,7 @@ fn mode(words: &[&str]) -> Result<(Mode, u64)> {
     }
 }
 
-// The disk with no fuse, to be put back.
+// Takes the disk without its fuse, to be put back.
 fn taken(here: &mut Place) -> Result<MemDisk> {
     match here.disk.take() {
         Some(disk) => Ok(disk.into_inner()),
@@ -65,7 +65,7 @@ fn fuse(here: &mut Place, words: &[&str]) -> Result<()> {
     Ok(())
 }
 
-// What is read there, or that the call failed.
+// Tells what is read there, or that the call failed.
 fn read(alloc: Global, disk: &mut Blind, at: usize, count: usize, said: &mut String) -> Result<()> {
     let mut bytes = vec![in alloc; 0; count]?;
     match disk.read(at, &mut bytes) {
@@ -75,7 +75,7 @@ fn read(alloc: Global, disk: &mut Blind, at: usize, count: usize, said: &mut Str
     Ok(())
 }
 
-// A write that fails.
+// Makes a write that fails.
 fn fail_write(here: &mut Place, at: usize, count: usize, byte: Option<u8>) -> Result<()> {
     let mut disk = taken(here)?;
     let size = disk.bytes().len();
@@ -87,7 +87,7 @@ fn fail_write(here: &mut Place, at: usize, count: usize, byte: Option<u8>) -> Re
     Ok(())
 }
 
-// A sync that fails.
+// Makes a sync that fails.
 fn fail_sync(here: &mut Place) -> Result<()> {
     let mut disk = taken(here)?;
     disk.fail_call();
@@ -95,7 +95,7 @@ fn fail_sync(here: &mut Place) -> Result<()> {
     Ok(())
 }
 
-// All bytes of the disk.
+// Tells all bytes of the disk.
 fn bytes(here: &mut Place, said: &mut String) -> Result<()> {
     let disk = taken(here)?;
     add_bytes(said, disk.bytes())?;
@@ -107,7 +107,7 @@ fn letter(failed: bool) -> char {
     if failed { 'x' } else { '.' }
 }
 
-// A write of 1 at 0, a read, a sync, a write of 2 at 1, a read and a sync: a letter for each.
+// Makes a write of 1 at 0, a read, a sync, a write of 2 at 1, a read and a sync. Tells a letter for each.
 fn six_calls(disk: &mut Blind, said: &mut String) -> Result<(), AllocError> {
     let mut buf = [0];
     said.push(letter(disk.write_at(0, &[1]).is_err()))?;
@@ -118,7 +118,7 @@ fn six_calls(disk: &mut Blind, said: &mut String) -> Result<(), AllocError> {
     said.push(letter(disk.sync().is_err()))
 }
 
-// The bytes behind their gate, the first of them.
+// Writes the bytes behind their gate, which is the first of them.
 fn gate(disk: &mut Blind, at: usize, bytes: &[u8], said: &mut String) -> Result<()> {
     if at == usize::MAX {
         return Err(anyhow!("that is past the end"));
@@ -137,7 +137,7 @@ fn length(disk: &mut Blind, said: &mut String) -> Result<(), AllocError> {
     }
 }
 
-// Calls that fail, and what becomes of the disk by other hands.
+// Makes calls that fail, and lets the disk change by other hands.
 fn tell_of_fate(here: &mut Place, words: &[&str], said: &mut String) -> Result<bool> {
     match words {
         ["fuse", rest @ ..] => fuse(here, rest)?,
@@ -154,7 +154,7 @@ fn tell_of_fate(here: &mut Place, words: &[&str], said: &mut String) -> Result<b
     Ok(true)
 }
 
-/// Makes a call on the disk. Whether the words name one.
+/// Makes a call on the disk. Returns whether the words name one.
 pub fn tell_of_disk(
     alloc: Global,
     here: &mut Place,

@@ -1,9 +1,9 @@
-//! Calls that try many bytes or many lengths on an image, and tell what each inspection answers, those with one answer
-//! together.
+//! Calls that try many bytes or many lengths on an image. They tell what each inspection answers; cases in a row with
+//! one answer are told together.
 //!
 //! ```text
 //! values AT, values AT to AT     each of the 256 values of a byte, of each of these bytes in turn
-//! lengths to N                   each length from 0 on, cut from the image or longer by zeros
+//! lengths to N                   each length from 0 on, cut from the image, or made longer by zeros
 //! ```
 
 use crate::blind::Blind;
@@ -17,7 +17,7 @@ use im_story::place;
 use im_types::Refusal;
 use std::alloc::{AllocError, Global};
 
-// The first and the last of some cases in a row that have one answer: no refusal where the image is told.
+// The first and the last of some cases in a row that have one answer. It has no refusal if the image is told.
 #[derive(Drop)]
 struct Row {
     from: usize,
@@ -48,7 +48,7 @@ impl Row {
         }
     }
 
-    // The next case. Another answer begins another row.
+    // Adds the next case. Another answer begins another row.
     fn next(
         &mut self,
         at: usize,
@@ -78,7 +78,7 @@ fn refusal_with(alloc: Global, disk: &mut Blind, at: usize, value: u8) -> Result
     Ok(refusal_of(alloc, disk))
 }
 
-// What each value of a byte is answered.
+// Returns the answers for each value of a byte.
 fn answers(alloc: Global, disk: &mut Blind, at: usize) -> Result<String> {
     let mut said = String::new(alloc);
     let old = byte_at(disk, at)?;
@@ -97,7 +97,7 @@ fn answers(alloc: Global, disk: &mut Blind, at: usize) -> Result<String> {
     Ok(said)
 }
 
-// The same for each of some bytes: once, where all have the same answers.
+// Tells the same for each of some bytes, and only once if all have the same answers.
 fn values(
     alloc: Global,
     disk: &mut Blind,
@@ -125,7 +125,7 @@ fn refusal_of_bytes(alloc: Global, bytes: &[u8], length: usize) -> Result<Option
     Ok(refusal_of(alloc, &mut disk))
 }
 
-// What an image of each length is answered.
+// Tells the answers for an image of each length.
 fn lengths(alloc: Global, disk: &mut Blind, upto: usize, said: &mut String) -> Result<()> {
     let mut bytes = all_bytes(alloc, disk)?;
     if bytes.len() < upto {
@@ -146,7 +146,7 @@ fn lengths(alloc: Global, disk: &mut Blind, upto: usize, said: &mut String) -> R
     Ok(())
 }
 
-/// Tries many bytes or lengths. Whether the words name such a call.
+/// Tries many bytes or lengths. Returns whether the words name such a call.
 pub fn tell_of_faults(
     alloc: Global,
     here: &mut Place,

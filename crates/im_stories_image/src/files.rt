@@ -1,13 +1,13 @@
-//! Calls on files of the folder that the program runs in.
+//! Calls on files of the folder in which the program runs.
 //!
 //! ```text
-//! folder NAME, remove NAME       an empty folder, also where there was one; away with it and all that is in it
+//! folder NAME, remove NAME       an empty folder, also if there was one; removes it with all that is in it
 //! put PATH TEXT..                a file with this text, by other hands
-//! create PATH N                  makes a file of so many zero bytes, and opens it
-//! create new PATH N              the same where nothing has that name
+//! create PATH N                  makes a file of N zero bytes, and opens it
+//! create new PATH N              the same, if nothing has that name
 //! open PATH, open PATH to read   opens a file
 //! file read AT N, file write AT BYTE.., file sync, file length, file close
-//! file failure                   what is told to have failed first
+//! file failure                   what is said to have failed first
 //! file gone PATH                 takes the file's name away, and closes it
 //! ```
 ghost use Rattle.std.specs.Prelude.{◌≡◌, ◌+◌, ◌≤◌, true, length};
@@ -38,7 +38,7 @@ impl Opened {
         }
     }
 
-    // Whether a range lay inside the file when it was opened.
+    // Returns whether a range lay inside the file when it was opened.
     fn has(&self, at: usize, count: usize) -> bool
         ensures { result ≡ true → at + count ≤ self.now.size }
     {
@@ -87,19 +87,19 @@ impl Opened {
     }
 }
 
-/// The file that is open.
+/// The file that is open, if there is one.
 #[derive(Drop)]
 pub struct Files {
     open: Option<Opened>,
 }
 
 impl Files {
-    /// None is.
+    /// Starts with no file open.
     pub fn new() -> Files {
         Files { open: None }
     }
 
-    // Where it isn't opened, the one that was open stays so.
+    // Takes the file that was opened. If none was, tells why, and the file that was open before stays open.
     fn take(
         &mut self,
         made: Result<FileDisk<Unknown>, OpenFault>,
@@ -118,7 +118,7 @@ impl Files {
         Ok(())
     }
 
-    // Takes the name of the file that is open away.
+    // Takes away the name of the file that is open.
     fn remove(&mut self, rt: &HostRuntime, path: &str, said: &mut String) -> Result<()> {
         match self.open.take() {
             Some(opened) => match opened.disk.remove(rt, path) {
@@ -139,14 +139,14 @@ impl Files {
     }
 }
 
-// An empty folder.
+// Makes an empty folder.
 fn make_folder(rt: &HostRuntime, name: &str) -> Result<()> {
     let _ = fs::remove_dir_all(rt, name);
     fs::create_dir(rt, name)?;
     Ok(())
 }
 
-// A file with this text.
+// Makes a file with this text.
 fn put(rt: &HostRuntime, path: &str, words: &[&str]) -> Result<()> {
     let mut text = String::new(rt.alloc());
     for word in words {
@@ -159,7 +159,7 @@ fn put(rt: &HostRuntime, path: &str, words: &[&str]) -> Result<()> {
     Ok(())
 }
 
-// What other hands do to the folder.
+// Does to the folder what other hands do.
 fn tell_of_folders(rt: &HostRuntime, words: &[&str], said: &mut String) -> Result<bool> {
     match words {
         ["folder", name] => make_folder(rt, name)?,
@@ -171,7 +171,7 @@ fn tell_of_folders(rt: &HostRuntime, words: &[&str], said: &mut String) -> Resul
     Ok(true)
 }
 
-// Calls on the file that is open.
+// Makes a call on the file that is open.
 fn tell_of_file(
     alloc: Global,
     file: &mut Opened,
@@ -192,7 +192,7 @@ fn tell_of_file(
     Ok(true)
 }
 
-/// Makes a call on files. Whether the words name one.
+/// Makes a call on files. Returns whether the words name one.
 pub fn tell_of_files(
     rt: &HostRuntime,
     files: &mut Files,

@@ -3,8 +3,8 @@
 //! ```text
 //! layout CELLS ELEMENTS SLOTS    the pages of an area, where the journal begins, and the length
 //! image CELLS ELEMENTS SLOTS     a new image on a disk of its own
-//! old layout .., old image ..    the same by the first version of the layout; the header of the image is in force
-//! cut N                          a disk with the first bytes of the disk
+//! old layout .., old image ..    the same by the first version of the layout; the image's header is in force
+//! cut N                          a disk with the first N bytes of the disk
 //! header AREA GENERATION COUNT CELLS ELEMENTS SLOTS    spells a header in its place
 //! header at AREA                 the header that stands there behind its gate
 //! in force                       the header in force, or the first fault of the length and the headers
@@ -28,7 +28,7 @@ use im_types::layout::Version;
 use im_types::{Limits, Refusal};
 use std::alloc::{AllocError, Global};
 
-/// A disk with these bytes.
+/// Makes a disk with these bytes.
 pub fn disk_of(alloc: Global, bytes: &[u8]) -> Result<MemDisk, Refusal> {
     let mut disk = MemDisk::new(alloc, bytes.len())?;
     disk.write_at(0, bytes)?;
@@ -41,7 +41,7 @@ fn layout(version: Version, limits: Limits, said: &mut String) -> Result<(), All
     write!(said, "{pages} pages, journal at {at}, {length} bytes")
 }
 
-// An image on a disk of its own.
+// Makes an image on a disk of its own.
 fn image(
     alloc: Global,
     here: &mut Place,
@@ -56,7 +56,7 @@ fn image(
     Ok(())
 }
 
-/// All bytes of the disk, by a read.
+/// Reads all bytes of the disk.
 pub fn all_bytes(alloc: Global, disk: &mut Blind) -> Result<Vec<u8>> {
     let Ok(length) = disk.len() else {
         return Err(anyhow!("the length can't be read"));
@@ -78,7 +78,7 @@ fn cut(alloc: Global, here: &mut Place, length: usize, said: &mut String) -> Res
     Ok(())
 }
 
-// Where the header of an area stands.
+// Returns where the header of an area stands.
 fn header_at(area: u8) -> Result<usize> {
     match area {
         0 => Ok(0),
@@ -119,7 +119,7 @@ fn add_header(said: &mut String, header: Header) -> Result<(), AllocError> {
     write!(said, "sizes {cells} {elements} {slots}")
 }
 
-// The header that stands behind the gate of an area's place.
+// Tells the header that stands behind the gate of an area's place.
 fn header_behind_gate(disk: &mut Blind, area: u8, said: &mut String) -> Result<()> {
     let mut bytes = [0; 64];
     let Ok(()) = disk.read(header_at(area)?, &mut bytes) else {
@@ -139,7 +139,7 @@ fn header_in_force(disk: &mut Blind, said: &mut String) -> Result<(), AllocError
     }
 }
 
-// What an image means by its header, its run and its room.
+// Adds what an image means: its header, its run and its room.
 fn add_meaning(said: &mut String, header: &Header, run: u64, room: u32) -> Result<(), AllocError> {
     let (generation, count) = (header.generation, header.count);
     write!(
@@ -148,7 +148,7 @@ fn add_meaning(said: &mut String, header: &Header, run: u64, room: u32) -> Resul
     )
 }
 
-// What the image means. The memory is the one that is told of from then on.
+// Tells what the image means. From then on the story is about its memory.
 fn inspected(alloc: Global, here: &mut Place, said: &mut String) -> Result<()> {
     match inspect(alloc, here.disk()?) {
         Ok(report) => {
@@ -160,7 +160,7 @@ fn inspected(alloc: Global, here: &mut Place, said: &mut String) -> Result<()> {
     Ok(())
 }
 
-// The same of an image that is to be opened.
+// Tells the same of an image that is to be opened.
 fn opened(alloc: Global, here: &mut Place, said: &mut String) -> Result<()> {
     match read_to_open(alloc, here.disk()?) {
         Ok(image) => {
@@ -173,7 +173,7 @@ fn opened(alloc: Global, here: &mut Place, said: &mut String) -> Result<()> {
     Ok(())
 }
 
-/// The pages of a memory, over bytes that are none of theirs; nothing where it is of other sizes.
+/// Returns the pages of a memory, written over other bytes. It is an error if the memory has other sizes.
 pub fn area_of(alloc: Global, memory: &Memory, limits: Limits) -> Result<Vec<u8>> {
     let mut area = vec![in alloc; 0xEE; PAGE * area_pages(limits)]?;
     if memory.cells() != limits.cells || memory.elements() != limits.elements {
@@ -200,7 +200,7 @@ fn put_pages(alloc: Global, here: &mut Place, number: u8, said: &mut String) -> 
     Ok(())
 }
 
-// Calls on headers.
+// Makes calls on headers.
 fn tell_of_headers(here: &mut Place, words: &[&str], said: &mut String) -> Result<bool> {
     match words {
         ["header", "at", of] => header_behind_gate(here.disk()?, area(of)?, said)?,
@@ -221,7 +221,7 @@ fn tell_of_headers(here: &mut Place, words: &[&str], said: &mut String) -> Resul
     Ok(true)
 }
 
-/// Makes a call on the image. Whether the words name one.
+/// Makes a call on the image. Returns whether the words name one.
 pub fn tell_of_image(
     alloc: Global,
     here: &mut Place,

@@ -1,7 +1,7 @@
 //! Calls on a journal.
 //!
 //! ```text
-//! journal CELLS ELEMENTS SLOTS   a new one, of an image of these sizes
+//! journal CELLS ELEMENTS SLOTS   a new journal, of an image of these sizes
 //! append COMMAND, append fetches 1 to N    the second: element 0 fetches cell 0, by its requests 1 to N
 //! group COMMAND and COMMAND ..   appends them as one group
 //! tail FROM, old tail FROM       reads the run from this count on; the second, of an image of the first version
@@ -11,7 +11,7 @@
 //! sweep                          a turn of the sweep: how many gates it closed
 //! slot S COMMAND, body S COMMAND puts the slot of a command in its place by hand, or all of it but the gate
 //! old slot S COMMAND             the same in an image of the first version
-//! spell S COMMAND                its code, and whether it is read of it again
+//! spell S COMMAND                its code, and whether the same command is read from it
 //! ```
 
 use crate::blind::Blind;
@@ -40,7 +40,7 @@ pub fn add_done(said: &mut String, answer: Result<(), Refusal>) -> Result<(), Al
     }
 }
 
-// The disk and the journal.
+// Returns the disk and the journal.
 fn both(here: &mut Place) -> Result<(&mut Blind, &mut Journal)> {
     match (&mut here.disk, &mut here.journal) {
         (Some(disk), Some(journal)) => Ok((disk, journal)),
@@ -54,7 +54,7 @@ fn append(here: &mut Place, command: &Command, said: &mut String) -> Result<()> 
     Ok(())
 }
 
-// Element 0 fetches cell 0, by its requests 1 to so many.
+// Lets element 0 fetch cell 0, by its requests 1 to `upto`.
 fn append_fetches(here: &mut Place, upto: u64, said: &mut String) -> Result<()> {
     let (disk, journal) = both(here)?;
     for number in 0..upto {
@@ -72,7 +72,7 @@ fn append_fetches(here: &mut Place, upto: u64, said: &mut String) -> Result<()> 
     Ok(())
 }
 
-// Commands, with `and` between them.
+// Reads commands with `and` between them.
 fn several(alloc: Global, words: &[&str]) -> Result<Vec<Command>> {
     let mut commands = Vec::new(alloc);
     for part in words.split(|word| *word == "and") {
@@ -143,7 +143,7 @@ fn sweep(here: &mut Place, said: &mut String) -> Result<()> {
     Ok(())
 }
 
-// Puts what stands from this byte on in the slot of a command in its place.
+// Puts the bytes of a command's slot, from this one on, in its place.
 fn put_slot(
     here: &mut Place,
     version: Version,
@@ -163,7 +163,7 @@ fn put_slot(
     Ok(())
 }
 
-// The code in the slot of a command, and whether the same command is read of it again.
+// Tells the code in a command's slot, and whether the same command is read from it.
 fn spelled(sequence: u64, words: &[&str], said: &mut String) -> Result<()> {
     let command = command(words)?;
     let slot = spell(&command, sequence);
@@ -177,7 +177,7 @@ fn spelled(sequence: u64, words: &[&str], said: &mut String) -> Result<()> {
     Ok(())
 }
 
-// What a journal knows of itself.
+// Tells what a journal knows of itself.
 fn tell_of_counts(journal: &Journal, words: &[&str], said: &mut String) -> Result<bool> {
     match words {
         ["first"] => {
@@ -201,7 +201,7 @@ fn tell_of_counts(journal: &Journal, words: &[&str], said: &mut String) -> Resul
     Ok(true)
 }
 
-// Calls on slots by themselves.
+// Makes calls on single slots.
 fn tell_of_slots(here: &mut Place, words: &[&str], said: &mut String) -> Result<bool> {
     match words {
         ["slot", sequence, rest @ ..] => {
@@ -223,7 +223,7 @@ fn tell_of_slots(here: &mut Place, words: &[&str], said: &mut String) -> Result<
     Ok(true)
 }
 
-/// Sizes that there may be.
+/// Reads sizes that are allowed.
 pub fn sizes(cells: &str, elements: &str, slots: &str) -> Result<Limits> {
     match Limits::new(address(cells)?, element(elements)?, address(slots)?) {
         Some(limits) => Ok(limits),
@@ -231,7 +231,7 @@ pub fn sizes(cells: &str, elements: &str, slots: &str) -> Result<Limits> {
     }
 }
 
-/// Makes a call on the journal. Whether the words name one.
+/// Makes a call on the journal. Returns whether the words name one.
 pub fn tell_of_journal(
     alloc: Global,
     here: &mut Place,

@@ -1,8 +1,8 @@
-//! Calls on a memory: one that was made, or one that was read of an image.
+//! Calls on a memory that was made or was read from an image.
 //!
 //! ```text
 //! memory CELLS ELEMENTS SLOTS    an empty one
-//! step COMMAND                   what it answers
+//! step COMMAND                   its answer
 //! block A, waiting A             the block that a cell lies in, and who waits at it
 //! collect NAME, window ELEMENT   what is kept
 //! walk TURNS EVERY               a random walk: see walks.rt
@@ -24,7 +24,7 @@ fn make(alloc: Global, here: &mut Place, limits: Limits) -> Result<()> {
     Ok(())
 }
 
-// Who waits at a cell, in their order.
+// Tells who waits at a cell, in order.
 fn waiting(memory: &Memory, a: u32, said: &mut String) -> Result<(), AllocError> {
     for at in 0..4_097usize {
         let Some(waiter) = memory.waiter(a, at) else {
@@ -50,7 +50,7 @@ fn tell_of_contents(memory: &Memory, words: &[&str], said: &mut String) -> Resul
     Ok(true)
 }
 
-/// Makes a call on the memory. Whether the words name one.
+/// Makes a call on the memory. Returns whether the words name one.
 pub fn tell_of_memory(
     alloc: Global,
     here: &mut Place,

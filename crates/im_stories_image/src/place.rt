@@ -1,4 +1,4 @@
-//! What stands in memory: a disk, and what was made of it or is to be put on it.
+//! What is in memory: a disk, and what was made of it or is to be put on it.
 
 use crate::blind::Blind;
 use crate::checkpoints::{Kept, tell_of_checkpoint};
@@ -15,24 +15,24 @@ use im_memory::Memory;
 use im_types::{Command, Limits};
 use std::alloc::Global;
 
-/// What the calls of a story are made on.
+/// What the calls of a story act on.
 #[derive(Drop)]
 pub struct Place {
     /// The disk.
     pub disk: Option<Blind>,
-    /// The sizes of the image that is on it, or is to be.
+    /// The sizes of the image that is on the disk, or is to be.
     pub limits: Option<Limits>,
-    /// The journal, and the commands that were read of it last.
+    /// The journal, and the commands that were last read from it.
     pub journal: Option<Journal>,
     pub commands: Option<Vec<Command>>,
-    /// The memory that was made, or was read last.
+    /// The memory that was made or last read.
     pub memory: Option<Memory>,
-    /// A memory with its journal, which go to the disk by a checkpoint.
+    /// A memory with its journal. A checkpoint puts them on the disk.
     pub kept: Option<Kept>,
 }
 
 impl Place {
-    /// Nothing yet.
+    /// Starts with nothing.
     pub fn new() -> Place {
         Place {
             disk: None,
@@ -44,7 +44,7 @@ impl Place {
         }
     }
 
-    /// The disk.
+    /// Returns the disk.
     pub fn disk(&mut self) -> Result<&mut Blind> {
         match &mut self.disk {
             Some(disk) => Ok(disk),
@@ -52,7 +52,7 @@ impl Place {
         }
     }
 
-    /// The journal: of the memory that goes to the disk by a checkpoint, if there is one.
+    /// Returns the journal. It is that of the memory with a checkpoint, if there is one.
     pub fn journal(&self) -> Option<&Journal> {
         match &self.kept {
             Some(kept) => Some(kept.journal()),
@@ -60,7 +60,7 @@ impl Place {
         }
     }
 
-    /// The sizes.
+    /// Returns the sizes.
     pub fn limits(&self) -> Result<Limits> {
         match self.limits {
             Some(limits) => Ok(limits),
@@ -68,7 +68,7 @@ impl Place {
         }
     }
 
-    /// The disk crashes.
+    /// Lets the disk crash.
     pub fn crash(&mut self, crash: Crash) -> Result<()> {
         match self.disk.take() {
             Some(disk) => {
@@ -79,7 +79,7 @@ impl Place {
         }
     }
 
-    // Makes a call, and tells what it answers.
+    // Makes a call, and tells its answer.
     fn act(&mut self, alloc: Global, words: &[&str], said: &mut String) -> Result<()> {
         if tell_of_disk(alloc, self, words, said)?
             || tell_of_journal(alloc, self, words, said)?
@@ -93,8 +93,7 @@ impl Place {
         Err(anyhow!("that is no call"))
     }
 
-    /// Makes a call, and tells what it answers. By `with AT:BYTE .. CALL` these bytes are on the disk for this call
-    /// alone.
+    /// Makes a call, and tells its answer. With `with AT:BYTE .. CALL` these bytes are on the disk for this call alone.
     pub fn tell(&mut self, alloc: Global, words: &[&str], said: &mut String) -> Result<()> {
         let ["with", rest @ ..] = words else {
             return self.act(alloc, words, said);

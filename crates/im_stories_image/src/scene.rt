@@ -1,4 +1,4 @@
-//! The scene of the stories: a place in memory, and files of the folder that the program runs in.
+//! The scene of the stories: a place in memory, and files of the folder in which the program runs.
 
 use crate::files::{Files, tell_of_files};
 use crate::place::Place;
@@ -7,7 +7,7 @@ use anyhow::Result;
 use im_story::Scene;
 use std::alloc::Global;
 
-/// What stories of an image are told of.
+/// What stories of an image are about.
 #[derive(Drop)]
 pub struct Images<'r> {
     rt: &'r HostRuntime,
@@ -18,7 +18,7 @@ pub struct Images<'r> {
 }
 
 impl<'r> Images<'r> {
-    /// Nothing has happened yet.
+    /// Starts with nothing done.
     pub fn new(rt: &'r HostRuntime) -> Images<'r> {
         Images {
             rt,
@@ -28,7 +28,7 @@ impl<'r> Images<'r> {
         }
     }
 
-    // Another place, where the same calls were made.
+    // Makes another place, on which the same calls were made.
     fn again(&self, alloc: Global) -> Result<Place> {
         let mut place = Place::new();
         let mut said = String::new(alloc);
@@ -39,7 +39,7 @@ impl<'r> Images<'r> {
         Ok(place)
     }
 
-    // Keeps a call, to make it again.
+    // Keeps a call, so that it can be made again.
     fn keep(&mut self, alloc: Global, words: &[&str]) -> Result<()> {
         let mut line = String::new(alloc);
         for word in words {

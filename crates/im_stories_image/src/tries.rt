@@ -1,4 +1,4 @@
-//! What would be, if: a crash, or other bytes on the disk.
+//! Trials: a crash, or other bytes on the disk.
 
 use crate::blind::Blind;
 use crate::bytes::hex_byte;
@@ -7,7 +7,7 @@ use im_disk::{Crash, Disk};
 use im_story::place;
 use std::alloc::Global;
 
-/// A kind of crash: `kept`, `lost`, or the byte that it puts wherever a range is in doubt.
+/// Reads a kind of crash: `kept`, `lost`, or the byte that it puts over each range in doubt.
 pub fn crash_kind(word: &str) -> Result<Crash> {
     match word {
         "kept" => Ok(Crash::Kept),
@@ -16,7 +16,7 @@ pub fn crash_kind(word: &str) -> Result<Crash> {
     }
 }
 
-/// A byte of a disk, by a read.
+/// Reads a byte of a disk.
 pub fn byte_at(disk: &mut Blind, at: usize) -> Result<u8> {
     let mut byte = [0];
     match disk.read(at, &mut byte) {
@@ -33,7 +33,7 @@ pub fn set_byte(disk: &mut Blind, at: usize, byte: u8) -> Result<()> {
     }
 }
 
-/// How many of the first words are changes of a byte: `AT:BYTE`.
+/// Returns how many of the first words are changes of a byte: `AT:BYTE`.
 pub fn changes_in(words: &[&str]) -> usize {
     let mut count = 0usize;
     for word in words {
@@ -45,7 +45,7 @@ pub fn changes_in(words: &[&str]) -> usize {
     count
 }
 
-/// Puts bytes on a disk, for each word one. What stood there before.
+/// Puts bytes on a disk, one for each word. Returns what stood there before.
 pub fn with_bytes(alloc: Global, disk: &mut Blind, words: &[&str]) -> Result<Vec<(usize, u8)>> {
     let mut old = Vec::new(alloc);
     for word in words {

@@ -1,4 +1,4 @@
-//! A random walk over a memory, whose pages are made and read again as it goes.
+//! A random walk over a memory. Its pages are made and read again on the way.
 
 use crate::images::area_of;
 use anyhow::{Result, anyhow};
@@ -8,13 +8,13 @@ use im_types::layout::Version;
 use im_types::{Command, Kind, Limits, Op, Outcome, Request};
 use std::alloc::Global;
 
-// A number behind this one, as if drawn by lot.
+// Returns the next number, which looks random.
 fn draw(seed: u64) -> u64 {
     seed.wrapping_mul(6_364_136_223_846_793_005)
         .wrapping_add(1_442_695_040_888_963_407)
 }
 
-// An operation drawn by lot, on a cell up to 7.
+// Returns a random operation, on a cell up to 7.
 fn drawn_op(lot: u64) -> Op {
     let a = ((lot >> 16) % 8) as u32;
     match (lot >> 24) % 9 {
@@ -29,7 +29,7 @@ fn drawn_op(lot: u64) -> Op {
     }
 }
 
-// A command drawn by lot: of one of four elements, most often its next request, else a confirmation of all.
+// Returns a random command of one of four elements: most often its next request, else a confirmation of all.
 fn drawn(memory: &Memory, lot: u64) -> Command {
     let element = ((lot >> 8) % 4) as u16;
     let number = match memory.window(element) {
@@ -93,7 +93,7 @@ fn have_same_windows(memory: &Memory, other: &Memory, elements: u16) -> bool {
     true
 }
 
-// Whether the memory that the pages of a memory show has the same cells and the same windows.
+// Returns whether the memory that a memory's pages show has the same cells and the same windows.
 fn is_read_again(alloc: Global, memory: &Memory, limits: Limits) -> Result<bool> {
     let area = area_of(alloc, memory, limits)?;
     if area.len() != PAGE * area_pages(limits) {
@@ -106,7 +106,7 @@ fn is_read_again(alloc: Global, memory: &Memory, limits: Limits) -> Result<bool>
     )
 }
 
-// What a walk came to.
+// The result of a walk.
 #[derive(Drop)]
 struct Walked {
     accepted: u32,
@@ -132,8 +132,8 @@ impl Walked {
     }
 }
 
-/// So many commands drawn by lot. After the first of each `every` the pages of the memory are made, and read again.
-/// Tells how many memories were the same then, how many weren't, and whether more than 100 requests were accepted.
+/// Makes random commands. After the first of each `every`, the pages of the memory are made and read again. Tells how
+/// many memories were the same then, how many weren't, and whether more than 100 requests were accepted.
 pub fn walk(
     alloc: Global,
     memory: &mut Memory,

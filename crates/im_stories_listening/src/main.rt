@@ -1,4 +1,4 @@
-//! Stories of a reader that listens by a thread: what it tells and gives, whatever the schedule.
+//! Stories of a reader that listens with a thread: what it tells and gives, whatever the schedule.
 #![tactic(auto)]
 
 use anyhow::{Result, anyhow};
@@ -9,7 +9,7 @@ use std::io::{self, BufReader, ErrorKind, Print, Read};
 use std::sync::Wait;
 use std::thread::{Threads, yield_now};
 
-// Lines, one of them empty, and the beginning of one.
+// Lines, one of them empty, and the start of another.
 const SAID: &[u8] = b"1.1 fetch 0\n\n2.1 store 0 42\nquit";
 
 // Gives what somebody says, a byte at a time, and waits for it.
@@ -32,7 +32,7 @@ impl<R: Wait + Drop> Read for Mouth<R> {
     }
 }
 
-// Can't be read once, and is at its end then.
+// Fails once, and is at its end then.
 #[derive(Drop)]
 struct Broken {
     is_told: bool,
@@ -48,10 +48,10 @@ impl Read for Broken {
     }
 }
 
-// What a reader that doesn't wait is asked, and gives: nothing yet, an interruption, a byte, or its end.
+// The answers of a reader that doesn't wait: nothing yet, an interruption, a byte, or its end.
 const STEPS: &[u8] = b"..!a.b!!.c$d";
 
-// Gives these, one at each read; behind its end too, as a terminal does.
+// Gives these answers, one at each read; also after its end, as a terminal does.
 #[derive(Drop)]
 struct Hasty {
     steps: &'static [u8],
@@ -88,7 +88,7 @@ fn wait_for<R: Wait, E: Ear>(rt: &R, ear: &mut E) {
     }
 }
 
-// All that is said is given in its order, wherever it was asked whether something is there.
+// Gives all that is said in order, wherever it was asked whether something is there.
 fn tell_lines<R: AllocGlobal + Print + Threads + Wait + Copy + Drop + Send + 'static>(
     rt: &R,
     has_begun: bool,
@@ -115,7 +115,7 @@ fn tell_lines<R: AllocGlobal + Print + Threads + Wait + Copy + Drop + Send + 'st
     Ok(())
 }
 
-// While nobody says anything it is quiet, and a byte that is said then is given, and the end.
+// Is quiet while nobody says anything. Then a byte is said, and is given, and the end.
 fn tell_silence<R: AllocGlobal + Print + Threads + Wait + Copy + Drop + Send + 'static>(
     rt: &R,
 ) -> Result<()> {
@@ -138,7 +138,7 @@ fn tell_silence<R: AllocGlobal + Print + Threads + Wait + Copy + Drop + Send + '
     Ok(())
 }
 
-// What can't be read is told by the next read, once.
+// Tells a failure at the next read, once.
 fn tell_fault<R: AllocGlobal + Print + Threads + Wait + Copy + Drop + Send + 'static>(
     rt: &R,
 ) -> Result<()> {
@@ -154,7 +154,7 @@ fn tell_fault<R: AllocGlobal + Print + Threads + Wait + Copy + Drop + Send + 'st
     Ok(())
 }
 
-// Reads so many times, and tells what came: a byte, or the end.
+// Reads `times` times, and tells what came: a byte, or the end.
 fn tell_reads<R: Print, I: Read>(rt: &R, input: &mut I, times: usize) -> Result<()> {
     let mut part = [0u8; 1];
     print!(rt; "it gives")?;
@@ -169,7 +169,7 @@ fn tell_reads<R: Print, I: Read>(rt: &R, input: &mut I, times: usize) -> Result<
     Ok(())
 }
 
-// A reader that doesn't wait is waited for, and one that is at its end isn't read again.
+// Waits for a reader that doesn't wait itself, and doesn't read again after the end.
 fn tell_waiting<R: AllocGlobal + Print + Threads + Wait + Copy + Drop + Send + 'static>(
     rt: &R,
 ) -> Result<()> {
@@ -194,7 +194,7 @@ fn tell_whole<R: AllocGlobal + Print, I: Read>(rt: &R, input: &mut I) -> Result<
     }
 }
 
-// A script's text is read to its end from a reader that doesn't wait, as the program reads it from standard input.
+// Reads a script's text to its end from a reader that doesn't wait, as the program reads it from standard input.
 fn tell_text<R: AllocGlobal + Print + Threads + Wait + Copy + Drop + Send + 'static>(
     rt: &R,
 ) -> Result<()> {
@@ -205,7 +205,7 @@ fn tell_text<R: AllocGlobal + Print + Threads + Wait + Copy + Drop + Send + 'sta
     tell_whole(rt, &mut input)
 }
 
-// The end is given again where a thread heard it, and nothing is quiet then: no read would wait.
+// Gives the end again after a thread heard it. Nothing is quiet then, since no read would wait.
 fn tell_end<R: AllocGlobal + Print + Threads + Wait + Copy + Drop + Send + 'static>(
     rt: &R,
 ) -> Result<()> {

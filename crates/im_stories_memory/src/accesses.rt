@@ -1,4 +1,4 @@
-//! Accesses of cells: a table of cells with the lists of those that wait for them.
+//! Accesses of cells: a table of cells with the lists of their waiters.
 ghost use Rattle.std.specs.Prelude.{◌≡◌, ◌<◌, List, Option, length, IfOk};
 ghost use Rattle.im_cell.specs.declared.slots.Slot.{Slot};
 ghost use Rattle.im_istore.specs.Agreement.{Agree, AgreeBut};
@@ -15,7 +15,7 @@ use im_types::{Cell, Entry, Kind, Refusal, Reply, Waiter};
 use std::alloc::Global;
 use std::marker::Model;
 
-/// A table and the lists of its cells. A cell waits exactly where somebody is on its list.
+/// A table and the lists of its cells. A cell waits exactly if somebody is on its list.
 #[derive(Drop)]
 pub struct Accesses {
     table: CellTable,
@@ -35,7 +35,7 @@ impl Model for Accesses {
     ghost invariant = { λ m. Agree m.table m.arena };
 }
 
-// So many free cells, and so many free nodes.
+// Makes the given numbers of free cells and of free nodes.
 fn pair(alloc: Global, cells: u32, nodes: u32) -> Result<(CellTable, Arena), Refusal>
     ensures { IfOk result (λ made. Agree made.0 made.1) }
 {
@@ -75,13 +75,13 @@ fn resume(arena: &mut Arena, a: u32, readers: &mut Vec<Waiter>) -> Option<Waiter
 }
 
 impl Accesses {
-    /// So many free cells, and so many free nodes for those that wait.
+    /// Makes the given numbers of free cells and of free nodes for waiters.
     pub fn new(alloc: Global, cells: u32, nodes: u32) -> Result<Accesses, Refusal> {
         let (table, arena) = pair(alloc, cells, nodes)?;
         Ok(Accesses { table, arena })
     }
 
-    /// Makes a block; `None` where it has no room, or no cell.
+    /// Makes a block. Returns `None` if there is no room for it, or it has no cell.
     pub fn place(&mut self, kind: Kind, n: u32) -> Option<u32> {
         if n == 0 {
             return None;
@@ -94,7 +94,7 @@ impl Accesses {
         release(&mut self.table, &self.arena, base)
     }
 
-    /// Reads an I cell; `None` where no node is free.
+    /// Reads an I cell. Returns `None` if no node is free.
     pub fn fetch(&mut self, a: u32, who: Waiter) -> Option<Entry> {
         if self.arena.is_full() {
             return None;
@@ -102,7 +102,7 @@ impl Accesses {
         Some(fetch(&mut self.table, &mut self.arena, a, who))
     }
 
-    /// Takes the value of an M cell; `None` where no node is free.
+    /// Takes the value of an M cell. Returns `None` if no node is free.
     pub fn take(&mut self, a: u32, who: Waiter) -> Option<Entry> {
         if self.arena.is_full() {
             return None;
@@ -110,12 +110,12 @@ impl Accesses {
         Some(take(&mut self.table, &mut self.arena, a, who))
     }
 
-    /// Gives a value to an M cell, and the taker to whom it went.
+    /// Gives a value to an M cell. Returns the reply, and the taker that gets the value.
     pub fn put(&mut self, a: u32, value: u64) -> (Reply, Option<Waiter>) {
         put(&mut self.table, &mut self.arena, a, value)
     }
 
-    /// Writes an I cell, and takes its readers off their list with the store.
+    /// Writes an I cell, and takes its readers off their list together with the store.
     pub fn store(&mut self, alloc: Global, a: u32, value: u64) -> Result<(Reply, Vec<Waiter>)> {
         if a >= self.arena.list_count() {
             return Err(anyhow!("no cell {a}"));
@@ -125,7 +125,8 @@ impl Accesses {
         Ok((reply, readers))
     }
 
-    /// Writes an I cell, and takes its readers off their list one by one; and who comes behind the last of them.
+    /// Writes an I cell, and takes its readers off their list one by one. Also returns who comes after the last of
+    /// them.
     pub fn store_first(
         &mut self,
         alloc: Global,
@@ -146,12 +147,12 @@ impl Accesses {
         }
     }
 
-    /// What a cell holds.
+    /// Returns what a cell holds.
     pub fn get(&self, a: u32) -> Option<Cell> {
         self.table.get(a)
     }
 
-    /// How many wait for a cell; `None` past the last one.
+    /// Returns how many wait for a cell, or `None` past the last one.
     pub fn waiting(&self, a: u32) -> Option<u32> {
         if a >= self.arena.list_count() {
             return None;
@@ -164,7 +165,7 @@ impl Accesses {
     }
 }
 
-// What came of a read.
+// Adds the result of a read.
 fn add_read(said: &mut String, entry: Option<Entry>) -> Result<()> {
     match entry {
         Some(entry) => Ok(add_entry(said, entry)?),
@@ -172,7 +173,7 @@ fn add_read(said: &mut String, entry: Option<Entry>) -> Result<()> {
     }
 }
 
-// What came of a write, and those that it answers in their order.
+// Adds the result of a write, and the waiters that it answers, in order.
 fn add_written(said: &mut String, reply: Reply, resumed: &[Waiter]) -> Result<()> {
     add_reply(said, reply)?;
     if !resumed.is_empty() {
@@ -195,7 +196,7 @@ fn add_drained(said: &mut String, answer: (Reply, Vec<Waiter>)) -> Result<()> {
     add_written(said, answer.0, answer.1.as_slice())
 }
 
-// The same, and who comes behind the last reader.
+// Adds the same, and who comes after the last reader.
 fn add_stored(said: &mut String, answer: (Reply, Vec<Waiter>, Option<Waiter>)) -> Result<()> {
     let (reply, readers, next) = answer;
     add_written(said, reply, readers.as_slice())?;
@@ -238,7 +239,7 @@ pub fn tell(
     }
 }
 
-// Blocks, and what is seen of the cells.
+// Tells of blocks, and of what the cells show.
 fn tell_state(
     alloc: Global,
     accesses: &mut Accesses,

@@ -10,7 +10,7 @@ use im_story::{address, number};
 use im_types::{Cell, CellRecord, Kind, PresenceTag};
 use std::alloc::{AllocError, Global};
 
-// The tag of a cell; who waits is not the table's to know.
+// Returns the tag of a cell. The table doesn't know who waits.
 fn tag_of(cell: Cell) -> PresenceTag
     ensures { shown_cell result ≡ cell }
 {
@@ -22,7 +22,7 @@ fn tag_of(cell: Cell) -> PresenceTag
     }
 }
 
-// The record of a cell, with a wrong hole where it is free.
+// Returns the record of a cell, with a wrong hole if the cell is free.
 fn record_at(table: &CellTable, a: u32) -> CellRecord
     ensures { shown_slot result ≡ slot_at table.now a }
 {
@@ -52,13 +52,13 @@ fn records_of(alloc: Global, table: &CellTable) -> Result<Vec<CellRecord>, Alloc
     Ok(records)
 }
 
-/// The table again, from the records of its cells.
+/// Returns the table that is restored from the records of its cells.
 pub fn restored(alloc: Global, table: &CellTable) -> Result<CellTable> {
     let records = records_of(alloc, table)?;
     Ok(CellTable::restore(alloc, records.as_slice())?)
 }
 
-// How many of so many I blocks of one cell are made, each at the next address from 0 on.
+// Makes I blocks of one cell, each at the next address from 0 on. Returns how many of them are made there.
 fn place_ones(table: &mut CellTable, count: u32) -> u32 {
     for a in 0..count {
         if table.place(Kind::I, 1) != Some(a) {
@@ -68,7 +68,7 @@ fn place_ones(table: &mut CellTable, count: u32) -> u32 {
     count
 }
 
-// How many of so many blocks go, from one on by steps of two, up or down.
+// Releases blocks, in steps of two from one on, upwards or downwards. Returns how many are released.
 fn release_each(table: &mut CellTable, count: u32, first: u32, ups: bool) -> u32 {
     let mut base = first;
     for done in 0..count {
@@ -84,7 +84,7 @@ fn release_each(table: &mut CellTable, count: u32, first: u32, ups: bool) -> u32
     count
 }
 
-// Makes a block; one of no cell has no base.
+// Makes a block. A block of no cell has no base.
 fn place(table: &mut CellTable, kind: Kind, length: u32) -> Option<u32> {
     if length == 0 {
         return None;
@@ -127,7 +127,7 @@ fn tell_cell(table: &CellTable, a: u32, said: &mut String) -> Result<()> {
     add_place(said, table.get(a), table.block_of(a))
 }
 
-// Many calls at once.
+// Makes many calls at once.
 fn tell_many(
     alloc: Global,
     table: &mut CellTable,

@@ -8,12 +8,12 @@ pub struct Dice {
 }
 
 impl Dice {
-    /// Dice that begin with this number.
+    /// Makes dice that begin with this number.
     pub fn new(seed: u64) -> Dice {
         Dice { state: seed }
     }
 
-    /// A number whose upper bits look random.
+    /// Returns a number whose upper bits look random.
     pub fn throw(&mut self) -> u64 {
         self.state = self
             .state
@@ -22,7 +22,7 @@ impl Dice {
         self.state
     }
 
-    /// A number below a bound.
+    /// Returns a number below a bound.
     pub fn below(&mut self, bound: u32) -> u32
         requires { 0 < bound }
         ensures { result < bound }

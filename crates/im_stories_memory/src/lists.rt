@@ -9,7 +9,7 @@ use im_story::{address, number};
 use im_types::Waiter;
 use std::alloc::Global;
 
-// A call of one list.
+// Makes a call of one list.
 fn tell_of(arena: &mut Arena, list: u32, words: &[&str], said: &mut String) -> Result<()>
     requires { list < length arena.old.held.lists }
 {
@@ -25,7 +25,7 @@ fn tell_of(arena: &mut Arena, list: u32, words: &[&str], said: &mut String) -> R
     }
 }
 
-// The first and the last node of a list.
+// Adds the first and the last node of a list.
 fn add_ends(said: &mut String, ends: Option<Ends>) -> Result<()> {
     match ends {
         Some(ends) => Ok(write!(said, "{} {}", ends.first, ends.last)?),
@@ -33,7 +33,7 @@ fn add_ends(said: &mut String, ends: Option<Ends>) -> Result<()> {
     }
 }
 
-// A call of one list, if it is there.
+// Makes a call of one list, if it exists.
 fn tell_if(arena: &mut Arena, list: u32, words: &[&str], said: &mut String) -> Result<()> {
     if list < arena.list_count() {
         tell_of(arena, list, words, said)
@@ -42,7 +42,7 @@ fn tell_if(arena: &mut Arena, list: u32, words: &[&str], said: &mut String) -> R
     }
 }
 
-// The first waiter of a list goes, and another one comes to another list, if both are there and a node is free.
+// Takes the first waiter off a list and puts another one on another list, if both lists exist and a node is free.
 fn hand_over_if(arena: &mut Arena, from: u32, to: u32, waiter: Waiter) -> Result<Option<Waiter>> {
     let lists = arena.list_count();
     if from >= lists || to >= lists || from == to {

@@ -1,5 +1,5 @@
-//! Stories of the memory and of the layers that it is made of: lists of those that wait, tables of cells, accesses of
-//! cells, windows of kept replies, and the fast memory and the plain one side by side.
+//! Stories of the memory and of the layers that it is made of: lists of waiters, tables of cells, accesses of cells,
+//! windows of kept replies, and the fast memory side by side with the plain one.
 #![tactic(auto)]
 
 mod accesses;
@@ -27,7 +27,7 @@ use std::alloc::Global;
 use std::process::ExitCode;
 use windows::Windows;
 
-// What a story is told of. Its first line makes it.
+// What a story is about. Its first line makes it.
 #[derive(Drop)]
 enum Stage {
     Nothing,
@@ -70,7 +70,7 @@ fn memory_of(alloc: Global, cells: u32, elements: u16) -> Result<Stage> {
     Ok(Stage::Memories(Memories::new(alloc, cells, elements)?))
 }
 
-// The beginning of a story, of these sizes.
+// Makes what a story is about, with these sizes.
 fn made(alloc: Global, words: &[&str]) -> Result<Stage> {
     match words {
         ["arena", nodes, "nodes", lists, "lists"] => {

@@ -1,4 +1,4 @@
-//! The fast memory and the plain one, side by side: each call is made of both, and they answer the same.
+//! The fast memory and the plain one, side by side. Each call is made on both, and both have to answer the same.
 
 use crate::memory_walks::walk;
 use crate::nodes::{add_cell_record, add_node_record, add_nodes, listed};
@@ -18,7 +18,7 @@ pub struct Memories {
     accepted: u32,
 }
 
-// What both say; an error where they differ.
+// Returns what both say, or an error if they differ.
 fn both<T: PartialEq + Drop>(fast: T, plain: T) -> Result<T> {
     if fast == plain {
         Ok(fast)
@@ -28,7 +28,7 @@ fn both<T: PartialEq + Drop>(fast: T, plain: T) -> Result<T> {
 }
 
 impl Memories {
-    /// Two new memories of these sizes.
+    /// Makes two new memories of these sizes.
     pub fn new(alloc: Global, cells: u32, elements: u16) -> Result<Memories> {
         let Some(limits) = Limits::new(cells, elements, 16) else {
             return Err(anyhow!("no sizes of a memory"));
@@ -40,12 +40,12 @@ impl Memories {
         })
     }
 
-    /// Whether a command would be accepted.
+    /// Returns whether a command would be accepted.
     pub fn judge(&self, command: &Command) -> Result<Result<bool, Refusal>> {
         both(self.fast.judge(command), self.plain.judge(command))
     }
 
-    /// One command, which is counted where it is accepted.
+    /// Puts one command to both, and counts it if it is accepted.
     pub fn step(&mut self, command: &Command) -> Result<Result<Outcome, Refusal>> {
         if let Ok(true) = self.judge(command)? {
             self.accepted = self.accepted.saturating_add(1);
@@ -60,12 +60,12 @@ impl Memories {
         )
     }
 
-    /// The bounds of a window.
+    /// Returns the bounds of a window.
     pub fn window(&self, element: u16) -> Result<Result<(u64, u64), Refusal>> {
         both(self.fast.window(element), self.plain.window(element))
     }
 
-    /// What is kept under a number.
+    /// Returns what is kept under a number.
     pub fn kept(&self, element: u16, number: u64) -> Result<Option<Kept>> {
         both(
             self.fast.kept(element, number),
@@ -73,33 +73,33 @@ impl Memories {
         )
     }
 
-    /// What a cell holds.
+    /// Returns what a cell holds.
     pub fn cell(&self, a: u32) -> Result<Option<Cell>> {
         both(self.fast.cell(a), self.plain.cell(a))
     }
 
-    /// The block that an address lies in.
+    /// Returns the block that an address lies in.
     pub fn block(&self, a: u32) -> Result<Option<Block>> {
         both(self.fast.block(a), self.plain.block(a))
     }
 
-    /// Who waits at a place of a cell's list.
+    /// Returns who waits at a place of a cell's list.
     pub fn waiter(&self, a: u32, place: usize) -> Result<Option<Waiter>> {
         both(self.fast.waiter(a, place), self.plain.waiter(a, place))
     }
 
-    /// How many cells there are.
+    /// Returns how many cells there are.
     pub fn cells(&self) -> Result<u32> {
         both(self.fast.cells(), self.plain.cells())
     }
 
-    /// How many elements there are.
+    /// Returns how many elements there are.
     pub fn elements(&self) -> Result<u16> {
         both(self.fast.elements(), self.plain.elements())
     }
 }
 
-// All that wait at a cell, in their order.
+// Adds all waiters of a cell, in order.
 fn add_waiting(said: &mut String, memories: &Memories, a: u32) -> Result<()> {
     for place in 0..4_097usize {
         let waiter = memories.waiter(a, place)?;
@@ -112,7 +112,7 @@ fn add_waiting(said: &mut String, memories: &Memories, a: u32) -> Result<()> {
     Ok(())
 }
 
-// Fetches of a cell under the numbers from one to another: how many of them are accepted and wait.
+// Fetches a cell under the numbers from one to another. Returns how many fetches are accepted and wait.
 fn fetches(memories: &mut Memories, of: u16, from: u64, to: u64, a: u32) -> Result<u32> {
     let mut wait = 0u32;
     for number in from..to.saturating_add(1) {
@@ -172,7 +172,7 @@ pub fn tell(memories: &mut Memories, words: &[&str], said: &mut String) -> Resul
     }
 }
 
-// Many calls at once, what records show, and commands.
+// Makes many calls at once, shows records, or makes commands.
 fn tell_more(memories: &mut Memories, words: &[&str], said: &mut String) -> Result<()> {
     match words {
         [first, "to", last, "fetch", a] => {

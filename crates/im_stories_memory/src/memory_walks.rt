@@ -5,7 +5,7 @@ use crate::memories::Memories;
 use anyhow::Result;
 use im_types::{Block, Cell, Command, Entry, Kept, Kind, Op, Refusal, Request, Waiter};
 
-// An operation on one of eight cells, or just past them.
+// Returns an operation on one of eight cells, or just past them.
 fn any_op(dice: &mut Dice) -> Op {
     let a = dice.below(9);
     let kind = if dice.below(2) == 0 { Kind::I } else { Kind::M };
@@ -20,8 +20,8 @@ fn any_op(dice: &mut Dice) -> Op {
     }
 }
 
-// Mostly the next request of one of three elements; also an earlier one, one too far, an element that isn't there, and
-// leave to forget.
+// Returns a command: mostly the next request of one of three elements. It may also be an earlier request, one too far,
+// one of an element that doesn't exist, or a confirmation.
 fn any_command(dice: &mut Dice, memories: &Memories) -> Result<Command> {
     let element = if dice.below(20) == 0 {
         3
@@ -46,7 +46,7 @@ fn any_command(dice: &mut Dice, memories: &Memories) -> Result<Command> {
     }))
 }
 
-// What a command may change of its element's window.
+// Returns what a command may change of its element's window.
 type Seen = (Option<Kept>, Result<(u64, u64), Refusal>);
 
 fn seen(memories: &Memories, command: &Command) -> Result<Seen> {
@@ -59,7 +59,7 @@ fn seen(memories: &Memories, command: &Command) -> Result<Seen> {
     }
 }
 
-// One command: whether it is accepted exactly where it changes something of its element's window.
+// Makes one command. Returns whether it is accepted exactly if it changes something of its element's window.
 fn turns(memories: &mut Memories, command: &Command) -> Result<bool> {
     let judged = memories.judge(command)?;
     let before = seen(memories, command)?;
@@ -71,7 +71,7 @@ fn turns(memories: &mut Memories, command: &Command) -> Result<bool> {
     }
 }
 
-// How often a request waits at a cell.
+// Returns how often a request waits at a cell.
 fn times_at(memories: &Memories, a: u32, who: Waiter) -> Result<u32> {
     let mut times = 0u32;
     for place in 0..192usize {
@@ -91,7 +91,7 @@ fn has_kind(block: Option<Block>, kind: Kind) -> bool {
     }
 }
 
-// The cell that an entry waits for, if it waits.
+// Returns the cell that an entry waits for, if it waits.
 fn awaited(memories: &Memories, kept: Option<Kept>) -> Result<Option<u32>> {
     let Some(kept) = kept else {
         return Ok(None);
@@ -103,7 +103,7 @@ fn awaited(memories: &Memories, kept: Option<Kept>) -> Result<Option<u32>> {
     }
 }
 
-// Whether a request is kept, and waits once at the cell that its entry waits for, and at no other.
+// Returns whether a request is kept, and waits once at the cell that its entry waits for and at no other.
 fn waits_right(memories: &Memories, who: Waiter) -> Result<bool> {
     let kept = memories.kept(who.element, who.number)?;
     let cell = awaited(memories, kept)?;
@@ -116,7 +116,7 @@ fn waits_right(memories: &Memories, who: Waiter) -> Result<bool> {
     Ok(kept.is_some())
 }
 
-// Whether so is each request of an element's window.
+// Returns whether this holds of each request of an element's window.
 fn window_waits_right(memories: &Memories, element: u16) -> Result<bool> {
     let (base, next) = memories.window(element)?.unwrap_or((1, 1));
     for number in base..next {
@@ -127,14 +127,14 @@ fn window_waits_right(memories: &Memories, element: u16) -> Result<bool> {
     Ok(true)
 }
 
-// Whether a cell is shown as waiting exactly where somebody waits for it, and is there exactly where its block is.
+// Returns whether a cell is shown as waiting exactly if somebody waits for it, and exists exactly if its block does.
 fn tag_is_right(memories: &Memories, a: u32) -> Result<bool> {
     let cell = memories.cell(a)?;
     let waits = cell == Some(Cell::Waiting);
     Ok(waits == memories.waiter(a, 0)?.is_some() && cell.is_some() == memories.block(a)?.is_some())
 }
 
-// Whether each address of a block is in that block, and the block lies below the cell count.
+// Returns whether each address of a block is in that block, and the block lies below the cell count.
 fn block_is_whole(memories: &Memories, a: u32) -> Result<bool> {
     let Some(block) = memories.block(a)? else {
         return Ok(true);
@@ -148,7 +148,7 @@ fn block_is_whole(memories: &Memories, a: u32) -> Result<bool> {
     Ok(block.base <= a && a < end && end <= memories.cells()?)
 }
 
-// Whether all that has to stay true of the memories is so.
+// Returns whether all that has to stay true of the memories holds.
 fn is_in_order(memories: &Memories) -> Result<bool> {
     for element in 0..memories.elements()? {
         if !window_waits_right(memories, element)? {
@@ -163,7 +163,7 @@ fn is_in_order(memories: &Memories) -> Result<bool> {
     Ok(true)
 }
 
-/// So many thrown commands: after how many of them all is in order, up to the first where it is not.
+/// Throws `steps` commands. Returns after how many of them all is in order, up to the first after which it isn't.
 pub fn walk(memories: &mut Memories, steps: u64, seed: u64) -> Result<u64> {
     let mut dice = Dice::new(seed);
     for step in 0..steps {

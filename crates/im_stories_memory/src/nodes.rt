@@ -1,4 +1,4 @@
-//! What records show of the fast memory.
+//! The records of the fast memory.
 
 use crate::texts::{add_place, add_waiter};
 use anyhow::{Result, anyhow};
@@ -22,7 +22,7 @@ fn add_link(said: &mut String, link: u32) -> Result<()> {
     }
 }
 
-/// Adds what the record of a cell shows; of one that waits, not which nodes its list has.
+/// Adds what the record of a cell shows. If the cell waits, it doesn't add which nodes are in its list.
 pub fn add_cell_record(said: &mut String, memory: &Memory, a: u32) -> Result<()> {
     match memory.records().cell_record(a) {
         CellRecord::Free { hole, next } => {
@@ -47,7 +47,7 @@ pub fn add_node_record(said: &mut String, memory: &Memory, n: u32) -> Result<()>
     }
 }
 
-/// How many of the first nodes are in a list.
+/// Returns how many of the first nodes are in a list.
 pub fn listed(memory: &Memory, nodes: u32) -> u32 {
     let mut count = 0u32;
     for n in 0..nodes {
@@ -58,7 +58,7 @@ pub fn listed(memory: &Memory, nodes: u32) -> u32 {
     count
 }
 
-// The first and the last node of the list of a cell, if its record says that somebody waits.
+// Returns the first and the last node of a cell's list, if its record says that somebody waits.
 fn ends(memory: &Memory, a: u32) -> Option<(u32, u32)> {
     match memory.records().cell_record(a) {
         CellRecord::Held {
@@ -69,8 +69,8 @@ fn ends(memory: &Memory, a: u32) -> Option<(u32, u32)> {
     }
 }
 
-/// Adds those that the nodes of a cell's list hold, from the first on. The last of them has to be the one that the
-/// cell's record names, and to lead to none.
+/// Adds the waiters in the nodes of a cell's list, from the first on. The last node has to be the one that the cell's
+/// record names, and to lead to none.
 pub fn add_nodes(said: &mut String, memory: &Memory, a: u32) -> Result<()> {
     let Some((first, last)) = ends(memory, a) else {
         return Err(anyhow!("nobody waits"));

@@ -1,4 +1,4 @@
-//! A cell by the rules, one by one.
+//! Cells by the rules, one by one.
 
 use im_types::{Cell, Entry, Kind, Reply, Waiter};
 use std::alloc::{AllocError, Global};
@@ -14,7 +14,7 @@ pub struct PlainCell {
 }
 
 impl PlainCell {
-    /// An empty cell.
+    /// Makes an empty cell.
     pub fn new(alloc: Global, kind: Kind) -> PlainCell {
         PlainCell {
             kind,
@@ -24,7 +24,7 @@ impl PlainCell {
         }
     }
 
-    /// A fetch, which asks for an I cell, or a take, for an M cell.
+    /// Reads: a fetch, which asks for an I cell, or a take, which asks for an M cell.
     pub fn read(&mut self, kind: Kind, who: Waiter) -> Result<Entry, AllocError> {
         if self.kind != kind {
             return Ok(Entry::Answered(Reply::WrongKind));
@@ -42,7 +42,7 @@ impl PlainCell {
         Ok(Entry::Answered(Reply::Value(value)))
     }
 
-    /// A store or a put.
+    /// Writes: a store or a put.
     pub fn write(&mut self, kind: Kind, value: u64) -> Reply {
         if self.kind != kind {
             return Reply::WrongKind;
@@ -57,7 +57,7 @@ impl PlainCell {
         Reply::Stored
     }
 
-    /// What it shows.
+    /// Returns what the cell shows.
     pub fn cell(&self) -> Cell {
         match self.value {
             Some(value) if self.clashed => Cell::Clashed(value),

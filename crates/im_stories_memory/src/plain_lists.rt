@@ -8,7 +8,7 @@ use im_types::{NONE, NodeRecord, Waiter};
 use std::alloc::Global;
 use std::collections::VecDeque;
 
-// One thrown call on a list and on the plain one: whether they answer the same.
+// Makes one thrown call on a list and on the plain one. Returns whether they answer the same.
 fn call(
     arena: &mut Arena,
     list: u32,
@@ -29,7 +29,7 @@ fn call(
     Ok(pushed == has_room)
 }
 
-// The waiter that a node holds.
+// Returns the waiter that a node holds.
 fn waiter_in(node: NodeRecord) -> Option<Waiter> {
     match node {
         NodeRecord::Listed { waiter, .. } => Some(waiter),
@@ -37,14 +37,14 @@ fn waiter_in(node: NodeRecord) -> Option<Waiter> {
     }
 }
 
-// The link of a node.
+// Returns the link of a node.
 fn link_of(node: NodeRecord) -> u32 {
     match node {
         NodeRecord::Listed { next, .. } | NodeRecord::Free { next } => next,
     }
 }
 
-// The first and the last node of a list.
+// Returns the first and the last node of a list.
 fn ends_of(arena: &Arena, list: u32) -> (u32, u32)
     requires { list < length arena.now.held.lists }
 {
@@ -54,7 +54,7 @@ fn ends_of(arena: &Arena, list: u32) -> (u32, u32)
     }
 }
 
-// Whether a list is this one, read by its places, by a walk, and by the links of its nodes.
+// Returns whether a list is this one, read by its places, by a walk, and by the links of its nodes.
 fn is_list(arena: &Arena, list: u32, queue: &VecDeque<Waiter>) -> bool
     requires { list < length arena.now.held.lists }
 {
@@ -81,7 +81,7 @@ fn is_list(arena: &Arena, list: u32, queue: &VecDeque<Waiter>) -> bool
         && arena.front(list) == queue.front().copied()
 }
 
-// How many nodes hold a waiter.
+// Returns how many nodes hold a waiter.
 fn used(arena: &Arena) -> u32 {
     let mut used = 0u32;
     for index in 0..arena.node_count() {
@@ -92,7 +92,7 @@ fn used(arena: &Arena) -> u32 {
     used
 }
 
-// Whether the lists are these, and the counts of nodes are right.
+// Returns whether the lists are these, and the counts of nodes are right.
 fn agrees(arena: &Arena, plain: &[VecDeque<Waiter>]) -> bool {
     let mut held = 0u32;
     for list in 0..arena.list_count() {
@@ -110,7 +110,7 @@ fn agrees(arena: &Arena, plain: &[VecDeque<Waiter>]) -> bool {
         && arena.is_full() == (held == arena.node_count())
 }
 
-/// So many thrown calls: how many of them agree with plain lists, up to the first that does not.
+/// Makes `steps` thrown calls. Returns how many of them agree with plain lists, up to the first that doesn't.
 pub fn walk(alloc: Global, arena: &mut Arena, steps: u64, seed: u64) -> Result<u64> {
     let mut plain = Vec::new(alloc);
     for _list in 0..arena.list_count() {

@@ -17,7 +17,7 @@ fn write(slots: &mut [Option<Slot>], a: u32, slot: Option<Slot>) {
     }
 }
 
-// The least base from which on so many slots are free.
+// Returns the least base from which the given number of slots are free.
 fn room(slots: &[Option<Slot>], n: u32) -> Option<u32> {
     let (mut base, mut run) = (0u32, 0u32);
     for slot in slots {
@@ -47,7 +47,7 @@ fn place(slots: &mut [Option<Slot>], kind: Kind, n: u32) -> Option<u32> {
     Some(base)
 }
 
-// Whether a cell of a block waits.
+// Returns whether a cell of a block waits.
 fn waits(slots: &[Option<Slot>], block: Block) -> bool {
     for slot in slots {
         if let Some(slot) = slot {
@@ -72,7 +72,7 @@ fn release(slots: &mut [Option<Slot>], base: u32) -> bool {
     true
 }
 
-// The cells of a block become empty.
+// Empties the cells of a block.
 fn reset(slots: &mut [Option<Slot>], base: u32) -> bool {
     let Some(slot) = slot_at(slots, base) else {
         return false;
@@ -97,7 +97,7 @@ fn cell_for(number: u64) -> Cell {
     }
 }
 
-// The same cell into both.
+// Sets the same cell in both.
 fn set(table: &mut CellTable, slots: &mut [Option<Slot>], a: u32, cell: Cell) -> bool {
     let Some(slot) = slot_at(slots, a) else {
         return true;
@@ -111,7 +111,7 @@ fn set(table: &mut CellTable, slots: &mut [Option<Slot>], a: u32, cell: Cell) ->
     true
 }
 
-// One thrown call on the table and on the plain slots: whether they answer the same.
+// Makes one thrown call on the table and on the plain slots. Returns whether they answer the same.
 fn call(table: &mut CellTable, slots: &mut [Option<Slot>], thrown: u64) -> bool {
     let number = thrown >> 40;
     let a = (number % 26) as u32;
@@ -127,7 +127,7 @@ fn call(table: &mut CellTable, slots: &mut [Option<Slot>], thrown: u64) -> bool 
     }
 }
 
-// What a table shows at an address.
+// Returns what a table shows at an address.
 fn shown(table: &CellTable, a: u32) -> Option<Slot> {
     match (table.block_of(a), table.get(a)) {
         (Some(block), Some(cell)) => Some(Slot { block, cell }),
@@ -135,7 +135,7 @@ fn shown(table: &CellTable, a: u32) -> Option<Slot> {
     }
 }
 
-// Whether each address shows what the plain slots have, those past the last cell too.
+// Returns whether each address shows what the plain slots have, also past the last cell.
 fn agrees(table: &CellTable, slots: &[Option<Slot>]) -> bool {
     for a in 0..table.cells().saturating_add(2) {
         if shown(table, a) != slot_at(slots, a)
@@ -147,8 +147,8 @@ fn agrees(table: &CellTable, slots: &[Option<Slot>]) -> bool {
     true
 }
 
-/// So many thrown calls on a new table, which is restored after each fourth where it is asked for: how many of them
-/// agree with plain slots, up to the first that does not.
+/// Makes `steps` thrown calls on a new table, and restores it after each fourth if that is asked for. Returns how many
+/// of them agree with plain slots, up to the first that doesn't.
 pub fn walk(
     alloc: Global,
     table: &mut CellTable,

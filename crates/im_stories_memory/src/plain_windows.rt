@@ -95,7 +95,7 @@ fn any_entry(dice: &mut Dice) -> Entry {
     }
 }
 
-// A number about the plain window.
+// Returns a number in or near the plain window.
 fn any_number(dice: &mut Dice, plain: &PlainWindow) -> u64 {
     match dice.below(3) {
         0 => plain.next(),
@@ -107,7 +107,8 @@ fn any_number(dice: &mut Dice, plain: &PlainWindow) -> u64 {
     }
 }
 
-// A thrown request on the sessions and on the plain window, most often new or a repeat: whether they agree.
+// Makes a thrown request on the sessions and on the plain window, most often a new one or a repeat. Returns whether
+// they agree.
 fn ask_both(
     sessions: &mut Sessions,
     plain: &mut PlainWindow,
@@ -131,8 +132,8 @@ fn ask_both(
     Ok(ask(sessions, &request, entry) == judged)
 }
 
-// One thrown call on the sessions and on the plain window of the same element: whether they agree on it, and then show
-// the same.
+// Makes one thrown call on the sessions and on the plain window of the same element. Returns whether they agree on it,
+// and then show the same.
 fn call(
     sessions: &mut Sessions,
     plain: &mut PlainWindow,
@@ -160,7 +161,7 @@ fn call(
     )
 }
 
-// Three plain windows with no entry.
+// Makes three plain windows with no entry.
 fn begin(alloc: Global) -> Result<Vec<PlainWindow>> {
     let mut windows = Vec::new(alloc);
     for _ in 0..3u32 {
@@ -172,7 +173,7 @@ fn begin(alloc: Global) -> Result<Vec<PlainWindow>> {
     Ok(windows)
 }
 
-// Sessions of three elements, with these windows.
+// Makes sessions of three elements with these windows.
 fn restored(alloc: Global, windows: &[PlainWindow]) -> Result<Sessions> {
     let mut sessions = Sessions::new(alloc, 3)?;
     let mut element = 0u16;
@@ -189,8 +190,8 @@ fn restored(alloc: Global, windows: &[PlainWindow]) -> Result<Sessions> {
     Ok(sessions)
 }
 
-/// So many thrown calls on three new windows, which are restored after one in ten where it is asked for: how many of
-/// them agree with plain windows, up to the first that does not.
+/// Makes `steps` thrown calls on three new windows, and restores them after one in ten if that is asked for. Returns
+/// how many of them agree with plain windows, up to the first that doesn't.
 pub fn walk(
     alloc: Global,
     sessions: &mut Sessions,

@@ -7,7 +7,7 @@ use anyhow::{Result, anyhow};
 use im_types::{Kind, Reply, Waiter};
 use std::alloc::Global;
 
-// A store with its readers, who are those that wait by the rules.
+// Makes a store. Its readers have to be those that wait by the rules.
 fn store(
     alloc: Global,
     accesses: &mut Accesses,
@@ -23,7 +23,7 @@ fn store(
     Ok(agrees)
 }
 
-// A put with its taker, who is the first that waits by the rules.
+// Makes a put. Its taker has to be the first that waits by the rules.
 fn put(accesses: &mut Accesses, cell: &mut PlainCell, a: u32, value: u64) -> bool {
     let (reply, taker) = accesses.put(a, value);
     let agrees = reply == cell.write(Kind::M, value);
@@ -34,7 +34,7 @@ fn put(accesses: &mut Accesses, cell: &mut PlainCell, a: u32, value: u64) -> boo
     agrees && taker == first
 }
 
-// A clashed cell goes, and a new block of the other kind comes to its place.
+// Replaces a clashed cell by a new block of the other kind.
 fn renew(accesses: &mut Accesses, cell: &mut PlainCell, a: u32) -> bool {
     if !cell.clashed {
         return true;
@@ -48,7 +48,7 @@ fn renew(accesses: &mut Accesses, cell: &mut PlainCell, a: u32) -> bool {
     accesses.release(a) && accesses.place(cell.kind, 1) == Some(a)
 }
 
-// One of the calls on a cell: whether it answers as by the rules.
+// Makes one of the calls on a cell. Returns whether it answers as by the rules.
 fn call(
     alloc: Global,
     accesses: &mut Accesses,
@@ -69,7 +69,7 @@ fn call(
     }
 }
 
-// Whether a cell and its list are as by the rules.
+// Returns whether a cell and its list are as by the rules.
 fn shows(accesses: &Accesses, a: u32, cell: &PlainCell) -> bool {
     match accesses.waiting(a) {
         Some(count) => {
@@ -79,7 +79,7 @@ fn shows(accesses: &Accesses, a: u32, cell: &PlainCell) -> bool {
     }
 }
 
-// Four blocks of one cell each, of one kind and of the other in turn.
+// Makes four blocks of one cell each, of the two kinds in turn.
 fn begin(alloc: Global, accesses: &mut Accesses) -> Result<Vec<PlainCell>> {
     let mut plain = Vec::new(alloc);
     for a in 0..4u32 {
@@ -92,8 +92,8 @@ fn begin(alloc: Global, accesses: &mut Accesses) -> Result<Vec<PlainCell>> {
     Ok(plain)
 }
 
-/// So many thrown calls on four cells of a new table: how many of them agree with cells by the rules, up to the first
-/// that does not.
+/// Makes `steps` thrown calls on four cells of a new table. Returns how many of them agree with cells by the rules, up
+/// to the first that doesn't.
 pub fn walk(alloc: Global, accesses: &mut Accesses, steps: u64, seed: u64) -> Result<u64> {
     let mut plain = begin(alloc, accesses)?;
     let mut dice = Dice::new(seed);

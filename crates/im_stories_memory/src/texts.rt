@@ -1,16 +1,16 @@
-//! The texts of answers, and the words for what is put in.
+//! The texts of answers, and the words of arguments.
 
 use anyhow::{Result, anyhow};
 use im_story::{add_entry, address, name, number};
 use im_types::{Block, Cell, Entry, Kept, Kind, Op, Reply, Waiter};
 
-/// A waiter: `ELEMENT.NUMBER`.
+/// Reads a waiter: `ELEMENT.NUMBER`.
 pub fn waiter(word: &str) -> Result<Waiter> {
     let (element, number) = name(word)?;
     Ok(Waiter { element, number })
 }
 
-/// A kind of blocks: `i` or `m`.
+/// Reads a kind of blocks: `i` or `m`.
 pub fn kind(word: &str) -> Result<Kind> {
     match word {
         "i" => Ok(Kind::I),
@@ -19,7 +19,7 @@ pub fn kind(word: &str) -> Result<Kind> {
     }
 }
 
-/// What is kept for a request: `waiting`, `base A`, `value V`, `stored` or `clash`.
+/// Reads what is kept for a request: `waiting`, `base A`, `value V`, `stored` or `clash`.
 pub fn entry(word: &str, with: &str) -> Result<Entry> {
     match word {
         "waiting" => Ok(Entry::Waiting),
@@ -31,7 +31,7 @@ pub fn entry(word: &str, with: &str) -> Result<Entry> {
     }
 }
 
-/// A cell: `empty`, `waiting`, `full V` or `clashed V`.
+/// Reads a cell: `empty`, `waiting`, `full V` or `clashed V`.
 pub fn cell(words: &[&str]) -> Result<Cell> {
     match words {
         ["empty"] => Ok(Cell::Empty),

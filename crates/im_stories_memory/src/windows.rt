@@ -16,7 +16,7 @@ pub struct Windows {
 }
 
 impl Windows {
-    /// So many new windows.
+    /// Makes the given number of new windows.
     pub fn new(alloc: Global, elements: u16) -> Result<Windows> {
         Ok(Windows {
             sessions: Sessions::new(alloc, elements)?,
@@ -25,7 +25,7 @@ impl Windows {
     }
 }
 
-/// How a request is judged; a new one is kept with this entry.
+/// Judges a request, and keeps a new one with this entry. Returns the judgement.
 pub fn ask(sessions: &mut Sessions, request: &Request, entry: Entry) -> Result<Judged, Refusal> {
     let judged = sessions.judge(request)?;
     if let Judged::Fresh = judged {
@@ -75,12 +75,12 @@ fn add_confirmed(said: &mut String, answer: Result<(), Refusal>) -> Result<()> {
     }
 }
 
-// How a request is judged; a new one is kept with an entry.
+// Tells how a request is judged, and keeps a new one with an entry.
 fn keep(windows: &mut Windows, entry: Entry, asked: &[&str], said: &mut String) -> Result<()> {
     add_judged(said, ask(&mut windows.sessions, &request(asked)?, entry))
 }
 
-// How many of a window's requests from one number to another are fresh, and kept with this entry.
+// Asks an element's requests from one number to another, and keeps new ones with this entry. Tells how many are fresh.
 fn keep_each(
     windows: &mut Windows,
     entry: Entry,
@@ -104,14 +104,14 @@ fn keep_each(
     Ok(write!(said, "{fresh} fresh")?)
 }
 
-// One more entry that the next window is restored from.
+// Adds one more entry that the next window is restored from.
 fn show(windows: &mut Windows, entry: Entry, asked: &[&str], said: &mut String) -> Result<()> {
     let op = op(asked)?;
     windows.shown.push(Kept { op, entry })?;
     Ok(said.push_str("shown")?)
 }
 
-// As many fetches as a window holds, with the values from 100 on.
+// Makes as many fetches as a window holds, with the values from 100 on.
 fn fetches(alloc: Global) -> Result<Vec<Kept>> {
     let mut kept = Vec::new(alloc);
     for i in 0..WINDOW {
@@ -128,7 +128,7 @@ fn show_fetches(alloc: Global, windows: &mut Windows, said: &mut String) -> Resu
     Ok(said.push_str("shown")?)
 }
 
-// A window is restored from what was shown.
+// Restores a window from what was shown.
 fn restore_shown(windows: &mut Windows, element: u16, base: u64, said: &mut String) -> Result<()> {
     let kept = windows.shown.as_slice();
     if !restore(&mut windows.sessions, element, base, kept) {
@@ -144,7 +144,7 @@ fn tell_answer(windows: &mut Windows, who: Waiter, value: u64, said: &mut String
     Ok(said.push_str(if waited { "answered" } else { "nobody waits" })?)
 }
 
-// How many of an element's requests from one number to another waited, and are answered with a value.
+// Answers an element's requests from one number to another with a value. Tells how many waited.
 fn tell_answers(
     windows: &mut Windows,
     first: Waiter,
@@ -197,7 +197,7 @@ pub fn tell(alloc: Global, windows: &mut Windows, words: &[&str], said: &mut Str
     }
 }
 
-// Windows that are restored, and long runs.
+// Tells of windows that are restored, and of long runs.
 fn tell_restored(
     alloc: Global,
     windows: &mut Windows,
@@ -234,7 +234,7 @@ fn add_past(said: &mut String, windows: u32) -> Result<()> {
     Ok(write!(said, "{windows} windows")?)
 }
 
-// How many windows begin past a number.
+// Returns how many windows begin past a number.
 fn past(sessions: &Sessions, number: u64) -> u32 {
     let mut count = 0u32;
     for element in 0..64u16 {
@@ -247,7 +247,7 @@ fn past(sessions: &Sessions, number: u64) -> u32 {
     count
 }
 
-// Whether a window with the first of these entries, from a base on, is restored, and goes on as it must.
+// Returns whether a window with the first of these entries, from a base on, is restored, and continues as it must.
 fn goes_on(sessions: &mut Sessions, base: u64, kept: &[Kept]) -> bool {
     let next = base.saturating_add(kept.len() as u64);
     if !restore(sessions, 0, base, kept) || sessions.window(0) != Ok((base, next)) {
@@ -276,7 +276,7 @@ fn goes_on(sessions: &mut Sessions, base: u64, kept: &[Kept]) -> bool {
         && ask(sessions, &request, Entry::Waiting) == wanted
 }
 
-// How many windows go on, of each count of entries at each base from 1 to 130: up to the first that does not.
+// Counts the windows, of each count of entries at each base from 1 to 130, that continue as they must: up to a wrong one.
 fn restored_each(sessions: &mut Sessions, kept: &[Kept]) -> u32 {
     let mut agreed = 0u32;
     for base in 1..131u64 {

@@ -1,4 +1,4 @@
-//! What a story has in its hands.
+//! What a story works with.
 
 use anyhow::{Result, anyhow};
 use im_disk::{Disk, MemDisk, Mode};
@@ -13,33 +13,33 @@ pub struct Fuse {
     pub mode: Mode,
 }
 
-/// Two files, as they were marked, how their calls fail next, and what was printed and told last.
+/// Two files, as they were marked, how their calls fail next, and what was last printed and told.
 #[derive(Drop)]
 pub struct Desk<'a> {
     /// The folder's files, and standard output.
     pub rt: &'a HostRuntime,
-    /// What stands in the numbers of the standard streams.
+    /// What occupies the numbers of the standard streams.
     pub held: &'a Descriptors,
     /// The old file.
     pub old: Option<MemDisk>,
     /// The new file.
     pub new: Option<MemDisk>,
-    /// The old file's bytes, as they were marked.
+    /// The bytes of the old file when it was marked.
     pub old_marked: Vec<u8>,
-    /// The new file's.
+    /// The bytes of the new file when it was marked.
     pub new_marked: Vec<u8>,
-    /// How their calls fail next, of the old one and of the new one.
+    /// How the calls of the old file and of the new one fail next.
     pub fuses: (Option<Fuse>, Option<Fuse>),
-    /// How many calls the last migration made of each.
+    /// How many calls of each file the last migration made.
     pub calls: (u64, u64),
-    /// What was printed last.
+    /// What was last printed.
     pub printed: String,
-    /// What was told beside that.
+    /// What was told besides that.
     pub notes: String,
 }
 
 impl<'a> Desk<'a> {
-    /// Nothing yet.
+    /// Starts with nothing.
     pub fn new(rt: &'a HostRuntime, held: &'a Descriptors) -> Desk<'a> {
         let alloc = rt.alloc();
         Desk {
@@ -56,7 +56,7 @@ impl<'a> Desk<'a> {
         }
     }
 
-    /// The old file.
+    /// Returns the old file.
     pub fn old(&self) -> Result<&MemDisk> {
         match &self.old {
             Some(disk) => Ok(disk),
@@ -64,7 +64,7 @@ impl<'a> Desk<'a> {
         }
     }
 
-    /// The new file.
+    /// Returns the new file.
     pub fn new_file(&self) -> Result<&MemDisk> {
         match &self.new {
             Some(disk) => Ok(disk),
@@ -73,7 +73,7 @@ impl<'a> Desk<'a> {
     }
 }
 
-/// Puts bytes there, as whoever damages the file does, and they are on the disk.
+/// Puts bytes on the disk, as whoever damages the file does.
 pub fn put(disk: &mut MemDisk, at: usize, bytes: &[u8]) -> Result<()> {
     let size = disk.bytes().len();
     if at > size || bytes.len() > size - at {
@@ -85,7 +85,7 @@ pub fn put(disk: &mut MemDisk, at: usize, bytes: &[u8]) -> Result<()> {
     Ok(())
 }
 
-/// The line at this place of a text, from 0.
+/// Returns the line at this place of a text, from 0.
 pub fn line(text: &str, at: usize) -> Result<&str> {
     match text.lines().nth(at) {
         Some(line) => Ok(line),

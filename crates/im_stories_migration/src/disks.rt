@@ -9,7 +9,7 @@ use im_story::{address, byte, element, old_image, place};
 use im_types::Limits;
 use std::alloc::Global;
 
-/// A byte: two hexadecimal digits.
+/// Reads a byte: two hexadecimal digits.
 pub fn hex(word: &str) -> Result<u8> {
     match u8::from_str_radix(word, 16) {
         Ok(byte) => Ok(byte),
@@ -17,7 +17,8 @@ pub fn hex(word: &str) -> Result<u8> {
     }
 }
 
-/// How a disk fails: `stop` for good, `once`, or once with a scar, a byte all over what was to be written: `scar:BYTE`.
+/// Reads how a disk fails: `stop` for good, `once`, or once with a scar. A scar, `scar:BYTE`, is a byte all over what
+/// was to be written.
 pub fn mode(word: &str) -> Result<Mode> {
     if let Some(byte) = word.strip_prefix("scar:") {
         return Ok(Mode::Scar(hex(byte)?));
@@ -31,7 +32,7 @@ pub fn mode(word: &str) -> Result<Mode> {
     Ok(Mode::Once)
 }
 
-/// What a crash leaves of what wasn't synced: `kept` and `lost`, or a byte all over it.
+/// Reads what a crash leaves of what wasn't synced: `kept`, `lost`, or a byte all over it.
 pub fn crash(word: &str) -> Result<Crash> {
     match word {
         "kept" => Ok(Crash::Kept),
@@ -40,14 +41,14 @@ pub fn crash(word: &str) -> Result<Crash> {
     }
 }
 
-/// A disk with these bytes, all of them on it.
+/// Makes a disk with these bytes, all of them synced.
 pub fn disk_of(alloc: Global, bytes: &[u8]) -> Result<MemDisk> {
     let mut disk = MemDisk::new(alloc, bytes.len())?;
     put(&mut disk, 0, bytes)?;
     Ok(disk)
 }
 
-/// A copy of this disk, all of it on the disk.
+/// Makes a copy of this disk, all of it synced.
 pub fn copy(alloc: Global, disk: &MemDisk) -> Result<MemDisk> {
     disk_of(alloc, disk.bytes())
 }
@@ -68,20 +69,20 @@ fn current_image(alloc: Global, limits: Limits) -> Result<MemDisk> {
     }
 }
 
-// A file of so many of this byte.
+// Makes a file of `length` bytes, each of them this one.
 fn filled(alloc: Global, length: usize, byte: u8) -> Result<MemDisk> {
     let bytes = vec![in alloc; byte; length]?;
     disk_of(alloc, bytes.as_slice())
 }
 
-// A file of so many bytes: those of this one as far as it goes, then zeros.
+// Makes a file of `length` bytes: those of this one as far as they go, then zeros.
 fn cut(alloc: Global, disk: &MemDisk, length: usize) -> Result<MemDisk> {
     let mut bytes = disk.bytes().to_vec(alloc)?;
     bytes.resize(length, 0)?;
     disk_of(alloc, bytes.as_slice())
 }
 
-// Puts bytes in their places, and tells them as they stand then. The disk.
+// Puts bytes in their places, and tells them as they stand then. Returns the disk.
 fn written(
     alloc: Global,
     disk: Option<MemDisk>,
@@ -146,7 +147,7 @@ fn crash_new(desk: &mut Desk, how: &str, said: &mut String) -> Result<()> {
     Ok(said.push_str("crashed")?)
 }
 
-// How the old file is made or changed. Whether the words ask for it.
+// Makes or changes the old file, if the words ask for it. Returns whether they do.
 fn tell_old(desk: &mut Desk, alloc: Global, words: &[&str], said: &mut String) -> Result<bool> {
     match words {
         ["old", "image", cells, elements, slots] => {
@@ -171,7 +172,7 @@ fn tell_old(desk: &mut Desk, alloc: Global, words: &[&str], said: &mut String) -
     Ok(true)
 }
 
-// How the new file is made or changed. Whether the words ask for it.
+// Makes or changes the new file, if the words ask for it. Returns whether they do.
 fn tell_new(desk: &mut Desk, alloc: Global, words: &[&str], said: &mut String) -> Result<bool> {
     match words {
         ["new", "file", length] => {
@@ -193,7 +194,7 @@ fn tell_new(desk: &mut Desk, alloc: Global, words: &[&str], said: &mut String) -
     Ok(true)
 }
 
-/// Makes a call on one of the two files. Whether the words are one.
+/// Makes a call on one of the two files. Returns whether the words are one.
 pub fn tell(desk: &mut Desk, alloc: Global, words: &[&str], said: &mut String) -> Result<bool> {
     if let ["mark"] = words {
         mark(desk, alloc, said)?;

@@ -1,4 +1,4 @@
-//! Stories of migrations: which images are moved on to which files, what the new ones mean, and what stops and failing
+//! Stories of migrations: which images are migrated to which files, what the new ones mean, and what stops and failing
 //! calls of either disk leave.
 //!
 //! ```text
@@ -10,18 +10,18 @@
 //! new file 450560 of a5 = 450560 bytes    or of this byte
 //! new write 0 00 = 00                     puts bytes into it
 //! mark = marked                           keeps both files as they are now
-//! fuse old 2 stop = set                   the next migration's calls of a disk fail behind so many: stop, once, scar:BYTE
+//! fuse old 2 stop = set                   the next migration's calls of a disk fail after 2: stop, once, scar:BYTE
 //! migrate = migrated 3
 //! calls = 13 and 315                      of the old file, and of the new one
 //! old as marked = yes                     no byte of it was changed
 //! new as marked = yes
 //! new crash kept = crashed                what a crash leaves of the new file: kept, lost, or a byte
-//! new open = count 3 room 256             what its opening comes to
+//! new open = count 3 room 256             the result of opening it
 //! tell old = 12 lines                     its report; told 3 has a line of it
 //! new means old = yes                     both reports are the same from their fifth line on
 //! in each stop kept = 314 refused 13 NoHeader, 1 count 3
 //! in each stop of old once = 13 refused 8 Device
-//! with 4096:a5 = refused 22 NotBlank      what a migration of copies comes to where this byte stands in the new file
+//! with 4096:a5 = refused 22 NotBlank      the result of migrating copies with this byte in the new file
 //! with old 0:00 = refused 13 NoHeader     or in the old one
 //! run imem migrate a.img b.img = 0        the program's work on files; printed 0 has its line
 //! keep old a.img = 327680 bytes           makes a file of the old image; load new b.img takes one for the new
@@ -59,7 +59,7 @@ impl<'a> Scene for Desk<'a> {
     }
 }
 
-// The numbers of the standard streams, where they can be held.
+// Holds the numbers of the standard streams, if that is possible.
 fn held(rt: &HostRuntime) -> Option<Descriptors> {
     Descriptors::hold(rt, &rt.stdin(), &rt.stdout(), &rt.stderr())
 }

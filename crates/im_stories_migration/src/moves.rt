@@ -12,7 +12,7 @@ use im_story::{add_refusal, number, place};
 use im_types::{LAST, Refusal};
 use std::alloc::Global;
 
-/// A disk whose calls fail so, or never.
+/// Makes a disk whose calls fail as the fuse says, or never.
 pub fn fused(disk: MemDisk, fuse: Option<Fuse>) -> FuseDisk {
     match fuse {
         Some(fuse) => FuseDisk::new(disk, fuse.passes, fuse.mode),
@@ -20,7 +20,7 @@ pub fn fused(disk: MemDisk, fuse: Option<Fuse>) -> FuseDisk {
     }
 }
 
-/// Adds what a migration came to.
+/// Adds the result of a migration.
 pub fn add_moved(said: &mut String, moved: Result<u64, Refusal>) -> Result<()> {
     match moved {
         Ok(count) => write!(said, "migrated {count}")?,
@@ -29,7 +29,7 @@ pub fn add_moved(said: &mut String, moved: Result<u64, Refusal>) -> Result<()> {
     Ok(())
 }
 
-/// Moves an image on. What it came to, and the new file.
+/// Migrates an image. Returns the result, and the new file.
 pub fn move_on(
     alloc: Global,
     old: &mut FuseDisk,
@@ -41,7 +41,7 @@ pub fn move_on(
     }
 }
 
-// Moves the old file's image on to the new file.
+// Migrates the old file's image to the new file.
 fn tell_move(desk: &mut Desk, alloc: Global, said: &mut String) -> Result<()> {
     let (Some(old), Some(new)) = (desk.old.take(), desk.new.take()) else {
         return Err(anyhow!("a file isn't there"));
@@ -56,7 +56,7 @@ fn tell_move(desk: &mut Desk, alloc: Global, said: &mut String) -> Result<()> {
     add_moved(said, moved)
 }
 
-// Tells what a migration of copies comes to in which this byte stands.
+// Tells the result of a migration of copies that have this byte.
 fn with_byte(
     desk: &Desk,
     alloc: Global,
@@ -75,7 +75,7 @@ fn with_byte(
     add_moved(said, moved)
 }
 
-/// Adds what the opening of a file comes to: its count and its room, or why it is refused. The file.
+/// Adds the result of opening a file: its count and its room, or why it is refused. Returns the file.
 pub fn add_opened(said: &mut String, alloc: Global, disk: MemDisk) -> Result<MemDisk> {
     match Engine::open(alloc, disk) {
         Ok(engine) => {
@@ -89,7 +89,7 @@ pub fn add_opened(said: &mut String, alloc: Global, disk: MemDisk) -> Result<Mem
     }
 }
 
-/// The report of a file, or its refusal.
+/// Returns the report of a file, or its refusal.
 pub fn report(alloc: Global, disk: MemDisk) -> Result<(String, MemDisk)> {
     let mut out = Paper::new(alloc);
     let mut notes = Notes::new(alloc);
@@ -97,7 +97,7 @@ pub fn report(alloc: Global, disk: MemDisk) -> Result<(String, MemDisk)> {
     Ok((out.into_text()?, disk))
 }
 
-// What a report says of the memory: its lines from the fifth on.
+// Returns what a report says of the memory: its lines from the fifth on.
 fn memory_part(report: &str) -> Result<&str> {
     let mut rest = report;
     for _ in 0..4 {
@@ -109,14 +109,14 @@ fn memory_part(report: &str) -> Result<&str> {
     Ok(rest)
 }
 
-/// Whether the new file means the memory that the old one means, by their reports.
+/// Returns whether the new file means the memory that the old one means, by their reports.
 pub fn is_same(alloc: Global, old: &MemDisk, new: &MemDisk) -> Result<bool> {
     let (of_old, _) = report(alloc, copy(alloc, old)?)?;
     let (of_new, _) = report(alloc, copy(alloc, new)?)?;
     Ok(memory_part(of_old.as_str())? == memory_part(of_new.as_str())?)
 }
 
-// The report of one of the two files.
+// Returns the report of one of the two files.
 fn report_of(desk: &Desk, alloc: Global, is_old: bool) -> Result<String> {
     let disk = if is_old {
         copy(alloc, desk.old()?)?
@@ -164,7 +164,7 @@ fn set_fuse(desk: &mut Desk, of: &str, passes: &str, how: &str, said: &mut Strin
     Ok(said.push_str("set")?)
 }
 
-/// Makes a call on both files. Whether the words are one.
+/// Makes a call on both files. Returns whether the words are one.
 pub fn tell(desk: &mut Desk, alloc: Global, words: &[&str], said: &mut String) -> Result<bool> {
     match words {
         ["migrate"] => tell_move(desk, alloc, said)?,

@@ -15,7 +15,7 @@ const NOBODY: Terminals = Terminals {
     errors: false,
 };
 
-// Does what a command line asks one thread for. The status.
+// Does the work of a command line that takes one thread. Returns the status.
 fn act(desk: &mut Desk, words: &[&str]) -> Result<u8> {
     let rt = desk.rt;
     let alloc = rt.alloc();
@@ -61,7 +61,7 @@ fn act(desk: &mut Desk, words: &[&str]) -> Result<u8> {
     Ok(status)
 }
 
-// Makes a file of these lines, each of them its words up to a slash.
+// Makes a file of these lines. Each line is the words up to a slash.
 fn save(desk: &Desk, file: &str, words: &[&str], said: &mut String) -> Result<()> {
     let mut text = Vec::new(desk.rt.alloc());
     for word in words {
@@ -84,7 +84,7 @@ fn keep(desk: &Desk, disk: &MemDisk, file: &str, said: &mut String) -> Result<()
     Ok(write!(said, "{length} bytes")?)
 }
 
-// The bytes of a file, as a disk.
+// Returns the bytes of a file, as a disk.
 fn load(desk: &Desk, file: &str, said: &mut String) -> Result<MemDisk> {
     let bytes = fs::read(desk.rt, file)?;
     let length = bytes.len();
@@ -92,7 +92,7 @@ fn load(desk: &Desk, file: &str, said: &mut String) -> Result<MemDisk> {
     disk_of(desk.rt.alloc(), bytes.as_slice())
 }
 
-// How long a file is, if it is there.
+// Tells how long a file is, if it exists.
 fn length_of(desk: &Desk, file: &str, said: &mut String) -> Result<()> {
     if fs::metadata(desk.rt, file).is_err() {
         return Ok(said.push_str("none")?);
@@ -101,7 +101,7 @@ fn length_of(desk: &Desk, file: &str, said: &mut String) -> Result<()> {
     Ok(write!(said, "{length} bytes")?)
 }
 
-/// Makes a call on files. Whether the words are one.
+/// Makes a call on files. Returns whether the words are one.
 pub fn tell(desk: &mut Desk, words: &[&str], said: &mut String) -> Result<bool> {
     match words {
         ["run", command @ ..] => {

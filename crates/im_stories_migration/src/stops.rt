@@ -1,4 +1,4 @@
-//! Failures of either disk at each call that a migration makes, and what is found of the new file then.
+//! Failures of either disk at each call of a migration, and what is found of the new file then.
 
 use crate::desk::{Desk, Fuse};
 use crate::disks::{crash, disk_of, mode};
@@ -7,7 +7,7 @@ use anyhow::{Result, anyhow};
 use im_disk::{Crash, MemDisk, Mode};
 use std::alloc::Global;
 
-// Ends that were come to in a row, with how often each one was.
+// Results in a row, with how often each one came.
 #[derive(Drop)]
 struct Ends {
     ends: Vec<(String, u64)>,
@@ -37,7 +37,7 @@ impl Ends {
     }
 }
 
-// Which disk fails, how, and what the crash behind it leaves.
+// Which disk fails, how, and what the crash after it leaves.
 #[derive(Clone, Copy)]
 struct Way {
     is_old: bool,
@@ -45,7 +45,7 @@ struct Way {
     crash: Option<Crash>,
 }
 
-// The new file as it is at the beginning: zeros, or other bytes.
+// The new file at the start: zeros, or other bytes.
 #[derive(Drop)]
 struct Blank {
     alloc: Global,
@@ -72,7 +72,7 @@ impl Blank {
     }
 }
 
-// A migration that was cut short, or not: what it came to, and both files.
+// A migration that may have been cut short: its result, and both files.
 #[derive(Drop)]
 struct CutShort {
     is_whole: bool,
@@ -81,7 +81,7 @@ struct CutShort {
     new: MemDisk,
 }
 
-// Moves an image on, where a disk fails behind so many calls.
+// Migrates an image while a disk fails after the given number of calls.
 fn cut_short(
     alloc: Global,
     old: MemDisk,
@@ -111,7 +111,7 @@ fn cut_short(
     })
 }
 
-// What the new file comes to behind a crash: refused, or what the old one means; and then the migration that is begun
+// Returns what is found of the new file after a crash: refused, or what the old one means. Then the migration is made
 // again. The old file comes back.
 fn found(alloc: Global, trial: CutShort, way: Way) -> Result<(String, MemDisk)> {
     let disk = match way.crash {
@@ -130,7 +130,7 @@ fn found(alloc: Global, trial: CutShort, way: Way) -> Result<(String, MemDisk)> 
     Ok((end, old.into_inner()))
 }
 
-// Fails at each call, and tells how often each end was come to. The old file comes back.
+// Fails at each call, and tells how often each result came. The old file comes back.
 fn tell_each(
     alloc: Global,
     old: MemDisk,
@@ -158,7 +158,7 @@ fn tell_each(
     Err(anyhow!("the calls don't end"))
 }
 
-// The same of the two files of a story, of which the old one must not change.
+// Does the same with the two files of a story. The old one must not change.
 fn tell_files(desk: &mut Desk, alloc: Global, way: Way, said: &mut String) -> Result<()> {
     let blank = Blank::of(alloc, desk.new_file()?)?;
     let bytes = desk.old()?.bytes().to_vec(alloc)?;
@@ -173,8 +173,8 @@ fn tell_files(desk: &mut Desk, alloc: Global, way: Way, said: &mut String) -> Re
     Ok(())
 }
 
-/// Whether the words are `in each stop`, `once` or `scar:BYTE`, of the new file or `of old`, and what a crash behind it
-/// leaves.
+/// Makes the call if the words are `in each` with `stop`, `once` or `scar:BYTE`, of the new file or `of old`, and what
+/// a crash after it leaves. Returns whether they are.
 pub fn tell(desk: &mut Desk, alloc: Global, words: &[&str], said: &mut String) -> Result<bool> {
     let ["in", "each", how, rest @ ..] = words else {
         return Ok(false);

@@ -1,4 +1,4 @@
-//! Writers in memory, and who is told of the work beside its output.
+//! Writers in memory, and observers that keep what they are told.
 
 use anyhow::{Result, anyhow};
 use im_migration::Follower;
@@ -15,14 +15,14 @@ pub struct Paper {
 }
 
 impl Paper {
-    /// Nothing was written.
+    /// Starts with nothing written.
     pub fn new(alloc: Global) -> Paper {
         Paper {
             text: Vec::new(alloc),
         }
     }
 
-    /// What was written.
+    /// Returns what was written.
     pub fn into_text(self) -> Result<String> {
         match String::from_utf8(self.text) {
             Ok(text) => Ok(text),
@@ -45,12 +45,12 @@ impl Write for Paper {
 /// Why work was refused, a line each.
 #[derive(Drop)]
 pub struct Notes {
-    /// The lines. Where there was no memory for one, it is missing.
+    /// The lines. A line is missing if there was no memory for it.
     pub text: String,
 }
 
 impl Notes {
-    /// Nothing was told.
+    /// Starts with nothing told.
     pub fn new(alloc: Global) -> Notes {
         Notes {
             text: String::new(alloc),

@@ -1,4 +1,4 @@
-//! Areas, whose pages are made record by record.
+//! Areas. Their pages are made record by record.
 
 use crate::rows::Rows;
 use crate::values::Sizes;
@@ -10,7 +10,7 @@ use im_records::{
 use im_types::{CellRecord, NodeRecord, Refusal};
 use std::alloc::Global;
 
-// What stood on a page before its records are put.
+// The byte that fills a page before its records are put.
 const OLD: u8 = 0xEE;
 
 fn page_of_cells(cells: &[CellRecord]) -> [u8; PAGE] {
@@ -37,7 +37,7 @@ fn page_of_sessions(windows: &[WindowRecord]) -> [u8; PAGE] {
     page
 }
 
-/// The three pages of an area with few records.
+/// Returns the three pages of an area with few records.
 pub fn pages(alloc: Global, rows: &Rows) -> Result<Vec<u8>> {
     if rows.cells.len() > CELLS_ON_A_PAGE
         || rows.nodes.len() > NODES_ON_A_PAGE
@@ -52,7 +52,7 @@ pub fn pages(alloc: Global, rows: &Rows) -> Result<Vec<u8>> {
     Ok(bytes)
 }
 
-/// A page of old bytes, with a session record at one place.
+/// Returns a page of old bytes, with a session record at one place.
 pub fn page_with(alloc: Global, window: &WindowRecord, place: usize) -> Result<Vec<u8>> {
     if place >= SESSIONS_ON_A_PAGE {
         return Err(anyhow!("there is no place {place} on a page"));
@@ -62,7 +62,7 @@ pub fn page_with(alloc: Global, window: &WindowRecord, place: usize) -> Result<V
     Ok(Vec::from_slice(alloc, &page)?)
 }
 
-/// The records of an area with these bytes, or why there are none.
+/// Returns the records of an area with these bytes, or why there are none.
 pub fn area(alloc: Global, sizes: Sizes, bytes: &[u8]) -> Result<Result<AreaRecords, Refusal>> {
     let Some(limits) = sizes.limits else {
         return Err(anyhow!("there are no limits"));

@@ -4,7 +4,7 @@ use anyhow::{Result, anyhow};
 use im_story::place;
 use std::alloc::{AllocError, Global};
 
-// So many of one byte.
+// Adds the same byte, `count` times.
 fn add_run(said: &mut String, byte: u8, count: usize) -> Result<(), AllocError> {
     if count > 2 {
         write!(said, " {byte:02x}*{count}")
@@ -16,7 +16,7 @@ fn add_run(said: &mut String, byte: u8, count: usize) -> Result<(), AllocError> 
     }
 }
 
-/// Adds bytes, those of a run of more than two as `00*14`.
+/// Adds bytes. A run of more than two equal bytes is added as `00*14`.
 pub fn add_bytes(said: &mut String, bytes: &[u8]) -> Result<(), AllocError> {
     let (mut run, mut count) = (0, 0usize);
     for byte in bytes {
@@ -37,7 +37,7 @@ fn byte(word: &str) -> Result<u8> {
     }
 }
 
-// The bytes of a word, `0a` or `0a*3`.
+// Adds the bytes of a word, `0a` or `0a*3`.
 fn push_run(bytes: &mut Vec<u8>, word: &str) -> Result<()> {
     let (run, count) = match word.split_once('*') {
         Some((run, count)) => (byte(run)?, place(count)?),
@@ -49,7 +49,7 @@ fn push_run(bytes: &mut Vec<u8>, word: &str) -> Result<()> {
     Ok(())
 }
 
-/// The bytes that are written so.
+/// Reads bytes in this form.
 pub fn bytes(alloc: Global, words: &[&str]) -> Result<Vec<u8>> {
     let mut bytes = Vec::new(alloc);
     for word in words {

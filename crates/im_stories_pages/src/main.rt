@@ -1,5 +1,5 @@
 //! Stories of the pages of an image: how the records of cells, waiter nodes and sessions are spelled and read, and
-//! which memory they show. The stories lie in `data`, and each module says its own words.
+//! which memory they show. The stories are in `data`, and each module lists its own words.
 //!
 //! Bytes in a row are written with two digits of base 16 each, and `00*14` is fourteen of them. All other numbers are
 //! decimal, and `none` is a link to nothing.
@@ -23,7 +23,7 @@ use im_story::{Scene, walk_files};
 use std::alloc::Global;
 use std::process::ExitCode;
 
-/// Records, bytes that may spell some, and the lists of waiters that were last read of the records.
+/// Records, bytes that may spell some, and the lists of waiters that were last read from the records.
 #[derive(Drop)]
 struct Pages {
     sizes: Sizes,

@@ -6,7 +6,7 @@
 //! node 0 1.1 next none = set
 //! window 0 15 = set                        a window with no entry, whose first number is 15
 //! keep 0 fetch 1 -> waiting = 0.15         one more entry of the window, and which request's it is
-//! keep 0 64 stores = 0.15 to 78            so many more, of stores of 0, 1, .. in cell 0 that clashed
+//! keep 0 64 stores = 0.15 to 78            64 more, of stores of 0, 1, .. in cell 0 that clashed
 //! ```
 
 use crate::texts::{cell, kept, node};
@@ -24,7 +24,7 @@ pub struct Rows {
     pub windows: Vec<WindowRecord>,
 }
 
-/// The entry of a store of this value in cell 0 that clashed.
+/// Returns the entry of a store of this value in cell 0 that clashed.
 pub fn clashing(value: u64) -> Kept {
     Kept {
         op: Op::Store(0, value),
@@ -32,7 +32,7 @@ pub fn clashing(value: u64) -> Kept {
     }
 }
 
-// Gives a window one more entry, if it has room. The number that the entry has.
+// Adds an entry to a window, if it has room. Returns the number of the entry.
 fn keep(window: &mut WindowRecord, entry: Kept) -> Result<u64> {
     let count = window.kept().len();
     if count >= WINDOW as usize {

@@ -4,7 +4,7 @@
 //! blocks = yes                             whether the cells lie in blocks
 //! lists = 2                                the lists of waiters of the cells, or why there are none
 //! waiting 0 = 1.1 2.1                      who waits in a list that was read
-//! agree = no                               whether nobody waits, where there is no window
+//! agree = no                               whether nobody waits, given that there is no window
 //! contents = 2                             the lists of the memory that cells, nodes and windows show under the limits
 //! ```
 
@@ -27,7 +27,7 @@ fn say(said: &mut String, yes: bool) -> Result<()> {
     Ok(())
 }
 
-// Tells how many lists there are, or why there are none, and gives the lists.
+// Tells how many lists there are, or why there are none, and returns the lists.
 fn told(read: Result<Lists, Refusal>, said: &mut String) -> Result<Option<Lists>> {
     match read {
         Ok(lists) => {
@@ -42,7 +42,7 @@ fn told(read: Result<Lists, Refusal>, said: &mut String) -> Result<Option<Lists>
     }
 }
 
-// The lists of waiters of some cells.
+// Returns the lists of waiters of some cells.
 fn lists_of(alloc: Global, rows: &Rows, said: &mut String) -> Result<Option<Lists>> {
     if rows.nodes.len() > NONE as usize {
         return Err(anyhow!("too many nodes"));
@@ -51,7 +51,7 @@ fn lists_of(alloc: Global, rows: &Rows, said: &mut String) -> Result<Option<List
     told(read_lists(alloc, &rows.nodes, &cells), said)
 }
 
-// The lists of waiters of a memory.
+// Returns the lists of waiters of a memory.
 fn contents_of(
     alloc: Global,
     limits: Option<Limits>,

@@ -56,7 +56,7 @@ fn add_node_or(said: &mut String, node: Option<NodeRecord>, none: &str) -> Resul
     }
 }
 
-// The record of a cell, if there is such a cell.
+// Returns the record of a cell, if there is such a cell.
 fn cell_of(area: &AreaRecords, at: usize) -> Option<CellRecord> {
     let cells = area.cells();
     if at < cells.len() {
@@ -72,7 +72,7 @@ fn add_area(said: &mut String, area: &AreaRecords) -> Result<(), AllocError> {
     write!(said, "{cells} cells {nodes} nodes {windows} windows")
 }
 
-// The first and the last place of `4..15`, or twice that of `4`.
+// Reads the first and the last place of `4..15`, or of `4`, which is both.
 fn places(word: &str) -> Result<(usize, usize)> {
     match word.split_once("..") {
         Some((from, to)) => Ok((place(from)?, place(to)?)),
@@ -226,7 +226,7 @@ impl Spelled {
         Ok(())
     }
 
-    // Whether the bytes are read with one of them changed.
+    // Returns whether the bytes are read with one of them changed.
     fn with_byte(&self, alloc: Global, sizes: Sizes, at: usize, byte: u8) -> Result<Verdict> {
         let mut changed = Vec::from_slice(alloc, &self.bytes)?;
         let Some(place) = changed.get_mut(at) else {
@@ -274,7 +274,7 @@ impl Spelled {
         Ok(())
     }
 
-    // How many of the first entries are of stores of 0, 1, .. in cell 0 that clashed.
+    // Tells how many of the first entries are of stores of 0, 1, .. in cell 0 that clashed.
     fn tell_stores(&self, said: &mut String) -> Result<()> {
         let Some(window) = &self.session else {
             return Err(anyhow!("no session was read"));

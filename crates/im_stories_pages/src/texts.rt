@@ -15,7 +15,7 @@ use im_types::{
 };
 use std::alloc::AllocError;
 
-// A link to a cell or a node.
+// Reads a link to a cell or a node.
 fn link(word: &str) -> Result<u32> {
     match word {
         "none" => Ok(NONE),
@@ -73,7 +73,7 @@ fn add_tag(said: &mut String, tag: PresenceTag) -> Result<(), AllocError> {
     }
 }
 
-/// The record of a cell.
+/// Reads the record of a cell.
 pub fn cell(words: &[&str]) -> Result<CellRecord> {
     match words {
         ["free", "hole", hole, "next", next] => Ok(CellRecord::Free {
@@ -107,7 +107,7 @@ pub fn add_cell(said: &mut String, cell: CellRecord) -> Result<(), AllocError> {
     }
 }
 
-/// A waiter node.
+/// Reads a waiter node.
 pub fn node(words: &[&str]) -> Result<NodeRecord> {
     match words {
         ["free", "next", next] => Ok(NodeRecord::Free { next: link(next)? }),
@@ -137,7 +137,7 @@ pub fn add_node(said: &mut String, node: NodeRecord) -> Result<(), AllocError> {
     }
 }
 
-// What an operation on a cell is answered, but for a value.
+// Reads the reply to an operation on a cell, if it isn't a value.
 fn reply_of_cell(word: &str) -> Result<Reply> {
     match word {
         "stored" => Ok(Reply::Stored),
@@ -148,7 +148,7 @@ fn reply_of_cell(word: &str) -> Result<Reply> {
     }
 }
 
-// What an operation is answered, but for a base and a value.
+// Reads the reply to an operation, if it is no base and no value.
 fn reply(word: &str) -> Result<Reply> {
     match word {
         "nospace" => Ok(Reply::NoSpace),
@@ -171,7 +171,7 @@ fn entry(words: &[&str]) -> Result<Entry> {
     }
 }
 
-/// A kept entry.
+/// Reads a kept entry.
 pub fn kept(words: &[&str]) -> Result<Kept> {
     let Some(arrow) = words.iter().position(|word| *word == "->") else {
         return Err(anyhow!("nothing came of it"));

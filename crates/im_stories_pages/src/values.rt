@@ -12,7 +12,7 @@ use im_types::layout::Version;
 use im_types::{Limits, Refusal};
 use std::alloc::Global;
 
-/// By what areas and sessions are read.
+/// The limits and the version by which areas and sessions are read.
 #[derive(Clone, Copy)]
 pub struct Sizes {
     pub version: Version,
@@ -20,7 +20,7 @@ pub struct Sizes {
 }
 
 impl Sizes {
-    /// The version in use, and no limits.
+    /// Starts with the version in use, and no limits.
     pub fn new() -> Sizes {
         Sizes {
             version: Version::Two,
@@ -42,7 +42,7 @@ impl Sizes {
     }
 }
 
-// Makes limits of these cells, elements and slots, and tells them, or `none`.
+// Makes limits of these cells, elements and slots, and tells them, or `none` if they aren't allowed.
 fn tell_limits(sizes: &[&str], said: &mut String) -> Result<Option<Limits>> {
     let [cells, elements, slots] = sizes else {
         return Err(anyhow!("no sizes"));

@@ -1,4 +1,4 @@
-//! Whether bytes are read, case by case.
+//! Tells whether bytes are read, case by case.
 
 use crate::areas::area;
 use crate::values::Sizes;
@@ -8,7 +8,7 @@ use im_story::add_refusal;
 use im_types::Refusal;
 use std::alloc::{AllocError, Global};
 
-/// What bytes are read as.
+/// The form in which bytes are read.
 #[derive(Clone, Copy)]
 pub enum Form {
     Cell,
@@ -18,7 +18,7 @@ pub enum Form {
     Area,
 }
 
-/// The kind of record that has this name.
+/// Returns the kind of record that has this name.
 pub fn form_of(word: &str) -> Result<Form> {
     match word {
         "cell" => Ok(Form::Cell),
@@ -53,7 +53,7 @@ fn of_area(read: Result<AreaRecords, Refusal>) -> Verdict {
     }
 }
 
-/// Whether bytes are read as this kind of record.
+/// Returns whether bytes are read as this kind of record.
 pub fn look(alloc: Global, form: Form, sizes: Sizes, bytes: &[u8]) -> Result<Verdict> {
     match form {
         Form::Cell => Ok(of_record(read_cell(bytes).is_some())),
@@ -98,7 +98,7 @@ pub fn add_run(said: &mut String, run: Option<Run>) -> Result<(), AllocError> {
     }
 }
 
-/// The run with one more case. A run that ends there is told.
+/// Returns the run with one more case. If the run ends there, it is told.
 pub fn grown(said: &mut String, run: Option<Run>, case: usize, verdict: Verdict) -> Result<Run> {
     match run {
         Some(old) if old.verdict == verdict => Ok(Run {

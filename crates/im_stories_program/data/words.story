@@ -129,7 +129,7 @@ says E.N reset A = yes
 says Exit status: 0 the input ended = yes
 imem inspect --help = status 0
 says imem inspect a.img = yes
-says Exit status: 0 all was told = yes
+says Exit status: 0 the whole report is printed = yes
 imem serial --help = status 0
 says standard input = yes
 says store PLACE VALUE = yes
@@ -137,13 +137,13 @@ says reset PLACE = yes
 says Exit status: 0 all was served = yes
 imem format --help = status 0
 says Exit status: 0 the image is made = yes
-says a file that is there is refused = yes
+says an existing file is refused = yes
 imem --help = status 0
 says With --statuses = yes
 imem migrate --help = status 0
 says imem migrate old.img new.img = yes
 says 14 BadHeader = yes
-says Exit status: 0 the image is moved on = yes
+says Exit status: 0 the image is moved; = yes
 
 # The version is told with the layout that is written
 imem --version = status 0

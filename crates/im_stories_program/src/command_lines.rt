@@ -5,7 +5,7 @@ use anyhow::{Result, anyhow};
 use im_program::{Job, Order, WordFault, Work, read_words};
 use std::alloc::{AllocError, Global};
 
-/// What was said of the last bad command line.
+/// What was said about the last bad command line.
 #[derive(Drop)]
 pub struct CommandLine {
     fault: String,
@@ -61,7 +61,7 @@ fn add_order(said: &mut String, order: &Order) -> Result<(), AllocError> {
     Ok(())
 }
 
-/// The words of a command line, one a line.
+/// Returns the words of a command line, one a line.
 pub fn spelled(alloc: Global, words: &[&str]) -> Result<Vec<u8>> {
     let mut text = Vec::new(alloc);
     for word in words {
@@ -71,7 +71,7 @@ pub fn spelled(alloc: Global, words: &[&str]) -> Result<Vec<u8>> {
     Ok(text)
 }
 
-/// The words, as texts.
+/// Returns the words, as texts.
 pub fn texts(alloc: Global, spelled: &[u8]) -> Result<Vec<&str>> {
     match str::from_utf8(spelled) {
         Ok(text) => Ok(text.split_terminator('\n').collect(alloc)?),
@@ -80,14 +80,14 @@ pub fn texts(alloc: Global, spelled: &[u8]) -> Result<Vec<&str>> {
 }
 
 impl CommandLine {
-    /// Nothing was said.
+    /// Starts with nothing said.
     pub fn new(alloc: Global) -> CommandLine {
         CommandLine {
             fault: String::new(alloc),
         }
     }
 
-    // Reads a command line, and tells its work, or the status that it ends with.
+    // Reads a command line. Tells its work, or the status that it ends with.
     fn read(&mut self, alloc: Global, words: &[&str], said: &mut String) -> Result<()> {
         let spelled = spelled(alloc, words)?;
         let texts = texts(alloc, spelled.as_slice())?;
@@ -103,7 +103,7 @@ impl CommandLine {
         Ok(())
     }
 
-    // Whether what was said of a bad command line has these words.
+    // Tells whether these words are in what was said about a bad command line.
     fn says(&self, alloc: Global, words: &[&str], said: &mut String) -> Result<()> {
         let mut text = Vec::new(alloc);
         add_text(&mut text, words)?;
@@ -113,7 +113,7 @@ impl CommandLine {
         }
     }
 
-    /// Makes a call on a command line. Whether the words are one.
+    /// Makes a call on a command line. Returns whether the words are one.
     pub fn tell(&mut self, alloc: Global, words: &[&str], said: &mut String) -> Result<bool> {
         match words {
             ["imem", ..] => self.read(alloc, words, said)?,

@@ -1,5 +1,5 @@
-//! Dialogues on the image in memory: what was put together as a script is what the client says. All of it may stand in
-//! the reader's buffer at once, or a byte at a time, and the client may be silent whenever the buffer is empty.
+//! Dialogues on the image in memory. The client says what was put together as a script. All of it may be in the
+//! reader's buffer at once, or a byte at a time. The client may be silent whenever the buffer is empty.
 
 use crate::Desk;
 use crate::writers::{Notes, Paper};
@@ -12,7 +12,7 @@ use im_types::LAST;
 use std::alloc::Global;
 use std::io::{self, BufReader, Read};
 
-// What a client says, who is silent whenever it is asked whether something is there, or never.
+// What a client says. It is silent each time it is asked whether something is there, or never.
 #[derive(Drop)]
 struct Client<'a> {
     text: &'a [u8],
@@ -31,8 +31,8 @@ impl<'a> Ear for Client<'a> {
     }
 }
 
-// How a dialogue is held: how many bytes the buffer has, whether the client is silent whenever it is empty, whether it
-// is watched, the disk's calls until it fails, and the writer's bytes until it does.
+// The manner of a dialogue: how many bytes the buffer has, whether the client is silent whenever it is empty, and
+// whether the dialogue is watched. Also after how many calls the disk fails, and after how many bytes the writer does.
 #[derive(Clone, Copy)]
 struct Manner {
     buffer: usize,
@@ -50,7 +50,7 @@ const PLAIN: Manner = Manner {
     bytes: usize::MAX,
 };
 
-// Holds a dialogue in which this is said. The status, and how many calls the disk was asked.
+// Holds a dialogue in which this is said. Returns the status, and how many calls the disk got.
 fn hold(alloc: Global, desk: &mut Desk, text: &[u8], manner: Manner) -> Result<(u8, u64)> {
     let is_silent = manner.is_silent;
     let client = Client { text, is_silent };
@@ -65,13 +65,13 @@ fn hold(alloc: Global, desk: &mut Desk, text: &[u8], manner: Manner) -> Result<(
     Ok((status, calls))
 }
 
-// How many calls an opening of the image makes: those of a dialogue in which nothing is said.
+// Returns how many calls an opening of the image makes: those of a dialogue in which nothing is said.
 fn opening_calls(alloc: Global, desk: &mut Desk) -> Result<u64> {
     let (_, calls) = hold(alloc, desk, b"".as_slice(), PLAIN)?;
     Ok(calls)
 }
 
-// Holds a dialogue. Tells the status, and how many calls the disk was asked past those of the opening.
+// Holds a dialogue. Tells the status, and how many calls the disk got after those of the opening.
 fn talk(alloc: Global, desk: &mut Desk, manner: Manner, said: &mut String) -> Result<()> {
     let text = desk.scripts.take_text(alloc);
     let opening = opening_calls(alloc, desk)?;
@@ -81,7 +81,7 @@ fn talk(alloc: Global, desk: &mut Desk, manner: Manner, said: &mut String) -> Re
     Ok(write!(said, "{status}, {calls} calls")?)
 }
 
-// How the words say that a dialogue is held.
+// Reads the manner of a dialogue.
 fn manner_of(words: &[&str]) -> Result<Option<Manner>> {
     let mut manner = PLAIN;
     let mut rest = words;
@@ -106,7 +106,7 @@ fn manner_of(words: &[&str]) -> Result<Option<Manner>> {
     Ok(Some(manner))
 }
 
-/// Holds a dialogue on the image. Whether the words ask for it.
+/// Holds a dialogue on the image, if the words ask for it. Returns whether they do.
 pub fn tell(alloc: Global, desk: &mut Desk, words: &[&str], said: &mut String) -> Result<bool> {
     let ["talk", how @ ..] = words else {
         return Ok(false);

@@ -19,7 +19,7 @@ const NOBODY: Terminals = Terminals {
     errors: false,
 };
 
-// Does what a command line asks one thread for, with these bytes as standard input, and tells the status.
+// Does the work of a command line that takes one thread, with these bytes as standard input. Tells the status.
 fn run(desk: &mut Desk, input: &[u8], words: &[&str], said: &mut String) -> Result<()> {
     let alloc = desk.rt.alloc();
     let spelled = spelled(alloc, words)?;
@@ -51,13 +51,13 @@ fn run(desk: &mut Desk, input: &[u8], words: &[&str], said: &mut String) -> Resu
     Ok(write!(said, "{status}")?)
 }
 
-// Why a call on files is refused, by what is told beside the output.
+// Tells whether a call on files was refused, and keeps what was told besides the output.
 fn set_told(desk: &mut Desk, is_ok: bool, notes: Notes, said: &mut String) -> Result<()> {
     desk.printed.set(String::new(desk.rt.alloc()), notes);
     Ok(said.push_str(if is_ok { "done" } else { "refused" })?)
 }
 
-// Serves a file's script, or tells of an image, or makes one.
+// Serves a file's script, tells about an image, or makes one.
 fn attempt(desk: &mut Desk, words: &[&str], said: &mut String) -> Result<bool> {
     let rt = desk.rt;
     let held = desk.held;
@@ -113,7 +113,7 @@ fn keep(desk: &mut Desk, file: &str, said: &mut String) -> Result<()> {
     Ok(write!(said, "{len} bytes")?)
 }
 
-// Makes an image in memory of a file.
+// Makes an image in memory from a file.
 fn load(desk: &mut Desk, file: &str, said: &mut String) -> Result<()> {
     let bytes = fs::read(desk.rt, file)?;
     let len = bytes.len();
@@ -121,7 +121,7 @@ fn load(desk: &mut Desk, file: &str, said: &mut String) -> Result<()> {
     Ok(write!(said, "{len} bytes")?)
 }
 
-// How long a file is, if it is there.
+// Tells how long a file is, if it exists.
 fn file(desk: &Desk, file: &str, said: &mut String) -> Result<()> {
     match fs::read(desk.rt, file) {
         Ok(bytes) => {
@@ -133,7 +133,7 @@ fn file(desk: &Desk, file: &str, said: &mut String) -> Result<()> {
     }
 }
 
-/// Makes a call on files. Whether the words are one.
+/// Makes a call on files. Returns whether the words are one.
 pub fn tell(desk: &mut Desk, words: &[&str], said: &mut String) -> Result<bool> {
     match words {
         ["run", command @ ..] => run(desk, b"".as_slice(), command, said)?,

@@ -1,4 +1,4 @@
-//! An image in memory: its bytes, and what is changed in them.
+//! An image in memory, its bytes, and changes of them.
 
 use crate::spelling::hex;
 use anyhow::{Result, anyhow};
@@ -12,11 +12,11 @@ use std::alloc::Global;
 #[derive(Drop)]
 pub struct Image {
     disk: Option<MemDisk>,
-    /// The bytes as they were marked.
+    /// The bytes when they were marked.
     marked: Vec<u8>,
 }
 
-// A disk with these bytes.
+// Makes a disk with these bytes.
 fn disk_of(alloc: Global, bytes: &[u8]) -> Result<MemDisk> {
     let mut disk = MemDisk::new(alloc, bytes.len())?;
     if disk.write_at(0, bytes).is_err() {
@@ -26,7 +26,7 @@ fn disk_of(alloc: Global, bytes: &[u8]) -> Result<MemDisk> {
 }
 
 impl Image {
-    /// No image.
+    /// Starts with no image.
     pub fn new(alloc: Global) -> Image {
         Image {
             disk: None,
@@ -34,7 +34,7 @@ impl Image {
         }
     }
 
-    /// Gives the disk out.
+    /// Takes the disk out.
     pub fn take(&mut self) -> Result<MemDisk> {
         match self.disk.take() {
             Some(disk) => Ok(disk),
@@ -42,19 +42,19 @@ impl Image {
         }
     }
 
-    /// Takes a disk.
+    /// Puts a disk in.
     pub fn set(&mut self, disk: MemDisk) {
         self.disk = Some(disk);
     }
 
-    /// Takes these bytes for its disk's.
+    /// Puts in a disk with these bytes.
     pub fn load(&mut self, alloc: Global, bytes: &[u8]) -> Result<()> {
         let disk = disk_of(alloc, bytes)?;
         self.set(disk);
         Ok(())
     }
 
-    /// The disk.
+    /// Returns the disk.
     pub fn disk(&self) -> Result<&MemDisk> {
         match &self.disk {
             Some(disk) => Ok(disk),
@@ -83,7 +83,7 @@ impl Image {
         Ok(())
     }
 
-    // The count of the commands of the image, as an opening finds it.
+    // Tells the count of the image's commands, as an opening finds it.
     fn count(&mut self, alloc: Global, said: &mut String) -> Result<()> {
         match Engine::open(alloc, self.take()?) {
             Ok(engine) => {
@@ -109,7 +109,7 @@ impl Image {
         Ok(())
     }
 
-    // Puts bytes in their places, and tells those that stood there.
+    // Puts bytes in their places, and tells those that stood there before.
     fn write(&mut self, alloc: Global, at: usize, words: &[&str], said: &mut String) -> Result<()> {
         let mut bytes = Vec::new(alloc);
         for word in words {
@@ -146,7 +146,7 @@ impl Image {
         Ok(said.push_str(if is_same { "yes" } else { "no" })?)
     }
 
-    /// Makes a call on the image's bytes. Whether the words are one.
+    /// Makes a call on the image's bytes. Returns whether the words are one.
     pub fn tell(&mut self, alloc: Global, words: &[&str], said: &mut String) -> Result<bool> {
         match words {
             ["disk", len] => self.blank(alloc, place(len)?, said)?,

@@ -1,5 +1,5 @@
-//! Stories of the program: scripts, what is printed when they are served on an image, dialogues, what is told of an
-//! image, command lines, and work on files.
+//! Stories of the program: scripts, what is printed when they are served on an image, dialogues, reports of an image,
+//! command lines, and work on files.
 #![tactic(auto)]
 
 mod command_lines;
@@ -22,7 +22,7 @@ use scripts::Scripts;
 use std::alloc::Global;
 use std::process::ExitCode;
 
-/// What a story has in its hands: a script, an image in memory, what was printed last, and the folder's files.
+/// What a story works with: a script, an image in memory, what was last printed, and the folder's files.
 #[derive(Drop)]
 struct Desk<'a> {
     rt: &'a HostRuntime,

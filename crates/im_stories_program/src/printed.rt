@@ -6,14 +6,14 @@ use anyhow::{Result, anyhow};
 use im_story::{name, place};
 use std::alloc::Global;
 
-/// The text that the last work printed, and what was told beside it.
+/// The text that the last work printed, and what was told besides it.
 #[derive(Drop)]
 pub struct Printed {
     out: String,
     notes: Notes,
 }
 
-// The line at this place of a text, from 0.
+// Returns the line at this place of a text, from 0.
 fn line_of(text: &str, at: usize) -> Option<&str> {
     match text.split('\n').nth(at) {
         Some(line) if at < line_ends(text.as_bytes()) => Some(line),
@@ -22,7 +22,7 @@ fn line_of(text: &str, at: usize) -> Option<&str> {
 }
 
 impl Printed {
-    /// Nothing was printed.
+    /// Starts with nothing printed.
     pub fn new(alloc: Global) -> Printed {
         Printed {
             out: String::new(alloc),
@@ -30,18 +30,18 @@ impl Printed {
         }
     }
 
-    /// Takes what was printed and told.
+    /// Keeps what was printed and told.
     pub fn set(&mut self, out: String, notes: Notes) {
         self.out = out;
         self.notes = notes;
     }
 
-    // How many lines end in the text.
+    // Returns how many lines end in the text.
     fn count(&self) -> usize {
         line_ends(self.out.as_str().as_bytes())
     }
 
-    // The line at this place, from 0.
+    // Returns the line at this place, from 0.
     fn line(&self, at: usize) -> Result<&str> {
         match line_of(self.out.as_str(), at) {
             Some(line) => Ok(line),
@@ -58,7 +58,7 @@ impl Printed {
         Ok(())
     }
 
-    // Adds a line, between quotes where a space stands at one of its ends.
+    // Adds a line, in quotes if it starts or ends with a space.
     fn add_line(&self, at: usize, said: &mut String) -> Result<()> {
         let line = self.line(at)?;
         if line.trim().len() == line.len() {
@@ -68,7 +68,7 @@ impl Printed {
         }
     }
 
-    // Looks whether a line is of this request, and its answer this one.
+    // Checks that a line is of this request, and has this answer.
     fn meets(&self, alloc: Global, at: usize, who: (u16, u64), answer: &str) -> Result<()> {
         let (element, number) = who;
         let expected = format!(in alloc; "{element}.{number} {answer}")?;
@@ -80,7 +80,7 @@ impl Printed {
         }
     }
 
-    // Adds the answer that lines have in common, whose requests have one number after another.
+    // Adds the answer that lines have in common. Their requests have one number after another.
     fn add_run(&self, alloc: Global, first: usize, last: usize, said: &mut String) -> Result<()> {
         let Some((who, answer)) = self.line(first)?.split_once(' ') else {
             return Err(anyhow!("line {first} tells of no request"));
@@ -99,13 +99,13 @@ impl Printed {
         }
     }
 
-    // How many lines were told beside the output.
+    // Tells how many lines were told besides the output.
     fn add_told(&self, said: &mut String) -> Result<()> {
         let count = line_ends(self.notes.text.as_str().as_bytes());
         Ok(write!(said, "{count} lines")?)
     }
 
-    // Adds a line that was told beside the output.
+    // Adds a line that was told besides the output.
     fn add_note(&self, at: usize, said: &mut String) -> Result<()> {
         match line_of(self.notes.text.as_str(), at) {
             Some(line) => Ok(said.push_str(line)?),
@@ -113,7 +113,7 @@ impl Printed {
         }
     }
 
-    /// Makes a call on what was printed. Whether the words are one.
+    /// Makes a call on what was printed. Returns whether the words are one.
     pub fn tell(&mut self, alloc: Global, words: &[&str], said: &mut String) -> Result<bool> {
         match words {
             ["printed"] => self.add_count(said)?,

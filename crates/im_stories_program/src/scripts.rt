@@ -1,4 +1,4 @@
-//! Scripts: a text that is put together line by line, and what is read in it.
+//! Scripts: a text is put together line by line, and read.
 
 use crate::spelling::{add_text, add_word, line_ends};
 use anyhow::{Result, anyhow};
@@ -13,9 +13,9 @@ use std::mem;
 /// A script.
 #[derive(Drop)]
 pub struct Scripts {
-    /// Its text, as far as it was put together.
+    /// The text, as far as it was put together.
     text: Vec<u8>,
-    /// The text that was read last.
+    /// The text that was last read.
     read: Option<Vec<u8>>,
     /// What its lines say.
     lists: Lists,
@@ -51,7 +51,7 @@ impl Lists {
         }
     }
 
-    // Goes over the lines of a script once more.
+    // Goes through the lines of a script once more.
     fn of(alloc: Global, script: &Script<'_>) -> Result<Lists> {
         let mut lists = Lists::new(alloc);
         let mut reader = Reader::new(alloc);
@@ -79,7 +79,7 @@ fn add_place(said: &mut String, place: Place) -> Result<(), AllocError> {
     }
 }
 
-// An operation's word and its place.
+// Adds an operation's word and its place.
 fn add_asked(said: &mut String, word: &str, place: Place) -> Result<(), AllocError> {
     write!(said, "{word} ")?;
     add_place(said, place)
@@ -121,7 +121,7 @@ fn add_op(said: &mut String, op: Op) -> Result<(), AllocError> {
     }
 }
 
-// A number, or that there is none.
+// Adds a number, or that there is none.
 fn add_number(said: &mut String, number: Option<u32>) -> Result<(), AllocError> {
     match number {
         Some(number) => write!(said, "{number}"),
@@ -129,7 +129,7 @@ fn add_number(said: &mut String, number: Option<u32>) -> Result<(), AllocError> 
     }
 }
 
-// The place where a line acts.
+// Returns the place on which a line acts.
 fn place_of(action: Action) -> Result<Place> {
     match action {
         Action::Alloc(_, _) => Err(anyhow!("a block is made nowhere yet")),
@@ -164,7 +164,7 @@ fn read_number(alloc: Global, word: &str, said: &mut String) -> Result<()> {
     Ok(add_number(said, read_u32(text.as_slice()))?)
 }
 
-// A word with a number where `@` stands in it.
+// Returns a word with a number instead of `@`.
 fn numbered_word(alloc: Global, word: &str, number: u32) -> Result<String> {
     let mut text = String::new(alloc);
     match word.split_once('@') {
@@ -175,7 +175,7 @@ fn numbered_word(alloc: Global, word: &str, number: u32) -> Result<String> {
 }
 
 impl Scripts {
-    /// No text, and nothing was read.
+    /// Starts with no text, and nothing read.
     pub fn new(alloc: Global) -> Scripts {
         Scripts {
             text: Vec::new(alloc),
@@ -186,7 +186,7 @@ impl Scripts {
         }
     }
 
-    /// The script that was read last.
+    /// Returns the script that was last read.
     pub fn script(&self, alloc: Global) -> Result<Script<'_>> {
         let Some(text) = &self.read else {
             return Err(anyhow!("no script was read"));
@@ -197,12 +197,12 @@ impl Scripts {
         }
     }
 
-    /// The text that was put together. A new one begins.
+    /// Takes the text that was put together. A new one begins.
     pub fn take_text(&mut self, alloc: Global) -> Vec<u8> {
         mem::replace(&mut self.text, Vec::new(alloc))
     }
 
-    // Adds lines to the text, so many times.
+    // Adds lines to the text, the given number of times.
     fn write(&mut self, times: u32, words: &[&str], said: &mut String) -> Result<()> {
         for _time in 0..times {
             add_text(&mut self.text, words)?;
@@ -211,7 +211,8 @@ impl Scripts {
         Ok(write!(said, "{lines} lines")?)
     }
 
-    // Adds lines to the text, so many times, under numbers that follow one another: `@` stands for the number.
+    // Adds lines to the text, the given number of times, under numbers that follow one another. `@` stands for the
+    // number.
     fn number(
         &mut self,
         alloc: Global,
@@ -232,7 +233,7 @@ impl Scripts {
         Ok(write!(said, "{lines} lines")?)
     }
 
-    // Reads a text, the one that was put together with these words behind it.
+    // Reads the text that was put together, with these words after it.
     fn read(&mut self, alloc: Global, words: &[&str], said: &mut String) -> Result<()> {
         let mut text = self.take_text(alloc);
         add_text(&mut text, words)?;
@@ -294,7 +295,7 @@ impl Scripts {
         }
     }
 
-    /// Makes a call on a script. Whether the words are one.
+    /// Makes a call on a script. Returns whether the words are one.
     pub fn tell(&mut self, alloc: Global, words: &[&str], said: &mut String) -> Result<bool> {
         match words {
             ["script", lines @ ..] => self.write(1, lines, said)?,

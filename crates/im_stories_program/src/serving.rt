@@ -1,5 +1,5 @@
-//! Scripts served on the image in memory, and what is told of it. A fuse stops the disk after so many calls, or fails
-//! one; a writer may take so many bytes alone.
+//! Scripts served on the image in memory, and reports of it. A fuse stops the disk after a number of calls, or lets one
+//! fail. A writer may take only a number of bytes.
 
 use crate::Desk;
 use crate::images::Image;
@@ -17,7 +17,7 @@ use im_types::{LAST, Refusal};
 use std::alloc::Global;
 use std::io::ErrorKind;
 
-// How the disk and the writer behave: the disk passes so many calls and then fails, the writer takes so many bytes.
+// How the disk and the writer behave: after how many calls the disk fails, and how many bytes the writer takes.
 #[derive(Clone, Copy)]
 struct Ends {
     passes: u64,
@@ -31,7 +31,7 @@ const ENDLESS: Ends = Ends {
     bytes: usize::MAX,
 };
 
-// Serves a script on an image. The status, and how many calls the disk was asked.
+// Serves a script on an image. Returns the status, and how many calls the disk got.
 fn serve_on(
     alloc: Global,
     image: &mut Image,
@@ -56,7 +56,7 @@ fn serve(alloc: Global, desk: &mut Desk, ends: Ends, said: &mut String) -> Resul
     Ok(write!(said, "{status}")?)
 }
 
-// How many calls an opening of an image makes: those of a script with no request.
+// Returns how many calls an opening of an image makes: those of a script with no request.
 fn opening_calls(alloc: Global, image: &mut Image) -> Result<u64> {
     let script = match read_script(alloc, "".as_bytes()) {
         Ok(script) => script,
@@ -68,7 +68,7 @@ fn opening_calls(alloc: Global, image: &mut Image) -> Result<u64> {
     Ok(calls)
 }
 
-// Serves on a disk that passes so many calls past those of an opening, and then fails.
+// Serves on a disk that passes the given number of calls after those of an opening, and then fails.
 fn serve_past(
     alloc: Global,
     desk: &mut Desk,
@@ -85,7 +85,7 @@ fn serve_past(
     serve(alloc, desk, ends, said)
 }
 
-// Serves with a writer that takes so many bytes, and then fails.
+// Serves with a writer that takes the given number of bytes, and then fails.
 fn serve_to(alloc: Global, desk: &mut Desk, bytes: usize, said: &mut String) -> Result<()> {
     serve(alloc, desk, Ends { bytes, ..ENDLESS }, said)
 }
@@ -108,10 +108,10 @@ fn refuse_memory(alloc: Global, desk: &mut Desk, said: &mut String) -> Result<()
     Ok(write!(said, "{status}")?)
 }
 
-// There is no space for what is written.
+// The fault of a write for which there is no space.
 const FULL: CallFault = CallFault::Write(ErrorKind::StorageFull);
 
-// The reason that these words name.
+// Reads the reason that these words name.
 fn reason_in(words: &[&str]) -> Result<Reason> {
     Ok(match words {
         ["cells", count] => Reason::Cells(address(count)?),
@@ -154,13 +154,13 @@ fn add_reason(said: &mut String, words: &[&str]) -> Result<()> {
     Ok(write!(said, "{reason}")?)
 }
 
-// Tells how a program ends that tells its refusals apart, by the reason of the refusal.
+// Tells the status of a program that distinguishes its refusals, given the reason of the refusal.
 fn add_status(said: &mut String, words: &[&str]) -> Result<()> {
     let status = reason_in(words)?.status();
     Ok(write!(said, "{status}")?)
 }
 
-/// Serves, or tells of the image. Whether the words ask for it.
+/// Serves, or tells about the image, if the words ask for it. Returns whether they do.
 pub fn tell(alloc: Global, desk: &mut Desk, words: &[&str], said: &mut String) -> Result<bool> {
     match words {
         ["serve"] => serve(alloc, desk, ENDLESS, said)?,

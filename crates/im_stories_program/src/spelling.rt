@@ -1,5 +1,5 @@
-//! How a story spells a text: words with a space between them, and `/` where a line ends. In a word `~` is a space,
-//! `\t` a tab, `\r` a carriage return and `\xHH` the byte with this number; the word `""` is empty.
+//! The spelling of a text in a story: words with a space between them, and `/` where a line ends. In a word `~` is a
+//! space, `\t` a tab, `\r` a carriage return, and `\xHH` the byte with this number. The word `""` is empty.
 
 use anyhow::{Result, anyhow};
 
@@ -10,7 +10,7 @@ fn add_plain(text: &mut Vec<u8>, part: &str) -> Result<()> {
     Ok(())
 }
 
-/// The byte that two digits of base 16 are.
+/// Reads a byte: two digits of base 16.
 pub fn hex(digits: &str) -> Result<u8> {
     match u8::from_str_radix(digits, 16) {
         Ok(byte) => Ok(byte),
@@ -18,7 +18,7 @@ pub fn hex(digits: &str) -> Result<u8> {
     }
 }
 
-// What follows `x`: a byte by its two digits, and the rest.
+// Reads what follows `x`: a byte by its two digits, and the rest.
 fn split_hex(part: &str) -> Result<(u8, &str)> {
     match part.split_at_checked(2) {
         Some((digits, rest)) => Ok((hex(digits)?, rest)),
@@ -26,7 +26,7 @@ fn split_hex(part: &str) -> Result<(u8, &str)> {
     }
 }
 
-// Adds what stands behind a backslash: the byte that it spells, and plain characters.
+// Adds what follows a backslash: the byte that it spells, and plain characters.
 fn add_spelled(text: &mut Vec<u8>, part: &str) -> Result<()> {
     let (byte, rest) = if let Some(rest) = part.strip_prefix("t") {
         (b'\t', rest)
@@ -56,7 +56,7 @@ pub fn add_word(text: &mut Vec<u8>, word: &str) -> Result<()> {
     Ok(())
 }
 
-/// Adds a text, by its words.
+/// Adds a text, given its words.
 pub fn add_text(text: &mut Vec<u8>, words: &[&str]) -> Result<()> {
     let mut begins = true;
     for word in words {
@@ -74,7 +74,7 @@ pub fn add_text(text: &mut Vec<u8>, words: &[&str]) -> Result<()> {
     Ok(())
 }
 
-/// How many lines end in a text.
+/// Returns how many lines end in a text.
 pub fn line_ends(text: &[u8]) -> usize {
     text.iter().filter(|byte| **byte == b'\n').count()
 }

@@ -1,4 +1,4 @@
-//! Writers in memory, and who is told of the work beside its output.
+//! Writers in memory, and observers that keep what they are told.
 
 use anyhow::{Result, anyhow};
 use im_text::{Observer, Progress, Reason, Warning};
@@ -7,7 +7,7 @@ use std::alloc::{AllocError, Global};
 use std::io;
 use std::io::{ErrorKind, Write};
 
-/// A writer that takes so many bytes, and then fails.
+/// A writer that takes a number of bytes, and then fails.
 #[derive(Drop)]
 pub struct Paper {
     text: Vec<u8>,
@@ -15,7 +15,7 @@ pub struct Paper {
 }
 
 impl Paper {
-    /// Nothing was written.
+    /// Starts with nothing written.
     pub fn new(alloc: Global, room: usize) -> Paper {
         Paper {
             text: Vec::new(alloc),
@@ -23,7 +23,7 @@ impl Paper {
         }
     }
 
-    /// What was written.
+    /// Returns what was written.
     pub fn into_text(self) -> Result<String> {
         match String::from_utf8(self.text) {
             Ok(text) => Ok(text),
@@ -48,10 +48,10 @@ impl Write for Paper {
     }
 }
 
-/// What was told beside the output, a line each.
+/// What was told besides the output, a line each.
 #[derive(Drop)]
 pub struct Notes {
-    /// The lines. Where there was no memory for one, it is missing.
+    /// The lines. A line is missing if there was no memory for it.
     pub text: String,
     progress: Option<Progress>,
 }
@@ -65,7 +65,7 @@ fn add_value(text: &mut String, entry: Entry) -> Result<(), AllocError> {
 }
 
 impl Notes {
-    /// Nothing was told.
+    /// Starts with nothing told.
     pub fn new(alloc: Global) -> Notes {
         Notes {
             text: String::new(alloc),
@@ -79,7 +79,7 @@ impl Notes {
         self.text.push_str("\n")
     }
 
-    /// How far the work came, as it was told last.
+    /// Adds how far the work came, as it was last told.
     pub fn add_progress(&self, said: &mut String) -> Result<(), AllocError> {
         match self.progress {
             Some(progress) => {

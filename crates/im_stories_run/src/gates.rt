@@ -3,19 +3,19 @@
 use im_serving::Gate;
 use std::sync::{Mutex, Wait};
 
-// How many turns a server is held at most.
+// The most turns for which a server is held.
 const MOST_TURNS: usize = 200_000_000;
 
-// What came to pass.
+// What has happened.
 #[derive(Drop)]
 struct Seen {
     // A request of the first element is answered.
     answered: bool,
-    // The last request of the other was let go by that, and not by the number of turns.
+    // The last request of the other was released by that, and not by the number of turns.
     held: bool,
 }
 
-/// Holds the requests of one element until one of another is answered.
+/// Holds the requests of one element until a request of another is answered.
 #[derive(Drop)]
 pub struct After {
     first: u16,
@@ -24,7 +24,7 @@ pub struct After {
 }
 
 impl After {
-    /// Nothing is answered yet; the requests of the element `then` are held until one of `first` is.
+    /// Starts with nothing answered. The requests of element `then` are held until one of `first` is answered.
     pub fn new(first: u16, then: u16) -> After {
         After {
             first,
@@ -36,7 +36,7 @@ impl After {
         }
     }
 
-    // Whether a request of the first element is answered. Where it is, the other was held until then.
+    // Returns whether a request of the first element is answered. If so, the other was held until then.
     fn is_answered<R: Wait>(&self, rt: &R) -> bool {
         let mut guard = self.seen.lock(rt);
         let answered = guard.answered;
@@ -44,7 +44,8 @@ impl After {
         answered
     }
 
-    /// Whether the last request that was held was let go by the first element's answer, and not by the number of turns.
+    /// Returns whether the last request that was held was released by the first element's answer, and not by the number
+    /// of turns.
     pub fn has_held<R: Wait>(&self, rt: &R) -> bool {
         self.seen.lock(rt).held
     }

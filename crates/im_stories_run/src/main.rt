@@ -1,5 +1,5 @@
-//! Stories of runs: what is printed where each element has a server of its own, whatever the order they come in, and
-//! where servers wait for each other.
+//! Stories of runs: what is printed when each element has a server of its own, whatever the order in which they come,
+//! and when servers wait for each other.
 #![tactic(auto)]
 
 mod gates;
@@ -21,7 +21,7 @@ use std::sync::Wait;
 use std::thread::Threads;
 use writers::{Nobody, Paper, Told};
 
-// A fetch comes without its store.
+// A fetch without its store.
 const WAITS: &str = "setup
 alloc x i 1
 element 1
@@ -42,7 +42,7 @@ element 2
 store x 5
 ";
 
-// A server that glances: at what it stored, at what nobody did, and at what it made clash.
+// A server that glances at what it stored, at what nobody stored, and at what it made clash.
 const GLANCES: &str = "setup
 alloc x i 2
 element 1
@@ -53,7 +53,8 @@ store x 5
 glance x
 ";
 
-// A server that glances round a reset: at what it stored before, at what the reset emptied, and at what it stored behind.
+// A server that glances around a reset: at what it stored before, at what the reset emptied, and at what it stored
+// after.
 const RESETS: &str = "setup
 alloc x i 2
 element 1
@@ -67,9 +68,9 @@ fetch x
 reset x+1
 ";
 
-// A reader whose window is full before its last request: the fetch before the store is awaited, and confirmed with all
-// behind it, and what was shown then has the store. Here its requests begin, there come so many of an address in no
-// block, and here is the rest.
+// A reader whose window is full before its last request. The fetch before the store is awaited, and confirmed with all
+// after it. What was shown then has the store. Here its requests begin; then come fetches of an address in no block;
+// then the rest.
 const READS: &str = "setup
 alloc x i 1
 element 1
@@ -89,7 +90,7 @@ glance 4095
 glance 4294967295
 ";
 
-// A plan, of which a cell is fetched by two elements, and an address is in no block.
+// A plan in which two elements fetch a cell, and an address is in no block.
 const PLAN: &str = "setup
 alloc x i 2
 element 1
@@ -126,14 +127,14 @@ fetch x
 reset x
 ";
 
-// An element that isn't there, behind one that takes.
+// An element that doesn't exist, after one that takes.
 const NO_ELEMENT: &str = "element 1
 take 0
 element 16
 fetch 0
 ";
 
-// An element that isn't there, behind a setup and one that stores.
+// An element that doesn't exist, after a setup and one that stores.
 const NO_READER: &str = "setup
 alloc x i 1
 element 1
@@ -142,14 +143,14 @@ element 16
 fetch x
 ";
 
-// One that isn't there and only glances.
+// An element that doesn't exist and only glances.
 const NO_GLANCER: &str = "element 1
 fetch 0
 element 63
 glance 0
 ";
 
-// The numbers of element 0 go on after those of the setup. A cell has nobody to store to it.
+// The numbers of element 0 continue after those of the setup. Nobody stores to one of the cells.
 const GOES_ON: &str = "setup
 alloc x i 2
 element 0
@@ -171,7 +172,7 @@ fetch 0
 fetch 1
 ";
 
-// An image of the usual limits, with nothing in it.
+// Makes an image of the usual limits, with nothing in it.
 fn new_image(alloc: Global) -> Result<MemDisk> {
     let Some(limits) = Limits::new(4_096, 16, 256) else {
         return Err(anyhow!("these are no limits"));
@@ -182,7 +183,7 @@ fn new_image(alloc: Global) -> Result<MemDisk> {
     }
 }
 
-// An image of the first version.
+// Makes an image of the first version.
 fn image_of_old(alloc: Global) -> Result<MemDisk> {
     let Some(limits) = Limits::new(4_096, 16, 256) else {
         return Err(anyhow!("these are no limits"));
@@ -195,7 +196,7 @@ fn image_of_old(alloc: Global) -> Result<MemDisk> {
     }
 }
 
-// The reader's script: as many fetches as a window has entries stand behind its first.
+// Returns the reader's script. As many fetches as a window has entries follow its first part.
 fn reads(alloc: Global) -> Result<String> {
     let mut text = String::new(alloc);
     text.push_str(READS)?;
@@ -206,7 +207,7 @@ fn reads(alloc: Global) -> Result<String> {
     Ok(text)
 }
 
-// Runs a script on an image, as a plan or not, and says what was printed, and the status.
+// Runs a script on an image, as a plan or not. Tells what was printed, and the status.
 fn run_as<G: Gate + Sync, R: Threads + Wait + Sync>(
     rt: &R,
     alloc: Global,
@@ -236,7 +237,7 @@ fn run_as<G: Gate + Sync, R: Threads + Wait + Sync>(
     Ok(disk)
 }
 
-// The same, not as a plan.
+// Runs a script on an image, not as a plan.
 fn run<G: Gate + Sync, R: Threads + Wait + Sync>(
     rt: &R,
     alloc: Global,
@@ -248,7 +249,7 @@ fn run<G: Gate + Sync, R: Threads + Wait + Sync>(
     run_as(rt, alloc, disk, text, gate, false, said)
 }
 
-// Says the lines of an image's report that are of windows, or else of cells and of entries, and gives its disk back.
+// Tells the lines of an image's report that are of windows, or else those of cells and of entries. Returns its disk.
 fn report_lines(
     alloc: Global,
     disk: MemDisk,
@@ -270,12 +271,12 @@ fn report_lines(
     Ok(disk)
 }
 
-// The lines of cells and of entries.
+// Tells the lines of cells and of entries.
 fn report(alloc: Global, disk: MemDisk, said: &mut String) -> Result<MemDisk> {
     report_lines(alloc, disk, false, said)
 }
 
-// An element that isn't there is refused behind the setup, before a request of any element.
+// An element that doesn't exist is refused after the setup, before a request of any element.
 fn tell_missing<R: Threads + Wait + Sync>(rt: &R, alloc: Global, said: &mut String) -> Result<()> {
     said.push_str("# an element that is not there is refused before any is served\n")?;
     let disk = new_image(alloc)?;
@@ -288,7 +289,7 @@ fn tell_missing<R: Threads + Wait + Sync>(rt: &R, alloc: Global, said: &mut Stri
     Ok(())
 }
 
-// A call of the disk that fails once the image is open ends a run, and whoever is refused then, the observer is told of
+// A call of the disk that fails after the image is open ends a run. Whoever is refused then, the observer is told about
 // the disk.
 fn tell_fault<R: Threads + Wait + Sync>(rt: &R, alloc: Global, said: &mut String) -> Result<()> {
     said.push_str("# a call of the disk fails: the observer is told of it\n")?;
@@ -310,7 +311,7 @@ fn tell_fault<R: Threads + Wait + Sync>(rt: &R, alloc: Global, said: &mut String
     Ok(())
 }
 
-// How many calls an opening makes.
+// Returns how many calls an opening makes.
 fn opening_calls(alloc: Global) -> Result<u64> {
     match Engine::open(alloc, FuseDisk::new(new_image(alloc)?, LAST, Mode::Stop)) {
         Ok(engine) => Ok(engine.close().calls()),
@@ -318,7 +319,7 @@ fn opening_calls(alloc: Global) -> Result<u64> {
     }
 }
 
-// A server that waits for a store which nobody sends is stalled; the store of a later run answers it.
+// A server that waits for a store that nobody sends is stalled. The store of a later run answers it.
 fn tell_stalled<R: Threads + Wait + Sync>(rt: &R, alloc: Global, said: &mut String) -> Result<()> {
     said.push_str("# a fetch without its store\n")?;
     let disk = new_image(alloc)?;
@@ -330,7 +331,7 @@ fn tell_stalled<R: Threads + Wait + Sync>(rt: &R, alloc: Global, said: &mut Stri
     Ok(())
 }
 
-// A fetch and its store by two servers, which a gate may hold back.
+// A fetch and its store, by two servers. A gate may hold one back.
 fn tell_both<G: Gate + Sync, R: Threads + Wait + Sync>(
     rt: &R,
     alloc: Global,
@@ -343,7 +344,7 @@ fn tell_both<G: Gate + Sync, R: Threads + Wait + Sync>(
     Ok(())
 }
 
-// The same, or a plan, where the requests of one element are held until one of another's is answered.
+// The same, or a plan. The requests of one element are held until one of another's is answered.
 fn tell_held<R: Threads + Wait + Sync>(
     rt: &R,
     alloc: Global,
@@ -363,7 +364,7 @@ fn tell_held<R: Threads + Wait + Sync>(
     Ok(())
 }
 
-// Readings that wait for nobody, in their place among the element's requests.
+// Glances, which wait for nobody, in their place among the element's requests.
 fn tell_glances<R: Threads + Wait + Sync>(rt: &R, alloc: Global, said: &mut String) -> Result<()> {
     said.push_str(
         "# glances of a cell that is full, of one that is empty, and of one that clashed\n",
@@ -394,7 +395,7 @@ fn tell_plan<G: Gate + Sync, R: Threads + Wait + Sync>(
     Ok(())
 }
 
-// Plans, whose results are the same in any order, and scripts that are none.
+// Plans, which have the same results in any order, and scripts that are no plans.
 fn tell_plans<R: Threads + Wait + Sync>(rt: &R, alloc: Global, said: &mut String) -> Result<()> {
     said.push_str("# a plan, in any order\n")?;
     tell_plan(rt, alloc, PLAN, &Open, said)?;

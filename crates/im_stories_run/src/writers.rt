@@ -1,4 +1,4 @@
-//! A writer in memory, and observers who note nothing, or why the work is refused.
+//! A writer in memory, and observers that note nothing, or why the work is refused.
 
 use anyhow::{Result, anyhow};
 use im_text::{Observer, Progress, Reason};
@@ -14,14 +14,14 @@ pub struct Paper {
 }
 
 impl Paper {
-    /// Nothing was written.
+    /// Starts with nothing written.
     pub fn new(alloc: Global) -> Paper {
         Paper {
             text: Vec::new(alloc),
         }
     }
 
-    /// What was written.
+    /// Returns what was written.
     pub fn into_text(self) -> Result<String> {
         match String::from_utf8(self.text) {
             Ok(text) => Ok(text),
@@ -41,7 +41,7 @@ impl Write for Paper {
     }
 }
 
-/// Nobody, who is told of the work and keeps nothing of it.
+/// An observer that keeps nothing of what it is told.
 #[derive(Drop)]
 pub struct Nobody;
 
@@ -53,10 +53,10 @@ impl Observer for Nobody {
     fn refused(&mut self, _reason: Reason) {}
 }
 
-/// Who notes why the work is refused.
+/// An observer that notes why the work is refused.
 #[derive(Drop)]
 pub struct Told {
-    /// Why, if it is.
+    /// The reason, if the work is refused.
     pub reason: Option<Reason>,
 }
 

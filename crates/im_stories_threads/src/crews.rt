@@ -1,4 +1,4 @@
-//! Threads beside each other: one for each port that plays a part, one for each glance, and one that keeps checkpoints.
+//! Threads that run at once: one for each port that plays a part, one for each glance, and one that keeps checkpoints.
 
 use crate::glances::{Looked, ROUNDS, watch};
 use crate::parts::{Part, Told, play};
@@ -10,7 +10,7 @@ use std::sync::{Mutex, Wait};
 use std::thread;
 use std::thread::{JoinHandle, Scope, Threads};
 
-/// How often it is looked whether the journal has its room, at most.
+/// How often at most a test looks whether the journal has its room.
 const MOST_LOOKS: u32 = 200_000_000;
 
 /// A port, and what is done with it.
@@ -22,29 +22,29 @@ pub struct Task<K: Name> {
     pub part: Part,
 }
 
-/// A port, and what came of its part.
+/// A port, and the result of its part.
 #[derive(Drop)]
 pub struct Done<K: Name> {
     /// The port.
     pub port: Port<K>,
-    /// What came of its part.
+    /// The result of its part.
     pub told: Told,
 }
 
-/// What came of all parts.
+/// The results of all parts.
 #[derive(Drop)]
 pub struct Played<K: Name> {
-    /// The ports, in the tasks' order.
+    /// The ports, in the order of the tasks.
     pub done: Vec<Done<K>>,
-    /// The glances, in their order.
+    /// The glances, in order.
     pub looked: Vec<Looked<Shown<K>>>,
-    /// The thread that keeps checkpoints was there to the end, and was refused nothing.
+    /// Whether the thread that keeps checkpoints was there to the end, and was refused nothing.
     pub kept: bool,
-    /// The journal had the room that was waited for, with no port asking any more.
+    /// Whether the journal got the room that was waited for, while no port asked any longer.
     pub rested: bool,
 }
 
-// Notes the room that the journal had after the keeper's last turn.
+// Notes the room of the journal after the keeper's last turn.
 #[derive(Drop)]
 struct Noting<'a, R> {
     rt: &'a R,
@@ -74,7 +74,7 @@ fn play_part<D: Disk, K: Name, R: Wait>(
     Done { port, told }
 }
 
-// Begins a thread that plays a part. Where none can be made the port is gone, which is told at the end.
+// Starts a thread that plays a part. If none can be made, the port is gone, and the end tells that.
 fn begin<'s, E, D: Disk + Drop + Send, K: Name + Send + Sync, R: Threads + Wait + Sync>(
     rt: &'s R,
     scope: &Scope<'s, E>,
@@ -88,7 +88,7 @@ fn begin<'s, E, D: Disk + Drop + Send, K: Name + Send + Sync, R: Threads + Wait 
     }
 }
 
-// Keeps checkpoints until the controller ends, and says whether nothing was refused.
+// Keeps checkpoints until the controller ends. Returns whether nothing was refused.
 fn keep_to_end<D: Disk, K: Name, R: Wait>(
     rt: &R,
     controller: &Controller<D, K>,
@@ -100,7 +100,7 @@ fn keep_to_end<D: Disk, K: Name, R: Wait>(
         .is_ok()
 }
 
-// Waits until the journal has this room, while no port asks: only the thread that keeps checkpoints can make it.
+// Waits until the journal has this room, while no port asks. Only the thread that keeps checkpoints can make it.
 fn rest<R: Wait>(rt: &R, room: &Mutex<u32>, wanted: u32) -> bool {
     for _ in 0..MOST_LOOKS {
         let seen = room.lock(rt);
@@ -111,7 +111,7 @@ fn rest<R: Wait>(rt: &R, room: &Mutex<u32>, wanted: u32) -> bool {
     false
 }
 
-// Begins the thread that keeps checkpoints, if one can be made.
+// Starts the thread that keeps checkpoints, if it can be made.
 fn keep<'s, E, D: Disk + Drop + Send, K: Name + Send + Sync, R: Threads + Wait + Sync>(
     rt: &'s R,
     scope: &Scope<'s, E>,
@@ -124,7 +124,7 @@ fn keep<'s, E, D: Disk + Drop + Send, K: Name + Send + Sync, R: Threads + Wait +
     }
 }
 
-// Begins a thread that looks again and again, if one can be made.
+// Starts a thread that looks again and again, if it can be made.
 fn begin_to_watch<'s, E, K: Name + Send + Sync + 's>(
     scope: &Scope<'s, E>,
     glance: Glance<Shown<K>>,
@@ -142,7 +142,7 @@ fn end<K: Name, R: Threads>(rt: &R, thread: Option<JoinHandle<Done<K>>>, done: &
     }
 }
 
-// Begins a thread for each glance.
+// Starts a thread for each glance.
 fn watch_all<'s, E, K: Name + Send + Sync + 's>(
     scope: &Scope<'s, E>,
     glances: Vec<Glance<Shown<K>>>,
@@ -168,7 +168,7 @@ fn end_watchers<K: Name, R: Threads>(
     }
 }
 
-// Plays all parts to their ends: all at once, or each once the one before it has ended.
+// Plays all parts to their ends: all at once, or each after the one before it has ended.
 fn play_tasks<'s, E, D: Disk + Drop + Send, K: Name + Send + Sync, R: Threads + Wait + Sync>(
     rt: &'s R,
     scope: &Scope<'s, E>,
@@ -192,9 +192,9 @@ fn play_tasks<'s, E, D: Disk + Drop + Send, K: Name + Send + Sync, R: Threads + 
     }
 }
 
-/// Plays all parts, each in a thread of its own, beside one for each glance, and the thread that keeps checkpoints until
-/// they have returned: all at once, or in turn, each once the one before it has ended; and then until the journal has the
-/// room that is waited for, if one is. `AllocError` where there is no room for a list of them.
+/// Plays all parts, each in a thread of its own, beside one for each glance and the thread that keeps checkpoints until
+/// they have returned. The parts play all at once, or each after the one before it has ended. If room in the journal is
+/// waited for, the call then waits for that. Returns `AllocError` if there is no room for a list of them.
 pub fn play_all<D: Disk + Drop + Send, K: Name + Send + Sync, R: Threads + Wait + Sync>(
     rt: &R,
     alloc: Global,

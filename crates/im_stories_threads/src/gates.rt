@@ -1,29 +1,29 @@
-//! A gate that has requests submitted in one order.
+//! A gate that makes requests be submitted in one order.
 
 use im_serving::Gate;
 use std::sync::{Mutex, Wait};
 
-// How many turns a request is held at most.
+// The most turns for which a request is held.
 const MOST_TURNS: usize = 200_000_000;
 
 /// How many elements the orders have: 1, 2 and so on.
 pub const ELEMENTS: u32 = 3;
 
-// How many requests each of them has.
+// How many requests each element has.
 const EACH: u32 = 2;
 
 /// How many requests there are.
 pub const REQUESTS: u32 = ELEMENTS * EACH;
 
-/// How many numbers there are that may be an order's.
+/// How many numbers there are that may be an order's number.
 pub const NUMBERS: u32 = 729;
 
-/// An order of all requests, as the elements whose turn it is: the digits of a number.
+/// An order of all requests. The digits of the number are the elements whose turn it is.
 #[derive(Clone, Copy)]
 pub struct Order(u32);
 
 impl Order {
-    /// The order with this number, if it gives each element a turn for each of its requests.
+    /// Returns the order with this number, if it gives each element a turn for each of its requests.
     pub fn new(number: u32) -> Option<Order> {
         let order = Order(number);
         for before in 0..ELEMENTS {
@@ -34,7 +34,7 @@ impl Order {
         Some(order)
     }
 
-    /// Whose turn it is behind so many others.
+    /// Returns whose turn it is after `behind` others.
     pub fn element(self, behind: u32) -> u32 {
         let mut rest = self.0;
         for _ in 0..behind {
@@ -43,7 +43,7 @@ impl Order {
         (rest % ELEMENTS).saturating_add(1)
     }
 
-    // How many turns an element has.
+    // Returns how many turns an element has.
     fn turns_of(self, element: u32) -> u32 {
         let mut turns = 0u32;
         for behind in 0..REQUESTS {
@@ -62,7 +62,7 @@ pub struct InOrder {
 }
 
 impl InOrder {
-    /// Nothing is answered yet.
+    /// Starts with nothing answered.
     pub fn new(order: Order) -> InOrder {
         InOrder {
             order,
@@ -70,7 +70,7 @@ impl InOrder {
         }
     }
 
-    // Whether it is an element's turn.
+    // Returns whether it is an element's turn.
     fn is_turn_of<R: Wait>(&self, rt: &R, element: u16) -> bool {
         self.order.element(*self.answered.lock(rt)) == u32::from(element)
     }

@@ -1,4 +1,4 @@
-//! Readings: threads that look again and again beside a writer, and the last cell of a great memory.
+//! Readings: threads that look again and again beside a writer, and the last cell of a large memory.
 
 use crate::scenes::{add_call, outcome_of, port, submit};
 use anyhow::{Result, anyhow};
@@ -9,7 +9,7 @@ use im_types::{Kind, Op, Refusal};
 use std::alloc::Global;
 use std::sync::Wait;
 
-/// How many cells the writer fills, and readers look at.
+/// How many cells the writer fills and readers look at.
 pub const CELLS: u32 = 256;
 
 /// How often a reader looks at all cells.
@@ -18,17 +18,17 @@ pub const ROUNDS: u32 = 2_000;
 /// How many readers there are.
 pub const READERS: u16 = 8;
 
-/// The value that the writer stores at an address.
+/// Returns the value that the writer stores at an address.
 pub fn value_at(a: u32) -> u64 {
     u64::from(a).saturating_add(1000)
 }
 
-/// A glance that was read again and again, and what was seen amiss.
+/// A glance that was read again and again, and what was wrong.
 #[derive(Drop)]
 pub struct Looked<J: PaneName> {
     /// The glance.
     pub glance: Glance<J>,
-    /// How often it was refused.
+    /// How often the glance was refused.
     pub refused: u64,
     /// How often a cell had a value that nobody stored there.
     pub wrong: u64,
@@ -37,7 +37,7 @@ pub struct Looked<J: PaneName> {
 }
 
 impl<J: PaneName> Looked<J> {
-    /// A glance that wasn't read yet.
+    /// Starts with a glance that wasn't read yet.
     pub fn new(glance: Glance<J>) -> Looked<J> {
         Looked {
             glance,
@@ -47,7 +47,7 @@ impl<J: PaneName> Looked<J> {
         }
     }
 
-    // Looks at one cell, and says whether it is full.
+    // Looks at one cell, and returns whether it is full.
     fn look_at(&mut self, a: u32) -> bool {
         match self.glance.glance(a) {
             Ok(Some(value)) => {
@@ -62,7 +62,7 @@ impl<J: PaneName> Looked<J> {
         }
     }
 
-    // Looks at each cell, and says how many are full.
+    // Looks at each cell, and returns how many are full.
     fn look_round(&mut self) -> u32 {
         let mut full = 0u32;
         for a in 0..CELLS {
@@ -84,7 +84,7 @@ pub fn watch<J: PaneName>(glance: Glance<J>, rounds: u32) -> Looked<J> {
     looked
 }
 
-// An element's glance.
+// Makes an element's glance.
 fn glance<K: Name, R: Wait>(
     rt: &R,
     controller: &Controller<FuseDisk, K>,
@@ -96,7 +96,7 @@ fn glance<K: Name, R: Wait>(
     }
 }
 
-/// The glances of so many elements, from 1 on.
+/// Makes the glances of the given number of elements, from 1 on.
 pub fn glances<K: Name, R: Wait>(
     rt: &R,
     alloc: Global,
@@ -110,7 +110,7 @@ pub fn glances<K: Name, R: Wait>(
     Ok(glances)
 }
 
-/// Tells what readers saw amiss.
+/// Tells what readers saw that was wrong.
 pub fn add_looked<J: PaneName>(said: &mut String, looked: &[Looked<J>]) -> Result<()> {
     for it in looked {
         let (refused, wrong, back) = (it.refused, it.wrong, it.back);
@@ -122,7 +122,7 @@ pub fn add_looked<J: PaneName>(said: &mut String, looked: &[Looked<J>]) -> Resul
     Ok(())
 }
 
-// Tells what each reader sees once it was told of a receipt.
+// Tells what each reader sees after it was told of a receipt.
 fn teach<K: Name>(
     receipt: &Receipt<K>,
     looked: Vec<Looked<Shown<K>>>,
@@ -137,7 +137,7 @@ fn teach<K: Name>(
     Ok(())
 }
 
-/// Tells what readers see once they were told of what a port is answered next.
+/// Tells what readers see after they were told what a port is answered next.
 pub fn ask_and_teach<K: Name, R: Wait>(
     rt: &R,
     controller: &Controller<FuseDisk, K>,
@@ -165,7 +165,7 @@ fn add_glance(said: &mut String, a: u32, answer: Result<Option<u64>, Refusal>) -
     Ok(())
 }
 
-// Stores at the last cell, and looks there once the glance was told.
+// Stores to the last cell, and looks there after the glance was told.
 fn store_and_look<K: Name, R: Wait>(
     rt: &R,
     controller: &Controller<FuseDisk, K>,
@@ -182,7 +182,7 @@ fn store_and_look<K: Name, R: Wait>(
     add_glance(said, 0, glance.glance(0))
 }
 
-/// A great block, of which the last element fills the last cell, and looks there.
+/// Makes a large block. The last element fills the last cell, and looks there.
 pub fn great<K: Name, R: Wait>(
     rt: &R,
     alloc: Global,

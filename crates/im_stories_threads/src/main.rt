@@ -1,7 +1,7 @@
-//! Threads under one lock: what ports are answered beside each other, that the thread that keeps checkpoints works,
-//! that servers wait and are woken, that readers wait for nobody, that the plain memory serves a long trace again alike,
-//! that each thread ends where the disk stops, with nothing lost that was answered, and that planned requests come to the
-//! same in every order.
+//! Threads under one lock. The stories tell what ports are answered at the same time, that the thread that keeps
+//! checkpoints works, that servers wait and are woken, and that readers wait for nobody. They also tell that the plain
+//! memory answers a long trace alike, and that planned requests have the same results in every order. If the disk
+//! stops, each thread ends, and nothing that was answered is lost.
 #![tactic(auto)]
 
 mod crews;
@@ -29,7 +29,7 @@ use std::alloc::Global;
 use std::sync::Wait;
 use std::thread::Threads;
 
-// A new memory on a disk that never fails, and room for a trace.
+// Makes a new memory on a disk that never fails, and room for a trace.
 fn opening<R: Wait>(
     rt: &R,
     alloc: Global,

@@ -1,4 +1,4 @@
-//! A controller gets a name, and something is done under it.
+//! Gives a controller a name, and does something under it.
 
 ghost use Rattle.std.specs.Prelude.{◌≡◌};
 ghost use Rattle.im_controller.specs.Kept.{begun_in};
@@ -18,15 +18,15 @@ use std::thread::Threads;
 /// What is done under a name.
 #[derive(Clone, Copy)]
 pub enum Act {
-    /// A scene is shown.
+    /// Shows a scene.
     Shows(Scene),
-    /// Servers are stopped by their disk, and then it crashes.
+    /// Lets servers be stopped by their disk, which then crashes.
     Stops(Crash),
-    /// Requests are served under a plan.
+    /// Serves requests under a plan.
     Plays(Planned),
 }
 
-// Does it by a controller that has a name.
+// Does an act with a controller that has a name.
 fn act_named<K: Name + Send + Sync, R: Threads + Wait + Sync>(
     rt: &R,
     alloc: Global,
@@ -53,7 +53,7 @@ fn act_named<K: Name + Send + Sync, R: Threads + Wait + Sync>(
     }
 }
 
-/// Does this by a controller of its own, over the memory of these sizes that was opened.
+/// Does an act with a controller of its own, over the memory of these sizes that was opened.
 pub fn act_on<R: Threads + Wait + Sync>(
     rt: &R,
     alloc: Global,

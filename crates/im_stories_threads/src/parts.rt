@@ -6,41 +6,41 @@ use im_disk::Disk;
 use im_types::{Entry, Op, Outcome, Refusal, Reply};
 use std::sync::Wait;
 
-/// How often a request that finds the journal full is sent again, at most.
+/// How often at most a request that finds the journal full is sent again.
 const MOST_TRIES: u32 = 200_000_000;
 
-// An address that lies in no block of the scenes.
+// An address that is in no block of the scenes.
 const NO_BLOCK: u32 = 63;
 
 /// What a thread does with its port.
 #[derive(Clone, Copy)]
 pub enum Part {
-    /// So many fetches of address 0, from number 1 on.
+    /// This many fetches of address 0, from number 1 on.
     Fetches(u64),
-    /// At this place, so many puts, takes, stores and fetches in turn, from number 1 on; each sixteen are confirmed.
+    /// This many puts, takes, stores and fetches in turn, at this place, from number 1 on. Each sixteen are confirmed.
     Mixed(u32, u64),
-    /// So many stores, each at the next address, from number 1 and address 0 on; each sixteen are confirmed.
+    /// This many stores, each at the next address, from number 1 and address 0 on. Each sixteen are confirmed.
     Stores(u64),
     /// Waits for the answer to number 1.
     Waits,
     /// Retires, and then waits for the answer to number 1.
     RetiresAndWaits,
-    /// So many fetches of an address in no block, and then stores 7 at address 0.
+    /// This many fetches of an address in no block; then it stores 7 at address 0.
     StoresLate(u64),
     /// Stores 7 at address 0, and then waits for a take of address 1, where nobody puts.
     StoresAndStalls,
 }
 
-/// What came of it.
+/// The result of a part.
 #[derive(Clone, Copy)]
 pub struct Told {
-    /// How many requests were answered as they should be: any answer, or of fetches `nocell`.
+    /// How many requests were answered as they should be. Fetches should be answered `nocell`, others in any way.
     pub accepted: u64,
-    /// What the last one came to, or what was waited for.
+    /// The answer to the last request, or to the one that was waited for.
     pub last: Result<Entry, Refusal>,
 }
 
-// Submits a request, again while the journal is full.
+// Submits a request, and submits it again while the journal is full.
 fn submit<D: Disk, K: Name, R: Wait>(
     rt: &R,
     controller: &Controller<D, K>,
@@ -58,7 +58,7 @@ fn submit<D: Disk, K: Name, R: Wait>(
     Err(Refusal::JournalFull)
 }
 
-// Confirms all below a number, again while the journal is full.
+// Confirms all entries below a number, and asks again while the journal is full.
 fn confirm<D: Disk, K: Name, R: Wait>(
     rt: &R,
     controller: &Controller<D, K>,
@@ -75,7 +75,7 @@ fn confirm<D: Disk, K: Name, R: Wait>(
     false
 }
 
-// What an answer has kept.
+// Returns the entry of an answer.
 fn entry_of(answer: Result<Outcome, Refusal>) -> Result<Entry, Refusal> {
     match answer {
         Ok(Outcome::Entry(entry)) => Ok(entry),
@@ -104,8 +104,8 @@ fn fetches<D: Disk, K: Name, R: Wait>(
     Told { accepted, last }
 }
 
-// The operation of a request: a put to the M cell of the port's place and a take of it, a store to an I cell and a
-// fetch of it. All places come to each I cell, at different times.
+// Returns the operation of a request: a put to the M cell of the port's place or a take of it, a store to an I cell or
+// a fetch of it. All places come to each I cell, at different times.
 fn op_of(place: u32, i: u64) -> Op {
     let at = ((i / 4).saturating_add(u64::from(place).saturating_mul(16)) % 256) as u32;
     match i % 4 {
@@ -116,7 +116,7 @@ fn op_of(place: u32, i: u64) -> Op {
     }
 }
 
-// The operation of a part's request.
+// Returns the operation of a part's request.
 fn op_in(part: Part, i: u64) -> Op {
     match part {
         Part::Mixed(place, _) => op_of(place, i),
@@ -127,7 +127,7 @@ fn op_in(part: Part, i: u64) -> Op {
     }
 }
 
-// The requests of a part, with a confirmation behind each sixteen.
+// Makes the requests of a part, with a confirmation after each sixteen.
 fn requests<D: Disk, K: Name, R: Wait>(
     rt: &R,
     controller: &Controller<D, K>,
@@ -150,7 +150,7 @@ fn requests<D: Disk, K: Name, R: Wait>(
     Told { accepted, last }
 }
 
-// Waits for the answer to a number, and then its server has ended.
+// Waits for the answer to a number; then its server has ended.
 fn await_answer<D: Disk, K: Name, R: Wait>(
     rt: &R,
     controller: &Controller<D, K>,
@@ -165,7 +165,7 @@ fn await_answer<D: Disk, K: Name, R: Wait>(
     }
 }
 
-// Fetches for a while, so that whoever waits has gone to sleep, and stores then.
+// Fetches for a while, so that whoever waits is asleep by then, and then stores.
 fn stores_late<D: Disk, K: Name, R: Wait>(
     rt: &R,
     controller: &Controller<D, K>,
@@ -195,7 +195,7 @@ fn stores_and_stalls<D: Disk, K: Name, R: Wait>(
     }
 }
 
-/// Does a part, and says what came of it.
+/// Does a part, and returns its result.
 pub fn play<D: Disk, K: Name, R: Wait>(
     rt: &R,
     controller: &Controller<D, K>,

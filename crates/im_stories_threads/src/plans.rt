@@ -1,4 +1,4 @@
-//! Requests under a plan: each comes to what the plan says, whatever the order that they come in.
+//! Requests under a plan: each has the result that the plan says, whatever the order in which they come.
 
 use crate::gates::{InOrder, NUMBERS, Order};
 use crate::naming::{Act, act_on};
@@ -17,7 +17,7 @@ use std::alloc::Global;
 use std::sync::Wait;
 use std::thread::Threads;
 
-// Two cells that are stored to, and fetched by another element or two; and a fetch where no block is.
+// Two cells that are stored to and that one or two other elements fetch, and a fetch where no block is.
 const REQUESTS: [(u16, u64, Op); 6] = [
     (1, 1, Op::Fetch(0)),
     (1, 2, Op::Fetch(1)),
@@ -36,15 +36,15 @@ const TWICE: [(u16, u64, Op); 2] = [(2, 1, Op::Store(0, 5)), (3, 1, Op::Store(0,
 /// What is done under a plan.
 #[derive(Clone, Copy)]
 pub enum Planned {
-    /// All that is planned, in this order.
+    /// Serves all that is planned, in this order.
     Serves(Order),
-    /// A fetch, where nothing is stored.
+    /// Serves a fetch for which nothing is stored.
     Waits,
-    /// A fetch from elsewhere than is planned.
+    /// Submits a fetch of another address than the planned one.
     Strays,
 }
 
-// What a request was told last.
+// What a request was last told.
 #[derive(Clone, Copy)]
 struct Told {
     element: u16,
@@ -52,7 +52,7 @@ struct Told {
     entry: Entry,
 }
 
-// Notes what the requests of an element were told, and adds what was refused, if anything was.
+// Notes what the requests of an element were told, and adds the refusal, if there is one.
 fn note<K: Name>(done: &Done<K>, told: &mut Vec<Told>, said: &mut String) -> Result<()> {
     let element = done.served.element;
     let mut number = done.served.first;
@@ -72,7 +72,7 @@ fn note<K: Name>(done: &Done<K>, told: &mut Vec<Told>, said: &mut String) -> Res
     Ok(())
 }
 
-// Plays servers by a gate. The ports, and what requests were told.
+// Lets servers play behind a gate. Returns the ports, and what requests were told.
 fn serve<K: Name + Send + Sync, G: Gate + Sync, R: Threads + Wait + Sync>(
     rt: &R,
     alloc: Global,
@@ -90,7 +90,7 @@ fn serve<K: Name + Send + Sync, G: Gate + Sync, R: Threads + Wait + Sync>(
     Ok((ports, told))
 }
 
-// Plays all that is planned, in this order.
+// Serves all that is planned, in this order.
 fn serve_in<K: Name + Send + Sync, R: Threads + Wait + Sync>(
     rt: &R,
     alloc: Global,
@@ -108,7 +108,7 @@ fn serve_in<K: Name + Send + Sync, R: Threads + Wait + Sync>(
     serve(rt, alloc, controller, &InOrder::new(order), parts, said)
 }
 
-// Plays a fetch for which nothing is stored.
+// Serves a fetch for which nothing is stored.
 fn wait<K: Name + Send + Sync, R: Threads + Wait + Sync>(
     rt: &R,
     alloc: Global,
@@ -148,7 +148,7 @@ fn play<K: Name + Send + Sync, R: Threads + Wait + Sync>(
     }
 }
 
-// Adds what requests were told, where that is kept.
+// Adds what requests were told, if that is kept.
 fn add_kept(engine: &Engine<FuseDisk>, told: &[Told], said: &mut String) -> Result<()> {
     for told in told {
         write!(said, "  {}.{} ", told.element, told.number)?;
@@ -161,7 +161,7 @@ fn add_kept(engine: &Engine<FuseDisk>, told: &[Told], said: &mut String) -> Resu
     Ok(())
 }
 
-// Whether the requests of a trace come in an order.
+// Returns whether the requests of a trace come in an order.
 fn are_in(order: Order, trace: &[Traced]) -> bool {
     let mut behind = 0u32;
     for traced in trace {
@@ -175,7 +175,7 @@ fn are_in(order: Order, trace: &[Traced]) -> bool {
     true
 }
 
-/// Plays what is done under a plan, and adds what requests were told.
+/// Does an act under a plan, and adds what requests were told.
 pub fn play_planned<K: Name + Send + Sync, R: Threads + Wait + Sync>(
     rt: &R,
     alloc: Global,
@@ -200,7 +200,7 @@ pub fn play_planned<K: Name + Send + Sync, R: Threads + Wait + Sync>(
     Ok(())
 }
 
-// A new memory with a block of two I cells, and room for a trace, under a plan.
+// Makes a new memory with a block of two I cells, and room for a trace, under a plan.
 fn begin<R: Wait>(
     rt: &R,
     alloc: Global,
@@ -225,7 +225,7 @@ fn begin<R: Wait>(
     }
 }
 
-// Serves an operation of element 0, and adds what it comes to.
+// Serves an operation of element 0, and adds its outcome.
 fn set_up(engine: &mut Engine<FuseDisk>, number: u64, op: Op, said: &mut String) -> Result<()> {
     let request = Request {
         element: 0,
@@ -238,7 +238,7 @@ fn set_up(engine: &mut Engine<FuseDisk>, number: u64, op: Op, said: &mut String)
     Ok(())
 }
 
-// A new memory with a block of two I cells.
+// Makes a new memory with a block of two I cells.
 fn new_memory(alloc: Global, limits: Limits, said: &mut String) -> Result<Engine<FuseDisk>> {
     let disk = FuseDisk::new(MemDisk::new(alloc, image_length(limits))?, LAST, Mode::Stop);
     let Ok(mut engine) = Engine::format(alloc, disk, limits) else {
@@ -248,7 +248,7 @@ fn new_memory(alloc: Global, limits: Limits, said: &mut String) -> Result<Engine
     Ok(engine)
 }
 
-// Plays what is done under a plan on this memory, or adds that the plan is refused.
+// Does an act under a plan on this memory, or adds that the plan is refused.
 fn show_planned<R: Threads + Wait + Sync>(
     rt: &R,
     alloc: Global,
@@ -269,7 +269,7 @@ fn show_planned<R: Threads + Wait + Sync>(
     }
 }
 
-// Plays all that is planned in each order, and sees that it comes to the same.
+// Serves all that is planned in each order, and checks that the results are the same.
 fn show_orders<R: Threads + Wait + Sync>(
     rt: &R,
     alloc: Global,
@@ -298,7 +298,7 @@ fn show_orders<R: Threads + Wait + Sync>(
     Ok(())
 }
 
-/// Shows what requests come to under a plan, and which are refused.
+/// Shows the results of requests under a plan, and which requests are refused.
 pub fn show_plans<R: Threads + Wait + Sync>(
     rt: &R,
     alloc: Global,

@@ -20,28 +20,28 @@ const SLOTS: u32 = 16;
 /// What is shown.
 #[derive(Clone, Copy)]
 pub enum Scene {
-    /// Two ports of ten fetches beside the thread that keeps checkpoints.
+    /// Two ports with ten fetches each, beside the thread that keeps checkpoints.
     Two,
     /// More fetches than the journal has room for, and nobody helps.
     KeeperWorks,
-    /// A few fetches, and then nobody asks until the journal has all its room again.
+    /// A few fetches; then nobody asks until the journal has all its room again.
     KeeperAlone,
     /// A trace with room for one line.
     OneLine,
     /// A server that is woken, and one that waits for nobody.
     ServersWait,
-    /// A port whose server has ended waits, and is woken.
+    /// A port that waits after its server has ended, and is woken.
     RetiredWaits,
     /// Sixteen threads of 1,002 requests each.
     Sixteen,
-    /// A great memory, and a glance at its last cell.
+    /// A large memory, and a glance at its last cell.
     Great,
     /// Readers that look again and again beside a writer.
     Readers,
 }
 
 impl Scene {
-    /// The sizes of its memory.
+    /// Returns the sizes of its memory.
     pub fn limits(self) -> Option<Limits> {
         match self {
             Scene::Two => Limits::new(64, 3, 256),
@@ -54,7 +54,7 @@ impl Scene {
         }
     }
 
-    /// How many lines its trace has room for.
+    /// Returns how many lines its trace has room for.
     pub fn room(self) -> usize {
         match self {
             Scene::OneLine => 1,
@@ -64,7 +64,7 @@ impl Scene {
         }
     }
 
-    // How many elements have a thread: 1, 2 and so on.
+    // Returns how many elements have a thread: 1, 2 and so on.
     fn threads(self) -> u16 {
         match self {
             Scene::Two | Scene::KeeperWorks | Scene::ServersWait | Scene::RetiredWaits => 2,
@@ -74,7 +74,7 @@ impl Scene {
         }
     }
 
-    // What the thread with an element's port does.
+    // Returns what the thread with an element's port does.
     fn part(self, element: u16) -> Part {
         match (self, element) {
             (Scene::Two, _) => Part::Fetches(10),
@@ -91,7 +91,7 @@ impl Scene {
         }
     }
 
-    // How many I cells and M cells there are at first, from address 0 on.
+    // Returns how many I cells and M cells there are at first, from address 0 on.
     fn blocks(self) -> Option<(u32, u32)> {
         match self {
             Scene::ServersWait | Scene::RetiredWaits => Some((1, 1)),
@@ -101,12 +101,12 @@ impl Scene {
         }
     }
 
-    // Whether each thread begins when the one before it has ended.
+    // Returns whether each thread starts after the one before it has ended.
     fn is_in_turn(self) -> bool {
         matches!(self, Scene::KeeperWorks)
     }
 
-    // The room of the journal that is waited for once all ports have played, if it is.
+    // Returns the room of the journal that is waited for after all ports have played, if it is.
     fn rests(self) -> Option<u32> {
         match self {
             Scene::KeeperAlone => Some(SLOTS),
@@ -114,7 +114,7 @@ impl Scene {
         }
     }
 
-    // The number that the port of element 1 asks for at the end, if it asks.
+    // Returns the number that the port of element 1 asks for at the end, if it asks.
     fn asks(self) -> Option<u64> {
         match self {
             Scene::Two => Some(10),
@@ -123,7 +123,7 @@ impl Scene {
         }
     }
 
-    // How many glances have a thread: those of elements 1, 2 and so on.
+    // Returns how many glances have a thread: those of elements 1, 2 and so on.
     fn readers(self) -> u16 {
         match self {
             Scene::Readers => READERS,
@@ -131,7 +131,7 @@ impl Scene {
         }
     }
 
-    // Whether its trace is of fetches where no block is.
+    // Returns whether its trace is of fetches where no block is.
     fn is_of_fetches(self) -> bool {
         matches!(
             self,
@@ -139,7 +139,7 @@ impl Scene {
         )
     }
 
-    /// Its head.
+    /// Returns its heading.
     pub fn head(self) -> &'static str {
         match self {
             Scene::Two => "two ports of ten fetches beside the thread that keeps checkpoints",
@@ -157,7 +157,7 @@ impl Scene {
     }
 }
 
-// A line of text for a port's part.
+// Adds a line for a port's part.
 fn add_told<K: Name>(said: &mut String, done: &Done<K>) -> Result<()> {
     write!(said, "  accepted {}, last ", done.told.accepted)?;
     match done.told.last {
@@ -188,7 +188,7 @@ pub fn add_call(said: &mut String, call: &str, answer: Result<Outcome, Refusal>)
     Ok(())
 }
 
-/// What a receipt's command came to.
+/// Returns the outcome of a receipt's command.
 pub fn outcome_of<K: Name>(answer: Result<Receipt<K>, Refusal>) -> Result<Outcome, Refusal> {
     match answer {
         Ok(receipt) => Ok(receipt.outcome()),
@@ -221,7 +221,7 @@ fn add_finished(said: &mut String, finished: &Finished<FuseDisk>) -> Result<()> 
     Ok(())
 }
 
-// The port of element 0, which has made the blocks, and serves nobody.
+// Makes the port of element 0, which makes the blocks and serves nobody.
 fn set_up<K: Name, R: Wait>(
     rt: &R,
     controller: &Controller<FuseDisk, K>,
@@ -251,7 +251,7 @@ fn set_up<K: Name, R: Wait>(
     Ok(port)
 }
 
-// The port of an element, with its part; one that waits for an answer has asked for it.
+// Makes the port of an element, with its part. If it waits for an answer, it has asked for it.
 fn task<K: Name, R: Wait>(
     rt: &R,
     controller: &Controller<FuseDisk, K>,
@@ -281,7 +281,7 @@ fn tasks<K: Name, R: Wait>(
     Ok(tasks)
 }
 
-// Tells what came of the parts and the readings, gathers the ports, and gives the glances back.
+// Tells the results of the parts and the readings, gathers the ports, and returns the glances.
 fn gather<K: Name>(
     scene: Scene,
     played: Played<K>,
@@ -306,7 +306,7 @@ fn gather<K: Name>(
     Ok(looked)
 }
 
-// Plays a scene; the ports come back.
+// Plays a scene. The ports come back.
 fn play<K: Name + Send + Sync, R: Threads + Wait + Sync>(
     rt: &R,
     alloc: Global,
@@ -336,7 +336,7 @@ fn play<K: Name + Send + Sync, R: Threads + Wait + Sync>(
     Ok(ports)
 }
 
-// Tells what a port that has played is answered then.
+// Tells what a port that has played is answered now.
 fn ask<K: Name, R: Wait>(
     rt: &R,
     controller: &Controller<FuseDisk, K>,
@@ -356,7 +356,7 @@ fn ask<K: Name, R: Wait>(
     Ok(())
 }
 
-// Plays a scene, and asks the port of element 1.
+// Plays a scene, and then asks the port of element 1.
 fn act<K: Name + Send + Sync, R: Threads + Wait + Sync>(
     rt: &R,
     alloc: Global,
@@ -376,7 +376,7 @@ fn act<K: Name + Send + Sync, R: Threads + Wait + Sync>(
     Ok(ports)
 }
 
-// Tells whether the plain memory answers each line alike, and whether all ports came.
+// Tells whether the plain memory answers each line alike, and whether all ports came back.
 fn add_again(
     alloc: Global,
     limits: Limits,

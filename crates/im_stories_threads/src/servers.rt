@@ -1,4 +1,4 @@
-//! What servers are given.
+//! The parts that servers are given.
 
 use crate::scenes::port;
 use anyhow::{Result, anyhow};
@@ -9,7 +9,7 @@ use im_types::Op;
 use std::alloc::Global;
 use std::sync::Wait;
 
-/// What the server of an element that was never served asks for: these, under the numbers from 1 on.
+/// Makes the part of an element that was never served. It asks for these intents, under the numbers from 1 on.
 pub fn part<K: Name, R: Wait>(
     rt: &R,
     alloc: Global,

@@ -1,5 +1,5 @@
-//! A server that waits for what another one stores, over a disk that stops: each thread ends, and each answer that was
-//! handed out is kept, whatever a crash leaves.
+//! A server waits for what another one stores, over a disk that stops. Each thread ends, and each answer that was given
+//! is kept, whatever a crash leaves.
 
 use crate::naming::{Act, act_on};
 use crate::scenes::port;
@@ -16,13 +16,14 @@ use std::alloc::Global;
 use std::sync::Wait;
 use std::thread::Threads;
 
-// How many calls more than an opening makes a disk passes, at the most.
+// How many more calls than an opening makes a disk passes at most.
 const MOST_PASSED: u64 = 120;
 
 // What a crash leaves.
 const CRASHES: [Crash; 3] = [Crash::Kept, Crash::Lost, Crash::Byte(0xA5)];
 
-// The cells, elements and slots of the images: the usual ones, and so few that a whole checkpoint takes a few calls.
+// The cells, elements and slots of the images: the usual ones, and ones so few that a whole checkpoint takes a few
+// calls.
 const SIZES: [(u32, u16, u32); 2] = [(4_096, 16, 256), (64, 3, 16)];
 
 // What the first request of an element was told, if it was answered.
@@ -32,7 +33,7 @@ struct Told {
     entry: Option<Entry>,
 }
 
-// The disk of a new image.
+// Makes the disk of a new image.
 fn new_image(alloc: Global, limits: Limits) -> Result<MemDisk> {
     match Engine::format(alloc, MemDisk::new(alloc, image_length(limits))?, limits) {
         Ok(engine) => Ok(engine.close()),
@@ -40,7 +41,7 @@ fn new_image(alloc: Global, limits: Limits) -> Result<MemDisk> {
     }
 }
 
-// A disk with these bytes, all of them synced.
+// Makes a disk with these bytes, all of them synced.
 fn disk_with(alloc: Global, bytes: &[u8]) -> Result<MemDisk> {
     let mut disk = MemDisk::new(alloc, bytes.len())?;
     match disk.write_at(0, bytes) {
@@ -53,7 +54,7 @@ fn disk_with(alloc: Global, bytes: &[u8]) -> Result<MemDisk> {
     }
 }
 
-// An image that has to open, on a disk that passes so many calls.
+// Opens an image that has to open, on a disk that passes the given number of calls.
 fn opened(alloc: Global, disk: MemDisk, passes: u64) -> Result<Engine<FuseDisk>> {
     match Engine::open(alloc, FuseDisk::new(disk, passes, Mode::Stop)) {
         Ok(engine) => Ok(engine),
@@ -61,13 +62,13 @@ fn opened(alloc: Global, disk: MemDisk, passes: u64) -> Result<Engine<FuseDisk>>
     }
 }
 
-// How many calls an opening of an image makes.
+// Returns how many calls an opening of an image makes.
 fn calls_of_opening(alloc: Global, image: &MemDisk) -> Result<u64> {
     let engine = opened(alloc, disk_with(alloc, image.bytes())?, LAST)?;
     Ok(engine.close().calls())
 }
 
-// An opening of a copy of an image, whose disk passes so many calls.
+// Opens a copy of an image. Its disk passes the given number of calls.
 fn opening_of<R: Wait>(
     rt: &R,
     alloc: Global,
@@ -81,7 +82,7 @@ fn opening_of<R: Wait>(
     }
 }
 
-// Sees that a refusal is one of the disk.
+// Checks that a refusal is one of the disk.
 fn is_of_disk(refusal: Refusal) -> Result<()> {
     match refusal {
         Refusal::Device | Refusal::Failed => Ok(()),
@@ -89,7 +90,7 @@ fn is_of_disk(refusal: Refusal) -> Result<()> {
     }
 }
 
-// What a receipt has, if there is one.
+// Returns what a receipt has, if there is one.
 fn told_by<K: Name>(element: u16, answer: Result<Receipt<K>, Refusal>) -> Result<Told> {
     let entry = match answer {
         Ok(receipt) => match receipt.outcome() {
@@ -104,7 +105,7 @@ fn told_by<K: Name>(element: u16, answer: Result<Receipt<K>, Refusal>) -> Result
     Ok(Told { element, entry })
 }
 
-// What a server was told last. It has waited for its answer, or was refused by the disk.
+// Returns what a server was last told. It has waited for its answer, or was refused by the disk.
 fn told_to<K: Name>(done: &Done<K>) -> Result<Told> {
     let element = done.served.element;
     let entry = done.served.entries.as_slice().first().copied();
@@ -116,8 +117,8 @@ fn told_to<K: Name>(done: &Done<K>) -> Result<Told> {
     Ok(Told { element, entry })
 }
 
-// Makes a cell, and plays both servers, each with its sender, beside the thread that keeps checkpoints. The ports, and
-// what elements 0, 1 and 2 were told.
+// Makes a cell, and lets both servers play, each with its sender, beside the thread that keeps checkpoints. Returns the
+// ports, and what elements 0, 1 and 2 were told.
 fn play_servers<K: Name + Send + Sync, R: Threads + Wait + Sync>(
     rt: &R,
     alloc: Global,
@@ -140,7 +141,7 @@ fn play_servers<K: Name + Send + Sync, R: Threads + Wait + Sync>(
     Ok((ports, told))
 }
 
-// What an element's request comes to, once it is answered.
+// Returns the reply to an element's request, once it is answered.
 fn reply_of(element: u16) -> Reply {
     match element {
         0 => Reply::Base(0),
@@ -149,7 +150,7 @@ fn reply_of(element: u16) -> Reply {
     }
 }
 
-// Sees that what an element was told is kept, as it was or answered since.
+// Checks that what an element was told is kept: as it was told, or answered since.
 fn is_kept(engine: &Engine<FuseDisk>, told: Told) -> Result<()> {
     let Some(entry) = told.entry else {
         return Ok(());
@@ -162,7 +163,7 @@ fn is_kept(engine: &Engine<FuseDisk>, told: Told) -> Result<()> {
     }
 }
 
-// Sees that the plain memory answers the trace alike, and that what elements were told is kept behind a crash.
+// Checks that the plain memory answers the trace alike, and that what elements were told is kept after a crash.
 fn are_kept(
     alloc: Global,
     crash: Crash,
@@ -184,7 +185,7 @@ fn are_kept(
     Ok(())
 }
 
-/// Plays the servers, and sees that what they were answered is kept behind this crash.
+/// Lets the servers play, and checks that what they were answered is kept after this crash.
 pub fn stop<K: Name + Send + Sync, R: Threads + Wait + Sync>(
     rt: &R,
     alloc: Global,
@@ -200,7 +201,8 @@ pub fn stop<K: Name + Send + Sync, R: Threads + Wait + Sync>(
     are_kept(alloc, crash, limits, finished, told?.as_slice())
 }
 
-// Stops a disk behind each number of calls past those of an opening, with each crash behind it. How many runs there were.
+// Stops a disk after each number of calls past those of an opening, with each crash after it. Returns how many runs
+// there were.
 fn stop_each<R: Threads + Wait + Sync>(
     rt: &R,
     alloc: Global,
@@ -222,7 +224,7 @@ fn stop_each<R: Threads + Wait + Sync>(
     Ok(runs)
 }
 
-/// Shows that servers which their disk stops all end, and that what they were answered is kept.
+/// Shows that servers that their disk stops all end, and that what they were answered is kept.
 pub fn show_stops<R: Threads + Wait + Sync>(
     rt: &R,
     alloc: Global,

@@ -5,8 +5,8 @@ use im_plain::PlainMemory;
 use im_types::{Call, Command, Entry, Limits, Outcome, Refusal, Reply};
 use std::alloc::Global;
 
-/// How many requests of an element a trace has, numbered in their order from 1 on and each answered `nocell`; `None`
-/// where one isn't.
+/// Returns how many requests of an element a trace has. They have to be numbered in order from 1 on and each answered
+/// `nocell`; otherwise it returns `None`.
 pub fn fetches_of(trace: &[Traced], element: u16) -> Option<u64> {
     let mut many = 0u64;
     for traced in trace {
@@ -27,7 +27,7 @@ pub fn fetches_of(trace: &[Traced], element: u16) -> Option<u64> {
     Some(many)
 }
 
-// What the plain memory answers to a call.
+// Returns the plain memory's answer to a call.
 fn answer_again(memory: &mut PlainMemory, call: Call) -> Result<Outcome, Refusal> {
     match call {
         Call::Command(command) => memory.step(&command),
@@ -38,7 +38,7 @@ fn answer_again(memory: &mut PlainMemory, call: Call) -> Result<Outcome, Refusal
     }
 }
 
-/// How many lines of a trace, from its first, the plain memory answers alike.
+/// Returns how many lines of a trace, from the first, the plain memory answers alike.
 pub fn alike(alloc: Global, limits: Limits, trace: &[Traced]) -> Result<usize, Refusal> {
     let mut memory = PlainMemory::new(alloc, limits)?;
     let mut many = 0usize;

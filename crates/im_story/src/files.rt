@@ -1,10 +1,11 @@
-//! The stories of files.
+//! Walks the stories of files.
 
 use crate::walks::{Scene, walk};
 use anyhow::Result;
 use std::{env, fs};
 
-// Walks a file's stories, and says how many there were, and each call that answers something else. Whether all is so.
+// Walks a file's stories. Prints how many there were, and each call that was answered otherwise. Returns whether none
+// was.
 fn walk_file<S: Scene>(rt: &HostRuntime, file: &str, scene: &mut S) -> Result<bool> {
     let text = fs::read_to_string(rt, file)?;
     let mut out = String::new(rt.alloc());
@@ -17,8 +18,8 @@ fn walk_file<S: Scene>(rt: &HostRuntime, file: &str, scene: &mut S) -> Result<bo
     Ok(walked.wrong == 0)
 }
 
-/// Walks the stories of each file that the command line names, and prints a line for each file. The status to end with:
-/// 1 where a call answered something else, a line is no call, a story has none, or no file is named.
+/// Walks the stories of each file that the command line names, and prints a line for each file. Returns the status to
+/// end with. It is 1 if a call was answered otherwise, a line is no call, a story has no call, or no file is named.
 pub fn walk_files<S: Scene>(rt: &HostRuntime, scene: &mut S) -> Result<u8> {
     let words = env::args(rt)?.collect::<Vec<String>>(rt.alloc())?;
     let mut status = 0;

@@ -1,4 +1,4 @@
-//! Stories: texts whose lines are calls and what they answer, and the walk that makes the calls and compares.
+//! Stories: texts whose lines are calls and their answers, and the walk that makes the calls and compares the answers.
 //!
 //! ```text
 //! # A fetch comes before its store
@@ -8,10 +8,11 @@
 //! collect 1.1 = value 42
 //! ```
 //!
-//! A line `# ..` begins a story and says what happens in it; a line `-- ..` is a remark; each other line that isn't
-//! blank is a call and its answer, with ` = ` between them. What the calls are is the [`Scene`]'s to say. It stands on
-//! `im_types` and `anyhow`, and is used by the crates that tell stories. It promises nothing but that it ends: a story
-//! is a test.
+//! A line `# ..` begins a story and says what happens in it. A line `-- ..` is a remark. Each other line that isn't
+//! blank is a call and its answer, with ` = ` between them. The [`Scene`] says what calls there are.
+//!
+//! The crate stands on `im_types` and `anyhow`, and the crates that tell stories use it. It promises nothing but that
+//! it ends: a story is a test.
 #![tactic(auto)]
 
 mod files;

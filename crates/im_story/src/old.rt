@@ -1,10 +1,10 @@
-//! Images of the first version of the layout, which nothing of the product writes.
+//! Images of the first version of the layout, which the product never writes.
 
 use im_types::Limits;
 use im_types::layout::{CELL_RECORD, OPEN, PAGE, Version, cell_bytes};
 use std::alloc::{AllocError, Global};
 
-// Puts bytes among others, where they fit.
+// Puts bytes among others, if they fit.
 fn put(bytes: &mut [u8], at: usize, part: &[u8]) {
     for (past, byte) in part.iter().enumerate() {
         if let Some(place) = bytes.get_mut(at.saturating_add(past)) {
@@ -20,8 +20,8 @@ fn put_header(bytes: &mut [u8], limits: Limits) {
     put(bytes, 32, &limits.slots.to_le_bytes());
 }
 
-/// The bytes of a new image of the first version: header 0 in force at generation 1 with count 0, the empty memory in area
-/// 0, and zeros. Its free nodes are all zeros, and each of its holes leads nowhere.
+/// Returns the bytes of a new image of the first version. Header 0 is in force at generation 1 with count 0, the empty
+/// memory is in area 0, and the rest are zeros. Its free nodes are all zeros, and each of its holes leads nowhere.
 pub fn old_image(alloc: Global, limits: Limits) -> Result<Vec<u8>, AllocError> {
     let old = Version::One;
     let mut bytes = vec![in alloc; 0; old.image_length(limits)]?;

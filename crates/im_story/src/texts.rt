@@ -35,7 +35,7 @@ pub fn add_refusal(said: &mut String, refusal: Refusal) -> Result<(), AllocError
     write!(said, "refused {number} {refusal}")
 }
 
-/// Adds what is kept for a request, or why nothing is.
+/// Adds what is kept for a request, or why nothing is kept.
 pub fn add_answer(said: &mut String, answer: Result<Entry, Refusal>) -> Result<(), AllocError> {
     match answer {
         Ok(entry) => add_entry(said, entry),
@@ -43,7 +43,7 @@ pub fn add_answer(said: &mut String, answer: Result<Entry, Refusal>) -> Result<(
     }
 }
 
-/// Adds what a command came to, or why it was refused.
+/// Adds the outcome of a command, or why it was refused.
 pub fn add_outcome(said: &mut String, answer: Result<Outcome, Refusal>) -> Result<(), AllocError> {
     match answer {
         Ok(Outcome::Entry(entry)) => add_entry(said, entry),

@@ -1,27 +1,27 @@
-//! The walk through a text of stories.
+//! Walks through a text of stories.
 
 use anyhow::Result;
 use std::alloc::Global;
 
-/// What stories are told of: a layer from its beginning on, and the words for its calls.
+/// A layer that stories are about, from its beginning on, and the words for its calls.
 pub trait Scene {
-    /// A story begins: nothing has happened yet.
+    /// Begins a story: nothing has happened yet.
     fn begin(&mut self);
 
-    /// Makes the call that the words name, and adds what it answers to `said`. An error where they name none.
+    /// Makes the call that the words name, and adds its answer to `said`. Returns an error if the words name no call.
     fn tell(&mut self, alloc: Global, words: &[&str], said: &mut String) -> Result<()>;
 }
 
-/// What was read of a text, and how much of it isn't so.
+/// What was read of a text, and how much of it was wrong.
 #[derive(Clone, Copy, Debug, PartialEq, Eq)]
 pub struct Walked {
-    /// The stories.
+    /// How many stories there were.
     pub stories: u32,
-    /// Their calls.
+    /// How many calls they have.
     pub lines: u32,
-    /// Calls that answered something else, lines that are no call, and stories with no call.
+    /// How many calls were answered otherwise, lines are no call, and stories have no call.
     pub wrong: u32,
-    /// The calls of the last story so far.
+    /// How many calls the last story has so far.
     here: u32,
 }
 
@@ -35,7 +35,7 @@ impl Walked {
         }
     }
 
-    // A story with no call, or a text with none, tells nothing.
+    // A story with no call, or a text with no story, counts as wrong.
     fn close(&mut self) {
         if self.here == 0 {
             self.wrong = self.wrong.saturating_add(1);
@@ -59,7 +59,7 @@ impl Walked {
     }
 }
 
-/// Whether the words name a call, of one that they name and that is made: `true`, or why it couldn't be made.
+/// Turns the result of a call that the words named and that was made into `true`, or into why it couldn't be made.
 pub fn told(made: Result<()>) -> Result<bool> {
     match made {
         Ok(()) => Ok(true),
@@ -67,7 +67,7 @@ pub fn told(made: Result<()>) -> Result<bool> {
     }
 }
 
-// Makes a line's call, and tells in `out` where its answer is another one. Whether it is the line's.
+// Makes a line's call, and adds to `out` if the answer isn't the line's. Returns whether it is.
 fn is_so<S: Scene>(alloc: Global, line: &str, scene: &mut S, out: &mut String) -> Result<bool> {
     let Some((call, expected)) = line.split_once(" =") else {
         writeln!(out, "  {line}: no answer is told")?;
@@ -85,7 +85,8 @@ fn is_so<S: Scene>(alloc: Global, line: &str, scene: &mut S, out: &mut String) -
     Ok(said == expected)
 }
 
-/// Walks the stories of a text, and adds a line to `out` for each call that answers something else. What was read.
+/// Walks the stories of a text, and adds a line to `out` for each call that was answered otherwise. Returns what was
+/// read.
 pub fn walk<S: Scene>(
     alloc: Global,
     text: &str,

@@ -49,7 +49,7 @@ pub take-all : {A : Type 0} (xs : List A) → take (length xs) xs ≡ xs
 take-all [] = refl
 take-all (x ∷ xs) = ap (λ l. x ∷ l) (take-all xs)
 
--- a beginning of it is written
+-- a prefix of it is written
 pub prints_begins : (start is : Option (List ℕ)) (lines : Lines) (text : List ℕ) → Prints start is lines text → Begins start is text
 prints_begins start is lines text it =
     (length it.written, subst (Appends start is) (sym (ap (take (length it.written)) it.split ∙ take-prefix it.written it.rest)) it.there)
@@ -60,7 +60,7 @@ prints_none start lines none = record { written = []; rest = []; split = refl; t
 
 -- ---- lines of commands
 
--- what is told of each command, where a list tells all of it in order
+-- what each command prints, if a list prints all of it in order
 module _ {X : Type 0} (told : Contents → Command → List X) (all : Contents → List Command → List X) (none : (m : Contents) → all m [] ≡ [])
     (first : (m : Contents) (c : Command) (put : List Command) → all m (c ∷ put) ≡ told m c ++ all (step m c).contents put) where
   pub all-append : (m : Contents) (put more : List Command) → all m (put ++ more) ≡ all m put ++ all (after m put) more

@@ -20,7 +20,7 @@ written_none text start = sym (ap (λ xs. start ++ xs) (texts_none text) ∙ app
 pub written_more : (text : ℕ → List ℕ) (n : ℕ) (start was now : List ℕ) → was ≡ start ++ texts_below text n → now ≡ was ++ text n → now ≡ start ++ texts_below text (n + 1)
 written_more text n start was now before added = added ∙ ap (λ xs. xs ++ text n) before ∙ append_assoc start (texts_below text n) (text n) ∙ ap (λ xs. start ++ xs) (sym (texts_more text n))
 
--- the same where the numbers of the texts are told otherwise
+-- the same if the numbers of the texts are given in another form
 pub written_none_at : (text : ℕ → List ℕ) (n : ℕ) (start : List ℕ) → n ≡ 0 → start ≡ start ++ texts_below text n
 written_none_at text n start none = written_none text start ∙ ap (λ n. start ++ texts_below text n) (sym none)
 

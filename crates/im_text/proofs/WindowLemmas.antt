@@ -1,4 +1,4 @@
--- The windows of those whose lines are told. (Own.)
+-- The windows of those whose lines are printed. (Own.)
 use Rattle.std.proofs.Common.{◌≡◌, ◌∙◌, ℕ, ◌-◌, ◌≤◌, List, refl, ap, arith, Bool, false, nat_lt, Some}
 use Rattle.std.specs.Prelude.{Option, None, Ok, if◌then◌else◌, slice_get}
 use Rattle.std.specs.Option.{option_and_then}

@@ -22,7 +22,7 @@ use Rattle.im_text.specs.Texts.{entry_text, line_feed, texts_below}
 abbrev pub told_line : ℕ → ℕ → Entry → List ℕ
 told_line element number entry = decimal element ++ codes "." ++ decimal number ++ codes " " ++ entry_text entry ++ line_feed
 
--- K.N now REPLY: a request that had to wait, with its entry as last kept
+-- K.N now REPLY: a request that had to wait, with the entry that was last kept for it
 abbrev pub now_line : Option Waited → List ℕ
 now_line None = []
 now_line (Some w) = decimal w.element ++ codes "." ++ decimal w.number ++ codes " now " ++ entry_text w.entry ++ line_feed
@@ -31,7 +31,7 @@ now_line (Some w) = decimal w.element ++ codes "." ++ decimal w.number ++ codes 
 abbrev pub refused_line : Refusal → List ℕ → List ℕ
 refused_line refusal name = codes "refused " ++ decimal (number_of refusal) ++ codes " " ++ name ++ line_feed
 
--- the line of a command by its answer: a confirmation has none
+-- the line of a command, by its answer: a confirmation has none
 abbrev pub reply_line : Command → Result Outcome Refusal → List ℕ
 reply_line (Asks r) (Ok (Tells entry)) = told_line r.element r.number entry
 reply_line (Asks r) (Ok Confirmed) = []
@@ -55,7 +55,7 @@ waits_by (Asks r) (Ok Confirmed) = []
 waits_by (Asks r) (Err refusal) = []
 waits_by (Confirm element upto) answer = []
 
--- those of the commands that had to wait, in their order
+-- the requests among the commands that had to wait, in their order
 abbrev pub waits : Contents → List Command → List Waiter
 waits m [] = []
 waits m (command ∷ commands) = waits_by command (step m command).answer ++ waits (step m command).contents commands
@@ -64,17 +64,17 @@ waits m (command ∷ commands) = waits_by command (step m command).answer ++ wai
 abbrev pub who_of : Waited → Waiter
 who_of w = record { element = w.element; number = w.number }
 
--- the lines of the first of those that had to wait
+-- the lines of a prefix of those that had to wait
 abbrev pub nows : List Waited → ℕ → List ℕ
 nows waited many = texts_below (λ i. now_line (slice_get waited i)) many
 
 -- ---- how far they were written
 
--- a beginning of the text was written
+-- a prefix of the text was written
 abbrev pub Begins : Option (List ℕ) → Option (List ℕ) → List ℕ → Type 0
 Begins old new text = (many : ℕ) × Appends old new (take many text)
 
--- Of a text, so much was written since the start, and the rest is kept back as long as no write has failed.
+-- A prefix of the text was written since the start. As long as no write has failed, the rest is kept back.
 pub record Prints (start now : Option (List ℕ)) (lines : Lines) (text : List ℕ) : Type 0 where
   pub written : List ℕ
   pub rest : List ℕ

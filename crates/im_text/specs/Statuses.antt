@@ -1,9 +1,9 @@
--- How a program ends that tells its refusals apart by its status. (Own.)
+-- The exit status of a program that tells its refusals apart. (Own.)
 use Rattle.std.specs.Prelude.{ℕ}
 use Rattle.im_types.specs.declared.refusals.Refusal.{Refusal}
 use Rattle.im_types.specs.declared.refusals.Refusal.TheVariants.{Gap, Forgotten, WindowFull, Mismatch, NoElement, NotAnswered, JournalFull, Device, Failed, NoMemory, TraceFull, WrongLength, NoHeader, BadHeader, BadPage, BadRecord, BadLimits, BadScript, Stalled, OffPlan, OldVersion, NotBlank, BadPlan, PaneGone}
 
--- 5 where a file is no image, or a damaged or an old one, or no place for one: trying again is of no use; else 1
+-- 5 if a file is no image, is damaged or old, or can't take one: another try is of no use; else 1
 abbrev pub status_of_image : Refusal → ℕ
 status_of_image Gap = 1
 status_of_image Forgotten = 1

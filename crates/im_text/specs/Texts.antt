@@ -1,4 +1,4 @@
--- The texts that lines are made of: numbers below one another, kinds, operations, answers. (Own.)
+-- The texts that lines are made of: numbers below a bound, kinds, operations, answers. (Own.)
 use Rattle.std.specs.Prelude.{ℕ, zero, suc, List, [], ◌∷◌, ◌++◌, codes, decimal}
 use Rattle.im_types.specs.declared.operations.Kind.{Kind}
 use Rattle.im_types.specs.declared.operations.Kind.TheVariants.{I, M}
@@ -48,7 +48,7 @@ reply_text NoBlock = codes "noblock"
 reply_text StillWaiting = codes "stillwaiting"
 reply_text Cleared = codes "cleared"
 
--- what is kept for a request
+-- the entry that is kept for a request
 abbrev pub entry_text : Entry → List ℕ
 entry_text Waiting = codes "waiting"
 entry_text (Answered reply) = reply_text reply

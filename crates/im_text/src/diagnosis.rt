@@ -1,4 +1,4 @@
-//! Why an image was refused, with the place of its damage. No more than reads are made.
+//! Finds why an image was refused and where it is damaged. It only reads.
 ghost use Rattle.im_disk.specs.Since.{OnlyReads};
 
 use crate::reasons::Reason;
@@ -7,8 +7,8 @@ use im_disk::Disk;
 use im_types::Refusal;
 use std::alloc::Global;
 
-/// Why an image is refused, once it is: the place of its damage is looked for by reading it again. Where that fails, or
-/// there is no memory for it, the refusal alone is told.
+/// Returns the reason why an image is refused. It reads the image again to find the place of the damage. If that fails,
+/// or there is no memory for it, the reason has the refusal alone.
 pub fn diagnose<D: Disk>(alloc: Global, disk: &mut D, refusal: Refusal) -> Reason
     ensures reads { D.honest disk.new → OnlyReads D.now D.past disk.old disk.new }
     ensures honest { D.honest disk.new → D.honest disk.old }

@@ -1,4 +1,4 @@
-//! How work ends: what was kept back is written, and a refusal's line.
+//! How work ends: the lines that were kept back are written, and then the line of a refusal.
 ghost use Rattle.std.specs.Prelude.{◌≡◌, ◌⊎◌, ◌≤◌, ◌++◌, List, ℕ, Option, IsOk, OnOk, OnErr};
 ghost use Rattle.std.specs.Io.KnownBytes.{Appends, Keeps};
 ghost use Rattle.im_text.specs.Printing.{Begins, IsLast, Prints};
@@ -11,7 +11,7 @@ use im_types::Refusal;
 use std::alloc::Global;
 use std::io::Write;
 
-// Prints a last line behind the others, if it can be printed.
+// Prints a last line after the others, if it can be printed.
 fn push_through<W: Write>(lines: &mut Lines, line: &str, out: &mut W)
     ensures { (start : Option (List ℕ)) (text : List ℕ) → Prints start (W.contents out.old) lines.old text
         → Prints start (W.contents out.new) lines.new text
@@ -25,7 +25,7 @@ fn push_through<W: Write>(lines: &mut Lines, line: &str, out: &mut W)
     }
 }
 
-// Prints the line of a refusal behind the others, if it can be printed.
+// Prints the line of a refusal after the others, if it can be printed.
 fn print_refusal<W: Write>(
     alloc: Global,
     refusal: Refusal,
@@ -42,7 +42,9 @@ fn print_refusal<W: Write>(
     }
 }
 
-/// Writes what is kept back, or the line of a refusal, of which the observer is told why; and answers the status.
+/// Ends work that keeps lines back. If the work is done, writes those lines. If it is refused, tells the observer why
+/// and writes the line of the refusal. Returns the status: 0 only if the work is done and all its lines are written,
+/// else 1.
 pub fn finish<W: Write, N: Observer>(
     alloc: Global,
     done: Result<(), Reason>,
@@ -75,7 +77,7 @@ pub fn finish<W: Write, N: Observer>(
     }
 }
 
-/// Prints the line of a refusal, alone.
+/// Prints nothing but the line of a refusal.
 pub fn put_refusal<W: Write>(alloc: Global, refusal: Refusal, out: &mut W)
     ensures { (last : List ℕ) × (IsLast last × Begins (W.contents out.old) (W.contents out.new) last) }
 {
@@ -85,7 +87,8 @@ pub fn put_refusal<W: Write>(alloc: Global, refusal: Refusal, out: &mut W)
     }
 }
 
-/// The status of work that is done or refused. Of a refusal the observer is told why, and its line is printed.
+/// Returns the status of work: 0 if it is done, 1 if it is refused. On a refusal, tells the observer why and prints the
+/// line of the refusal.
 pub fn end<W: Write, N: Observer>(
     alloc: Global,
     done: Result<(), Reason>,

@@ -1,4 +1,4 @@
-//! What is wrong with a file that isn't made, opened, read or written, for a person to read.
+//! What is wrong with a file that can't be made, opened, read or written, in words for a person.
 
 use std::fmt;
 use std::fmt::{Display, Formatter};
@@ -7,42 +7,42 @@ use std::io::ErrorKind;
 /// Why a file isn't made or opened. Its text is for a person.
 #[derive(Clone, Copy, Debug, PartialEq, Eq)]
 pub enum PathFault {
-    /// Another program has its lock.
+    /// Another program has the file's lock.
     InUse,
-    /// There is a file of that name, and a new one was asked for.
+    /// A file of that name exists, and a new one was asked for.
     Exists,
-    /// A note of this boot says that a sync of it failed.
+    /// A note of this boot says that a sync of the file failed.
     Unsynced,
-    /// It is no ordinary file: a device, a FIFO, a socket.
+    /// It isn't a regular file, but a device, a FIFO or a socket.
     NotFile,
     /// It is a folder.
     IsFolder,
-    /// The folder in which it is looked for isn't there.
+    /// The folder that should contain the file doesn't exist.
     NoFolder,
-    /// Its path has no letter.
+    /// The path is empty.
     EmptyPath,
-    /// It is the file that is to be moved on.
+    /// The new file of a migration is the old one.
     Same,
-    /// Its sync failed as it was opened.
+    /// A sync of the file failed as it was opened.
     Sync(ErrorKind),
-    /// The system says so.
+    /// The system gives this reason.
     System(ErrorKind),
 }
 
-/// What failed of a file that was opened. Its text is for a person.
+/// Which call on an open file failed. Its text is for a person.
 #[derive(Clone, Copy, Debug, PartialEq, Eq)]
 pub enum CallFault {
-    /// It has no longer the length that it had.
+    /// The file no longer has the length that it had.
     Length,
-    /// It can't be read.
+    /// The file can't be read.
     Read(ErrorKind),
-    /// It can't be written.
+    /// The file can't be written.
     Write(ErrorKind),
     /// A sync failed: what was written since the last one may be lost.
     Sync(ErrorKind),
 }
 
-/// What the system says, in words.
+/// What the system says, in words for a person.
 #[derive(Clone, Copy, Debug, PartialEq, Eq)]
 pub struct Words(pub ErrorKind);
 

@@ -1,4 +1,4 @@
-//! What is printed of requests, refusals and damage, and how lines go to a writer.
+//! The texts of requests, refusals and damage, and the writing of lines.
 #![tactic(auto)]
 
 mod diagnosis;

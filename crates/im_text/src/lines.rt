@@ -1,4 +1,4 @@
-//! Lines on their way to a writer.
+//! Writes lines in batches.
 ghost use Rattle.std.specs.Prelude.{◌≡◌, ◌≤◌, [], false, take, length, IfOk, OnOk, MatchResult};
 ghost use Rattle.std.specs.Io.KnownBytes.{Appends, WriteAppends};
 ghost use Rattle.im_text.specs.Printing.{Begins, PrintsMore, PrintsOn};
@@ -7,10 +7,10 @@ use crate::reasons::Reason;
 use std::alloc::{AllocError, Global};
 use std::io::{ErrorKind, Write};
 
-/// The most bytes of lines that are kept back while more work is at hand: a pipe's buffer.
+/// The most bytes of lines that are kept back while there is more work at hand. It is the size of a pipe's buffer.
 pub const BATCH: usize = 4_096;
 
-// Writes some of the bytes, and answers how many: none where the write was interrupted.
+// Writes some of the bytes. Returns how many: 0 if the write was interrupted.
 fn write_some<W: Write>(out: &mut W, bytes: &[u8]) -> Result<usize, ErrorKind>
     ensures bound { IfOk result (λ count. count ≤ length bytes.now) }
     ensures bytes { WriteAppends (W.contents out.old) (W.contents out.new) result bytes.now }
@@ -28,7 +28,7 @@ fn write_some<W: Write>(out: &mut W, bytes: &[u8]) -> Result<usize, ErrorKind>
     }
 }
 
-// Writes bytes as far as the writer takes them, and answers how many it took.
+// Writes the bytes until a write fails. Returns how many were written.
 fn write_out<W: Write>(out: &mut W, bytes: &[u8]) -> (usize, Result<(), ErrorKind>)
     ensures bound { result.0 ≤ length bytes.now }
     ensures bytes { Appends (W.contents out.old) (W.contents out.new) (take result.0 bytes.now) }
@@ -47,7 +47,7 @@ fn write_out<W: Write>(out: &mut W, bytes: &[u8]) -> (usize, Result<(), ErrorKin
     (written, Err(ErrorKind::Interrupted))
 }
 
-/// Writes a text whole, and has the writer put it through.
+/// Writes a whole text, and flushes the writer.
 pub fn put_through<W: Write>(out: &mut W, text: &str) -> Result<(), Reason>
     ensures whole { OnOk result (Appends (W.contents out.old) (W.contents out.new) text.now) }
     ensures begins { Begins (W.contents out.old) (W.contents out.new) text.now }
@@ -61,17 +61,17 @@ pub fn put_through<W: Write>(out: &mut W, text: &str) -> Result<(), Reason>
     }
 }
 
-/// Whole lines that are written in batches.
+/// Whole lines, which are written in batches.
 #[derive(Drop)]
 pub struct Lines {
     /// The lines that aren't written yet.
     pending: Vec<u8>,
-    /// A write has failed: nothing more is written.
+    /// Whether a write has failed. Then nothing more is written.
     broken: bool,
 }
 
 impl Lines {
-    /// No line. The room for a batch is taken here.
+    /// Makes an empty batch, with room for [`BATCH`] bytes.
     pub fn new(alloc: Global) -> Result<Lines, AllocError>
         ensures pending { IfOk result (λ lines. lines.pending.items ≡ []) }
         ensures works { IfOk result (λ lines. lines.broken ≡ false) }
@@ -82,7 +82,7 @@ impl Lines {
         })
     }
 
-    // Writes what is kept back.
+    // Writes the lines that are kept back.
     fn write<W: Write>(&mut self, out: &mut W) -> Result<(), Reason>
         requires works { self.old.broken ≡ false }
         ensures on { PrintsOn (W.contents out.old) self.old (W.contents out.new) self.new }
@@ -101,7 +101,8 @@ impl Lines {
         }
     }
 
-    /// Writes what is kept back, and has the writer put it through. After a fault of the writer no more is written.
+    /// Writes the lines that are kept back, and flushes the writer. After a fault of the writer, nothing more is
+    /// written.
     pub fn flush<W: Write>(&mut self, out: &mut W) -> Result<(), Reason>
         ensures on { PrintsOn (W.contents out.old) self.old (W.contents out.new) self.new }
         ensures pending { OnOk result (self.new.pending.items ≡ []) }
@@ -120,7 +121,7 @@ impl Lines {
         }
     }
 
-    // Has room for so many bytes more in the batch.
+    // Makes room in the batch for `len` more bytes.
     fn make_space<W: Write>(&mut self, out: &mut W, len: usize) -> Result<(), Reason>
         requires works { self.old.broken ≡ false }
         ensures on { PrintsOn (W.contents out.old) self.old (W.contents out.new) self.new }
@@ -132,7 +133,7 @@ impl Lines {
         self.write(out)
     }
 
-    /// Takes a line. Those before it are written first where they don't fit into one batch with it.
+    /// Takes a line. If it doesn't fit into the batch with the lines before it, those are written first.
     pub fn push<W: Write>(&mut self, out: &mut W, line: &str) -> Result<(), Reason>
         ensures more { MatchResult result
             (λ _. PrintsMore (W.contents out.old) self.old (W.contents out.new) self.new line.now)

@@ -1,4 +1,4 @@
-//! Who follows the work beside its output.
+//! Observers of the work, which learn what the output doesn't say.
 
 use crate::reasons::Reason;
 use im_damage::Older;
@@ -6,23 +6,23 @@ use im_types::Entry;
 use std::fmt;
 use std::fmt::{Display, Formatter};
 
-/// How far the serving of a script has come.
+/// How far a script has been served.
 #[derive(Clone, Copy, Debug, PartialEq, Eq)]
 pub struct Progress {
-    /// How many requests were served.
+    /// The number of requests served.
     pub served: u64,
-    /// For how many more commands the journal has room.
+    /// The number of commands that the journal still has room for.
     pub room: u32,
-    /// How many checkpoints were put in force.
+    /// The number of checkpoints that were put in force.
     pub checkpoints: u64,
 }
 
-/// What is odd of an image that is read all the same. Its text is for a person.
+/// Something odd about an image that is read all the same. Its text is for a person.
 #[derive(Clone, Copy, Debug, PartialEq, Eq)]
 pub enum Warning {
-    /// A note of this boot says that a sync of it failed.
+    /// A note of this boot says that a sync of the file failed.
     Unsynced,
-    /// A slot of its journal is older than any that can stand open there.
+    /// A slot of the journal is older than any that can be open there.
     Older(Older),
 }
 
@@ -37,23 +37,23 @@ impl Display for Warning {
     }
 }
 
-/// A person who follows the work. What is told here is no part of the output.
+/// A person who follows the work. Nothing told here is part of the output.
 pub trait Observer {
-    /// Is told the answer of a request that waited when the image was opened, before its entry is confirmed or at the
-    /// end.
+    /// Learns the answer to a request that waited when the image was opened. This is called before the request's entry
+    /// is confirmed, or at the end.
     fn answered(&mut self, element: u16, number: u64, entry: Entry);
 
-    /// Is told how far the work has come, before each request.
+    /// Learns how far the work has come, before each request.
     fn progressed(&mut self, progress: Progress);
 
-    /// Is told why the work is refused.
+    /// Learns why the work is refused.
     fn refused(&mut self, reason: Reason);
 
-    /// Is told what is odd of an image that is read all the same.
+    /// Learns something odd about an image that is read all the same.
     fn warned(&mut self, _warning: Warning) {}
 
-    /// Whether each line of the output is wanted as soon as it is true, as by a person at a terminal; else lines are
-    /// written many at once.
+    /// Whether each line of the output is wanted as soon as it is true, for example by a person at a terminal. Else
+    /// lines are written in batches.
     fn wants_each_line(&self) -> bool {
         false
     }

@@ -1,4 +1,4 @@
-//! Why work is refused, for a person to read.
+//! Why work is refused, in words for a person.
 
 use crate::faults::{CallFault, PathFault, Words};
 use im_damage::Damage;
@@ -8,61 +8,61 @@ use std::fmt;
 use std::fmt::{Display, Formatter};
 use std::io::ErrorKind;
 
-/// Why work is refused, or was given up. Its text is for a person, and names no file.
+/// Why work is refused or was given up. Its text is for a person, and names no file.
 #[derive(Clone, Copy, Debug, PartialEq, Eq)]
 pub enum Reason {
     /// There was not enough memory.
     Memory,
-    /// A write of the output failed. It has no number, as there is nowhere to print it.
+    /// A write of the output failed. It has no number, because there is nowhere to print one.
     Output(ErrorKind),
     /// The script can't be read.
     ScriptFile(ErrorKind),
     /// The input of a dialogue can't be read.
     Input(ErrorKind),
-    /// The script isn't in the grammar: at which line and word, and what was expected there.
+    /// The script isn't in the grammar. The fault has the line, the word, and what was expected there.
     Script(ScriptFault),
-    /// Standard input, from which the script was to be read, was closed.
+    /// The script was to be read from standard input, which was closed.
     NoInput,
-    /// The image's file isn't made or opened.
+    /// The image's file can't be made or opened.
     File(PathFault),
-    /// No image was made of the image's file, as this failed of it; and whether an older file's bytes are lost by that.
+    /// No image was made of the file. It has the call that failed, and whether the bytes of an older file are lost.
     Unmade(Option<CallFault>, bool),
-    /// A call on the image's file failed so, once it was open.
+    /// A call on the image's open file failed.
     Call(CallFault),
-    /// The file is no image, or one that is damaged, and where; or one that can't be read or written.
+    /// The file is not an image, is damaged, or can't be read or written. It has the place of the damage.
     Image(Refusal, Damage),
-    /// The image to be moved on is none of the first version: it is of the layout in use.
+    /// The image to be migrated isn't of the first layout version, but of the version in use.
     Current,
-    /// The new file of a migration isn't made or opened.
+    /// The new file of a migration can't be made or opened.
     NewFile(PathFault),
-    /// A call on the new file of a migration failed so, once it was open.
+    /// A call on the open new file of a migration failed.
     NewCall(CallFault),
-    /// The new file of a migration is no place for the image, or can't be read or written.
+    /// The new file of a migration can't hold the image, or can't be read or written.
     New(Refusal),
-    /// So many cells were asked for.
+    /// An image with this number of cells was asked for.
     Cells(u32),
-    /// So many elements were asked for.
+    /// An image with this number of elements was asked for.
     Elements(u32),
-    /// So many journal slots were asked for.
+    /// An image with this number of journal slots was asked for.
     Slots(u32),
-    /// A block of the setup can't be made: its place among them, from 1.
+    /// A block of the setup can't be made. It has the block's place in the setup, from 1.
     Block(usize),
-    /// A place of this element's part lies past the last address.
+    /// A place in this element's part lies past the last address.
     Place(u16),
-    /// A request of this element, or what comes before it, is refused.
+    /// A request of this element is refused, or something before it.
     Request(u16, Refusal),
-    /// A request is refused as the window of its element is full, whose oldest request waits.
+    /// A request is refused because the window of its element is full and the window's oldest request waits.
     Window {
         /// The element.
         element: u16,
-        /// How many of the requests that are kept wait.
+        /// The number of kept requests that wait.
         waiting: u64,
-        /// How many of them are answered, and are kept as they stand behind one that waits.
+        /// The number of kept requests that are answered. They are kept because they come after one that waits.
         answered: u64,
     },
 }
 
-// What a refusal says of an image or a request.
+// What a refusal means for an image or a request.
 fn words(refusal: Refusal) -> &'static str {
     match refusal {
         Refusal::Gap => "its numbers have reached the last that there is",
@@ -91,7 +91,7 @@ fn words(refusal: Refusal) -> &'static str {
     }
 }
 
-// What a refusal says of the new file of a migration.
+// What a refusal means for the new file of a migration.
 fn new_words(refusal: Refusal) -> &'static str {
     match refusal {
         Refusal::WrongLength =>
@@ -104,7 +104,7 @@ fn new_words(refusal: Refusal) -> &'static str {
 }
 
 impl Reason {
-    /// The refusal that is printed for it, if one is.
+    /// Returns the refusal that is printed for this reason, if there is one.
     pub fn refusal(&self) -> Option<Refusal> {
         match *self {
             Reason::Memory => Some(Refusal::NoMemory),
@@ -125,8 +125,8 @@ impl Reason {
         }
     }
 
-    /// Whether it speaks of the second file that is named, the script's or the new one of a migration, and not of the
-    /// first, the image's.
+    /// Whether the reason is about the second file that is named: the script, or the new file of a migration. The first
+    /// file is the image.
     pub fn is_of_second(&self) -> bool {
         matches!(
             self,
@@ -141,7 +141,7 @@ impl Reason {
     }
 }
 
-// Adds what failed while an image was made, and what is there now.
+// Adds what failed while an image was made, and what the file holds now.
 fn add_unmade<W: fmt::Write>(
     f: &mut Formatter<W>,
     fault: Option<CallFault>,
@@ -158,7 +158,7 @@ fn add_unmade<W: fmt::Write>(
     })
 }
 
-// Adds which call failed, and what is to be done then.
+// Adds which call failed, and what to do then.
 fn add_call<W: fmt::Write>(f: &mut Formatter<W>, fault: CallFault) -> fmt::Result {
     write!(f, "{fault}")?;
     f.write_str(match fault {

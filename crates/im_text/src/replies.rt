@@ -1,4 +1,4 @@
-//! What is printed of requests and refusals.
+//! The texts of requests, replies and refusals.
 ghost use Rattle.std.specs.Prelude.{◌≡◌, ◌++◌, ℕ, List, Some, OnOk, string_bytes};
 ghost use Rattle.im_text.specs.Printing.{now_line, refused_line, told_line};
 ghost use Rattle.im_text.specs.Texts.{entry_text, kind_text, op_text, reply_text};
@@ -6,14 +6,14 @@ ghost use Rattle.im_text.specs.Texts.{entry_text, kind_text, op_text, reply_text
 use im_types::{Entry, Kind, Op, Refusal, Reply};
 use std::alloc::{AllocError, Global};
 
-/// A request that had to wait, with its entry as last kept.
+/// A request that had to wait, with the entry that was last kept for it.
 #[derive(Clone, Copy, Debug, PartialEq, Eq)]
 pub struct Waited {
     /// The element that asked.
     pub element: u16,
     /// The request's number.
     pub number: u64,
-    /// What was last kept for it.
+    /// The entry that was last kept for it.
     pub entry: Entry,
 }
 
@@ -65,7 +65,7 @@ fn add_reply(out: &mut String, reply: Reply) -> Result<(), AllocError>
     }
 }
 
-/// Adds the text of what is kept for a request.
+/// Adds the text of an entry that is kept for a request.
 pub fn add_entry(out: &mut String, entry: Entry) -> Result<(), AllocError>
     ensures { OnOk result (string_bytes out.new ≡ string_bytes out.old ++ entry_text entry) }
 {
@@ -75,7 +75,7 @@ pub fn add_entry(out: &mut String, entry: Entry) -> Result<(), AllocError>
     }
 }
 
-/// Adds the line `K.N REPLY` of a request that was served.
+/// Adds the line `K.N REPLY` for a request that was served.
 fn add_line(out: &mut String, element: u16, number: u64, entry: Entry) -> Result<(), AllocError>
     ensures { OnOk result (string_bytes out.new ≡ string_bytes out.old ++ told_line element number entry) }
 {
@@ -84,7 +84,7 @@ fn add_line(out: &mut String, element: u16, number: u64, entry: Entry) -> Result
     out.push_str("\n")
 }
 
-/// Adds the line `K.N now REPLY` of a request that had to wait.
+/// Adds the line `K.N now REPLY` for a request that had to wait.
 fn add_now(out: &mut String, waited: Waited) -> Result<(), AllocError>
     ensures { OnOk result (string_bytes out.new ≡ string_bytes out.old ++ now_line (Some waited)) }
 {
@@ -95,7 +95,7 @@ fn add_now(out: &mut String, waited: Waited) -> Result<(), AllocError>
     out.push_str("\n")
 }
 
-/// Makes the line `K.N REPLY` of a request that was served.
+/// Makes the line `K.N REPLY` for a request that was served.
 pub fn make_line(
     line: &mut String,
     element: u16,
@@ -108,7 +108,7 @@ pub fn make_line(
     add_line(line, element, number, entry)
 }
 
-/// Makes the line `K.N now REPLY` of a request that had to wait, if there is one.
+/// Makes the line `K.N now REPLY` for a request that had to wait, if there is one.
 pub fn make_now(line: &mut String, waited: Option<Waited>) -> Result<(), AllocError>
     ensures { OnOk result (string_bytes line.new ≡ now_line waited) }
 {
@@ -128,7 +128,7 @@ fn make_named(line: &mut String, refusal: Refusal, name: &str) -> Result<(), All
     writeln!(line, "refused {number} {name}")
 }
 
-/// The line `refused N NAME`.
+/// Makes the line `refused N NAME`.
 pub fn make_refusal(alloc: Global, line: &mut String, refusal: Refusal) -> Result<(), AllocError>
     ensures { OnOk result ((name : List ℕ) × (string_bytes line.new ≡ refused_line refusal name)) }
 {

@@ -1,4 +1,4 @@
-//! How a program ends that tells its refusals apart by its status.
+//! The exit status of a program that tells its refusals apart.
 ghost use Rattle.std.specs.Prelude.{◌≡◌, ◌⊎◌};
 ghost use Rattle.im_types.specs.declared.refusals.Refusal.{Refusal};
 ghost use Rattle.im_damage.specs.declared.damage.Damage.{Damage};
@@ -9,14 +9,14 @@ use crate::reasons::Reason;
 use im_types::Refusal;
 use std::io::ErrorKind;
 
-/// The status of a refusal that may be another one when it is tried again: a file is in use by another program.
+/// The status of a refusal that may go away: a file is in use by another program.
 pub const IN_USE: u8 = 4;
 
-/// The status of a refusal that is the same whenever it is tried again: there is no image, or a damaged or an old one, or
-/// there is no permission.
+/// The status of a refusal that stays the same at each try: there is no image, it is damaged or old, or there is no
+/// permission.
 pub const USELESS: u8 = 5;
 
-// By what an image is refused with.
+// The status for the refusal of an image.
 fn of_image(refusal: Refusal) -> u8
     ensures { result ≡ status_of_image refusal }
 {
@@ -28,7 +28,7 @@ fn of_image(refusal: Refusal) -> u8
     }
 }
 
-// By what the system says of a file that isn't opened.
+// The status for what the system says about a file that can't be opened.
 fn of_system(kind: ErrorKind) -> u8
     ensures { (result ≡ 1) ⊎ (result ≡ 5) }
 {
@@ -40,7 +40,7 @@ fn of_system(kind: ErrorKind) -> u8
     }
 }
 
-// By why a file isn't made or opened.
+// The status for a file that can't be made or opened.
 fn of_file(fault: PathFault) -> u8
     ensures in_use { fault ≡ PathFault.InUse → result ≡ 4 }
     ensures range { (result ≡ 1) ⊎ (result ≡ 4) ⊎ (result ≡ 5) }
@@ -56,8 +56,9 @@ fn of_file(fault: PathFault) -> u8
 }
 
 impl Reason {
-    /// The status by which a program ends that tells its refusals apart: [`IN_USE`] where a file is in use by another
-    /// program, [`USELESS`] where there is no image, a damaged or an old one, no file, or no permission; else 1.
+    /// Returns the exit status of a program that tells its refusals apart. It is [`IN_USE`] if a file is in use by
+    /// another program. It is [`USELESS`] if there is no image, if the image is damaged or old, or if there is no file
+    /// or no permission. Else it is 1.
     pub fn status(&self) -> u8
         ensures in_use { (self.now ≡ Reason.File PathFault.InUse) ⊎ (self.now ≡ Reason.NewFile PathFault.InUse) → result ≡ 4 }
         ensures image { (refusal : Refusal) (damage : Damage) → self.now ≡ Reason.Image refusal damage → result ≡ status_of_image refusal }

@@ -1,4 +1,4 @@
--- Who waits at a cell is who has a waiting entry. (Own.)
+-- The requests that wait at a cell are those with a waiting entry for it. (Own.)
 use Rattle.std.specs.Prelude.{◌≡◌, ℕ, suc, List, [], ◌∷◌, Bool, true, false, Option, None, Some, ◌&&◌, ◌==◌, ◌⊎◌}
 use Rattle.std.specs.Prelude.{nat_lt, if◌then◌else◌}
 use Rattle.im_types.specs.declared.operations.Op.{Op}
@@ -18,12 +18,12 @@ use Rattle.im_types.specs.Window.{same_op, is_waiting}
 abbrev pub same_waiter : Waiter → Waiter → Bool
 same_waiter who other = (who.element == other.element) && (who.number == other.number)
 
--- how often a request stands among these
+-- how often a request stands in a list
 abbrev pub times : Waiter → List Waiter → ℕ
 times who [] = 0
 times who (other ∷ others) = if same_waiter who other then suc (times who others) else times who others
 
--- what one waits for at a cell of this kind
+-- the operation that a request at a cell of this kind waits with
 abbrev pub awaiting : Kind → ℕ → Op
 awaiting I a = Fetch a
 awaiting M a = Take a
@@ -38,7 +38,7 @@ abbrev pub waits_in : ℕ → Option Held → Option Kept → Bool
 waits_in a None kept = false
 waits_in a (Some held) kept = waits_for (awaiting held.block.kind a) kept
 
--- an operation's address, or its length
+-- an operation's address, or an allocation's length
 abbrev pub address_of : Op → ℕ
 address_of (Alloc kind n) = n
 address_of (Release a) = a
@@ -48,14 +48,14 @@ address_of (Store a v) = a
 address_of (Take a) = a
 address_of (Put a v) = a
 
--- kept gives what is kept for each request
+-- the lists of waiters agree with the entries; `kept` gives the operation and the entry of each request
 pub record WaitersAgree (cells : List (Option Held)) (kept : Waiter → Option Kept) : Type 0 where
   -- a request stands once in the list of the cell that its entry waits for, and in no other list
   pub listed : (who : Waiter) (a : ℕ) → times who (waiters_at cells a) ≡ (if waits_in a (held_at cells a) (kept who) then 1 else 0)
   -- each Waiting entry waits for the cell that it names
   pub somewhere : (who : Waiter) (k : Kept) → kept who ≡ Some k → is_waiting k ≡ true → waits_in (address_of k.op) (held_at cells (address_of k.op)) (Some k) ≡ true
 
--- who waits at the cells of a memory is who has a waiting entry in its windows
+-- the requests that wait at the cells of a memory are those with a waiting entry in its windows
 abbrev pub WaitingAgrees : Contents → Type 0
 WaitingAgrees m = WaitersAgree m.cells (kept_for m.windows)
 
@@ -68,7 +68,7 @@ abbrev pub drops : Command → Waiter → Bool
 drops (Asks r) who = false
 drops (Confirm element upto) who = (who.element == element) && nat_lt who.number upto
 
--- what is kept stays kept, until it is confirmed
+-- each entry stays kept until it is confirmed
 abbrev pub KeepsEntries : Contents → Command → Contents → Type 0
 KeepsEntries m command next =
     (who : Waiter) (k : Kept) → kept_for m.windows who ≡ Some k → (drops command who ≡ true) ⊎ StaysOrIsAnswered k (kept_for next.windows who)

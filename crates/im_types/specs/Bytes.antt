@@ -22,11 +22,11 @@ open_gate = 0xA5
 abbrev pub zeros : ℕ → List ℕ
 zeros n = replicate n 0
 
--- whether bytes are these
+-- whether two lists of bytes are the same
 abbrev pub same_bytes : List ℕ → List ℕ → Bool
 same_bytes = pointwise nat_eq
 
--- the number in n bytes at a place
+-- the number in n bytes at an offset
 abbrev pub number_at : ℕ → ℕ → List ℕ → ℕ
 number_at n at bytes = little_number n (slice_range bytes at (at + n))
 
@@ -41,7 +41,7 @@ op_code (Take a) = 6
 op_code (Put a v) = 7
 op_code (Reset a) = 9
 
--- the value that an operation writes
+-- the value that an operation writes, or 0
 abbrev pub op_value : Op → ℕ
 op_value (Store a v) = v
 op_value (Put a v) = v
@@ -62,7 +62,7 @@ reply_code NoBlock = 10
 reply_code StillWaiting = 11
 reply_code Cleared = 12
 
--- the number that a reply carries
+-- the number that a reply carries, or 0
 abbrev pub reply_number : Reply → ℕ
 reply_number (Base a) = a
 reply_number (Value v) = v
@@ -73,12 +73,12 @@ abbrev pub entry_code : Entry → ℕ
 entry_code Waiting = 0
 entry_code (Answered reply) = reply_code reply
 
--- the number that an entry carries
+-- the number that an entry carries, or 0
 abbrev pub entry_number : Entry → ℕ
 entry_number Waiting = 0
 entry_number (Answered reply) = reply_number reply
 
--- the code of a kind; a free cell has 0 there
+-- the code of a kind; a free cell has the code 0
 abbrev pub kind_code : Kind → ℕ
 kind_code I = 1
 kind_code M = 2

@@ -27,7 +27,7 @@ Holds nodes (node ∷ chain) (who ∷ waiters) = (slice_index_or nodes node (Fre
 Holds nodes [] (who ∷ waiters) = ⊥
 Holds nodes (node ∷ chain) [] = ⊥
 
--- from a first node to a last one these nodes hold these waiters
+-- these nodes, from the first one to the last one, hold these waiters
 pub record IsChain (nodes : List NodeRecord) (first last : ℕ) (chain : List ℕ) (waiters : List Waiter) : Type 0 where
   pub some : 1 ≤ length chain
   pub first_is : first_of chain ≡ first
@@ -38,7 +38,7 @@ pub record IsChain (nodes : List NodeRecord) (first last : ℕ) (chain : List �
 abbrev pub HasNoChain : List ℕ → List Waiter → Type 0
 HasNoChain chain waiters = (chain ≡ []) × (waiters ≡ [])
 
--- the chain of a cell record; a cell that nobody waits for has none
+-- the chain of a cell record; a cell that no request waits for has none
 abbrev pub HasChain : List NodeRecord → CellRecord → List ℕ → List Waiter → Type 0
 HasChain nodes (FreeCell hole next) chain waiters = HasNoChain chain waiters
 HasChain nodes (BlockCell block TagEmpty) chain waiters = HasNoChain chain waiters
@@ -52,7 +52,7 @@ HaveChains nodes [] [] [] = Unit {0}
 HaveChains nodes (cell ∷ cells) (chain ∷ chains) (waiters ∷ lists) = HasChain nodes cell chain waiters × HaveChains nodes cells chains lists
 HaveChains nodes cells chains lists = ⊥
 
--- 1 where a test holds, else 0
+-- 1 if a test holds, else 0
 abbrev pub bit : Bool → ℕ
 bit true = 1
 bit false = 0
@@ -72,7 +72,8 @@ abbrev pub is_listed : NodeRecord → Bool
 is_listed (FreeNode next) = false
 is_listed (ListNode next who) = true
 
--- the lists of waiters, a list for each cell, stand in the nodes: each node of a list stands once in one chain, and no other node does
+-- the lists of waiters, one for each cell, stand in the nodes: each node of a list stands once in one chain, and no
+-- other node does
 pub record ShowLists (nodes : List NodeRecord) (cells : List CellRecord) (lists : List (List Waiter)) : Type 0 where
   pub chains : List (List ℕ)
   pub have : HaveChains nodes cells chains lists

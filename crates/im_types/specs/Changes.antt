@@ -1,4 +1,4 @@
--- What a command changes of the full I cells, by the memory before it. (Own.)
+-- The change that a command makes to the full I cells, given the memory before it. (Own.)
 use Rattle.std.specs.Prelude.{ℕ, suc, ◌+◌, List, [], ◌∷◌, ◌++◌, Bool, true, false, Option, None, Some, fold, take}
 use Rattle.std.specs.Prelude.{drop, nat_lt, ◌==◌, if◌then◌else◌}
 use Rattle.std.specs.List.{list_any}
@@ -18,7 +18,7 @@ use Rattle.im_types.specs.Act.{same_kind, block_with_base, is_waiting_cell}
 use Rattle.im_types.specs.Step.{is_accepted}
 use Rattle.im_types.specs.Trace.{contents_after}
 
--- an address is one of n from base on
+-- whether an address is one of n from base on
 abbrev pub is_among : ℕ → ℕ → ℕ → Bool
 is_among base n a = if nat_lt a base then false else nat_lt a (base + n)
 
@@ -32,29 +32,30 @@ changed a value (Gone base n) = if is_among base n a then None else value
 abbrev pub value_after : ℕ → Option ℕ → List Change → Option ℕ
 value_after a value changes = fold (changed a) value changes
 
--- whether a change is of addresses below n alone
+-- whether a change names only addresses below n
 abbrev pub is_below : ℕ → Change → Bool
 is_below n Same = true
 is_below n (Fills a v) = nat_lt a n
 is_below n (Gone base length) = if nat_lt n (base + length) then false else true
 
--- a store fills a cell that is empty or waited for; a full one it marks clashed
+-- a store fills a cell that is empty or waited for, and marks a full one as clashed
 abbrev pub store_change : ℕ → ℕ → CellState → Change
 store_change a v (Empty readers) = Fills a v
 store_change a v (Full w) = Gone a 1
 store_change a v (Clashed w) = Same
 
--- at an I cell
+-- the change of a store to a cell of a block, if it is an I cell
 abbrev pub store_change_in : ℕ → ℕ → Option Held → Change
 store_change_in a v None = Same
 store_change_in a v (Some held) = if same_kind I held.block.kind then store_change a v held.state else Same
 
--- a release that is answered with Released takes the block's cells, and a reset that is answered with Cleared empties them
+-- a release that is answered with Released frees the block's cells, and a reset that is answered with Cleared empties
+-- them
 abbrev pub emptying_change : List (Option Held) → ℕ → Option Block → Change
 emptying_change cells a None = Same
 emptying_change cells a (Some block) = if list_any is_waiting_cell (take block.length (drop a cells)) then Same else Gone a block.length
 
--- by an operation that is served
+-- the change of an operation that is served
 abbrev pub change_of : List (Option Held) → Op → Change
 change_of cells (Alloc kind n) = Same
 change_of cells (Release a) = emptying_change cells a (block_with_base a (held_at cells a))
@@ -64,21 +65,21 @@ change_of cells (Store a v) = store_change_in a v (held_at cells a)
 change_of cells (Take a) = Same
 change_of cells (Put a v) = Same
 
--- by an accepted command
+-- the change of an accepted command
 abbrev pub change_by : Contents → Command → Change
 change_by m (Asks r) = change_of m.cells r.op
 change_by m (Confirm element upto) = Same
 
--- one for a command that is accepted
+-- the change of a command, if it is accepted
 abbrev pub changes_at : Contents → Command → List Change
 changes_at m command = if is_accepted m command then change_by m command ∷ [] else []
 
--- by a call
+-- the changes of a call
 abbrev pub changes_in : Contents → Call → List Change
 changes_in m (Commands command) = changes_at m command
 changes_in m (Collect element number) = []
 
--- by a trace: one for each command that was accepted, in order
+-- the changes of a trace: one for each accepted command, in order
 abbrev pub changes_of : Contents → List Line → List Change
 changes_of m [] = []
 changes_of m (line ∷ trace) = changes_in m line.call ++ changes_of (contents_after m line.call) trace
@@ -88,15 +89,16 @@ abbrev pub fill_at : ℕ → Option ℕ → List Change
 fill_at a None = []
 fill_at a (Some v) = Fills a v ∷ []
 
--- the full cells among these, from an address on
+-- the changes that fill the full cells of a list, which begins at this address
 abbrev pub fills_from : ℕ → List (Option Held) → List Change
 fills_from base [] = []
 fills_from base (cell ∷ cells) = fill_at base (full_in cell) ++ fills_from (suc base) cells
 
--- the full cells of a memory, as changes of one that has none
+-- the full cells of a memory, as changes of a memory without full cells
 abbrev pub opening : Contents → List Change
 opening m = fills_from 0 m.cells
 
--- what is shown after a trace: the full cells of the memory that was opened, and then a change for each command that was accepted
+-- the changes that are shown after a trace: the full cells of the memory that was opened, and then one change for each
+-- accepted command
 abbrev pub shown_by : Contents → List Line → List Change
 shown_by m trace = opening m ++ changes_of m trace

@@ -1,5 +1,5 @@
--- What a memory contains: cells with presence states, and a window of kept replies for each element.
--- (Presence states and deferred requests: Arvind, Nikhil, Pingali, TOPLAS 11(4), 1989. Windows: own.)
+-- The contents of a memory: cells with presence states, and a window of kept replies for each element. (Presence states
+-- and deferred requests: Arvind, Nikhil, Pingali, TOPLAS 11(4), 1989. Windows: own.)
 use Rattle.std.specs.Prelude.{ℕ, List, [], Option, None, Some, slice_get, slice_index_or, option_and_then, ◌-◌}
 use Rattle.std.specs.Prelude.{nat_lt, if◌then◌else◌, replicate, ◌≡◌, ◌+◌, ◌<◌, ◌≤◌, length, option_map}
 use Rattle.im_types.specs.declared.operations.Kind.{Kind}
@@ -8,14 +8,14 @@ use Rattle.im_types.specs.declared.operations.Waiter.{Waiter}
 use Rattle.im_types.specs.declared.operations.Block.{Block}
 use Rattle.im_types.specs.declared.operations.Kept.{Kept}
 
--- Empty, with the requests that were deferred, in their order (none: an empty cell; some: a waiting cell);
--- full; or full and then written again
+-- the state of a cell: empty, with its deferred requests in their order; full; or full and then written again. An empty
+-- cell with deferred requests is a waiting cell.
 pub data CellState : Type 0 where
   Empty : List Waiter → CellState
   Full : ℕ → CellState
   Clashed : ℕ → CellState
 
--- an allocated cell, with the block that it lies in
+-- a cell of a block, with its block
 pub record Held : Type 0 where
   pub block : Block
   pub state : CellState
@@ -25,12 +25,12 @@ pub record Window : Type 0 where
   pub base : ℕ
   pub kept : List Kept
 
--- the cells by address, None where a cell is in no block; the windows by element
+-- the cells by address, None for a cell in no block; and the windows by element
 pub record Contents : Type 0 where
   pub cells : List (Option Held)
   pub windows : List Window
 
--- the window of an element that has asked nothing yet
+-- the window of an element that has sent no request yet
 abbrev pub new_window : Window
 new_window = record { base = 1; kept = [] }
 
@@ -38,7 +38,7 @@ new_window = record { base = 1; kept = [] }
 unfoldable pub empty_contents : ℕ → ℕ → Contents
 empty_contents cells elements = record { cells = replicate cells None; windows = replicate elements new_window }
 
--- the cell at an address; None in no block, which includes each address past the last cell
+-- the cell at an address; None in no block and past the last cell
 abbrev pub held_at : List (Option Held) → ℕ → Option Held
 held_at cells a = slice_index_or cells a None
 
@@ -48,7 +48,7 @@ waiters_of (Empty waiters) = waiters
 waiters_of (Full v) = []
 waiters_of (Clashed v) = []
 
--- the requests that wait at a cell of a block; none where there is no cell
+-- the requests that wait at a cell of a block; none if there is no cell
 abbrev pub waiters_in : Option Held → List Waiter
 waiters_in None = []
 waiters_in (Some held) = waiters_of held.state
@@ -57,11 +57,11 @@ waiters_in (Some held) = waiters_of held.state
 abbrev pub waiters_at : List (Option Held) → ℕ → List Waiter
 waiters_at cells a = waiters_in (held_at cells a)
 
--- what is kept under a number, if it is
+-- the operation and the entry that are kept under a number, if there are any
 abbrev pub kept_under : Window → ℕ → Option Kept
 kept_under w n = if nat_lt n w.base then None else slice_get w.kept (n - w.base)
 
--- what is kept for a continuation, if anything is
+-- the operation and the entry that are kept for a continuation, if there are any
 abbrev pub kept_for : List Window → Waiter → Option Kept
 kept_for windows who = option_and_then (λ w. kept_under w who.number) (slice_get windows who.element)
 
@@ -85,7 +85,7 @@ full_at m a = full_in (held_at m.cells a)
 abbrev pub block_at : List (Option Held) → ℕ → Option Block
 block_at cells a = option_map (λ held. held.block) (held_at cells a)
 
--- each block lies below the cell count, and all its cells are its own
+-- each block lies below the cell count, and each of its cells is in that block alone
 pub record HasBlocks (cells : List (Option Held)) : Type 0 where
   pub within : (a : ℕ) (block : Block) → block_at cells a ≡ Some block → (block.base ≤ a) × (a < block.base + block.length) × (block.base + block.length ≤ length cells)
   pub whole : (a : ℕ) (block : Block) → block_at cells a ≡ Some block → (b : ℕ) → block.base ≤ b → b < block.base + block.length → block_at cells b ≡ Some block

@@ -1,4 +1,4 @@
--- A group of requests: what its members are answered and what they come to, one after another. (Own.)
+-- A group of requests: the answers to its members, and the memory that they reach, each after the one before. (Own.)
 use Rattle.std.specs.Prelude.{◌≢◌, ℕ, ◌+◌, ◌-◌, ◌==◌, Bool, ◌&&◌, nat_lt, List, [], ◌∷◌, ◌++◌, Result, Ok, Err}
 use Rattle.std.specs.Prelude.{if◌then◌else◌}
 use Rattle.im_types.specs.declared.TheConstants.{LAST}
@@ -18,17 +18,17 @@ use Rattle.im_types.specs.Meaning.{Reached}
 abbrev pub no_request : Request
 no_request = record { element = 0; number = 0; op = Fetch 0 }
 
--- none of the requests is this element's
+-- none of the requests is of this element
 abbrev pub AreOthers : ℕ → List Request → Type 0
 AreOthers element [] = Unit {0}
 AreOthers element (r ∷ rs) = (element ≢ r.element) × AreOthers element rs
 
--- each element has one of the requests at most
+-- each element has at most one of the requests
 abbrev pub AreApart : List Request → Type 0
 AreApart [] = Unit {0}
 AreApart (r ∷ rs) = AreOthers r.element rs × AreApart rs
 
--- what a member of a group was answered
+-- the state of an answered member of a group
 abbrev pub as_served : Result Outcome Refusal → Served
 as_served (Ok outcome) = Done outcome
 as_served (Err refusal) = Refused refusal
@@ -37,28 +37,28 @@ as_served (Err refusal) = Refused refusal
 abbrev pub is_new : Reached → Request → Bool
 is_new s r = is_accepted s.contents (Asks r)
 
--- and there is room for it in the journal
+-- the request would change the memory, and there is room for it in the journal
 abbrev pub is_put : Reached → Request → Bool
 is_put s r = is_new s r && nat_lt 0 s.room
 
--- what is reached with a request more; there is no room behind the last count that there is
+-- the state after one more request; at the last count of all the room is 0
 abbrev pub with_request : Reached → Request → Reached
 with_request s r = record { contents = (step s.contents (Asks r)).contents; count = s.count + 1; room = if s.count + 1 == LAST then 0 else s.room - 1 }
 
--- a member's answer: `JournalFull` where it would change the memory and there is no room
+-- a member's answer: `JournalFull` if it would change the memory and there is no room
 abbrev pub answer_of : Reached → Request → Result Outcome Refusal
 answer_of s r = if is_new s r && (s.room == 0) then Err JournalFull else (step s.contents (Asks r)).answer
 
--- what is reached by a member
+-- the state after one member
 abbrev pub reached_by_one : Reached → Request → Reached
 reached_by_one s r = if is_put s r then with_request s r else s
 
--- the members' answers, each at what those before it reached
+-- the members' answers, each at the state after the members before it
 abbrev pub answers_of : Reached → List Request → List (Result Outcome Refusal)
 answers_of s [] = []
 answers_of s (r ∷ rs) = answer_of s r ∷ answers_of (reached_by_one s r) rs
 
--- what is reached by all members
+-- the state after all members
 abbrev pub reached_by_all : Reached → List Request → Reached
 reached_by_all s [] = s
 reached_by_all s (r ∷ rs) = reached_by_all (reached_by_one s r) rs

@@ -1,4 +1,4 @@
--- The headers of an image, and which of them is in force. (Own.)
+-- The headers of an image, and the header in force. (Own.)
 use Rattle.std.specs.Prelude.{ℕ, ◌+◌, List, ◌∷◌, ◌++◌, length, Bool, ◌&&◌, ◌||◌, ◌==◌, nat_lt, nat_le, not, Option}
 use Rattle.std.specs.Prelude.{None, Some, is_none, if◌then◌else◌, slice_index, slice_range}
 use Rattle.byteorder.specs.Endian.{little_bytes}
@@ -8,7 +8,8 @@ use Rattle.im_types.specs.declared.refusals.Refusal.TheVariants.{WrongLength, No
 use Rattle.im_types.specs.Bytes.{open_gate, zeros, same_bytes, number_at}
 use Rattle.im_types.specs.Layout.{Layout, layout_named, Sizes, are_sizes, page_bytes, header_at, image_length}
 
--- the layout's version, the area that the header is of, how often an area was written, how many commands that area holds, and the sizes
+-- the layout's version, the header's area, the generation of that area, the count of the commands that it holds, and
+-- the sizes
 pub record Header : Type 0 where
   pub version : ℕ
   pub area : ℕ
@@ -16,7 +17,7 @@ pub record Header : Type 0 where
   pub count : ℕ
   pub sizes : Sizes
 
--- the 63 bytes behind a header's gate
+-- the 63 bytes after a header's gate
 abbrev pub header_body : Header → List ℕ
 header_body h =
     h.area ∷ little_bytes 2 h.version ++ 0x49 ∷ 0x4D ∷ 0x45 ∷ 0x4D ∷ little_bytes 8 h.generation ++ little_bytes 8 h.count
@@ -40,7 +41,7 @@ is_header l number h = (h.version == l.version) && (h.area == number) && nat_le 
 abbrev pub spells_header : Layout → ℕ → List ℕ → Bool
 spells_header l number bytes = same_bytes (slice_range bytes 1 64) (header_body (header_in bytes)) && is_header l number (header_in bytes)
 
--- of a header place only the first 64 bytes are read
+-- the bytes of a header place that are read: its first 64
 abbrev pub header_place : ℕ → List ℕ → List ℕ
 header_place number file = slice_range file (header_at number) (header_at number + 64)
 
@@ -48,11 +49,11 @@ header_place number file = slice_range file (header_at number) (header_at number
 abbrev pub is_open_header : List ℕ → Bool
 is_open_header place = slice_index place 0 == open_gate
 
--- the generation that stands in these bytes
+-- the generation in these bytes
 abbrev pub generation_in : List ℕ → ℕ
 generation_in place = (header_in place).generation
 
--- of the two header places the second is in force: it is open, and the first is closed or of a lower generation
+-- whether the second header place is in force: it is open, and the first one is closed or has a lower generation
 abbrev pub is_second : List ℕ → List ℕ → Bool
 is_second zero one = is_open_header one && (not (is_open_header zero) || nat_lt (generation_in zero) (generation_in one))
 
@@ -64,7 +65,7 @@ number_in_force zero one = if is_second zero one then 1 else 0
 abbrev pub place_in_force : List ℕ → List ℕ → List ℕ
 place_in_force zero one = if is_second zero one then one else zero
 
--- both headers are open, under one generation
+-- both headers are open and have the same generation
 abbrev pub are_ambiguous : List ℕ → List ℕ → Bool
 are_ambiguous zero one = is_open_header zero && is_open_header one && (generation_in zero == generation_in one)
 

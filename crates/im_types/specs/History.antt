@@ -1,5 +1,5 @@
--- Laws over whole histories of requests. They count, and know no states of cells. (Own; what they say of one cell:
--- Arvind, Nikhil, Pingali, TOPLAS 11(4), 1989, and Barth, Nikhil, Arvind, 1991.)
+-- Laws over whole histories of requests. They count requests, and use no states of cells. (Own; what they say of one
+-- cell: Arvind, Nikhil, Pingali, TOPLAS 11(4), 1989, and Barth, Nikhil, Arvind, 1991.)
 use Rattle.std.specs.Prelude.{◌≡◌, ℕ, ◌+◌, ◌<◌, ◌≤◌, List, [], ◌∷◌, ◌++◌, length, Bool, false, ◌||◌, ◌&&◌, Option}
 use Rattle.std.specs.Prelude.{None, Some, slice_get, nat_lt, ◌==◌, if◌then◌else◌, filter_map, count_by, is_some}
 use Rattle.std.specs.Prelude.{option_map, IfSome}
@@ -26,7 +26,7 @@ pub record Event : Type 0 where
   pub request : Request
   pub entry : Entry
 
--- the event of a command, if it is a request that is accepted
+-- the event of a command, if it is an accepted request
 abbrev pub event_of : Contents → Command → List Event
 event_of m (Asks r) = if is_fresh (judge m.windows r) then record { request = r; entry = (act m.cells (asker r) r.op).entry } ∷ [] else []
 event_of m (Confirm element upto) = []
@@ -50,12 +50,13 @@ clears base op entry = false
 abbrev pub ends_life : ℕ → Op → Entry → Bool
 ends_life base op entry = releases base op entry || clears base op entry
 
--- what comes before the end of the block's life
+-- the events before the end of the block's life
 abbrev pub until_end : ℕ → List Event → List Event
 until_end base [] = []
 until_end base (event ∷ events) = if ends_life base event.request.op event.entry then [] else event ∷ until_end base events
 
--- a life of a block: its kind, its cells, and the requests from its allocation, or from its reset, to its release or its next reset
+-- a life of a block: its kind, its base, the number of its cells, and the requests from its allocation or a reset to
+-- its release or its next reset
 pub record Life : Type 0 where
   pub kind : Kind
   pub base : ℕ
@@ -84,12 +85,12 @@ abbrev pub lives : List Event → List Life
 lives [] = []
 lives (event ∷ events) = lives_from event.request.op event.entry events ++ lives events
 
--- what is kept now, else what was kept before
+-- the entry that is kept now, or else the one that was kept before
 abbrev pub latest : Option Kept → Option Kept → Option Kept
 latest None before = before
 latest (Some kept) before = Some kept
 
--- what was last kept for a continuation on the way through a list of commands
+-- the last entry that was kept for a continuation during a list of commands
 abbrev pub last_kept : Contents → List Command → Waiter → Option Kept → Option Kept
 last_kept m [] who before = latest (kept_for m.windows who) before
 last_kept m (command ∷ commands) who before = last_kept (step m command).contents commands who (latest (kept_for m.windows who) before)
@@ -121,11 +122,11 @@ stores a events = filter_map (λ event. value_stored a event.request.op) events
 abbrev pub puts : ℕ → List Event → List ℕ
 puts a events = filter_map (λ event. value_put a event.request.op) events
 
--- how many takes from an address there were
+-- the number of takes from an address
 abbrev pub takes : ℕ → List Event → ℕ
 takes a events = count_by (λ event. is_take a event.request.op) events
 
--- a value, or Waiting where there is none
+-- a value, or Waiting if there is none
 abbrev pub value_or_waiting : Option ℕ → Entry
 value_or_waiting None = Waiting
 value_or_waiting (Some v) = Answered (Value v)
@@ -134,38 +135,41 @@ value_or_waiting (Some v) = Answered (Value v)
 abbrev pub entry_of_fetch : List ℕ → List ℕ → Entry
 entry_of_fetch before all = if nat_lt (length before) 2 then value_or_waiting (slice_get all 0) else Answered Clash
 
--- a put clashes first where the puts before it outnumber the takes before it: whether one does among the later events, after the earlier ones
+-- whether a put clashes first among the later events, after the earlier ones: it does if more puts than takes came
+-- before it
 abbrev pub has_clash : ℕ → List Event → List Event → Bool
 has_clash a earlier [] = false
 has_clash a earlier (event ∷ later) =
     (is_some (value_put a event.request.op) && nat_lt (takes a earlier) (length (puts a earlier))) || has_clash a (earlier ++ event ∷ []) later
 
--- up to the first clash the k-th take has the value of the k-th put of the whole life, from then on it is a clash
+-- before the first clash, the k-th take has the value of the k-th put of the whole life; after it, a take has a clash
 abbrev pub entry_of_take : ℕ → List Event → List Event → Entry
 entry_of_take a before all = if has_clash a [] before then Answered Clash else value_or_waiting (slice_get (puts a all) (takes a before))
 
--- the first clash is a put, and each put after it
+-- the put that clashes first has a clash, and so has each put after it
 abbrev pub entry_of_put : ℕ → List Event → Event → Entry
 entry_of_put a before event = if has_clash a [] (before ++ event ∷ []) then Answered Clash else Answered Stored
 
--- what the laws say of a request on a cell, after those before it in the block's life and among all of that life; None where they say nothing
+-- the entry that the laws give to a request on a cell, from the requests before it and all requests of the block's
+-- life; None if they give none
 abbrev pub lawful_entry : Kind → ℕ → List Event → List Event → Event → Op → Option Entry
 lawful_entry I a all before event (Fetch b) = if a == b then Some (entry_of_fetch (stores a before) (stores a all)) else None
 lawful_entry M a all before event (Take b) = if a == b then Some (entry_of_take a before all) else None
 lawful_entry M a all before event (Put b v) = if a == b then Some (entry_of_put a before event) else None
 lawful_entry kind a all before event op = None
 
--- P holds of each element, with those before it
+-- P holds of each element and the elements before it
 abbrev pub EachAfter : {X : Type 0} → (List X → X → Type 0) → List X → Type 0
 EachAfter {X} P xs = (before later : List X) (x : X) → xs ≡ before ++ x ∷ later → P before x
 
--- each request on a cell of the block has in the end the entry that the laws say
+-- each request on a cell of the block has in the end the entry that the laws give
 abbrev pub IsLawfulLife : Contents → List Command → Life → Type 0
 IsLawfulLife m commands life =
     (a : ℕ) → life.base ≤ a → a < life.base + life.cells → EachAfter (λ before event.
     IfSome (lawful_entry life.kind a life.requests before event event.request.op) (λ entry. last_entry m commands (asker event.request) ≡ Some entry)) life.requests
 
--- The value law, of the lives of I blocks: a fetch has the first value stored, whether it came before or after; past a second store it is a clash.
+-- The value law, of the lives of I blocks: a fetch has the first value that is stored, before or after it; after a
+-- second store it has a clash.
 abbrev pub ValueLaw : Contents → List Command → Type 0
 ValueLaw m commands = AllByRecursion (λ life. life.kind ≡ I → IsLawfulLife m commands life) (lives (events m commands))
 

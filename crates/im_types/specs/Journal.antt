@@ -1,4 +1,4 @@
--- The journal: a ring of slots, the run of commands in it, and the room behind the run. (Own.)
+-- The journal: a ring of slots, the run of commands in it, and the room after the run. (Own.)
 use Rattle.std.specs.Prelude.{◌≡◌, ℕ, zero, suc, ◌+◌, ◌*◌, ◌-◌, ◌%◌, List, [], ◌∷◌, take, drop, length, Bool, true}
 use Rattle.std.specs.Prelude.{false, ◌&&◌, ◌==◌, nat_lt, nat_le, Option, None, Some, option_map, option_and_then}
 use Rattle.std.specs.Prelude.{if◌then◌else◌}
@@ -6,7 +6,7 @@ use Rattle.im_types.specs.declared.TheConstants.{LAST, MAX_GROUP}
 use Rattle.im_types.specs.declared.commands.Command.{Command}
 use Rattle.im_types.specs.Slot.{is_open, sequence_of, group_of, read_in}
 
--- where the ring begins in the file, and how many slots it has
+-- where the ring begins in the file, and the number of its slots
 pub record Ring : Type 0 where
   pub base : ℕ
   pub slots : ℕ
@@ -23,55 +23,56 @@ slot ring s file = take 64 (drop (slot_at ring s) file)
 unfoldable pub continues : List ℕ → ℕ → Bool
 continues slot s = is_open slot && (sequence_of slot == s) && nat_lt s LAST
 
--- a slot more, if the run goes on
+-- one more slot, if the run continues
 abbrev pub next_if : Bool → List ℕ → List (List ℕ) → List (List ℕ)
 next_if true slot slots = slot ∷ slots
 next_if false slot slots = []
 
--- The slots of the run from sequence number s on, at most n of them, where so many followers are due first. The slot that
--- leads a group is in the run by its gate and its number, and with it as many as the group counts, whatever they hold.
+-- The slots of the run from sequence number s on, at most n of them; the first `due` slots follow in a group that began
+-- before. The slot that leads a group is in the run by its gate and its number. With it come as many slots as the group
+-- counts, whatever they hold.
 abbrev pub run_from : Ring → ℕ → ℕ → ℕ → List ℕ → List (List ℕ)
 run_from ring zero due s file = []
 run_from ring (suc n) zero s file = next_if (continues (slot ring s file) s) (slot ring s file) (run_from ring n (group_of (slot ring s file) - 1) (s + 1) file)
 run_from ring (suc n) (suc due) s file = slot ring s file ∷ run_from ring n due (s + 1) file
 
--- the run goes on at most once round the ring
+-- the run continues at most once round the ring
 abbrev pub run : Ring → ℕ → List ℕ → List (List ℕ)
 run ring first file = run_from ring ring.slots 0 first file
 
--- a command before others, where all are spelled
+-- a command before others, if all are spelled
 abbrev pub with_first : Option Command → Option (List Command) → Option (List Command)
 with_first None commands = None
 with_first (Some command) commands = option_map (λ rest. command ∷ rest) commands
 
--- a command, where this is so
+-- a command, if this holds
 abbrev pub if_true : Bool → Option Command → Option Command
 if_true true command = command
 if_true false command = None
 
--- the slot's count is that of a group, none of whose commands is behind the last number there is
+-- the slot's count is that of a group, and none of the group's commands is past the last number of all
 abbrev pub leads : ℕ → List ℕ → Bool
 leads s slot = nat_lt 0 (group_of slot) && nat_le (group_of slot) MAX_GROUP && nat_le (s + group_of slot) LAST
 
--- the command of a slot of the run, where so many followers are due
+-- the command of a slot of the run, if `due` followers of a group are due
 abbrev pub member : ℕ → ℕ → List ℕ → Option Command
 member zero s slot = if_true (leads s slot) (read_in (group_of slot) slot)
 member (suc due) s slot = if_true (sequence_of slot == s) (read_in 0 slot)
 
--- how many followers are due behind the slot
+-- the number of followers that are due after the slot
 abbrev pub due_after : ℕ → List ℕ → ℕ
 due_after zero slot = group_of slot - 1
 due_after (suc due) slot = due
 
--- The commands that slots spell from sequence number s on, where so many followers are due first. None where one of them
--- isn't spelled as it should be, or a group isn't whole.
+-- The commands that slots spell from sequence number s on; the first `due` slots follow in a group that began before.
+-- None if one of them isn't spelled as it should be, or a group isn't whole.
 abbrev pub commands_in : ℕ → ℕ → List (List ℕ) → Option (List Command)
 commands_in zero s [] = Some []
 commands_in (suc due) s [] = None
 commands_in zero s (slot ∷ slots) = with_first (member zero s slot) (commands_in (due_after zero slot) (s + 1) slots)
 commands_in (suc due) s (slot ∷ slots) = with_first (member (suc due) s slot) (commands_in (due_after (suc due) slot) (s + 1) slots)
 
--- the first k slots are whole groups, where so many followers are due first; there are so many slots
+-- the first k slots exist and are whole groups, after the first `due` slots, which follow in a group that began before
 abbrev pub is_boundary : ℕ → ℕ → List (List ℕ) → Bool
 is_boundary zero zero slots = true
 is_boundary (suc due) zero slots = false
@@ -80,45 +81,45 @@ is_boundary (suc due) (suc k) [] = false
 is_boundary zero (suc k) (slot ∷ slots) = is_boundary (group_of slot - 1) k slots
 is_boundary (suc due) (suc k) (slot ∷ slots) = is_boundary due k slots
 
--- no group goes on behind the first k commands of the run, so it may begin anew there
+-- no group continues past the first k commands of the run, so the run may begin anew there
 abbrev pub IsBoundary : Ring → ℕ → ℕ → List ℕ → Type 0
 IsBoundary ring first k file = is_boundary 0 k (run ring first file) ≡ true
 
--- how many of n gates are closed, from sequence number s on up to the first open one
+-- the number of closed gates from sequence number s on, among n of them, up to the first open one
 abbrev pub closed_from : Ring → ℕ → ℕ → List ℕ → ℕ
 closed_from ring zero s file = 0
 closed_from ring (suc n) s file = if is_open (slot ring s file) then 0 else suc (closed_from ring n (s + 1) file)
 
--- each of n slots from sequence number s on is of a command before this one
+-- each of n slots from sequence number s on belongs to a command before the first one
 abbrev pub are_stale : Ring → ℕ → ℕ → ℕ → List ℕ → Bool
 are_stale ring zero s first file = true
 are_stale ring (suc n) s first file = nat_lt (sequence_of (slot ring s file)) first && are_stale ring n (s + 1) first file
 
--- how many gates are closed behind the run, up to the first open one
+-- the number of closed gates after the run, up to the first open one
 abbrev pub behind : Ring → ℕ → ℕ → List ℕ → ℕ
 behind ring first count file = closed_from ring (ring.slots - count) (first + count) file
 
--- from the first open gate behind the run on, once round the ring, each slot is stale
+-- each slot is stale from the first open gate after the run on, once round the ring
 abbrev pub ends_stale : Ring → ℕ → ℕ → List ℕ → Bool
 ends_stale ring first count file =
     let closed = behind ring first count file in
     are_stale ring (ring.slots - count - closed) (first + count + closed) first file
 
--- the room for commands: none at the last count there is, else the closed gates behind the run
+-- the room for commands: 0 at the last count of all, else the closed gates after the run
 abbrev pub room_of : Ring → ℕ → ℕ → List ℕ → ℕ
 room_of ring first count file = if first + count == LAST then 0 else behind ring first count file
 
--- the commands of the run from this sequence number on, and the room behind them
+-- the commands of the run from this sequence number on, and the room after them
 pub record Tail : Type 0 where
   pub commands : List Command
   pub room : ℕ
 
--- a tail, where nothing behind the run is at fault
+-- a tail, if nothing after the run is at fault
 abbrev pub tail_if : Bool → ℕ → List Command → Option Tail
 tail_if true room commands = Some (record { commands = commands; room = room })
 tail_if false room commands = None
 
--- None where a slot of the run isn't spelled as it should be, or one behind it isn't stale
+-- the tail of the journal; None if a slot of the run isn't spelled as it should be, or one after it isn't stale
 unfoldable pub tail : Ring → ℕ → List ℕ → Option Tail
 tail ring first file =
     let count = length (run ring first file) in

@@ -1,4 +1,4 @@
--- Where things stand in an image. (Own.)
+-- The places in an image. (Own.)
 use Rattle.std.specs.Prelude.{ℕ, ◌+◌, ◌*◌, ◌/◌, ◌-◌, List, take, drop, Bool, true, false, ◌&&◌, nat_le, ◌==◌}
 use Rattle.std.specs.Prelude.{if◌then◌else◌, slice_range}
 use Rattle.im_types.specs.declared.TheConstants.{MAX_ELEMENTS, MIN_SLOTS, MAX_SLOTS}
@@ -7,7 +7,7 @@ use Rattle.im_types.specs.declared.layout.Version.TheVariants.{One, Two}
 use Rattle.im_types.specs.declared.sizes.Limits.{Limits}
 use Rattle.im_types.specs.Journal.{Ring}
 
--- a version of the layout: how many entries a window keeps, how many cells there may be, and whether it knows a reset
+-- a version of the layout: the most entries that a window keeps, the most cells, and whether it has resets
 pub record Layout : Type 0 where
   pub version : ℕ
   pub window : ℕ
@@ -27,7 +27,8 @@ abbrev pub layout_of : Version → Layout
 layout_of One = layout_1
 layout_of Two = layout_2
 
--- the layout of an image whose header has this number: the first one's is 1, and any other is taken for the second one's
+-- the layout of an image with this number in its header: 1 stands for the first version, and each other number for the
+-- second
 abbrev pub layout_named : ℕ → Layout
 layout_named number = if number == 1 then layout_1 else layout_2
 
@@ -35,7 +36,7 @@ layout_named number = if number == 1 then layout_1 else layout_2
 abbrev pub layout_in_use : Layout
 layout_in_use = layout_2
 
--- how many cells, elements and journal slots an image has
+-- the numbers of cells, elements and journal slots of an image
 pub record Sizes : Type 0 where
   pub cells : ℕ
   pub elements : ℕ
@@ -69,11 +70,11 @@ session_record_bytes l = 64 * l.window
 abbrev pub node_count : Layout → Sizes → ℕ
 node_count l s = l.window * s.elements
 
--- the records of a size that stand on a page; no record crosses a page
+-- the number of records of n bytes on a page; no record crosses a page
 abbrev pub on_a_page : ℕ → ℕ
 on_a_page size = page_bytes / size
 
--- the pages for so many records of a size
+-- the number of pages for a number of records of one size
 abbrev pub pages_for : ℕ → ℕ → ℕ
 pages_for size count = (count + on_a_page size - 1) / on_a_page size
 
@@ -97,7 +98,7 @@ area_pages l s = cell_pages s + node_pages l s + session_pages l s
 abbrev pub area_bytes : Layout → Sizes → ℕ
 area_bytes l s = page_bytes * area_pages l s
 
--- where a header stands: the two header places come first, then the two areas, then the journal
+-- where a header begins: the two header places come first, then the two areas, then the journal
 abbrev pub header_at : ℕ → ℕ
 header_at number = page_bytes * number
 
@@ -133,6 +134,6 @@ node_part l s area = take (page_bytes * node_pages l s) (drop (page_bytes * cell
 abbrev pub session_part : Layout → Sizes → List ℕ → List ℕ
 session_part l s area = drop (page_bytes * (cell_pages s + node_pages l s)) area
 
--- record number i of a row of records of n bytes
+-- the record with number i in a row of records of n bytes
 abbrev pub record_at : ℕ → List ℕ → ℕ → List ℕ
 record_at n bytes i = slice_range bytes (n * i) (n * i + n)

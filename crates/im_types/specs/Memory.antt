@@ -5,13 +5,14 @@ use Rattle.im_types.specs.Contents.{Window, Contents, HasBlocks}
 use Rattle.im_types.specs.Window.{next_number}
 use Rattle.im_types.specs.Agreement.{WaitingAgrees}
 
--- a window is numbered from 1 on, keeps few entries, and numbers none past the last
+-- a window is numbered from 1 on, keeps at most WINDOW entries, and numbers none past the last number of all
 pub record IsWindow (w : Window) : Type 0 where
   pub from_one : 1 ≤ w.base
   pub few : length w.kept ≤ WINDOW
   pub to_last : next_number w ≤ LAST + 1
 
--- so many cells and windows; blocks that are whole; windows within their bounds; and who waits at a cell has a waiting entry
+-- a memory has these numbers of cells and windows, whole blocks, windows within their bounds, and lists of waiters that
+-- agree with the waiting entries
 pub record IsMemory (cells elements : ℕ) (m : Contents) : Type 0 where
   pub cell_count : length m.cells ≡ cells
   pub window_count : length m.windows ≡ elements

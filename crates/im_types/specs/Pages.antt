@@ -23,7 +23,7 @@ pub record Records : Type 0 where
   pub nodes : List NodeRecord
   pub windows : List Window
 
--- the bytes are a row of so many records of a size, each spelled as it should be, and then zeros
+-- the bytes are a row of records of one size, each spelled as it should be, and then zeros
 pub record IsRow {X : Type 0} (size : ℕ) (spelled : X → List ℕ) (Fits : X → Type 0) (none : X) (count : ℕ) (bytes : List ℕ) (row : List X) : Type 0 where
   pub many : length row ≡ count
   pub each : (i : ℕ) → i < count → record_at size bytes i ≡ spelled (slice_index_or row i none)
@@ -54,7 +54,8 @@ cells_shown [] lists = []
 cells_shown (cell ∷ cells) [] = cell_shown cell [] ∷ cells_shown cells []
 cells_shown (cell ∷ cells) (waiters ∷ lists) = cell_shown cell waiters ∷ cells_shown cells lists
 
--- records show a memory: the lists stand in their nodes, the cells have them, the windows are its own, and it is a memory
+-- records show a memory: the lists stand in their nodes, the cells have them, the windows are the memory's own, and it
+-- is a memory
 pub record ShowsRecords (s : Sizes) (r : Records) (m : Contents) : Type 0 where
   pub lists : List (List Waiter)
   pub chained : ShowLists r.nodes r.cells lists

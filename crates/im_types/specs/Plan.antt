@@ -1,4 +1,4 @@
--- What a planned run comes to, whatever its order. (Own.)
+-- The results of a planned run, whatever its order. (Own.)
 use Rattle.std.specs.Prelude.{◌≡◌, ◌≤◌, ℕ, List, [], ◌∷◌, Bool, true, false, Option, None, Some, slice_get, is_some}
 use Rattle.std.specs.Prelude.{if◌then◌else◌, ◌==◌}
 use Rattle.im_types.specs.declared.TheConstants.{LAST}
@@ -33,12 +33,12 @@ abbrev pub fetched : Option ℕ → Option Reply
 fetched None = None
 fetched (Some v) = Some (Value v)
 
--- the reply to an operation on a cell, by what holds of its block
+-- the reply to an operation on a cell: this one, if the cell is in an I block
 abbrev pub in_block : Option Held → Option Reply → Option Reply
 in_block None reply = Some NoCell
 in_block (Some held) reply = if same_kind I held.block.kind then reply else Some WrongKind
 
--- the reply to a planned fetch or store; none where the fetch stays waiting
+-- the reply to a planned fetch or store; None for a fetch that stays waiting
 abbrev pub result_of : List (Option Held) → List Request → Op → Option Reply
 result_of cells plan (Fetch a) = in_block (held_at cells a) (fetched (planned_value a plan))
 result_of cells plan (Store a v) = in_block (held_at cells a) (Some Stored)

@@ -1,5 +1,4 @@
--- What a cell is, as its tag shows it.
--- (Presence tags: Arvind, Nikhil, Pingali, TOPLAS 11(4), 1989. Clashed: own.)
+-- A cell as its presence tag shows it. (Presence tags: Arvind, Nikhil, Pingali, TOPLAS 11(4), 1989. Clashed: own.)
 use Rattle.std.specs.Prelude.{[], ◌∷◌, Option, option_map}
 use Rattle.im_types.specs.Contents.{CellState, Empty, Full, Clashed, Held}
 use Rattle.im_types.specs.declared.cells.Cell.{Cell}

@@ -1,4 +1,4 @@
--- The records of an area: cells, waiter nodes and sessions, and how each is spelled. (Own.)
+-- The records of an area, which are cells, waiter nodes and sessions, and their spelling. (Own.)
 use Rattle.std.specs.Prelude.{◌≡◌, ℕ, ◌+◌, ◌*◌, ◌%◌, ◌-◌, ◌^◌, ◌<◌, ◌≤◌, ◌⊎◌, List, [], ◌∷◌, ◌++◌, length, replicate}
 use Rattle.std.specs.Prelude.{Option, None, Some, slice_get, Bool, true, false, ◌&&◌, ◌||◌, not, nat_le}
 use Rattle.std.specs.List.{list_any}
@@ -58,7 +58,7 @@ abbrev pub node_bytes : NodeRecord → List ℕ
 node_bytes (FreeNode next) = little_bytes 4 next ++ zeros 12
 node_bytes (ListNode next who) = little_bytes 4 next ++ little_bytes 2 who.element ++ little_bytes 2 1 ++ little_bytes 8 who.number
 
--- a link to a number below n, or to none
+-- a link to a number below n, or to NONE
 abbrev pub IsLink : ℕ → ℕ → Type 0
 IsLink n link = (link ≡ NONE) ⊎ (link < n)
 
@@ -69,7 +69,8 @@ FitsTag nodes (TagWaiting first last) = (first < nodes) × (last < nodes)
 FitsTag nodes (TagFull v) = v < 2 ^ 64
 FitsTag nodes (TagClashed v) = v < 2 ^ 64
 
--- a cell record within its bounds: a free cell has any short hole and any link, a block lies below the cell count
+-- a cell record within its bounds: a free cell has a hole of at most all cells and a link to a cell or to NONE, and a
+-- block lies below the cell count
 abbrev pub FitsCell : ℕ → ℕ → CellRecord → Type 0
 FitsCell cells nodes (FreeCell hole next) = (hole ≤ cells) × IsLink cells next
 FitsCell cells nodes (BlockCell block tag) = (block.base + block.length ≤ cells) × FitsTag nodes tag
@@ -94,12 +95,12 @@ FitsPlace (Some k) = FitsOp k.op × FitsEntry k.entry
 abbrev pub entry_at : ℕ → Window → ℕ → Option Kept
 entry_at n w place = slice_get w.kept ((place + n - w.base % n) % n)
 
--- the bytes of as many places as the list is long, from this one on
+-- the bytes of the places from this one on, one for each element of the list
 abbrev pub places_from : ℕ → Window → ℕ → List ℕ → List ℕ
 places_from n w place [] = []
 places_from n w place (one ∷ rest) = place_bytes (entry_at n w place) ++ places_from n w (place + 1) rest
 
--- a session record: the base, how many entries there are, the places, and zeros to its end
+-- a session record: the base, the number of entries, the places, and zeros to its end
 abbrev pub session_bytes : Layout → Window → List ℕ
 session_bytes l w =
     little_bytes 8 w.base ++ length w.kept ∷ zeros 23 ++ places_from l.window w 0 (replicate l.window 0) ++ zeros (32 * l.window - 32)
@@ -114,15 +115,15 @@ abbrev pub is_cleared : Entry → Bool
 is_cleared (Answered Cleared) = true
 is_cleared entry = false
 
--- whether what is kept is of a reset
+-- whether the operation or the entry of a request is a reset's
 abbrev pub is_of_reset : Kept → Bool
 is_of_reset k = is_reset k.op || is_cleared k.entry
 
--- whether a layout has room for a window, and knows each of its entries
+-- whether a layout has room for a window, and has each of its entries
 abbrev pub has_room_for : Layout → Window → Bool
 has_room_for l w = l.resets || (nat_le (length w.kept) l.window && not (list_any is_of_reset w.kept))
 
--- a window within the bounds of a layout, each of its entries within its own
+-- a window within the bounds of a layout, with each entry within its own bounds
 pub record FitsWindow (l : Layout) (w : Window) : Type 0 where
   pub base_from : 1 ≤ w.base
   pub base_to : w.base ≤ LAST + 1

@@ -1,4 +1,4 @@
--- How many cells, elements and journal slots there are. (Own.)
+-- The numbers of cells, elements and journal slots. (Own.)
 use Rattle.std.specs.Prelude.{ℕ, ◌≤◌}
 use Rattle.im_types.specs.declared.TheConstants.{MAX_CELLS, MAX_ELEMENTS, MIN_SLOTS, MAX_SLOTS}
 

@@ -1,4 +1,4 @@
--- A command in a journal slot of 64 bytes: a gate, and behind it the command's fields. (Own.)
+-- A command in a journal slot of 64 bytes: a gate, and then the command's fields. (Own.)
 use Rattle.std.specs.Prelude.{ℕ, ◌<◌, ◌^◌, List, ◌∷◌, ◌++◌, drop, Bool, ◌==◌, Option, None, Some, if◌then◌else◌}
 use Rattle.std.specs.Prelude.{slice_index, option_and_then}
 use Rattle.byteorder.specs.Endian.{little_bytes}
@@ -10,12 +10,12 @@ use Rattle.im_types.specs.declared.commands.Command.TheVariants.{Request as Asks
 use Rattle.im_types.specs.Agreement.{address_of}
 use Rattle.im_types.specs.Bytes.{open_gate, zeros, same_bytes, number_at, op_code, op_value, FitsOp}
 
--- the 63 bytes behind a slot's gate
+-- the 63 bytes after a slot's gate
 abbrev pub slot_fields : ℕ → ℕ → ℕ → ℕ → ℕ → ℕ → ℕ → List ℕ
 slot_fields group code element sequence number address value =
     group ∷ code ∷ 0 ∷ little_bytes 2 element ++ zeros 2 ++ little_bytes 8 sequence ++ little_bytes 8 number ++ little_bytes 4 address ++ zeros 4 ++ little_bytes 8 value ++ zeros 24
 
--- a command's, in a group of so many commands, under a sequence number
+-- the bytes after the gate for a command, in a group with this count, under a sequence number
 abbrev pub slot_body : ℕ → ℕ → Command → List ℕ
 slot_body group sequence (Asks r) = slot_fields group (op_code r.op) r.element sequence r.number (address_of r.op) (op_value r.op)
 slot_body group sequence (Confirm element upto) = slot_fields group 8 element sequence upto 0 0
@@ -50,11 +50,12 @@ sequence_of slot = number_at 8 8 slot
 unfoldable pub command_in : List ℕ → Option Command
 command_in slot = command_of (slice_index slot 2) (number_at 2 4 slot) (number_at 8 16 slot) (op_of (slice_index slot 2) (number_at 4 24 slot) (number_at 8 32 slot))
 
--- the group count in a slot: how many commands the group has that it leads, and 0 in a slot that follows in one
+-- the group count in a slot: the number of its group's commands in the slot that leads the group, and 0 in a slot that
+-- follows
 abbrev pub group_of : List ℕ → ℕ
 group_of slot = slice_index slot 1
 
--- the command of a slot, where the bytes behind its gate spell it with this group count
+-- the command of a slot, if the bytes after its gate spell it with this group count
 abbrev pub if_spelled_in : ℕ → List ℕ → Command → Option Command
 if_spelled_in group slot command = if same_bytes (drop 1 slot) (slot_body group (sequence_of slot) command) then Some command else None
 
@@ -62,7 +63,7 @@ if_spelled_in group slot command = if same_bytes (drop 1 slot) (slot_body group 
 unfoldable pub read_in : ℕ → List ℕ → Option Command
 read_in group slot = option_and_then (if_spelled_in group slot) (command_in slot)
 
--- the command of a slot, if it spells one alone in its group
+-- the command of a slot, if it spells one as the only one of its group
 abbrev pub read_slot : List ℕ → Option Command
 read_slot slot = read_in 1 slot
 

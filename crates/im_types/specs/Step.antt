@@ -22,7 +22,7 @@ pub record Stepped : Type 0 where
 abbrev pub asker : Request → Waiter
 asker r = record { element = r.element; number = r.number }
 
--- a new request: it is kept with its entry, and those that it resumes are answered
+-- a new request is kept with its entry, and the requests that it resumes are answered
 abbrev pub serve : Contents → Request → Acted → Stepped
 serve m r acted = record {
   answer = Ok (Tells acted.entry);
@@ -61,7 +61,7 @@ abbrev pub is_accepted : Contents → Command → Bool
 is_accepted m (Asks r) = is_fresh (judge m.windows r)
 is_accepted m (Confirm element upto) = moves_base upto (slice_index_or m.windows element new_window) (confirm_window upto (slice_get m.windows element))
 
--- no verdict where the answer is a refusal
+-- a verdict, unless the answer is a refusal
 abbrev pub unless_refused : Bool → Result Outcome Refusal → Result Bool Refusal
 unless_refused accepts (Ok outcome) = Ok accepts
 unless_refused accepts (Err refusal) = Err refusal

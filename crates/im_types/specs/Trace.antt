@@ -1,4 +1,4 @@
--- Calls with their answers that one memory could have given, one after another. (Own.)
+-- Lists of calls with answers that one memory could have given in this order. (Own.)
 use Rattle.std.specs.Prelude.{◌≡◌, List, [], ◌∷◌, Result, Ok, Err}
 use Rattle.im_types.specs.declared.operations.Entry.{Entry}
 use Rattle.im_types.specs.declared.commands.Outcome.{Outcome}
@@ -16,7 +16,7 @@ abbrev pub told : Result Entry Refusal → Result Outcome Refusal
 told (Ok entry) = Ok (Tells entry)
 told (Err refusal) = Err refusal
 
--- what a memory answers to a call
+-- a memory's answer to a call
 abbrev pub answer_to : Contents → Call → Result Outcome Refusal
 answer_to m (Commands command) = (step m command).answer
 answer_to m (Collect element number) = told (ask m.windows (record { element = element; number = number }))

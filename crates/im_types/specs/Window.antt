@@ -1,4 +1,4 @@
--- Windows: which request is new, which is known, which is refused; and what is kept. (Own.)
+-- Windows: whether a request is new, a repeat or refused, and the entries that are kept. (Own.)
 use Rattle.std.specs.Prelude.{ℕ, ◌+◌, ◌-◌, max, zero, suc, List, [], ◌∷◌, ◌++◌, drop, take, length, Bool, true, false}
 use Rattle.std.specs.Prelude.{◌&&◌, ◌||◌, Option, None, Some, Result, Ok, Err, slice_get, slice_set, slice_index_or}
 use Rattle.std.specs.Prelude.{nat_lt, ◌==◌, if◌then◌else◌}
@@ -35,19 +35,19 @@ same_op (Take a) (Take a') = a == a'
 same_op (Put a v) (Put a' v') = (a == a') && (v == v')
 same_op op op' = false
 
--- a number that isn't below the base: kept, or else new, or too far, or one too many
+-- a number at or above the base: it is kept, or new, or too far ahead, or one too many for the window
 abbrev pub judge_number : Window → Request → Option Kept → Result Judged Refusal
 judge_number w r (Some kept) = if same_op kept.op r.op then Ok (Repeat kept.entry) else Err Mismatch
 judge_number w r None =
     if nat_lt (next_number w) r.number || nat_lt LAST r.number then Err Gap
     else if nat_lt (length w.kept) WINDOW then Ok Fresh else Err WindowFull
 
--- a number below the base is forgotten, and an element without a window is none
+-- a number below the base is forgotten; without a window there is no such element
 abbrev pub judge_window : Request → Option Window → Result Judged Refusal
 judge_window r None = Err NoElement
 judge_window r (Some w) = if nat_lt r.number w.base then Err Forgotten else judge_number w r (slice_get w.kept (r.number - w.base))
 
--- whether a request is new or known, or why it is refused
+-- whether a request is new or a repeat, or why it is refused
 abbrev pub judge : List Window → Request → Result Judged Refusal
 judge windows r = judge_window r (slice_get windows r.element)
 
@@ -55,7 +55,7 @@ judge windows r = judge_window r (slice_get windows r.element)
 abbrev pub with_window : List Window → ℕ → (Window → Window) → List Window
 with_window windows element change = slice_set windows element (change (slice_index_or windows element new_window))
 
--- an operation is kept behind the others, with its entry
+-- an operation is kept after the others, with its entry
 abbrev pub note_in : Op → Entry → Window → Window
 note_in op entry w = record { base = w.base; kept = w.kept ++ record { op = op; entry = entry } ∷ [] }
 
@@ -63,21 +63,21 @@ note_in op entry w = record { base = w.base; kept = w.kept ++ record { op = op; 
 abbrev pub note : List Window → Request → Entry → List Window
 note windows r entry = with_window windows r.element (note_in r.op entry)
 
--- the entry at this place is now answered
+-- the entry at this place is answered
 abbrev pub answer_at : ℕ → Reply → List Kept → List Kept
 answer_at place reply [] = []
 answer_at zero reply (k ∷ kept) = record { op = k.op; entry = Answered reply } ∷ kept
 answer_at (suc place) reply (k ∷ kept) = k ∷ answer_at place reply kept
 
--- the entry under a number is now answered
+-- the entry under a number is answered
 abbrev pub answer_in : ℕ → Reply → Window → Window
 answer_in number reply w = record { base = w.base; kept = answer_at (number - w.base) reply w.kept }
 
--- the entry of a continuation is now answered
+-- the entry of a continuation is answered
 abbrev pub answer : List Window → Waiter → Reply → List Window
 answer windows who reply = with_window windows who.element (answer_in who.number reply)
 
--- each of these replies is kept
+-- each of these replies is kept as an answer
 abbrev pub answer_each : List Window → List (Waiter × Reply) → List Window
 answer_each windows [] = windows
 answer_each windows (r ∷ replies) = answer_each (answer windows r.0 r.1) replies
@@ -87,11 +87,11 @@ abbrev pub is_waiting_entry : Entry → Bool
 is_waiting_entry Waiting = true
 is_waiting_entry (Answered reply) = false
 
--- whether what is kept waits
+-- whether the entry of a request waits
 abbrev pub is_waiting : Kept → Bool
 is_waiting k = is_waiting_entry k.entry
 
--- why entries below a number can't be forgotten; else the window without them
+-- the window without the entries below a number, or why they can't be forgotten
 abbrev pub confirm_window : ℕ → Option Window → Result Window Refusal
 confirm_window upto None = Err NoElement
 confirm_window upto (Some w) =
@@ -99,25 +99,25 @@ confirm_window upto (Some w) =
     else if list_any is_waiting (take (upto - w.base) w.kept) then Err NotAnswered
     else Ok (record { base = max w.base upto; kept = drop (upto - w.base) w.kept })
 
--- what is kept under a number, or why nothing is
+-- the entry that is kept under a number, or why there is none
 abbrev pub ask_number : Option Kept → Result Entry Refusal
 ask_number None = Err Gap
 ask_number (Some kept) = Ok kept.entry
 
--- what is kept under a number of a window
+-- the entry that a window keeps under a number, or why there is none
 abbrev pub ask_window : ℕ → Option Window → Result Entry Refusal
 ask_window number None = Err NoElement
 ask_window number (Some w) = if nat_lt number w.base then Err Forgotten else ask_number (slice_get w.kept (number - w.base))
 
--- what is kept for a continuation, or why nothing is
+-- the entry that is kept for a continuation, or why there is none
 abbrev pub ask : List Window → Waiter → Result Entry Refusal
 ask windows who = ask_window who.number (slice_get windows who.element)
 
--- the base of an element's window, and the number of its next request
+-- the base of a window, and the number of its next new request
 abbrev pub bounds_of : Option Window → Result (ℕ × ℕ) Refusal
 bounds_of None = Err NoElement
 bounds_of (Some w) = Ok (w.base, next_number w)
 
--- the base of an element's window and its next number, or why there is none
+-- the base of an element's window and the number of its next new request, or why there is no window
 abbrev pub bounds : List Window → ℕ → Result (ℕ × ℕ) Refusal
 bounds windows element = bounds_of (slice_get windows element)

@@ -1,16 +1,16 @@
-//! What a cell shows of itself.
+//! The state of a cell as a reader sees it.
 
-/// The presence tag of a cell of a block, with the value that it goes with.
+/// The presence tag of a cell of a block, with its value if it has one.
 ///
 /// The tags are those of I-structures (Arvind, Nikhil, Pingali 1989); `Clashed` is our own.
 #[derive(Clone, Copy, Debug, PartialEq, Eq)]
 pub enum Cell {
-    /// No value, and nobody waits for one.
+    /// The cell has no value, and no request waits for it.
     Empty,
-    /// No value, and somebody waits for it.
+    /// The cell has no value, and at least one request waits for it.
     Waiting,
-    /// A value.
+    /// The cell has this value.
     Full(u64),
-    /// The value that it had when it was written again.
+    /// The cell was written while it was full. This is the value that it had then.
     Clashed(u64),
 }

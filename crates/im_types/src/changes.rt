@@ -1,12 +1,12 @@
-//! What a command changes of the full cells.
+//! How a command changes the full cells.
 
-/// What an accepted command changes of the full I cells.
+/// The change that an accepted command makes to the full I cells.
 #[derive(Clone, Copy, Debug, PartialEq, Eq)]
 pub enum Change {
-    /// Nothing.
+    /// No full cell changes.
     Same,
-    /// The cell at this address is full now, and has this value.
+    /// The cell at this address is now full and has this value.
     Full(u32, u64),
-    /// From this address on so many cells are full no more.
+    /// From this address on, the given number of cells are no longer full.
     Gone(u32, u32),
 }

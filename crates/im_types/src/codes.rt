@@ -1,4 +1,4 @@
-//! The code of an operation and its numbers, as the journal's slots and the session records spell them, and back.
+//! The code and the numbers of an operation, as journal slots and session records spell them, and the way back.
 ghost use Rattle.std.specs.Prelude.{◌≡◌};
 ghost use Rattle.im_types.specs.Agreement.{address_of};
 ghost use Rattle.im_types.specs.Bytes.{op_code, op_value};
@@ -6,7 +6,7 @@ ghost use Rattle.im_types.specs.Slot.{op_of};
 
 use crate::{Kind, Op};
 
-/// The code of an operation, 1 to 7 or 9; 8 is a confirmation's.
+/// Returns the code of an operation: 1 to 7, or 9. The code 8 is a confirmation's.
 pub fn op_code(op: Op) -> u8
     ensures { result ≡ op_code op }
 {
@@ -22,7 +22,7 @@ pub fn op_code(op: Op) -> u8
     }
 }
 
-/// The address of an operation, or the length of an allocation.
+/// Returns the address of an operation, or the length of an allocation.
 pub fn address_of(op: Op) -> u32
     ensures { result ≡ address_of op }
 {
@@ -37,7 +37,7 @@ pub fn address_of(op: Op) -> u32
     }
 }
 
-/// The value that an operation writes; 0 where it writes none.
+/// Returns the value that an operation writes, or 0 if it writes none.
 pub fn op_value(op: Op) -> u64
     ensures { result ≡ op_value op }
 {
@@ -47,7 +47,7 @@ pub fn op_value(op: Op) -> u64
     }
 }
 
-/// The operation that a code, an address and a value stand for; `None` where the code is none of an operation.
+/// Returns the operation that a code, an address and a value stand for, or `None` if no operation has this code.
 pub fn op_of(code: u8, address: u32, value: u64) -> Option<Op>
     ensures { result ≡ op_of code address value }
 {

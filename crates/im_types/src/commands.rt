@@ -1,23 +1,23 @@
-//! Commands, and what comes of them.
+//! Commands and their outcomes.
 ghost use Rattle.std.specs.Prelude.{◌≡◌};
 ghost use Rattle.im_types.specs.Groups.{no_request};
 
 use crate::operations::{Entry, Op};
 use crate::refusals::Refusal;
 
-/// An operation that an element asks for, under a number of its own.
+/// An operation that an element requests. The element gives each of its requests its own number.
 #[derive(Clone, Copy, Debug, PartialEq, Eq)]
 pub struct Request {
-    /// The element that asks, from 0.
+    /// The element that sends the request, counted from 0.
     pub element: u16,
-    /// Its number: 1, 2, 3 and so on for each element.
+    /// The request's number. Each element counts 1, 2, 3 and so on.
     pub number: u64,
-    /// What is asked.
+    /// The requested operation.
     pub op: Op,
 }
 
 impl Default for Request {
-    // No memory accepts it: numbers begin with 1.
+    // No memory accepts this request: numbers begin with 1.
     fn default() -> Request
         ensures { result ≡ no_request }
     {
@@ -29,12 +29,12 @@ impl Default for Request {
     }
 }
 
-/// What is put to the memory.
+/// A command to the memory.
 #[derive(Clone, Copy, Debug, PartialEq, Eq)]
 pub enum Command {
-    /// An operation.
+    /// Serve an operation.
     Request(Request),
-    /// Leave to forget an element's entries below a number.
+    /// Forget the element's entries with a number below `upto`.
     Confirm { element: u16, upto: u64 },
 }
 
@@ -46,37 +46,37 @@ impl Default for Command {
     }
 }
 
-/// What a command that isn't refused comes to.
+/// The outcome of a command that isn't refused.
 #[derive(Clone, Copy, Debug, PartialEq, Eq)]
 pub enum Outcome {
-    /// What is now kept for the request.
+    /// The entry that is now kept for the request.
     Entry(Entry),
     /// The entries are forgotten.
     Confirmed,
 }
 
-/// What a request is that isn't refused.
+/// How a request that isn't refused is met.
 #[derive(Clone, Copy, Debug, PartialEq, Eq)]
 pub enum Judged {
-    /// The next new one.
+    /// It is new and has the next number.
     Fresh,
-    /// One that was served before, with what is kept for it.
+    /// It was served before. This is its entry.
     Repeat(Entry),
 }
 
-/// What is asked of a memory.
+/// A call to a memory.
 #[derive(Clone, Copy, Debug, PartialEq, Eq)]
 pub enum Call {
     /// A command.
     Command(Command),
-    /// What is kept under a number.
+    /// A question for the entry under a number.
     Collect { element: u16, number: u64 },
 }
 
-/// A call, and what it was answered.
+/// A call and its answer: one line of a trace.
 #[derive(Clone, Copy, Debug, PartialEq, Eq)]
 pub struct Line {
-    /// What was asked.
+    /// The call.
     pub call: Call,
     /// The answer.
     pub answer: Result<Outcome, Refusal>,

@@ -1,17 +1,17 @@
-//! What the members of a group of requests are answered.
+//! The answers to the members of a group of requests.
 ghost use Rattle.std.specs.Prelude.{◌≡◌};
 
 use crate::commands::Outcome;
 use crate::refusals::Refusal;
 
-/// What a member of a group came to.
+/// The state of a member of a group.
 #[derive(Clone, Copy, Debug, PartialEq, Eq)]
 pub enum Served {
-    /// It wasn't served yet.
+    /// It isn't served yet.
     Unserved,
-    /// Its outcome.
+    /// It is served, with this outcome.
     Done(Outcome),
-    /// Why it was refused.
+    /// It is refused, for this reason.
     Refused(Refusal),
 }
 

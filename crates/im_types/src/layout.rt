@@ -1,8 +1,8 @@
-//! Where things stand in an image, in bytes from the file's start: two header places, two areas of pages, the journal.
+//! The places in an image, in bytes from the file's start: two header places, two areas of pages, the journal.
 //!
-//! This is the layout in use, `layout_in_use` of `specs/Layout.antt`, and, by a [`Version`], the one before it. No other
-//! file computes with their sizes. A page of an area has records of one kind: cells come first, then waiter nodes, then
-//! sessions, and no record crosses a page.
+//! This file has the layout in use, which is `layout_in_use` of `specs/Layout.antt`. By a [`Version`] it also has the
+//! layout before it. No other file computes with their sizes. Each page of an area has records of one kind: cells come
+//! first, then waiter nodes, then sessions. No record crosses a page.
 ghost use Rattle.std.specs.Prelude.{◌≡◌, ◌*◌, ◌≤◌};
 ghost use Rattle.im_types.specs.Layout as layout;
 ghost use Rattle.im_types.specs.Layout.{layout_in_use, layout_of, sizes_of};
@@ -15,10 +15,10 @@ pub const PAGE: usize = 4_096;
 /// The bytes of a slot of the journal.
 pub const SLOT: usize = 64;
 
-/// The byte of an open gate; a gate with any other byte is closed.
+/// The byte of an open gate. A gate with any other byte is closed.
 pub const OPEN: u8 = 0xA5;
 
-/// The byte of a gate that was closed.
+/// The byte that closes a gate.
 pub const CLOSED: u8 = 0;
 
 /// The bytes of a cell's record.
@@ -27,19 +27,20 @@ pub const CELL_RECORD: usize = 32;
 /// The bytes of a waiter node.
 pub const NODE_RECORD: usize = 16;
 
-/// The bytes of a session record's head, and of each of its places.
+/// The bytes of the head of a session record, and of each of its places.
 pub const PLACE: usize = 32;
 
-/// The bytes of a session record: its head, a place for each entry of a window, and zeros up to twice as many bytes.
+/// The bytes of a session record. It has a head and a place for each entry of a window, and is filled with zeros up to
+/// twice the bytes of its places.
 pub const SESSION_RECORD: usize = 2 * PLACE * WINDOW as usize;
 
-/// The cells whose records stand on a page.
+/// The number of cell records on a page.
 pub const CELLS_ON_A_PAGE: usize = PAGE / CELL_RECORD;
 
-/// The waiter nodes whose records stand on a page.
+/// The number of waiter nodes on a page.
 pub const NODES_ON_A_PAGE: usize = PAGE / NODE_RECORD;
 
-/// The elements whose session records stand on a page.
+/// The number of session records on a page.
 pub const SESSIONS_ON_A_PAGE: usize = PAGE / SESSION_RECORD;
 
 /// The pages of an area at the largest sizes.
@@ -47,13 +48,13 @@ pub const MOST_AREA_PAGES: usize = MAX_CELLS as usize / CELLS_ON_A_PAGE
     + WINDOW as usize * MAX_ELEMENTS as usize / NODES_ON_A_PAGE
     + MAX_ELEMENTS as usize / SESSIONS_ON_A_PAGE;
 
-/// Where the journal begins at the largest sizes.
+/// The byte where the journal begins at the largest sizes.
 pub const FARTHEST_JOURNAL: usize = 2 * PAGE + 2 * PAGE * MOST_AREA_PAGES;
 
-/// The length of an image at the largest sizes.
+/// The bytes of an image at the largest sizes.
 pub const LONGEST_IMAGE: usize = FARTHEST_JOURNAL + SLOT * MAX_SLOTS as usize;
 
-/// A version of the layout. Images of the first one are read; those of the second one are in use.
+/// A version of the layout. Version one can be read; version two is in use.
 #[derive(Clone, Copy, Debug, PartialEq, Eq)]
 pub enum Version {
     /// Windows of 16 entries, at most 65,536 cells, and no reset.
@@ -63,8 +64,8 @@ pub enum Version {
 }
 
 impl Version {
-    /// The version of an image whose header has this number: 1 is the first one's, and any other is taken for the second
-    /// one's.
+    /// Returns the version of an image whose header has this number. The number 1 stands for version one, and each
+    /// other number for version two.
     pub fn named(number: u16) -> Version
         ensures { layout_of result ≡ layout.layout_named number }
     {
@@ -75,7 +76,7 @@ impl Version {
         }
     }
 
-    /// The number that stands for it in a header.
+    /// Returns the version's number in a header.
     pub fn number(self) -> u16
         ensures { result ≡ (layout_of self).version }
     {
@@ -85,7 +86,7 @@ impl Version {
         }
     }
 
-    /// How many entries a window keeps.
+    /// Returns the most entries that a window keeps.
     pub fn window(self) -> usize
         ensures window { result ≡ (layout_of self).window }
         ensures few { (1 ≤ result) × (result ≤ WINDOW) }
@@ -96,7 +97,7 @@ impl Version {
         }
     }
 
-    /// Whether it knows a reset.
+    /// Returns whether the version has resets.
     pub fn has_resets(self) -> bool
         ensures { result ≡ (layout_of self).resets }
     {
@@ -106,7 +107,7 @@ impl Version {
         }
     }
 
-    /// How many cells there may be.
+    /// Returns the most cells that a memory may have.
     pub fn most_cells(self) -> u32
         ensures most { result ≡ (layout_of self).most_cells }
         ensures few { result ≤ MAX_CELLS }
@@ -117,7 +118,8 @@ impl Version {
         }
     }
 
-    /// The bytes of a session record: its head, a place for each entry of a window, and zeros up to twice as many bytes.
+    /// Returns the bytes of a session record. It has a head and a place for each entry of a window, and is filled with
+    /// zeros up to twice the bytes of its places.
     pub fn session_record(self) -> usize
         ensures bytes { result ≡ layout.session_record_bytes (layout_of self) }
         ensures few { (1 ≤ result) × (result ≤ SESSION_RECORD) }
@@ -128,7 +130,7 @@ impl Version {
         }
     }
 
-    /// How many waiter nodes there are: as many as windows have entries.
+    /// Returns the number of waiter nodes: the entries of all windows together.
     pub fn node_count(self, limits: Limits) -> usize
         ensures { result ≡ layout.node_count (layout_of self) (sizes_of limits) }
     {
@@ -138,7 +140,7 @@ impl Version {
         }
     }
 
-    /// The pages of waiter nodes of an area.
+    /// Returns the pages of waiter nodes in an area.
     pub fn node_pages(self, limits: Limits) -> usize
         ensures { result ≡ layout.node_pages (layout_of self) (sizes_of limits) }
     {
@@ -149,7 +151,7 @@ impl Version {
         }
     }
 
-    /// The pages of sessions of an area.
+    /// Returns the pages of sessions in an area.
     pub fn session_pages(self, limits: Limits) -> usize
         ensures { result ≡ layout.session_pages (layout_of self) (sizes_of limits) }
     {
@@ -159,7 +161,7 @@ impl Version {
         }
     }
 
-    /// The pages of an area.
+    /// Returns the pages of an area.
     pub fn area_pages(self, limits: Limits) -> usize
         ensures pages { result ≡ layout.area_pages (layout_of self) (sizes_of limits) }
         ensures few { result ≤ MOST_AREA_PAGES }
@@ -167,14 +169,14 @@ impl Version {
         cell_pages(limits) + self.node_pages(limits) + self.session_pages(limits)
     }
 
-    /// The bytes of the pages of waiter nodes.
+    /// Returns the bytes of an area's pages of waiter nodes.
     pub fn node_bytes(self, limits: Limits) -> usize
         ensures { result ≡ layout.page_bytes * layout.node_pages (layout_of self) (sizes_of limits) }
     {
         PAGE * self.node_pages(limits)
     }
 
-    /// Where an area begins.
+    /// Returns the byte where an area begins.
     pub fn area_at(self, limits: Limits, area: usize) -> usize
         requires { area ≤ 2 }
         ensures at { result ≡ layout.area_at (layout_of self) (sizes_of limits) area }
@@ -183,7 +185,7 @@ impl Version {
         2 * PAGE + PAGE * self.area_pages(limits) * area
     }
 
-    /// Where the journal begins.
+    /// Returns the byte where the journal begins.
     pub fn journal_at(self, limits: Limits) -> usize
         ensures at { result ≡ layout.journal_at (layout_of self) (sizes_of limits) }
         ensures near { result ≤ FARTHEST_JOURNAL }
@@ -191,7 +193,7 @@ impl Version {
         self.area_at(limits, 2)
     }
 
-    /// The length of an image.
+    /// Returns the bytes of an image.
     pub fn image_length(self, limits: Limits) -> usize
         ensures length { result ≡ layout.image_length (layout_of self) (sizes_of limits) }
         ensures near { result ≤ LONGEST_IMAGE }
@@ -200,42 +202,42 @@ impl Version {
     }
 }
 
-/// The pages of cells of an area.
+/// Returns the pages of cells in an area.
 pub fn cell_pages(limits: Limits) -> usize
     ensures { result ≡ layout.cell_pages (sizes_of limits) }
 {
     (limits.cells as usize + CELLS_ON_A_PAGE - 1) / CELLS_ON_A_PAGE
 }
 
-/// The bytes of the pages of cells.
+/// Returns the bytes of an area's pages of cells.
 pub fn cell_bytes(limits: Limits) -> usize
     ensures { result ≡ layout.page_bytes * layout.cell_pages (sizes_of limits) }
 {
     PAGE * cell_pages(limits)
 }
 
-/// How many waiter nodes there are in the layout in use.
+/// Returns the number of waiter nodes in the layout in use.
 pub fn node_count(limits: Limits) -> usize
     ensures { result ≡ layout.node_count layout_in_use (sizes_of limits) }
 {
     Version::Two.node_count(limits)
 }
 
-/// The pages of waiter nodes of an area of the layout in use.
+/// Returns the pages of waiter nodes in an area of the layout in use.
 pub fn node_pages(limits: Limits) -> usize
     ensures { result ≡ layout.node_pages layout_in_use (sizes_of limits) }
 {
     Version::Two.node_pages(limits)
 }
 
-/// The pages of sessions of an area of the layout in use.
+/// Returns the pages of sessions in an area of the layout in use.
 pub fn session_pages(limits: Limits) -> usize
     ensures { result ≡ layout.session_pages layout_in_use (sizes_of limits) }
 {
     Version::Two.session_pages(limits)
 }
 
-/// The pages of an area of the layout in use.
+/// Returns the pages of an area of the layout in use.
 pub fn area_pages(limits: Limits) -> usize
     ensures pages { result ≡ layout.area_pages layout_in_use (sizes_of limits) }
     ensures few { result ≤ MOST_AREA_PAGES }
@@ -243,14 +245,14 @@ pub fn area_pages(limits: Limits) -> usize
     Version::Two.area_pages(limits)
 }
 
-/// The bytes of the pages of waiter nodes in the layout in use.
+/// Returns the bytes of an area's pages of waiter nodes in the layout in use.
 pub fn node_bytes(limits: Limits) -> usize
     ensures { result ≡ layout.page_bytes * layout.node_pages layout_in_use (sizes_of limits) }
 {
     Version::Two.node_bytes(limits)
 }
 
-/// Where an area begins in the layout in use.
+/// Returns the byte where an area begins in the layout in use.
 pub fn area_at(limits: Limits, area: usize) -> usize
     requires { area ≤ 2 }
     ensures at { result ≡ layout.area_at layout_in_use (sizes_of limits) area }
@@ -259,7 +261,7 @@ pub fn area_at(limits: Limits, area: usize) -> usize
     Version::Two.area_at(limits, area)
 }
 
-/// Where the journal begins in the layout in use.
+/// Returns the byte where the journal begins in the layout in use.
 pub fn journal_at(limits: Limits) -> usize
     ensures at { result ≡ layout.journal_at layout_in_use (sizes_of limits) }
     ensures near { result ≤ FARTHEST_JOURNAL }
@@ -267,7 +269,7 @@ pub fn journal_at(limits: Limits) -> usize
     Version::Two.journal_at(limits)
 }
 
-/// The length of an image of the layout in use.
+/// Returns the bytes of an image of the layout in use.
 pub fn image_length(limits: Limits) -> usize
     ensures length { result ≡ layout.image_length layout_in_use (sizes_of limits) }
     ensures near { result ≤ LONGEST_IMAGE }

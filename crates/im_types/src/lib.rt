@@ -1,6 +1,6 @@
-//! The values that every crate of the memory speaks of, and, in `specs/`, what they mean: a memory of cells with
-//! presence tags and windows of kept replies, one command on it, a list of commands, and the bytes of an image.
-//! [`layout`] says where things stand in an image, [`codes`] how an operation is spelled there.
+//! The types that all crates of the memory share, and in `specs/` their meaning. That is a memory of cells with
+//! presence tags and windows of kept replies, one command on it, a list of commands, and the bytes of an image. The
+//! module [`layout`] gives the places in an image. The module [`codes`] gives the spelling of an operation there.
 #![tactic(auto)]
 
 mod cells;
@@ -23,16 +23,16 @@ pub use records::{CellRecord, NodeRecord, PresenceTag};
 pub use refusals::Refusal;
 pub use sizes::Limits;
 
-/// The most cells of a memory.
+/// The most cells that a memory may have.
 pub const MAX_CELLS: u32 = 1_048_576;
 
-/// The most elements of a memory.
+/// The most elements that a memory may have.
 pub const MAX_ELEMENTS: u16 = 64;
 
-/// The fewest slots of a journal.
+/// The fewest slots that a journal may have.
 pub const MIN_SLOTS: u32 = 16;
 
-/// The most slots of a journal.
+/// The most slots that a journal may have.
 pub const MAX_SLOTS: u32 = 4_096;
 
 /// The most commands in a group of the journal.
@@ -41,8 +41,8 @@ pub const MAX_GROUP: usize = 16;
 /// The most entries that a window keeps.
 pub const WINDOW: u64 = 64;
 
-/// Request numbers, sequence numbers, counts of commands and generations go no further.
+/// The greatest request number, sequence number, count of commands and generation.
 pub const LAST: u64 = 1 << 62;
 
-/// A link to no cell and to no node.
+/// The link that leads to no cell and to no node.
 pub const NONE: u32 = 0xFFFF_FFFF;

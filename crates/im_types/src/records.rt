@@ -1,31 +1,31 @@
-//! The records of which the pages of an image consist.
+//! The records on the pages of an image.
 
 use crate::operations::{Block, Waiter};
 
-/// The presence tag of a cell, with what belongs to it on a page.
+/// The presence tag of a cell, with the data that its record adds.
 #[derive(Clone, Copy, Debug, PartialEq, Eq)]
 pub enum PresenceTag {
-    /// Nothing is in the cell, and nobody waits for it.
+    /// The cell has no value, and no request waits for it.
     Empty,
-    /// Requests wait for the cell: their list begins in one node and ends in another.
+    /// Requests wait for the cell. Their list has a first and a last node.
     Waiting {
-        /// The node of the first who waits.
+        /// The node of the first request that waits.
         first: u32,
-        /// The node of the last who waits.
+        /// The node of the last request that waits.
         last: u32,
     },
     /// The value in the cell.
     Full(u64),
-    /// The value in a cell that was written while it was full.
+    /// The value of a cell that was written while it was full.
     Clashed(u64),
 }
 
-/// What a page shows of a cell.
+/// The record of a cell on a page.
 #[derive(Clone, Copy, Debug, PartialEq, Eq)]
 pub enum CellRecord {
     /// A cell in no block.
     Free {
-        /// How many free cells in a row begin here, where a hole begins.
+        /// The number of free cells in a row from here, if a hole begins here.
         hole: u32,
         /// The cell where the next hole begins, or [`NONE`](crate::NONE).
         next: u32,
@@ -34,12 +34,12 @@ pub enum CellRecord {
     Held {
         /// The block.
         block: Block,
-        /// What is in the cell, or who waits for it.
+        /// Its presence tag.
         tag: PresenceTag,
     },
 }
 
-/// What a page shows of a waiter node.
+/// The record of a waiter node on a page.
 #[derive(Clone, Copy, Debug, PartialEq, Eq)]
 pub enum NodeRecord {
     /// A node in no list.
@@ -49,7 +49,7 @@ pub enum NodeRecord {
     },
     /// A node of a list.
     Listed {
-        /// The next node of the list, or [`NONE`](crate::NONE) at its last.
+        /// The next node of the list, or [`NONE`](crate::NONE) at the last one.
         next: u32,
         /// The request that waits.
         waiter: Waiter,

@@ -3,49 +3,49 @@ ghost use Rattle.std.specs.Prelude.{◌≡◌};
 
 use thiserror::Error;
 
-/// Why a call is refused. Its text is its name, and [`Refusal::number`] the number that programs print.
+/// Why a call is refused. The text of a refusal is its name. Programs print its number, [`Refusal::number`].
 #[derive(Clone, Copy, Debug, PartialEq, Eq, Error)]
 pub enum Refusal {
-    /// A number past the next one, or past the last one that there is.
+    /// The number is past the next one, or past the last number of all.
     #[error("Gap")]
     Gap,
-    /// A number below the window: its entry was confirmed.
+    /// The number is below the window: its entry was confirmed.
     #[error("Forgotten")]
     Forgotten,
-    /// A new request while the window is full.
+    /// The request is new and the window is full.
     #[error("WindowFull")]
     WindowFull,
-    /// A number that is kept for another operation.
+    /// The number is kept for another operation.
     #[error("Mismatch")]
     Mismatch,
     /// There is no such element.
     #[error("NoElement")]
     NoElement,
-    /// A confirmation of an entry that still waits.
+    /// A confirmation reaches an entry that still waits.
     #[error("NotAnswered")]
     NotAnswered,
     /// The journal has no room for the command.
     #[error("JournalFull")]
     JournalFull,
-    /// A call of the disk failed. The image has to be opened again.
+    /// A call to the disk failed. The image has to be opened again.
     #[error("Device")]
     Device,
-    /// An earlier call failed on the disk.
+    /// An earlier call to the disk failed.
     #[error("Failed")]
     Failed,
-    /// There was not enough memory.
+    /// There was too little memory.
     #[error("NoMemory")]
     NoMemory,
     /// The trace has no room for another line.
     #[error("TraceFull")]
     TraceFull,
-    /// The file has not the length of an image.
+    /// The file's length is not the length of an image.
     #[error("WrongLength")]
     WrongLength,
     /// The image has no header in force.
     #[error("NoHeader")]
     NoHeader,
-    /// The header in force is not spelled as it should be.
+    /// The header in force is not spelled as a header.
     #[error("BadHeader")]
     BadHeader,
     /// The pages in force show no memory.
@@ -54,19 +54,19 @@ pub enum Refusal {
     /// The journal holds a command that cannot stand there.
     #[error("BadRecord")]
     BadRecord,
-    /// A number of cells, elements or slots is out of its range.
+    /// The number of cells, elements or slots is out of its range.
     #[error("BadLimits")]
     BadLimits,
     /// The script cannot be read.
     #[error("BadScript")]
     BadScript,
-    /// Everyone waits, and nobody is left to answer.
+    /// Every active server waits, and none is left to answer.
     #[error("Stalled")]
     Stalled,
     /// The plan of this run has no such request.
     #[error("OffPlan")]
     OffPlan,
-    /// The image has an older layout: it is migrated before it is served.
+    /// The image has an older layout. It must be migrated before it is served.
     #[error("OldVersion")]
     OldVersion,
     /// The file that would be written holds an image.
@@ -83,7 +83,7 @@ pub enum Refusal {
 impl Refusal {
     ghost use Rattle.im_types.specs.Refusals.{number_of};
 
-    /// The refusal's number, 1 to 24.
+    /// Returns the refusal's number, 1 to 24.
     pub fn number(self) -> u8
         ensures { result ≡ number_of self }
     {

@@ -4,20 +4,20 @@ ghost use Rattle.im_types.specs.Sizes.{AreLimits};
 
 use crate::{MAX_CELLS, MAX_ELEMENTS, MAX_SLOTS, MIN_SLOTS};
 
-/// How many cells, elements and journal slots there are, each number within its range.
+/// The numbers of cells, elements and journal slots, each within its range.
 #[derive(Clone, Copy, Debug, PartialEq, Eq)]
 pub struct Limits {
-    /// Cells, numbered from 0: 1 to 1,048,576.
+    /// The number of cells, 1 to 1,048,576. They are numbered from 0.
     pub cells: u32,
-    /// Processing elements, numbered from 0: 1 to 64.
+    /// The number of processing elements, 1 to 64. They are numbered from 0.
     pub elements: u16,
-    /// Journal slots: 16 to 4,096.
+    /// The number of journal slots, 16 to 4,096.
     pub slots: u32,
     pub ghost in_range: { AreLimits cells elements slots },
 }
 
 impl Limits {
-    /// These limits, or `None` exactly where a number is out of its range.
+    /// Returns these limits, or `None` if and only if a number is out of its range.
     pub fn new(cells: u32, elements: u16, slots: u32) -> Option<Limits>
         ensures found { IsSome result ↔ AreLimits cells elements slots }
         ensures limits { IfSome result (λ l. (l.cells ≡ cells) × (l.elements ≡ elements) × (l.slots ≡ slots)) }

@@ -1,4 +1,4 @@
-//! The program: it does what its command line asks for.
+//! The program `imem`: it reads its command line and does what that asks for.
 #![tactic(auto)]
 
 ghost use Rattle.std.specs.Prelude.{◌≡◌, ◌≤◌};
@@ -20,7 +20,7 @@ use std::sync::Wait;
 use std::thread::Threads;
 use std::time::Clock;
 
-/// The status that the program ends with, once its text is printed.
+/// Returns the status that the program ends with, once its text is printed.
 fn status_after(printed: io::Result<()>, status: u8) -> u8
     requires { status ≤ 3 }
     ensures { result ≤ 3 }
@@ -31,8 +31,9 @@ fn status_after(printed: io::Result<()>, status: u8) -> u8
     }
 }
 
-/// Does the work. Standard input is read as much at once as there is, so that lines of a dialogue which stand together
-/// are served together, and a thread listens to it where a dialogue is held. Where it doesn't block it is waited for.
+/// Does the work. Each read of standard input takes as much as there is, so that lines of a dialogue that come together
+/// are served together. In a dialogue a thread listens to standard input. If standard input doesn't block, the program
+/// waits for it.
 fn work_on<
     R: Files<File = File>
         + AllocGlobal
@@ -74,7 +75,7 @@ fn work_on<
     }
 }
 
-/// Does what the words ask for.
+/// Does what the command line asks for.
 fn run<
     R: Files<File = File>
         + AllocGlobal
@@ -113,7 +114,7 @@ fn texts<'a>(alloc: Global, words: &'a [String]) -> Result<Vec<&'a str>, AllocEr
     words.iter().map(|word| word.as_str()).collect(alloc)
 }
 
-/// Says why the command line can't be read.
+/// Prints why the command line can't be read. Returns the status.
 fn no_words<R: AllocGlobal + Eprint, W: Write>(rt: &R, error: &io::Error, out: &mut W) -> u8
     ensures { result ≤ 3 }
 {
@@ -124,7 +125,7 @@ fn no_words<R: AllocGlobal + Eprint, W: Write>(rt: &R, error: &io::Error, out: &
     2
 }
 
-/// Reads the command line, and does what it asks for.
+/// Reads the command line and does what it asks for.
 fn start<
     R: Env
         + Files<File = File>
@@ -158,7 +159,7 @@ fn start<
     }
 }
 
-// Before a path is opened, so that no file gets the number of a stream that was closed.
+// Takes the standard descriptors before a path is opened, so that no file gets the number of a closed stream.
 fn main(rt: HostRuntime) -> ExitCode {
     let Some(held) = Descriptors::hold(&rt, &rt.stdin(), &rt.stdout(), &rt.stderr()) else {
         return ExitCode::from(1);

@@ -1,7 +1,7 @@
-"""A build backend (PEP 517) that asks for nothing, so that `pip install .` works with no network.
+"""A build backend (PEP 517) with no dependencies, so that `pip install .` works with no network.
 
-It puts the shared library into the wheel: that of LUNTREBIS_LIBRARY, or of the checkout that this lies in, which
-`make library` leaves in out/, or the one that is installed, by pkg-config.
+It puts the shared library into the wheel. It takes that of LUNTREBIS_LIBRARY, that of this checkout, where
+`make library` leaves it in out/, or the installed one, by pkg-config.
 """
 import base64
 import hashlib
@@ -22,7 +22,7 @@ def said(key):
 
 
 def library():
-    """The shared library that goes into the wheel."""
+    """Returns the shared library that goes into the wheel."""
     places = [os.environ.get("LUNTREBIS_LIBRARY"), TOP.parent.parent / "out" / "libluntrebis.so.1", *installed()]
     for place in places:
         if place and Path(place).is_file():
@@ -44,7 +44,7 @@ def tag():
 
 
 def files():
-    """Each file of the wheel: its path and its bytes."""
+    """Yields the path and the bytes of each file of the wheel."""
     info = f"{NAME}-{said('version')}.dist-info"
     for path in sorted((TOP / NAME).iterdir()):
         if path.is_file() and path.suffix != ".so":
@@ -62,7 +62,7 @@ def lines(fields):
 
 
 def record(held):
-    """The list of the files with their sums."""
+    """Yields the list of the files with their sums."""
     for name, data in held:
         digest = base64.urlsafe_b64encode(hashlib.sha256(data).digest()).rstrip(b"=").decode()
         yield f"{name},sha256={digest},{len(data)}\n"

@@ -7,9 +7,9 @@
         image.element(2).store(base, 5)
         assert late.get() == 5
 
-`Image` is for one thread. `Shared` is for many, with futures; `luntrebis.aio` for the tasks of an event loop. `Memory`
-has no disk. What is refused is raised, each refusal as a subclass of `Refused`; an answer that is an error of the
-program that asks as a subclass of `Answered`; a file's errors are `OSError`.
+`Image` is for one thread. `Shared` is for many threads, with futures. `luntrebis.aio` is for tasks of an event loop.
+`Memory` has no disk. A refusal raises a subclass of `Refused`. A reply which says that the program asked for something
+impossible raises a subclass of `Answered`. A file's errors are `OSError`.
 """
 from ._memories import Deferred, Element, Image, Memory, answered, create, inspect, open, open_or_create
 from ._shared import Shared, SharedElement

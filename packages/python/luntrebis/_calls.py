@@ -11,7 +11,7 @@ LT_VERSION_NUMBER = 100
 
 
 class lt_tag(enum.IntEnum):
-    """What is asked, by `tag`."""
+    """What a command asks for, by `tag`."""
 
     ALLOC_I = 1  # a block of `address` cells, to be fetched and stored
     ALLOC_M = 2  # a block of `address` cells, to be taken and put
@@ -25,7 +25,7 @@ class lt_tag(enum.IntEnum):
 
 
 class lt_answer(enum.IntEnum):
-    """What a command came to, by `tag`."""
+    """The outcome of a command, by `tag`."""
 
     WAITING = 0  # deferred: its answer is collected later
     BASE = 1  # the base of the new block, in `value`
@@ -52,18 +52,18 @@ class lt_refusal(enum.IntEnum):
     NO_ELEMENT = 5
     NOT_ANSWERED = 6  # a confirmation of an entry that waits
     JOURNAL_FULL = 7  # the journal has no room: turns make some
-    # the steps couldn't be listed, or the caller lost one: the image has to be opened again, and where that was a
-    # sync, not before its file system is mounted anew or the machine restarted
+    # the steps couldn't be listed, or the caller lost one. Open the image again; if a sync failed, not before its
+    # file system is mounted anew or the machine is restarted
     DEVICE = 8
-    FAILED = 9  # an earlier call failed: of no call here, since LT_DEVICE is answered again
+    FAILED = 9  # an earlier call failed; no call here returns it, because LT_DEVICE is returned again
     NO_MEMORY = 10  # of lt_memory_new, lt_format, lt_open and lt_inspect
     WRONG_LENGTH = 12  # of lt_open and lt_inspect, as the next four: the image's first fault
-    NO_HEADER = 13  # never finished, or damaged: no reason to call lt_format on a file that was there
+    NO_HEADER = 13  # never finished, or damaged; this is no reason to call lt_format on an existing file
     BAD_HEADER = 14
     BAD_PAGE = 15
     BAD_RECORD = 16
     BAD_LIMITS = 17  # of lt_memory_new and lt_format
-    OLD_VERSION = 21  # of lt_open: an image of the first layout, of which `imem migrate` makes one of this
+    OLD_VERSION = 21  # of lt_open: an image of the first layout; `imem migrate` makes one of this layout
     NO_CALL = 255  # an unknown tag, no such write, or no group
 
 
@@ -85,7 +85,7 @@ class lt_command(c.Structure):
 
 
 class lt_outcome(c.Structure):
-    """Where `refusal` isn't 0, the rest is 0."""
+    """If `refusal` isn't 0, the rest is 0."""
 
     _fields_ = [
         ("refusal", c.c_uint8),
@@ -98,7 +98,7 @@ class lt_outcome(c.Structure):
 
 
 class lt_memory(c.Structure):
-    """A handle. Zero bytes hold nothing."""
+    """A handle of a memory. Zero bytes hold nothing."""
 
     _fields_ = [
         ("block", c.c_void_p),
@@ -107,7 +107,7 @@ class lt_memory(c.Structure):
 
 
 class lt_image(c.Structure):
-    """A handle. Zero bytes hold nothing."""
+    """A handle of an image. Zero bytes hold nothing."""
 
     _fields_ = [
         ("block", c.c_void_p),
@@ -151,7 +151,7 @@ class lt_waiter(c.Structure):
 
 
 class lt_kind(enum.IntEnum):
-    """What is to be done on the file, by `kind`."""
+    """What a step does on the file, by `kind`."""
 
     NO_STEP = 0  # there is no such step
     WRITE = 1  # `length` bytes from the offset `place` on
@@ -170,7 +170,7 @@ class lt_step(c.Structure):
 
 
 class lt_turn_tag(enum.IntEnum):
-    """What a turn of a checkpoint did, or a sweep, by `tag` of its outcome."""
+    """What a turn of a checkpoint or a sweep did, by `tag` of its outcome."""
 
     IDLE = 0
     BEGAN = 1
@@ -188,7 +188,7 @@ LTF_UNSYNCED = 300
 
 
 class ltf_counts(c.Structure):
-    """What was done since it was opened."""
+    """The work that was done since the file was opened."""
 
     _fields_ = [
         ("groups", c.c_uint64),

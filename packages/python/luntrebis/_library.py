@@ -1,4 +1,4 @@
-"""The library: where LUNTREBIS_LIBRARY says, beside this file, or in out/ of the checkout that this lies in."""
+"""Loads the library: that of LUNTREBIS_LIBRARY, the one beside this file, or that in out/ of this checkout."""
 import ctypes as c
 import os
 import pathlib
@@ -7,7 +7,7 @@ from ._calls import CALLS
 
 
 def load() -> c.CDLL:
-    """The library, its calls with their types. One that an older library lacks is left out."""
+    """Returns the library, with the types of its calls. A call that an older library lacks is left out."""
     here = pathlib.Path(__file__).resolve()
     places = [here.with_name("libluntrebis.so"), *(it / "out" / "libluntrebis.so.1" for it in here.parents[3:4])]
     there = next((it for it in places if it.exists()), places[0])

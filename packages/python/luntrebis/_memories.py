@@ -19,7 +19,7 @@ RULE = "a sync failed: mount the file system anew, or restart, before the image 
 
 
 class Held:
-    """Something that the library holds, until `close`. Calls of several threads come one after another."""
+    """A memory that the library holds until `close`. Calls from several threads run one after another."""
 
     def __init__(self) -> None:
         self._lock, self._is_closed = threading.RLock(), False
@@ -28,7 +28,7 @@ class Held:
         self.close()
 
     def close(self) -> None:
-        """Frees it. Nothing is lost of what was answered."""
+        """Frees the memory. Nothing that was answered is lost."""
         with self._lock:
             if not self._is_closed:
                 self._is_closed = True
@@ -45,16 +45,16 @@ class Held:
         raise NotImplementedError
 
     def ask(self, request: Request) -> Reply:
-        """One request. The same one again is answered as before, and acts no second time."""
+        """Sends one request and returns its reply. The same request again is answered as before, without acting."""
         return told(self._serve(spelled(request)))
 
     def confirm(self, element: int, upto: int) -> None:
-        """Drops the entries of the element below the number: their answers aren't asked for again."""
+        """Drops the entries of the element below the number. Their replies can't be asked for again."""
         passed(self._serve(lt_command(Tag.CONFIRM, element, 0, upto, 0)).refusal)
 
 
 class Memory(Held):
-    """A memory with no disk: what it holds ends with it."""
+    """A memory with no disk. Its contents end with it."""
 
     def __init__(self, cells: int, elements: int) -> None:
         super().__init__()
@@ -76,7 +76,7 @@ class Memory(Held):
         return outcome
 
     def collect(self, element: int, number: int) -> Reply:
-        """What is kept under an element's number."""
+        """Returns the reply that is kept under an element's number."""
         outcome = lt_outcome()
         with self._lock:
             self._check()
@@ -85,14 +85,14 @@ class Memory(Held):
 
 
 class Image(Held):
-    """A memory in an image file, which is this program's alone. What is answered is on the disk.
+    """A memory in an image file, which this program has for itself. Each reply is on the disk before it is returned.
 
-    `Shared` is for several threads, which then share the syncs. After a step that couldn't be carried out each call
-    tells why: close it, open it again, and ask again under the same numbers.
+    `Shared` is for several threads, which then share the syncs. After a step that couldn't be carried out, each call
+    raises the reason: close the image, open it again, and ask again under the same numbers.
     """
 
     def __init__(self, call: str, path: Path, *limits: int) -> None:
-        """`create`, `open` and `open_or_create` of this module make it."""
+        """Use `create`, `open` or `open_or_create` of this module instead."""
         super().__init__()
         self._file, name = c.POINTER(ltf)(), os.fsdecode(path)
         if "\0" in name:
@@ -117,7 +117,7 @@ class Image(Held):
             return getattr(LIB, name)(self._file, *words)
 
     def _carried_out(self, answer: int) -> int:
-        """The answer, where no step was lost; else why it was."""
+        """Returns the answer, or raises why a step was lost."""
         if answer == Device.number:
             fault = self._call("ltf_failure")
             if fault.sync:
@@ -132,64 +132,64 @@ class Image(Held):
         return outcome
 
     def ask_all(self, requests: Iterable[Request]) -> list[Union[Reply, Refused]]:
-        """Any requests, in their order: of each its reply, or its refusal. Neighbours of up to sixteen elements are put
-        on the disk together."""
+        """Sends any requests, in their order. Returns the reply or the refusal of each. Neighbours of up to sixteen
+        elements are put on the disk together."""
         asked = [spelled(it) for it in requests]
         commands, outcomes = (lt_command * len(asked))(*asked), (lt_outcome * len(asked))()
         passed(self._carried_out(self._call("ltf_serve_all", commands, len(asked), outcomes)))
         return [refusal(it.refusal) if it.refusal else told(it) for it in outcomes]
 
     def woken(self) -> list[tuple[int, int]]:
-        """Whom the last `ask` or `ask_all` resumed: the element and the number of each request that waited and is
-        answered now, those of one cell in the order in which they came."""
+        """Returns the requests that the last `ask` or `ask_all` resumed: they waited before, and are answered now. Each
+        is an element and a number. Those of one cell are in the order in which they came."""
         count = c.c_size_t()
         with self._lock:
             waiters = self._call("ltf_woken", count)
             return [(waiters[at].element, waiters[at].number) for at in range(count.value)]
 
     def collect(self, element: int, number: int) -> Reply:
-        """What is kept under an element's number."""
+        """Returns the reply that is kept under an element's number."""
         outcome = lt_outcome()
         self._call("ltf_collect", element, number, outcome)
         return told(outcome)
 
     def make_room(self) -> bool:
-        """Makes room in the journal, by a sweep or a turn of a checkpoint, where less than half of it is free. Whether
-        there was anything to do. Each request does it, too; this is for a program that is idle."""
+        """Makes room in the journal, by a sweep or a turn of a checkpoint, if less than half of it is free. Returns
+        whether there was anything to do. Each request does it, too; this is for a program that is idle."""
         answer = self._carried_out(self._call("ltf_tidy"))
         if answer > 1:
             passed(answer)
         return answer == 1
 
     def window(self, element: int) -> Window:
-        """Which numbers of an element are kept."""
+        """Returns the window of an element: which of its numbers are kept."""
         bounds = self._call("ltf_window", element)
         passed(bounds.refusal)
         return Window(bounds.base, bounds.next)
 
     @property
     def room(self) -> int:
-        """How many more commands there is room for in the journal."""
+        """The number of commands that the journal still has room for."""
         return int(self._call("ltf_room"))
 
     @property
     def count(self) -> int:
-        """How many commands have been accepted since the image was made."""
+        """The number of commands that have been accepted since the image was made."""
         return int(self._call("ltf_count"))
 
     @property
     def limits(self) -> tuple[int, int, int]:
-        """How many cells, elements, and slots of the journal it has."""
+        """The numbers of cells, elements, and journal slots."""
         sizes = self._call("ltf_limits")
         return sizes.cells, sizes.elements, sizes.slots
 
     def element(self, number: int) -> Element:
-        """An element whose requests are numbered here, from its window's next number on."""
+        """Returns an element whose requests are numbered here, from its window's next number on."""
         return Element(self, number)
 
 
 class Deferred:
-    """A fetch or a take: answered, or waiting for its cell."""
+    """A fetch or a take, which is answered or waits for its cell."""
 
     def __init__(self, image: Image, element: int, number: int) -> None:
         self.image, self.element, self.number = image, element, number
@@ -202,7 +202,7 @@ class Deferred:
         return self.image.collect(self.element, self.number).answer != Answer.WAITING
 
     def get(self) -> int:
-        """The value; raises `Waiting` where there is none yet."""
+        """Returns the value. Raises `Waiting` if there is none yet."""
         reply = self.image.collect(self.element, self.number)
         if reply.answer == Answer.WAITING:
             raise Waiting(f"{self.element}.{self.number}")
@@ -210,7 +210,7 @@ class Deferred:
 
 
 class Element:
-    """The requests of one element, which have no other asker. What is answered is confirmed at a full window."""
+    """Makes all requests of one element. When its window is full, answered entries are confirmed."""
 
     def __init__(self, image: Image, number: int) -> None:
         self.image, self.number = image, number
@@ -225,7 +225,7 @@ class Element:
         return number, reply
 
     def confirm(self) -> None:
-        """Drops all entries before the first that waits: a `Deferred` of them is told `Forgotten` from then on."""
+        """Drops all entries before the first that waits. A `Deferred` of one of them then raises `Forgotten`."""
         upto = self.base
         while upto < self.next and self.image.collect(self.number, upto).answer != Answer.WAITING:
             upto += 1
@@ -234,11 +234,11 @@ class Element:
             self.base = upto
 
     def alloc_i(self, length: int) -> int:
-        """A block of I cells, to be fetched and stored: its base."""
+        """Makes a block of I cells, to be fetched and stored. Returns its base."""
         return self._ask(Tag.ALLOC_I, length)[1].get()
 
     def alloc_m(self, length: int) -> int:
-        """A block of M cells, to be taken and put: its base."""
+        """Makes a block of M cells, to be taken and put. Returns its base."""
         return self._ask(Tag.ALLOC_M, length)[1].get()
 
     def fetch(self, address: int) -> Deferred:
@@ -273,34 +273,34 @@ class Element:
 
 
 def create(path: Path, cells: int = 4096, elements: int = 16, slots: int = 256) -> Image:
-    """Makes the image of an empty memory, where nothing is at the path: else `FileExistsError`."""
+    """Makes the image of an empty memory. Raises `FileExistsError` if something is at the path."""
     return Image("ltf_create", path, cells, elements, slots)
 
 
 def open(path: Path) -> Image:  # noqa: A001
-    """Opens the image of a file that is there. `BlockingIOError` where another program has it."""
+    """Opens the image of an existing file. Raises `BlockingIOError` if another program has it."""
     return Image("ltf_open", path)
 
 
 def open_or_create(path: Path, cells: int = 4096, elements: int = 16, slots: int = 256) -> Image:
-    """Opens the image that is there, or makes it where nothing is at the path."""
+    """Opens the image of an existing file, or makes it if nothing is at the path."""
     return Image("ltf_open_or_create", path, cells, elements, slots)
 
 
 def inspect(path: Path) -> str:
-    """What `imem inspect` prints of a file, which nobody works on meanwhile."""
+    """Returns what `imem inspect` prints for a file. A shared lock keeps others from writing the file meanwhile."""
     with io.open(path, "rb") as file:
         fcntl.flock(file, fcntl.LOCK_SH | fcntl.LOCK_NB)
         data = file.read()
     room, length = c.create_string_buffer(1), c.c_size_t()
-    for _ in range(2):  # The first call tells how long it is.
+    for _ in range(2):  # The first call returns the length.
         passed(LIB.lt_inspect(data, len(data), room, len(room), length))
         room = room if length.value <= len(room) else c.create_string_buffer(length.value)
     return room.raw[: length.value].decode()
 
 
 def answered(held: Union[Memory, Image], asked: Iterable[tuple[int, int]]) -> Iterator[tuple[int, int, Reply]]:
-    """Of these pairs of an element and a number, those that are answered, with the reply."""
+    """Yields those of the pairs of an element and a number that are answered, with the reply."""
     for element, number in asked:
         reply = held.collect(element, number)
         if reply.answer != Answer.WAITING:

@@ -1,4 +1,4 @@
-"""An image for many threads: one thread of its own makes all calls."""
+"""An image for many threads. A thread of its own makes all calls."""
 from __future__ import annotations
 
 import collections
@@ -13,7 +13,7 @@ from ._memories import Image, Path
 from ._words import Answer, Device, Refused, Reply, Request, Tag, WindowFull, spelled
 
 T = TypeVar("T")
-MOST = 16  # The members of a group.
+MOST = 16  # The most members of a group.
 
 
 class Asked(NamedTuple):
@@ -21,7 +21,7 @@ class Asked(NamedTuple):
 
     request: Request
     future: Future[Reply]
-    waits: bool  # Whether it is told only once it is answered.
+    waits: bool  # Whether its future is done only once it is answered.
     is_numbered: bool  # Whether it came with a number; else it gets the element's next one.
 
 
@@ -33,7 +33,7 @@ class Called(NamedTuple):
 
 
 def give(future: Future[Any], value: Any) -> None:
-    """Tells the value, or raises the fault; one that was given up is told nothing."""
+    """Gives the future its value or its exception. A future that was cancelled gets neither."""
     with contextlib.suppress(InvalidStateError):
         if isinstance(value, BaseException):
             future.set_exception(value)
@@ -42,17 +42,17 @@ def give(future: Future[Any], value: Any) -> None:
 
 
 class Requests(Generic[T]):
-    """The requests of one element, which have no other asker."""
+    """Makes all requests of one element."""
 
     def _ask(self, tag: Tag, address: int, value: int = 0) -> T:
         raise NotImplementedError
 
     def alloc_i(self, length: int) -> T:
-        """A block of I cells, to be fetched and stored: its base."""
+        """Makes a block of I cells, to be fetched and stored. Gives its base."""
         return self._ask(Tag.ALLOC_I, length)
 
     def alloc_m(self, length: int) -> T:
-        """A block of M cells, to be taken and put: its base."""
+        """Makes a block of M cells, to be taken and put. Gives its base."""
         return self._ask(Tag.ALLOC_M, length)
 
     def fetch(self, address: int) -> T:
@@ -81,7 +81,7 @@ class Requests(Generic[T]):
 
 
 class SharedElement(Requests["Future[int]"]):
-    """The requests of an element, each with a future of its value, its base, or 0. Any thread may ask."""
+    """Makes the requests of an element, each with a future of its value, its base, or 0. Any thread may ask."""
 
     def __init__(self, shared: Shared, number: int) -> None:
         self.shared, self.number = shared, number
@@ -104,14 +104,14 @@ class SharedElement(Requests["Future[int]"]):
 class Shared:
     """An image for any number of threads.
 
-    Requests of several elements that are there at once are put on the disk together. A future is done when its request
-    is answered, on the disk: a fetch or a take as soon as its cell is full. What still waits at `close` is cancelled;
-    it isn't lost, and is answered under its number after the next opening. After a lost step all are told `Device`, or
-    why the step failed: close, open again, and ask again under the same numbers.
+    Requests of several elements that come together are put on the disk together. A future is done when the answer to
+    its request is on the disk. For a fetch or a take that is as soon as its cell is full. What still waits at `close`
+    is cancelled. It isn't lost, and is answered under its number after the next opening. After a lost step all futures
+    raise `Device`, or why the step failed: close, open again, and ask again under the same numbers.
     """
 
     def __init__(self, make: Callable[[], Image]) -> None:
-        """`create` and `open` make it."""
+        """Use `create`, `open` or `open_or_create` instead."""
         self._asked: queue.SimpleQueue[Union[Asked, Called, None]] = queue.SimpleQueue()
         self._closed, self._lock = False, threading.Lock()
         began: Future[None] = Future()
@@ -122,17 +122,17 @@ class Shared:
 
     @classmethod
     def create(cls, path: Path, cells: int = 4096, elements: int = 16, slots: int = 256) -> Shared:
-        """Makes the image of an empty memory, where nothing is at the path."""
+        """Makes the image of an empty memory. Raises `FileExistsError` if something is at the path."""
         return cls(lambda: _memories.create(path, cells, elements, slots))
 
     @classmethod
     def open(cls, path: Path) -> Shared:
-        """Opens the image of a file that is there."""
+        """Opens the image of an existing file."""
         return cls(lambda: _memories.open(path))
 
     @classmethod
     def open_or_create(cls, path: Path, cells: int = 4096, elements: int = 16, slots: int = 256) -> Shared:
-        """Opens the image that is there, or makes it where nothing is at the path."""
+        """Opens the image of an existing file, or makes it if nothing is at the path."""
         return cls(lambda: _memories.open_or_create(path, cells, elements, slots))
 
     def __enter__(self) -> Shared:
@@ -148,8 +148,8 @@ class Shared:
             self._asked.put(asked)
 
     def submit(self, request: Request) -> Future[Reply]:
-        """A request, with a future of its answer. With the number 0 it gets the element's next one, and what is
-        answered of that element is confirmed where its window is full."""
+        """Sends a request, and returns a future of its answer. A request with the number 0 gets the element's next one.
+        Answered entries of that element are then confirmed when its window is full."""
         return self._submit(request, True)
 
     def _submit(self, request: Request, waits: bool) -> Future[Reply]:
@@ -161,7 +161,7 @@ class Shared:
         return future
 
     def ask(self, request: Request) -> Reply:
-        """A request, as the file has it: WAITING is a reply."""
+        """Sends a request, and returns its reply once that is on the disk. WAITING is a reply, too."""
         return self._submit(request, False).result()
 
     def confirm(self, element: int, upto: int) -> None:
@@ -169,17 +169,17 @@ class Shared:
         self.call(lambda image: image.confirm(element, upto)).result()
 
     def call(self, call: Callable[[Image], T]) -> Future[T]:
-        """A call of the image that asks for nothing, made by its thread between two groups: `lambda it: it.count`."""
+        """Makes a call of the image in its thread, between two groups. An example is `lambda it: it.count`."""
         future: Future[T] = Future()
         self._send(Called(call, future))
         return future
 
     def element(self, number: int) -> SharedElement:
-        """An element whose requests are numbered here."""
+        """Returns an element whose requests are numbered here."""
         return SharedElement(self, number)
 
     def close(self) -> None:
-        """Serves what was asked, and closes the image."""
+        """Serves the requests that were sent, and closes the image."""
         with self._lock:
             if not self._closed:
                 self._closed = True
@@ -195,8 +195,8 @@ class Owner:
 
     def __init__(self, asked: queue.SimpleQueue[Union[Asked, Called, None]]) -> None:
         self.asked = asked
-        self.ready: dict[int, collections.deque[Asked]] = {}  # What is to be served, by elements; none is empty.
-        self.waiting: dict[tuple[int, int], list[Future[Reply]]] = {}  # Who is told, by element and number.
+        self.ready: dict[int, collections.deque[Asked]] = {}  # What is to be served, by element; none is empty.
+        self.waiting: dict[tuple[int, int], list[Future[Reply]]] = {}  # Who waits, by element and number.
         self.ends = False
 
     def run(self, make: Callable[[], Image], began: Future[None]) -> None:
@@ -214,7 +214,7 @@ class Owner:
                 future.cancel()
 
     def take_in(self) -> bool:
-        """Takes what was asked, and keeps a checkpoint going while nobody asks. Whether there is more to do."""
+        """Takes what was sent, and makes room while there is nothing. Returns whether there is more to do."""
         while not self.ends:
             try:
                 one = self.asked.get(block=not self.ready and not self.make_room())
@@ -237,7 +237,7 @@ class Owner:
             give(called.future, fault)
 
     def make_room(self) -> bool:
-        """Makes room in the journal while nobody asks. Whether there was anything to do."""
+        """Makes room in the journal while nobody asks. Returns whether there was anything to do."""
         try:
             return self.image.make_room()
         except (OSError, Refused):
@@ -261,11 +261,11 @@ class Owner:
             self.tell_resumed(of)
 
     def take(self, element: int) -> Optional[Asked]:
-        """The element's first request, under its number; None where there is no such element."""
+        """Returns the element's first request, under its number, or None if there is no such element."""
         asked = self.ready[element].popleft()
         left = self.ready.pop(element)
         if left:
-            self.ready[element] = left  # Behind the other elements.
+            self.ready[element] = left  # After the other elements.
         if asked.is_numbered:
             return asked
         try:
@@ -276,7 +276,7 @@ class Owner:
         return asked._replace(request=asked.request._replace(number=number))
 
     def tell(self, asked: Asked, reply: Union[Reply, Refused]) -> None:
-        """Tells what a request came to, or, where it waits, keeps who is told."""
+        """Gives a request its reply. If the request waits, its future is kept instead."""
         element, number = asked.request.element, asked.request.number
         if isinstance(reply, WindowFull) and not asked.is_numbered and self.confirms(element):
             self.ready.setdefault(element, collections.deque()).appendleft(asked)
@@ -287,7 +287,7 @@ class Owner:
             give(asked.future, reply)
 
     def confirms(self, element: int) -> bool:
-        """Confirms what is answered of an element, up to the first that waits. Whether there was any."""
+        """Confirms an element's answered entries up to the first that waits. Returns whether there was any."""
         base, after = self.image.window(element)
         upto = base
         while upto < after and self.image.collect(element, upto).answer != Answer.WAITING:
@@ -297,14 +297,14 @@ class Owner:
         return upto > base
 
     def tell_lost(self) -> None:
-        """Tells all who wait that a step was lost: no answer comes any more."""
+        """Fails all futures that wait, because a step was lost: no answer comes any more."""
         for futures in self.waiting.values():
             for future in futures:
                 give(future, Device())
         self.waiting.clear()
 
     def tell_resumed(self, of: tuple[int, int]) -> None:
-        """Tells those who waited for an entry that is answered now."""
+        """Gives the reply to those who waited for an entry that is answered now."""
         reply = self.image.collect(*of)
         if reply.answer != Answer.WAITING:
             for future in self.waiting.pop(of, []):

@@ -1,4 +1,4 @@
-"""What is asked, what it comes to, and the exceptions for what is refused."""
+"""Requests, replies, and the exceptions for refusals."""
 from __future__ import annotations
 
 from dataclasses import dataclass
@@ -11,7 +11,7 @@ Tag = lt_tag
 
 
 class Refused(Exception):
-    """A call was refused. Each refusal that the library answers has a subclass of its own."""
+    """A call was refused. Each refusal that the library returns has a subclass of its own."""
 
     number = 0
 
@@ -57,13 +57,13 @@ class NotAnswered(Refused):
 
 
 class JournalFull(Refused):
-    """The journal has no room. `Image` and `Shared` make turns of a checkpoint then."""
+    """The journal has no room. `Image` and `Shared` then make turns of a checkpoint."""
 
     number = 7
 
 
 class Device(Refused):
-    """A step was lost: the image has to be closed and opened again (after a failed sync see `SyncFailed`)."""
+    """A step was lost: close the image and open it again (after a failed sync, see `SyncFailed`)."""
 
     number = 8
 
@@ -81,13 +81,13 @@ class NoMemory(Refused):
 
 
 class WrongLength(Refused):
-    """The file has no image's length."""
+    """The file doesn't have the length of an image."""
 
     number = 12
 
 
 class NoHeader(Refused):
-    """Never finished, damaged, or no image. The file is left as it is."""
+    """The image was never finished, is damaged, or is none. The file is left as it is."""
 
     number = 13
 
@@ -117,7 +117,7 @@ class BadLimits(Refused):
 
 
 class OldVersion(Refused):
-    """An image of the first layout: `imem migrate` makes one of this layout of it."""
+    """An image of the first layout: `imem migrate` makes one of this layout from it."""
 
     number = 21
 
@@ -132,12 +132,12 @@ REFUSALS = {it.number: it for it in Refused.__subclasses__()}
 
 
 class SyncFailed(OSError):
-    """A sync failed: what was written may not be on the disk, whatever is read now. The image isn't to be opened before
-    its file system was mounted anew, or the machine restarted."""
+    """A sync failed: what was written may not be on the disk, whatever is read now. Don't open the image before its
+    file system is mounted anew or the machine is restarted."""
 
 
 class Answered(Exception):
-    """The memory's answer is an error of the program that asks. `reply` has it."""
+    """The memory's reply says that the program asked for something impossible. `reply` has the reply."""
 
     def __init__(self, reply: Reply) -> None:
         self.reply = reply
@@ -149,11 +149,11 @@ class Clash(Answered):
 
 
 class NoSpace(Answered):
-    """There is no place for so long a block."""
+    """There is no place for a block of this length."""
 
 
 class BadLength(Answered):
-    """A block of no cells."""
+    """A block needs at least one cell."""
 
 
 class NoCell(Answered):
@@ -165,11 +165,11 @@ class WrongKind(Answered):
 
 
 class NoBlock(Answered):
-    """No block begins there."""
+    """No block begins at the address."""
 
 
 class StillWaiting(Answered):
-    """Somebody waits for a cell of the block, which stays as it is."""
+    """A request waits at a cell of the block. The block stays as it is."""
 
 
 class Waiting(Exception):
@@ -190,7 +190,7 @@ ERRORS: dict[Answer, type[Answered]] = {
 class Request(NamedTuple):
     """A request of an element, under a number of its own: 1, 2, 3 and so on. `address` is a block's length at an alloc.
 
-    The same request under its number again is answered as before, and acts no second time.
+    If the same request is sent again under its number, it is answered as before, and doesn't act again.
     """
 
     tag: Tag
@@ -201,7 +201,7 @@ class Request(NamedTuple):
 
 
 class Window(NamedTuple):
-    """The entries of an element are kept from `base` on; `next` is the number of its next new request."""
+    """An element's window. Its entries are kept from `base` on; `next` is the number of its next new request."""
 
     base: int
     next: int
@@ -209,13 +209,13 @@ class Window(NamedTuple):
 
 @dataclass(frozen=True)
 class Reply:
-    """What a request came to: a `value` where the answer is VALUE or BASE."""
+    """The reply to a request. It has a `value` if the answer is VALUE or BASE."""
 
     answer: Answer
     value: int = 0
 
     def get(self) -> int:
-        """The value, the base, or 0; raises `Waiting`, or the `Answered` that it is."""
+        """Returns the value, the base, or 0. Raises `Waiting`, or the subclass of `Answered` for the reply."""
         if self.answer == Answer.WAITING:
             raise Waiting()
         if self.answer in ERRORS:
@@ -224,18 +224,18 @@ class Reply:
 
 
 def refusal(number: int) -> Refused:
-    """The exception of a refusal."""
+    """Returns the exception for a refusal."""
     return REFUSALS[number]() if number in REFUSALS else Refused(number)
 
 
 def passed(number: int) -> None:
-    """Raises where the number is that of a refusal."""
+    """Raises the exception if the number is that of a refusal."""
     if number:
         raise refusal(number)
 
 
 def spelled(request: Request) -> lt_command:
-    """The request as the library takes it."""
+    """Returns the request in the library's form."""
     if not (0 <= request.element < 1 << 16 and 0 <= request.address < 1 << 32):
         raise ValueError(f"an element is below 2^16, and an address below 2^32: {request}")
     if not (0 <= request.number < 1 << 64 and 0 <= request.value < 1 << 64):
@@ -244,6 +244,6 @@ def spelled(request: Request) -> lt_command:
 
 
 def told(outcome: lt_outcome) -> Reply:
-    """The reply; raises where it was refused."""
+    """Returns the reply, or raises the refusal."""
     passed(outcome.refusal)
     return Reply(Answer(outcome.tag), outcome.value)

@@ -1,4 +1,4 @@
-"""Luntrebis for asyncio: each request is awaited, a fetch or a take until its cell is full.
+"""Luntrebis for asyncio. Each request can be awaited, a fetch or a take until its cell is full.
 
     async with await luntrebis.aio.open("a.img") as image:
         one, two = image.element(1), image.element(2)
@@ -16,7 +16,7 @@ from ._words import Reply, Request, Tag
 
 
 class Element(Requests["Awaitable[int]"]):
-    """The requests of an element: each is sent at its call, and its value, its base, or 0 is awaited."""
+    """Makes the requests of an element. Each is sent at its call; awaiting it gives its value, its base, or 0."""
 
     def __init__(self, image: Image, number: int) -> None:
         self._element = image.shared.element(number)
@@ -27,7 +27,7 @@ class Element(Requests["Awaitable[int]"]):
 
 
 class Image:
-    """An image for the tasks of an event loop, over `Shared`."""
+    """An image for the tasks of an event loop. It uses `Shared`."""
 
     def __init__(self, shared: Shared) -> None:
         self.shared = shared
@@ -39,29 +39,29 @@ class Image:
         await self.close()
 
     def ask(self, request: Request) -> Awaitable[Reply]:
-        """A request under its own number, sent at this call, and awaited until it is answered. The same one again is
+        """Sends a request under its own number at this call. Awaiting it gives the answer. The same request again is
         answered as before."""
         return asyncio.wrap_future(self.shared.submit(request))
 
     def element(self, number: int) -> Element:
-        """An element whose requests are numbered here."""
+        """Returns an element whose requests are numbered here."""
         return Element(self, number)
 
     async def close(self) -> None:
-        """Serves what was asked, and closes the image. Who still waits is cancelled."""
+        """Serves the requests that were sent, and closes the image. Those that still wait are cancelled."""
         await asyncio.to_thread(self.shared.close)
 
 
 async def create(path: Path, cells: int = 4096, elements: int = 16, slots: int = 256) -> Image:
-    """Makes the image of an empty memory, where nothing is at the path."""
+    """Makes the image of an empty memory. Raises `FileExistsError` if something is at the path."""
     return Image(await asyncio.to_thread(Shared.create, path, cells, elements, slots))
 
 
 async def open_or_create(path: Path, cells: int = 4096, elements: int = 16, slots: int = 256) -> Image:
-    """Opens the image that is there, or makes it where nothing is at the path."""
+    """Opens the image of an existing file, or makes it if nothing is at the path."""
     return Image(await asyncio.to_thread(Shared.open_or_create, path, cells, elements, slots))
 
 
 async def open(path: Path) -> Image:  # noqa: A001
-    """Opens the image of a file that is there."""
+    """Opens the image of an existing file."""
     return Image(await asyncio.to_thread(Shared.open, path))

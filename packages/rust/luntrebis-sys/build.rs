@@ -1,5 +1,5 @@
-//! Finds the library: the archive in LUNTREBIS_LIB_DIR, or in out/ of the checkout that this lies in, or the library
-//! that is installed, by pkg-config.
+//! Finds the library: the archive in LUNTREBIS_LIB_DIR, the archive in out/ of this checkout, or the installed library,
+//! by pkg-config.
 use std::env;
 use std::path::{Path, PathBuf};
 use std::process::Command;

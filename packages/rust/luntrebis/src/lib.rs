@@ -14,12 +14,12 @@
 //! # }
 //! ```
 //!
-//! [`Image`] is for one thread at a time, with requests that the caller numbers. [`Shared`] is `Send + Sync`: one thread of its
-//! own makes the calls, requests of several elements that are there at once are put on the disk together, and each
+//! [`Image`] is for one thread at a time, and the caller numbers its requests. [`Shared`] is `Send + Sync`: a thread of
+//! its own makes the calls. Requests of several elements that come together are put on the disk together, and each
 //! answer is a future. [`Memory`] has no disk.
 //!
-//! A request that is asked again under its number is answered as before, and acts no second time: a program that
-//! doesn't know how far it came asks again.
+//! A request that is sent again under its number is answered as before, and doesn't act again. So a program that
+//! doesn't know how far it came sends its requests again.
 #![warn(missing_docs, unsafe_op_in_unsafe_fn)]
 
 mod memories;

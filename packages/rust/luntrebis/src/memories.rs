@@ -14,33 +14,33 @@ use std::ptr;
 /// The sizes of an image: 1 to 1,048,576 cells, 1 to 64 elements, 16 to 4,096 slots of the journal.
 #[derive(Clone, Copy, Debug, PartialEq, Eq)]
 pub struct Limits {
-    /// How many cells.
+    /// The number of cells.
     pub cells: u32,
-    /// How many elements, numbered from 0.
+    /// The number of elements. They are numbered from 0.
     pub elements: u16,
-    /// How many commands the journal has room for.
+    /// The number of journal slots.
     pub slots: u32,
 }
 
 impl Default for Limits {
-    /// Those of `imem format`.
+    /// The default sizes of `imem format`.
     fn default() -> Limits {
         Limits { cells: 4096, elements: 16, slots: 256 }
     }
 }
 
-/// A memory with no disk: what it holds ends with it.
+/// A memory with no disk. Its contents end with it.
 #[derive(Debug)]
 pub struct Memory {
     handle: sys::lt_memory,
 }
 
-// SAFETY: a handle may go to another thread, which is proved of what it holds; a borrow of it makes no call at the same
-// time as another thread, since it isn't `Sync`.
+// SAFETY: a handle may go to another thread, which is proved of what it holds. The type isn't `Sync`, so a borrow of it
+// makes no call at the same time as another thread.
 unsafe impl Send for Memory {}
 
 impl Memory {
-    /// A memory of 1 to 1,048,576 cells and 1 to 64 elements.
+    /// Makes a memory of 1 to 1,048,576 cells and 1 to 64 elements.
     pub fn new(cells: u32, elements: u16) -> Result<Memory> {
         let mut handle = sys::lt_memory { block: ptr::null_mut() };
         // SAFETY: `handle` holds nothing, and is written for this call alone.
@@ -48,7 +48,7 @@ impl Memory {
         Ok(Memory { handle })
     }
 
-    /// One request. The same one again is answered as before.
+    /// Sends one request and returns its reply. The same request again is answered as before.
     pub fn ask(&mut self, request: &Request) -> Result<Reply> {
         told(&self.step(&spelled(request)))
     }
@@ -58,7 +58,7 @@ impl Memory {
         passed(self.step(&confirmation(element, upto)).refusal)
     }
 
-    /// What is kept under an element's number.
+    /// Returns the reply that is kept under an element's number.
     pub fn collect(&self, element: u16, number: u64) -> Result<Reply> {
         let mut outcome = sys::lt_outcome::default();
         // SAFETY: the handle is held.
@@ -81,10 +81,10 @@ impl Drop for Memory {
     }
 }
 
-/// A memory in an image file, which is this program's alone. What is answered is on the disk.
+/// A memory in an image file, which this program has for itself. Each reply is on the disk before it is returned.
 ///
-/// One thread at a time makes its calls; [`Shared`](crate::Shared) is for several. After a step that couldn't be carried
-/// out each call tells why: drop it, open it again, and ask again under the same numbers.
+/// One thread at a time makes its calls; [`Shared`](crate::Shared) is for several. After a step that couldn't be
+/// carried out, each call returns why: drop the image, open it again, and ask again under the same numbers.
 #[derive(Debug)]
 pub struct Image {
     file: *mut sys::ltf,
@@ -94,23 +94,24 @@ pub struct Image {
 unsafe impl Send for Image {}
 
 impl Image {
-    /// Makes the image of an empty memory, where nothing is at the path.
+    /// Makes the image of an empty memory at a path where nothing exists.
     ///
-    /// It is formed as `PATH.new`, and named once it is whole: a run that is stopped leaves no half of one.
+    /// It is formed as `PATH.new`, and gets its name once it is whole: a run that is stopped leaves no half image.
     pub fn create(path: impl AsRef<Path>, limits: Limits) -> Result<Image> {
         let Limits { cells, elements, slots } = limits;
         // SAFETY: the path is ended by a zero, and the place is written for this call alone.
         Image::made(path.as_ref(), |path, made| unsafe { sys::ltf_create(path, cells, elements, slots, made) })
     }
 
-    /// Opens the image of a file, and never forms one in it: one that is refused [`NoHeader`](crate::Refusal::NoHeader)
-    /// may be damaged. Where another program has it the error's kind is `WouldBlock`.
+    /// Opens the image of an existing file, and never makes one in it: a file that is refused with
+    /// [`NoHeader`](crate::Refusal::NoHeader) may be damaged. If another program has it, the error's kind is
+    /// `WouldBlock`.
     pub fn open(path: impl AsRef<Path>) -> Result<Image> {
         // SAFETY: as above.
         Image::made(path.as_ref(), |path, made| unsafe { sys::ltf_open(path, made) })
     }
 
-    /// Opens the image that is there, or makes it where nothing is at the path.
+    /// Opens the image of an existing file, or makes it if nothing is at the path.
     pub fn open_or_create(path: impl AsRef<Path>, limits: Limits) -> Result<Image> {
         let Limits { cells, elements, slots } = limits;
         // SAFETY: as above.
@@ -124,12 +125,14 @@ impl Image {
         Ok(Image { file })
     }
 
-    /// One request, as the file has it. The same one again is answered as before, and acts no second time.
+    /// Sends one request, and returns its reply once that is on the disk. The same request again is answered as before,
+    /// and doesn't act again.
     pub fn ask(&mut self, request: &Request) -> Result<Reply> {
         told(&self.serve(&spelled(request))?)
     }
 
-    /// Any requests, in their order: what each came to. Neighbours of up to sixteen elements are put on the disk together.
+    /// Sends any requests, in their order. Returns the reply or the refusal of each. Neighbours of up to sixteen
+    /// elements are put on the disk together.
     pub fn ask_all(&mut self, requests: &[Request]) -> Result<Vec<Result<Reply>>> {
         let commands: Vec<_> = requests.iter().map(spelled).collect();
         let mut outcomes = vec![sys::lt_outcome::default(); commands.len()];
@@ -139,22 +142,22 @@ impl Image {
         Ok(outcomes.iter().map(told).collect())
     }
 
-    /// Whom the last `ask` or `ask_all` resumed: the element and the number of each request that waited and is answered
-    /// now, those of one cell in the order in which they came.
+    /// Returns the requests that the last `ask` or `ask_all` resumed: they waited before, and are answered now. Each is
+    /// an element and a number. Those of one cell are in the order in which they came.
     pub fn woken(&self) -> Vec<(u16, u64)> {
         let mut count = 0;
-        // SAFETY: the handle is held; what is pointed to stays until the next request.
+        // SAFETY: the handle is held; what the call points to stays until the next request.
         let woken = unsafe { sys::ltf_woken(self.file, &mut count) };
-        // SAFETY: there are `count` of them from there on.
+        // SAFETY: `count` of them are there.
         (0..count).map(|at| unsafe { *woken.add(at) }).map(|it| (it.element, it.number)).collect()
     }
 
-    /// Drops the entries of the element below the number: their answers aren't asked for again.
+    /// Drops the entries of the element below the number. Their replies can't be asked for again.
     pub fn confirm(&mut self, element: u16, upto: u64) -> Result<()> {
         passed(self.serve(&confirmation(element, upto))?.refusal)
     }
 
-    /// What is kept under an element's number.
+    /// Returns the reply that is kept under an element's number.
     pub fn collect(&self, element: u16, number: u64) -> Result<Reply> {
         let mut outcome = sys::lt_outcome::default();
         // SAFETY: the handle is held. So it is below.
@@ -162,7 +165,7 @@ impl Image {
         told(&outcome)
     }
 
-    /// The numbers of an element that are kept; its next new request has the range's end.
+    /// Returns the numbers of an element that are kept. The range's end is the number of its next new request.
     pub fn window(&self, element: u16) -> Result<Range<u64>> {
         // SAFETY: as above.
         let window = unsafe { sys::ltf_window(self.file, element) };
@@ -170,27 +173,27 @@ impl Image {
         Ok(window.base..window.next)
     }
 
-    /// How many more commands there is room for in the journal.
+    /// Returns how many more commands there is room for in the journal.
     pub fn room(&self) -> u32 {
         // SAFETY: as above.
         unsafe { sys::ltf_room(self.file) }
     }
 
-    /// How many commands have been accepted since the image was made.
+    /// Returns how many commands have been accepted since the image was made.
     pub fn count(&self) -> u64 {
         // SAFETY: as above.
         unsafe { sys::ltf_count(self.file) }
     }
 
-    /// The sizes of the image.
+    /// Returns the sizes of the image.
     pub fn limits(&self) -> Limits {
         // SAFETY: as above.
         let sys::lt_sizes { cells, elements, slots } = unsafe { sys::ltf_limits(self.file) };
         Limits { cells, elements, slots }
     }
 
-    /// Makes room in the journal, by a sweep or a turn of a checkpoint, where less than half of it is free. Whether there
-    /// was anything to do. Each request does it, too; this is for a program that is idle.
+    /// Makes room in the journal, by a sweep or a turn of a checkpoint, if less than half of it is free. Returns
+    /// whether there was anything to do. Each request does it, too; this is for a program that is idle.
     pub fn make_room(&mut self) -> Result<bool> {
         // SAFETY: as above.
         match unsafe { sys::ltf_tidy(self.file) } {
@@ -233,7 +236,7 @@ extern "C" {
     fn flock(file: c_int, how: c_int) -> c_int;
 }
 
-/// The file, which nobody works on while it is open.
+/// Opens the file under a shared lock, which keeps others from writing it while it is open.
 fn open_to_read(path: &Path) -> io::Result<File> {
     const SHARED_AT_ONCE: c_int = 5;
     let file = File::open(path)?;
@@ -244,7 +247,7 @@ fn open_to_read(path: &Path) -> io::Result<File> {
     }
 }
 
-/// What `imem inspect` prints of a file.
+/// Returns what `imem inspect` prints for a file.
 pub fn inspect(path: impl AsRef<Path>) -> Result<String> {
     let mut bytes = Vec::new();
     open_to_read(path.as_ref())?.read_to_end(&mut bytes)?;

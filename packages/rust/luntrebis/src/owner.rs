@@ -10,7 +10,7 @@ use std::sync::mpsc::{Receiver, TryRecvError};
 /// The most members of a group.
 const MOST: usize = 16;
 
-/// What is asked of the thread.
+/// What the thread is asked to do.
 pub(crate) enum Message {
     Ask(Asked),
     Call(Box<dyn FnOnce(&mut Image) + Send>),
@@ -30,10 +30,10 @@ impl fmt::Debug for Message {
 pub(crate) struct Owner {
     image: Image,
     asked: Receiver<Message>,
-    /// The elements that ask, in the order in which they are served, and what each asks; none of the lists is empty.
+    /// The elements that ask, in the order in which they are served, and the requests of each. No list is empty.
     order: VecDeque<u16>,
     ready: HashMap<u16, VecDeque<Asked>>,
-    /// Who is told, by the element and the number of what waits.
+    /// Who waits, by the element and the number of the request.
     waiting: HashMap<(u16, u64), Vec<Teller>>,
     ends: bool,
 }
@@ -43,14 +43,14 @@ impl Owner {
         Owner { image, asked, order: VecDeque::new(), ready: HashMap::new(), waiting: HashMap::new(), ends: false }
     }
 
-    /// Serves until the end is asked for, and what was asked before it is served.
+    /// Serves until it is asked to end and all that was asked before is served.
     pub(crate) fn run(mut self) {
         while self.take_in() {
             self.serve();
         }
     }
 
-    /// Takes what was asked, and keeps a checkpoint going while nobody asks. Whether there is more to do.
+    /// Takes what was asked, and makes room while nobody asks. Returns whether there is more to do.
     fn take_in(&mut self) -> bool {
         while !self.ends {
             let rests = self.order.is_empty() && !self.make_room();
@@ -67,7 +67,7 @@ impl Owner {
         !self.order.is_empty() || !self.ends
     }
 
-    /// Makes room in the journal while nobody asks. Whether there was anything to do.
+    /// Makes room in the journal while nobody asks. Returns whether there was anything to do.
     fn make_room(&mut self) -> bool {
         self.image.make_room().unwrap_or_else(|_| {
             self.tell_lost();
@@ -109,14 +109,14 @@ impl Owner {
         }
     }
 
-    /// Tells all who wait that a step was lost: no answer comes any more.
+    /// Fails all who wait, because a step was lost: no answer comes any more.
     fn tell_lost(&mut self) {
         for (_, tellers) in self.waiting.drain() {
             tellers.iter().for_each(|it| it.tell(Err(Error::Refused(Refusal::Device))));
         }
     }
 
-    /// The first request of the first element, under its number; none where there is no such element.
+    /// Returns the first request of the first element, under its number. Returns `None` if there is no such element.
     fn take(&mut self) -> Option<Asked> {
         let element = self.order.pop_front()?;
         let list = self.ready.get_mut(&element)?;
@@ -124,7 +124,7 @@ impl Owner {
         if list.is_empty() {
             self.ready.remove(&element);
         } else {
-            self.order.push_back(element); // Behind the others.
+            self.order.push_back(element); // After the others.
         }
         if !asked.is_numbered {
             match self.image.window(element) {
@@ -138,8 +138,8 @@ impl Owner {
         Some(asked)
     }
 
-    /// Tells what a request came to, or, where it waits, keeps who is told. One that was answered while its group was
-    /// served is told at once.
+    /// Gives a request its reply. If the request waits, keeps who is to get the reply. A request that was answered
+    /// while its group was served gets its reply at once.
     fn tell(&mut self, asked: Asked, reply: Result<Reply>) {
         let Request { element, number, .. } = asked.request;
         match reply {
@@ -156,7 +156,7 @@ impl Owner {
         }
     }
 
-    /// Confirms what is answered of an element, up to the first that waits. Whether there was any.
+    /// Confirms an element's answered entries up to the first that waits. Returns whether there was any.
     fn confirm(&mut self, element: u16) -> Result<bool> {
         let window = self.image.window(element)?;
         let mut upto = window.start;
@@ -169,7 +169,7 @@ impl Owner {
         Ok(upto > window.start)
     }
 
-    /// Tells those who waited for an entry that is answered now.
+    /// Gives the reply to those who waited for an entry that is answered now.
     fn tell_resumed(&mut self, of: (u16, u64)) {
         match self.image.collect(of.0, of.1) {
             Ok(Reply::Waiting) => {}

@@ -1,4 +1,4 @@
-//! An image for any number of threads: one thread of its own makes all calls, and answers are futures.
+//! An image for any number of threads. A thread of its own makes all calls, and answers are futures.
 
 use crate::memories::{Image, Limits};
 use crate::owner::{Message, Owner};
@@ -11,12 +11,12 @@ use std::sync::{Arc, Condvar, Mutex, MutexGuard, PoisonError};
 use std::task::{Context, Poll, Waker};
 use std::thread::{self, JoinHandle};
 
-/// An image for any number of threads; a clone is the same image.
+/// An image for any number of threads. A clone is the same image.
 ///
-/// Requests of several elements that are there at once are put on the disk together. The image is closed, once what was
-/// asked is served, when the last clone and the last [`Element`] are dropped: who still waits then is told
-/// [`Error::Closed`]. After a lost step all are told [`Refusal::Device`](crate::Refusal::Device), or why the step
-/// failed: drop it, open again, and ask again under the same numbers.
+/// Requests of several elements that come together are put on the disk together. When the last clone and the last
+/// [`Element`] are dropped, what was asked is served and the image is closed. Those who still wait then get
+/// [`Error::Closed`]. After a lost step all get [`Refusal::Device`](crate::Refusal::Device), or why the step failed:
+/// drop the image, open it again, and ask again under the same numbers.
 #[derive(Clone, Debug)]
 pub struct Shared {
     inner: Arc<Inner>,
@@ -38,19 +38,19 @@ impl Drop for Inner {
 }
 
 impl Shared {
-    /// Makes the image of an empty memory, where nothing is at the path.
+    /// Makes the image of an empty memory at a path where nothing exists.
     pub fn create(path: impl AsRef<Path>, limits: Limits) -> Result<Shared> {
         let path = path.as_ref().to_owned();
         Shared::begin(move || Image::create(path, limits))
     }
 
-    /// Opens the image of a file that is there.
+    /// Opens the image of an existing file.
     pub fn open(path: impl AsRef<Path>) -> Result<Shared> {
         let path = path.as_ref().to_owned();
         Shared::begin(move || Image::open(path))
     }
 
-    /// Opens the image that is there, or makes it where nothing is at the path.
+    /// Opens the image of an existing file, or makes it if nothing is at the path.
     pub fn open_or_create(path: impl AsRef<Path>, limits: Limits) -> Result<Shared> {
         let path = path.as_ref().to_owned();
         Shared::begin(move || Image::open_or_create(path, limits))
@@ -71,12 +71,14 @@ impl Shared {
         Ok(Shared { inner: Arc::new(Inner { asked: Mutex::new(sender), thread: Some(thread) }) })
     }
 
-    /// A request under its own number, once it is answered: a fetch or a take as soon as its cell is full.
+    /// Sends a request under its own number. Its future is done once the request is answered, for a fetch or a take as
+    /// soon as its cell is full.
     pub fn submit(&self, request: Request) -> Pending {
         self.send(request, true, true)
     }
 
-    /// A request, as the file has it: [`Reply::Waiting`] is a reply. The same one again is answered as before.
+    /// Sends a request. Its future is done once the reply is on the disk; [`Reply::Waiting`] is a reply, too. The same
+    /// request again is answered as before.
     pub fn ask(&self, request: Request) -> Result<Reply> {
         self.send(request, true, false).wait()
     }
@@ -86,7 +88,7 @@ impl Shared {
         self.call(move |image| image.confirm(element, upto))?
     }
 
-    /// A call of the image that asks for nothing, made by its thread between two groups.
+    /// Makes a call of the image in its thread, between two groups.
     pub fn call<T: Send + 'static>(&self, call: impl FnOnce(&mut Image) -> T + Send + 'static) -> Result<T> {
         let (tell, told) = channel();
         let call = Box::new(move |image: &mut Image| {
@@ -96,7 +98,7 @@ impl Shared {
         told.recv().map_err(|_| Error::Closed)
     }
 
-    /// An element whose requests are numbered here, and which has no other asker.
+    /// Returns an element whose requests are numbered here. Nobody else may make requests of it.
     pub fn element(&self, number: u16) -> Element {
         Element { shared: self.clone(), number }
     }
@@ -104,15 +106,15 @@ impl Shared {
     fn send(&self, request: Request, is_numbered: bool, waits: bool) -> Pending {
         let told = Arc::new(Told::default());
         let asked = Asked { request, is_numbered, waits, teller: Teller { told: told.clone() } };
-        // Where nobody listens any more, the request is dropped, and its teller says so.
+        // If nobody listens any longer, the request is dropped, and its teller says so.
         let _sent = lock(&self.inner.asked).send(Message::Ask(asked));
         Pending { told }
     }
 }
 
-/// The requests of an element, each answered by a future of its value, its base, or 0.
+/// Makes the requests of an element. Each returns a future of its value, its base, or 0.
 ///
-/// They get the element's next numbers, and what is answered is confirmed where its window is full.
+/// Requests get the element's next numbers. When its window is full, answered entries are confirmed.
 #[derive(Clone, Debug)]
 pub struct Element {
     shared: Shared,
@@ -120,17 +122,17 @@ pub struct Element {
 }
 
 impl Element {
-    /// A block of so many I cells, to be fetched and stored: its base.
+    /// Makes a block of the given number of I cells, to be fetched and stored. Gives its base.
     pub fn alloc_i(&self, length: u32) -> Value {
         self.ask(Op::AllocI(length))
     }
 
-    /// A block of so many M cells, to be taken and put: its base.
+    /// Makes a block of the given number of M cells, to be taken and put. Gives its base.
     pub fn alloc_m(&self, length: u32) -> Value {
         self.ask(Op::AllocM(length))
     }
 
-    /// What is in an I cell, once it is stored.
+    /// Reads an I cell, once it is stored.
     pub fn fetch(&self, address: u32) -> Value {
         self.ask(Op::Fetch(address))
     }
@@ -140,7 +142,7 @@ impl Element {
         self.ask(Op::Store(address, value))
     }
 
-    /// Empties an M cell, once it is full: what was in it.
+    /// Empties an M cell, once it is full. Gives its value.
     pub fn take(&self, address: u32) -> Value {
         self.ask(Op::Take(address))
     }
@@ -165,7 +167,7 @@ impl Element {
     }
 }
 
-/// The answer to a request, once it is there: a future, or waited for.
+/// The answer to a request, which comes later. It is a future, or a thread waits for it.
 #[derive(Debug)]
 #[must_use = "it may be refused"]
 pub struct Pending {
@@ -173,7 +175,7 @@ pub struct Pending {
 }
 
 impl Pending {
-    /// Blocks the thread until it is answered.
+    /// Blocks the thread until the request is answered.
     pub fn wait(self) -> Result<Reply> {
         let mut slot = lock(&self.told.slot);
         loop {
@@ -184,7 +186,7 @@ impl Pending {
         }
     }
 
-    /// Whether it is answered.
+    /// Whether the request is answered.
     pub fn is_ready(&self) -> bool {
         lock(&self.told.slot).answer.is_some()
     }
@@ -205,18 +207,19 @@ impl Future for Pending {
     }
 }
 
-/// A value, a base, or 0, once it is there: a future, or waited for. An answer that is an error is [`Error::Answered`].
+/// A value, a base, or 0, which comes later. It is a future, or a thread waits for it. A reply that is an error gives
+/// [`Error::Answered`].
 #[derive(Debug)]
 #[must_use = "it may be refused"]
 pub struct Value(Pending);
 
 impl Value {
-    /// Blocks the thread until it is there.
+    /// Blocks the thread until the value is there.
     pub fn wait(self) -> Result<u64> {
         self.0.wait()?.value()
     }
 
-    /// Whether it is there.
+    /// Whether the value is there.
     pub fn is_ready(&self) -> bool {
         self.0.is_ready()
     }
@@ -230,7 +233,7 @@ impl Future for Value {
     }
 }
 
-/// Where an answer is left for who asked.
+/// The place where an answer is left for the one who asked.
 #[derive(Debug, Default)]
 struct Told {
     slot: Mutex<Slot>,
@@ -244,7 +247,7 @@ struct Slot {
     is_told: bool,
 }
 
-/// Tells an answer, once; where none was told, that the image is closed.
+/// Gives an answer, once. If it is dropped without one, it says that the image is closed.
 #[derive(Debug)]
 pub(crate) struct Teller {
     told: Arc<Told>,
@@ -278,12 +281,12 @@ pub(crate) struct Asked {
     pub(crate) request: Request,
     /// Whether it came with a number; else it gets the element's next one.
     pub(crate) is_numbered: bool,
-    /// Whether it is told only once it is answered.
+    /// Whether its future is done only once it is answered.
     pub(crate) waits: bool,
     pub(crate) teller: Teller,
 }
 
-/// What a mutex guards is whole between two statements: so a panic of another thread is passed over.
+/// Locks a mutex. What it guards is whole between two statements, so a panic of another thread doesn't matter.
 fn lock<T>(mutex: &Mutex<T>) -> MutexGuard<'_, T> {
     mutex.lock().unwrap_or_else(PoisonError::into_inner)
 }

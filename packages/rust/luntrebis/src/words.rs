@@ -1,19 +1,19 @@
-//! What is asked, what it comes to, and what is refused.
+//! Requests, replies and refusals.
 
 use luntrebis_sys as sys;
 use std::ffi::c_int;
 use std::{error, fmt, io, result};
 
-/// What is asked of the memory. A number of cells is a block's length; an address is that of a cell.
+/// What a request asks for. A number of cells is a block's length; an address is that of a cell.
 #[derive(Clone, Copy, Debug, PartialEq, Eq)]
 pub enum Op {
-    /// A block of so many I cells, to be fetched and stored.
+    /// Makes a block of the given number of I cells, to be fetched and stored.
     AllocI(u32),
-    /// A block of so many M cells, to be taken and put.
+    /// Makes a block of the given number of M cells, to be taken and put.
     AllocM(u32),
-    /// The block with this base is given back.
+    /// Gives the block with this base back.
     Release(u32),
-    /// What is in an I cell, once it is stored.
+    /// Reads an I cell, once it is stored.
     Fetch(u32),
     /// Writes an I cell, once.
     Store(u32, u64),
@@ -21,36 +21,36 @@ pub enum Op {
     Take(u32),
     /// Fills an empty M cell.
     Put(u32, u64),
-    /// The cells of the block with this base are emptied.
+    /// Empties the cells of the block with this base.
     Reset(u32),
 }
 
 /// A request of an element, under a number of its own: 1, 2, 3 and so on.
 #[derive(Clone, Copy, Debug, PartialEq, Eq)]
 pub struct Request {
-    /// Which element asks.
+    /// The element that asks.
     pub element: u16,
-    /// Under which number.
+    /// The number of the request.
     pub number: u64,
-    /// What.
+    /// What it asks for.
     pub op: Op,
 }
 
-/// What a request came to.
+/// The reply to a request.
 #[derive(Clone, Copy, Debug, PartialEq, Eq)]
 #[non_exhaustive]
 pub enum Reply {
-    /// Deferred: it is answered later.
+    /// The request is deferred, and answered later.
     Waiting,
     /// The base of the new block.
     Base(u32),
-    /// There is no place for so long a block.
+    /// There is no place for a block of this length.
     NoSpace,
-    /// A block of no cells.
+    /// A block needs at least one cell.
     BadLength,
-    /// What was read.
+    /// The value that was read.
     Value(u64),
-    /// Written.
+    /// The cell is written.
     Stored,
     /// The cell was full at a store or a put, now or before.
     Clash,
@@ -58,18 +58,18 @@ pub enum Reply {
     NoCell,
     /// A fetch or store at an M block, or a take or put at an I block.
     WrongKind,
-    /// The block is gone.
+    /// The block is given back.
     Released,
-    /// No block begins there.
+    /// No block begins at the address.
     NoBlock,
-    /// Somebody waits for a cell of the block, which stays as it is.
+    /// A request waits at a cell of the block. The block stays as it is.
     StillWaiting,
     /// The cells are empty.
     Cleared,
 }
 
 impl Reply {
-    /// The value, the base, or 0; [`Error::Answered`] where the reply is none that was hoped for, `Waiting` too.
+    /// Returns the value, the base, or 0. Returns [`Error::Answered`] if the reply is an error or `Waiting`.
     pub fn value(self) -> Result<u64> {
         match self {
             Reply::Value(value) => Ok(value),
@@ -97,18 +97,18 @@ pub enum Refusal {
     NoElement = sys::LT_NO_ELEMENT,
     /// A confirmation of an entry that waits.
     NotAnswered = sys::LT_NOT_ANSWERED,
-    /// The journal has no room, and none is to be made.
+    /// The journal has no room, and none can be made.
     JournalFull = sys::LT_JOURNAL_FULL,
-    /// A step was lost: the image has to be opened again, after a failed sync not before its file system is mounted
-    /// anew, or the machine restarted.
+    /// A step was lost. Open the image again; after a failed sync, not before its file system is mounted anew or the
+    /// machine is restarted.
     Device = sys::LT_DEVICE,
     /// An earlier call failed.
     Failed = sys::LT_FAILED,
     /// There wasn't enough memory.
     NoMemory = sys::LT_NO_MEMORY,
-    /// The file has no image's length.
+    /// The file doesn't have the length of an image.
     WrongLength = sys::LT_WRONG_LENGTH,
-    /// Never finished, damaged, or no image. The file is left as it is.
+    /// The image was never finished, is damaged, or is none. The file is left as it is.
     NoHeader = sys::LT_NO_HEADER,
     /// The image is damaged in a header.
     BadHeader = sys::LT_BAD_HEADER,
@@ -118,7 +118,7 @@ pub enum Refusal {
     BadRecord = sys::LT_BAD_RECORD,
     /// A number of cells, elements or slots is out of its range.
     BadLimits = sys::LT_BAD_LIMITS,
-    /// An image of the first layout: `imem migrate` makes one of this layout of it.
+    /// An image of the first layout: `imem migrate` makes one of this layout from it.
     OldVersion = sys::LT_OLD_VERSION,
     /// Requests that make no group, or an unknown number of a refusal.
     NoCall = sys::LT_NO_CALL,
@@ -150,26 +150,26 @@ impl Refusal {
     }
 }
 
-/// Why a call came to nothing.
+/// Why a call failed.
 #[derive(Debug)]
 #[non_exhaustive]
 pub enum Error {
     /// The library refused it.
     Refused(Refusal),
-    /// The memory answered, and not with what was hoped for.
+    /// The memory's reply is an error, or the request waits.
     Answered(Reply),
-    /// The file.
+    /// A call on the file failed.
     Io(io::Error),
-    /// A sync of the file failed, now or before, in this run of the machine: what was written may not be on the disk,
-    /// whatever is read now. The image isn't to be opened before its file system is mounted anew, or the machine
-    /// restarted; a note beside it, `PATH.unsynced`, keeps `imem` and each program here from doing so.
+    /// A sync of the file failed since this machine was started: what was written may not be on the disk, whatever is
+    /// read now. Don't open the image before its file system is mounted anew or the machine is restarted. A note beside
+    /// it, `PATH.unsynced`, keeps `imem` and each program over this library from opening it.
     SyncFailed(io::Error),
     /// The image was closed before the answer came. The request isn't lost: it is answered under its number after the
     /// next opening.
     Closed,
 }
 
-/// What a call came to.
+/// The result of a call.
 pub type Result<T> = result::Result<T, Error>;
 
 impl fmt::Display for Error {
@@ -198,7 +198,7 @@ impl From<io::Error> for Error {
 }
 
 impl Error {
-    /// The same once more, for another who asked.
+    /// The same error once more, for another who asked.
     pub(crate) fn again(&self) -> Error {
         match self {
             Error::Refused(it) => Error::Refused(*it),
@@ -214,7 +214,7 @@ fn copied(error: &io::Error) -> io::Error {
     error.raw_os_error().map_or_else(|| io::Error::new(error.kind(), error.to_string()), io::Error::from_raw_os_error)
 }
 
-/// An error where the answer of a call of `luntrebis_file.h` is none.
+/// Returns an error unless the number that a call of `luntrebis_file.h` returned is 0.
 pub(crate) fn answered(answer: c_int) -> Result<()> {
     if answer < 0 {
         return Err(Error::Io(io::Error::from_raw_os_error(-answer)));
@@ -225,7 +225,7 @@ pub(crate) fn answered(answer: c_int) -> Result<()> {
     }
 }
 
-/// An error where the number is that of a refusal.
+/// Returns an error if the number is that of a refusal.
 pub(crate) fn passed(number: u8) -> Result<()> {
     match number {
         sys::LT_OK => Ok(()),
@@ -233,7 +233,7 @@ pub(crate) fn passed(number: u8) -> Result<()> {
     }
 }
 
-/// The reply of an outcome.
+/// Returns the reply of an outcome.
 pub(crate) fn told(outcome: &sys::lt_outcome) -> Result<Reply> {
     passed(outcome.refusal)?;
     Ok(match outcome.tag {
@@ -253,7 +253,7 @@ pub(crate) fn told(outcome: &sys::lt_outcome) -> Result<Reply> {
     })
 }
 
-/// The request as the library takes it.
+/// Returns the request in the library's form.
 pub(crate) fn spelled(request: &Request) -> sys::lt_command {
     let (tag, address, value) = match request.op {
         Op::AllocI(length) => (sys::LT_ALLOC_I, length, 0),
@@ -268,7 +268,7 @@ pub(crate) fn spelled(request: &Request) -> sys::lt_command {
     sys::lt_command { tag, element: request.element, address, number: request.number, value }
 }
 
-/// A confirmation as the library takes it.
+/// Returns a confirmation in the library's form.
 pub(crate) fn confirmation(element: u16, upto: u64) -> sys::lt_command {
     sys::lt_command { tag: sys::LT_CONFIRM, element, address: 0, number: upto, value: 0 }
 }

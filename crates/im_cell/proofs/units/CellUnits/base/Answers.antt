@@ -1,0 +1,68 @@
+use Rattle.std.proofs.Common.{◌∙◌, ◌/◌, ap, sym, subst, length, arith}
+use Rattle.std.specs.Prelude.{IsSome}
+use Rattle.im_cell.specs.declared.unit.TheConstants.{UNIT}
+use Rattle.im_cell.specs.Slots.{slot_at}
+use Rattle.im_cell.specs.Table.{base_in}
+use Rattle.im_cell.specs.Units.{unit_at, slot_by}
+use Rattle.im_cell.proofs.Kept.{some-inside}
+use Rattle.im_cell.proofs.Seen.{length-shown, at-own, at-shown}
+use Rattle.im_cell.proofs.units.CellUnits.base.Goals as goal
+
+pub unit_of-requires : goal.unit_of-requires
+unit_of-requires c = omega (
+  arith,
+  some-inside c.args.self.now c.args.a c.requires,
+  length-shown c.self.inside.units.items c.self.inside.cells,
+  ap length c.self.view_is,
+  c.self.invariant.0,
+  ap length c.as_slice.ensures.value,
+)
+
+pub base-requires : goal.base-requires
+base-requires c = subst IsSome (ap (λ s. slot_at s c.args.a) (sym c.self.view_is)
+    ∙ at-own c.self.inside.units.items c.self.inside.cells c.args.a
+    (sym (c.in-Each.ensures ∙ ap (λ us. unit_at us (c.args.a / UNIT)) c.as_slice.ensures.value))
+    (omega (
+      arith,
+      some-inside c.args.self.now c.args.a c.requires,
+      length-shown c.self.inside.units.items c.self.inside.cells,
+      ap length c.self.view_is,
+    ))) c.requires
+
+pub returns-in-Each : goal.returns-in-Each
+returns-in-Each c = c.base.ensures
+    ∙ ap base_in (sym (at-own c.self.inside.units.items c.self.inside.cells c.args.a
+    (sym (c.in-Each.ensures ∙ ap (λ us. unit_at us (c.args.a / UNIT)) c.as_slice.ensures.value))
+    (omega (
+      arith,
+      some-inside c.args.self.now c.args.a c.requires,
+      length-shown c.self.inside.units.items c.self.inside.cells,
+      ap length c.self.view_is,
+    )))
+    ∙ ap (λ s. slot_at s c.args.a) c.self.view_is)
+
+pub returns-in-Free : goal.returns-in-Free
+returns-in-Free c =
+    ap (λ u. base_in (slot_by u (slot_at c.self.inside.cells c.args.a)))
+    (c.in-Free.ensures ∙ ap (λ us. unit_at us (c.args.a / UNIT)) c.as_slice.ensures.value)
+    ∙ ap base_in (sym (at-shown c.self.inside.units.items c.self.inside.cells c.args.a
+    (omega (
+      arith,
+      some-inside c.args.self.now c.args.a c.requires,
+      length-shown c.self.inside.units.items c.self.inside.cells,
+      ap length c.self.view_is,
+    )))
+    ∙ ap (λ s. slot_at s c.args.a) c.self.view_is)
+
+pub returns-in-Block : goal.returns-in-Block
+returns-in-Block c =
+    ap (λ u. base_in (slot_by u (slot_at c.self.inside.cells c.args.a)))
+    (c.in-Block.ensures ∙ ap (λ us. unit_at us (c.args.a / UNIT)) c.as_slice.ensures.value)
+    ∙ ap base_in (sym (at-shown c.self.inside.units.items c.self.inside.cells c.args.a
+    (omega (
+      arith,
+      some-inside c.args.self.now c.args.a c.requires,
+      length-shown c.self.inside.units.items c.self.inside.cells,
+      ap length c.self.view_is,
+    )))
+    ∙ ap (λ s. slot_at s c.args.a) c.self.view_is)
