@@ -59,7 +59,7 @@ def line(text):
 
 
 def as_it_stands(lines):
-    return [".PP", ".RS", ".nf", *map(line, textwrap.dedent("\n".join(lines)).splitlines()), ".fi", ".RE"]
+    return [".PP", ".RS 2", ".nf", *map(line, textwrap.dedent("\n".join(lines)).splitlines()), ".fi", ".RE"]
 
 
 def heading(name, section, about):
@@ -72,10 +72,25 @@ def finished(lines):
     return re.sub(r"^(\.S[HS] .*\n)\.PP\n", r"\1", "\n".join(lines) + "\n", flags=re.M)
 
 
+def indented(lines):
+    """Returns lines that begin with a space: as a list if they have two columns, else as they are."""
+    rows = [re.split(r" {2,}", it.strip(), maxsplit=1) for it in lines]
+    if sum(len(row) == 2 for row in rows) < len(rows) - len(rows) // 4:
+        return as_it_stands(lines)
+    made = []
+    for text, row in zip(lines, rows):
+        if text.startswith(" " * 12):  # Text for the row above, whose words have the line for themselves.
+            made.append(line(text.strip()))
+            continue
+        head = f"\\fB{escaped(row[0])}\\fR"
+        made += [".PP", head, ".br"] if len(row) == 1 else [".TP", head, line(row[1])]
+    return made
+
+
 def runs(part):
     """Yields the lines of a paragraph. Lines that begin with a space stay as they are; the others are filled."""
     for stands, run in itertools.groupby(part.splitlines(), lambda it: it.startswith("  ")):
-        yield from as_it_stands(run) if stands else [".PP", *map(line, run)]
+        yield from indented(list(run)) if stands else [".PP", *map(line, run)]
 
 
 def prose(text):
