@@ -1,10 +1,11 @@
 /* Runs the threads of a program one at a time, in an order that a seed gives: a library for LD_PRELOAD.
  *
  * A thread goes on until it waits, wakes, yields, begins or joins another, reads its input, writes its output or calls
- * the disk, and by half of the seeds until an instruction that changes a word for all threads. There the seed says who goes on: anyone at random, or who has the highest priority, which is lost at a few
- * places. A wait may end for no reason, as a futex's may; one that has an end ends when nobody else can go on. The client at
- * the other end of the input is idle (a line comes when nobody else can go on), busy (all is there at once) or both, and the
- * input may be one that doesn't block. The output takes a part of what is written, often. Syncs aren't made.
+ * the disk, and by half of the seeds until an instruction that changes a word for all threads. There the seed says who
+ * goes on: anyone at random, or who has the highest priority, which is lost at a few places, or at one in so many. A wait
+ * may end for no reason, as a futex's may; one that has an end ends when nobody else can go on. The client at the other
+ * end of the input is idle (a line comes when nobody else can go on), busy (all is there at once) or both, and the input
+ * may be one that doesn't block. The output takes a part of what is written, often. Syncs aren't made.
  *
  * SCHEDULE is the seed. Where they are set: SCHEDULE_RECORD, a file that gets, one after another, each write of the disk (`w`,
  * its place and length in eight bytes each, its bytes), each sync (`s`), each call of it that fails (`f`) and what is written to
@@ -55,6 +56,7 @@ static __thread int own = -1;
 
 static uint64_t dice;
 static int by_priority;
+static unsigned losses;   /* one in so many that the priority is lost; 0: at the places alone */
 static unsigned odds;     /* one in so many that another goes on */
 static unsigned spurious; /* one in so many that a wait ends for no reason; 0: none does */
 static long places[PLACES], lowest;
@@ -167,6 +169,7 @@ static void step(void) {
     if (++steps > most_steps) stop(ENDLESS, "no end");
     for (int at = 0; by_priority && at < place_count; at++)
         if (places[at] == steps) members[own].priority = --lowest;
+    if (losses && below(losses) == 0) members[own].priority = --lowest;
     if (spurious && below(spurious) == 0) {
         int who = any(waits);
         if (who >= 0) members[who].state = RUNS;
@@ -474,10 +477,13 @@ ssize_t write(int file, const void *bytes, size_t length) {
 /* What a seed says. */
 
 static void settle(long seed) {
-    static const unsigned all_odds[] = {1, 2, 4, 16, 64, 400};
+    static const unsigned all_odds[] = {1, 2, 4, 16, 64, 400}, all_losses[] = {16, 64, 128, 256};
     dice = (uint64_t)seed * 0x9e3779b97f4a7c15ull + 88172645463325252ull;
     for (int at = 0; at < 8; at++) roll();
-    by_priority = (int)below(2);
+    unsigned way = below(3);
+    by_priority = way > 0;
+    is_fine = (int)below(2);
+    losses = way == 2 ? all_losses[below(4)] * (is_fine ? 4 : 1) : 0; /* There are more steps then. */
     odds = all_odds[below(6)];
     spurious = below(4) ? 0 : 50;
     place_count = 1 + (int)below(12);
@@ -485,7 +491,6 @@ static void settle(long seed) {
     for (int at = 0; at < place_count; at++) places[at] = 1 + (long)below(span);
     client = (enum client)below(3);
     blocks = below(3) > 0;
-    is_fine = (int)below(2);
 }
 
 __attribute__((constructor)) static void load(void) {
