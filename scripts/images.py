@@ -318,7 +318,7 @@ def read_cells(data, area, limits, memory):
 def read_nodes(data, area, limits, memory, ends):
     count = limits.nodes
     need(not any(data[limits.node_at(area, count) : limits.session_at(area, 0)]), 15)
-    nodes = [NODE.unpack_from(data, limits.node_at(area, it)) for it in range(count)]
+    nodes = list(NODE.iter_unpack(data[limits.node_at(area, 0) : limits.node_at(area, count)]))
     for after, element, mark, number in nodes:
         need((after == NONE or after < count) and mark <= 1 and (mark == 1 or element == number == 0), 15)
     met = set()

@@ -1,33 +1,43 @@
-/* Runs the threads of a program one at a time, in an order that a seed chooses: a library for LD_PRELOAD.
+/* Runs the threads of a program one at a time, in an order that a seed gives: a library for LD_PRELOAD.
  *
- * A thread runs until it waits, wakes, yields, begins or joins another, reads its input, writes its output or calls the
- * disk. Then the seed chooses the next one: anyone at random, or the thread with the highest priority, which it loses
- * at a few places. A wait may end for no reason, as a futex's may. A wait with a time limit ends when nobody else can
- * continue. Input comes line by line or all at once, and may keep its reader waiting. Syncs aren't made.
+ * A thread goes on until it waits, wakes, yields, begins or joins another, reads its input, writes its output or calls
+ * the disk, and by half of the seeds until an instruction that changes a word for all threads. There the seed says who
+ * goes on: anyone at random, or who has the highest priority, which is lost at a few places, or at one in so many. A wait
+ * may end for no reason, as a futex's may; one that has an end ends when nobody else can go on. The client at the other
+ * end of the input is idle (a line comes when nobody else can go on), busy (all is there at once) or both, and the input
+ * may be one that doesn't block. The output takes a part of what is written, often. Syncs aren't made.
  *
- * SCHEDULE is the seed. The others are optional. SCHEDULE_RECORD is a file that gets each write and sync of the disk
- * (`w`, its place and length in eight bytes each, its bytes; `s`). SCHEDULE_FAULT is the number, from 0, of the call of
- * the disk that fails. SCHEDULE_FOR_GOOD makes each later one fail too. SCHEDULE_STEPS is the number of steps that are
- * too many.
+ * SCHEDULE is the seed. Where they are set: SCHEDULE_RECORD, a file that gets, one after another, each write of the disk (`w`,
+ * its place and length in eight bytes each, its bytes), each sync (`s`), each call of it that fails (`f`) and what is written to
+ * standard output (`o`, its length, its bytes); SCHEDULE_FAULT, the number from 0 of the call of the disk that fails: of a
+ * write some bytes may be written then; SCHEDULE_FOR_GOOD, that each later one fails too; SCHEDULE_STEPS, how many steps are
+ * too many; SCHEDULE_SITES, a file with the address in the program of each such instruction, in eight bytes. A trap stands in
+ * its place, behind which the instruction itself is stepped over.
  *
- * If no thread can continue, the program ends with status 99, and after too many steps with 98. Standard error says
- * where each thread is. */
+ * Where no thread can go on the program ends with status 99, and after too many steps with 98; standard error says where
+ * each thread is. */
 #define _GNU_SOURCE
 #include <dlfcn.h>
 #include <errno.h>
 #include <fcntl.h>
+#include <link.h>
 #include <linux/futex.h>
 #include <pthread.h>
+#include <signal.h>
 #include <stdarg.h>
 #include <stdint.h>
 #include <stdio.h>
 #include <stdlib.h>
+#include <sys/mman.h>
 #include <sys/syscall.h>
 #include <time.h>
+#include <ucontext.h>
 #include <unistd.h>
 
 enum { MOST = 256, PLACES = 32, STUCK = 99, ENDLESS = 98, MANY = 97, LONG_TIME = 1000000000 };
+enum { MOST_SITES = 4096, TRAP = 0xCC, STEPPING = 0x100, PATIENCE = 100, PAGE = 4096 };
 enum state { RUNS, WAITS, JOINS, ENDED };
+enum client { BOTH, IDLE, BUSY };
 
 struct member {
     enum state state;
@@ -46,6 +56,7 @@ static __thread int own = -1;
 
 static uint64_t dice;
 static int by_priority;
+static unsigned losses;   /* one in so many that the priority is lost; 0: at the places alone */
 static unsigned odds;     /* one in so many that another goes on */
 static unsigned spurious; /* one in so many that a wait ends for no reason; 0: none does */
 static long places[PLACES], lowest;
@@ -54,6 +65,9 @@ static long steps, most_steps, switches, disk_calls;
 static long fault = -1;
 static int for_good, record = -1, disk = -1; /* disk: the file that was written first */
 static int input; /* what whoever reads standard input waits for */
+static enum client client;
+static int is_fine;    /* 1: such instructions are steps too */
+static int blocks = 1; /* 0: an input that has nothing yet says so */
 
 static long bare(long which, long a, long b, long c, long d, long e, long f) {
     long result;
@@ -155,6 +169,7 @@ static void step(void) {
     if (++steps > most_steps) stop(ENDLESS, "no end");
     for (int at = 0; by_priority && at < place_count; at++)
         if (places[at] == steps) members[own].priority = --lowest;
+    if (losses && below(losses) == 0) members[own].priority = --lowest;
     if (spurious && below(spurious) == 0) {
         int who = any(waits);
         if (who >= 0) members[who].state = RUNS;
@@ -298,6 +313,70 @@ int pthread_join(pthread_t thread, void **result) {
     return join(thread, result);
 }
 
+/* Instructions that change a word for all threads. One thread runs at a time, so that a trap can be taken away for a moment. */
+
+static uint8_t *sites[MOST_SITES], firsts[MOST_SITES]; /* in order, and the byte under each trap */
+static int site_count, stepped = -1;                   /* stepped: whose instruction is stepped over */
+
+static int site_at(const uint8_t *at) {
+    int low = 0, high = site_count;
+    while (low < high) {
+        int middle = (low + high) / 2;
+        if (sites[middle] < at) low = middle + 1;
+        else high = middle;
+    }
+    return low < site_count && sites[low] == at ? low : -1;
+}
+
+static void on_trap(int signal, siginfo_t *info, void *given) {
+    static __thread int last = -1, times;
+    greg_t *registers = ((ucontext_t *)given)->uc_mcontext.gregs;
+    (void)info;
+    if (stepped >= 0) {
+        *sites[stepped] = TRAP;
+        stepped = -1;
+        registers[REG_EFL] &= ~(greg_t)STEPPING;
+        return;
+    }
+    int site = site_at((uint8_t *)registers[REG_RIP] - 1);
+    if (site < 0) { /* It is the program's own. */
+        struct sigaction other = {.sa_handler = SIG_DFL};
+        sigaction(signal, &other, NULL);
+        return;
+    }
+    times = site == last ? times + 1 : 0;
+    last = site;
+    if (by_priority && times > PATIENCE && own >= 0) members[own].priority = --lowest; /* It may wait for another one here. */
+    step();
+    registers[REG_RIP]--;
+    *sites[site] = firsts[site];
+    stepped = site;
+    registers[REG_EFL] |= STEPPING;
+}
+
+static int find_program(struct dl_phdr_info *info, size_t size, void *given) {
+    (void)size;
+    *(uintptr_t *)given = info->dlpi_addr;
+    return 1; /* The first one is the program. */
+}
+
+static void set_traps(const char *path) {
+    uintptr_t program = 0, found[MOST_SITES];
+    struct sigaction action = {.sa_sigaction = on_trap, .sa_flags = SA_SIGINFO};
+    int file = open(path, O_RDONLY | O_CLOEXEC);
+    long length = file < 0 ? 0 : bare(SYS_read, file, (long)found, sizeof found, 0, 0, 0);
+    dl_iterate_phdr(find_program, &program);
+    if (length <= 0 || sigaction(SIGTRAP, &action, NULL) != 0) return;
+    close(file);
+    for (site_count = 0; site_count < length / (long)sizeof found[0]; site_count++) {
+        uint8_t *at = (uint8_t *)(program + found[site_count]);
+        if (mprotect((void *)((uintptr_t)at & ~(uintptr_t)(PAGE - 1)), PAGE, PROT_READ | PROT_WRITE | PROT_EXEC) != 0) stop(MANY, "no trap can be set");
+        sites[site_count] = at;
+        firsts[site_count] = *at;
+        *at = TRAP;
+    }
+}
+
 /* The disk. */
 
 static void note(const void *bytes, size_t length) {
@@ -311,9 +390,23 @@ static int fails(void) {
     return fault >= 0 && (call == fault || (for_good && call > fault));
 }
 
+static long write_down(int file, const void *bytes, size_t length, off_t place) {
+    long written = bare(SYS_pwrite64, file, (long)bytes, (long)length, place, 0, 0);
+    if (written > 0) {
+        uint64_t head[2] = {(uint64_t)place, (uint64_t)written};
+        note("w", 1);
+        note(head, sizeof head);
+        note(bytes, (size_t)written);
+    }
+    return written;
+}
+
 static int synced(int file) {
     if (file != disk) return 0;
-    if (fails()) return (int)answered(-EIO);
+    if (fails()) {
+        note("f", 1);
+        return (int)answered(-EIO);
+    }
     note("s", 1);
     step();
     return 0;
@@ -324,15 +417,13 @@ int fdatasync(int file) { return synced(file); }
 
 static ssize_t put(int file, const void *bytes, size_t length, off_t place) {
     if (disk < 0) disk = file;
-    if (file == disk && fails()) return answered(-EIO);
-    long written = bare(SYS_pwrite64, file, (long)bytes, (long)length, place, 0, 0);
-    if (file != disk) return answered(written);
-    if (written > 0) {
-        uint64_t head[2] = {(uint64_t)place, (uint64_t)written};
-        note("w", 1);
-        note(head, sizeof head);
-        note(bytes, (size_t)written);
+    if (file != disk) return answered(bare(SYS_pwrite64, file, (long)bytes, (long)length, place, 0, 0));
+    if (fails()) {
+        if (length > 0) write_down(file, bytes, below((unsigned)length + 1), place);
+        note("f", 1);
+        return answered(-EIO);
     }
+    long written = write_down(file, bytes, length, place);
     step();
     return answered(written);
 }
@@ -344,7 +435,7 @@ ssize_t pwrite64(int file, const void *bytes, size_t length, off_t place) { retu
 
 /* How much of what was read is given now: a byte, the first line, or all. */
 static long given_now(const char *bytes, long length) {
-    unsigned how = below(4);
+    unsigned how = client == BUSY ? 0 : client == IDLE ? 2 : below(4);
     if (how == 0) return length;
     if (how == 1) return 1;
     for (long at = 0; at < length; at++)
@@ -355,7 +446,10 @@ static long given_now(const char *bytes, long length) {
 ssize_t read(int file, void *bytes, size_t length) {
     if (file != 0 || own < 0) return answered(bare(SYS_read, file, (long)bytes, (long)length, 0, 0, 0));
     step();
-    if (below(3) == 0) wait_at(&input, 1);
+    if (client == IDLE || (client == BOTH && below(3) == 0)) {
+        if (!blocks && below(2)) return answered(-EAGAIN);
+        wait_at(&input, 1);
+    }
     long found = bare(SYS_read, file, (long)bytes, (long)length, 0, 0, 0);
     if (found > 0) {
         long now = given_now(bytes, found);
@@ -366,26 +460,41 @@ ssize_t read(int file, void *bytes, size_t length) {
 }
 
 ssize_t write(int file, const void *bytes, size_t length) {
-    if (file == 1) step();
-    return answered(bare(SYS_write, file, (long)bytes, (long)length, 0, 0, 0));
+    if (file != 1 || own < 0) return answered(bare(SYS_write, file, (long)bytes, (long)length, 0, 0, 0));
+    step();
+    if (length > 1 && below(4) == 0) length = 1 + below((unsigned)length);
+    long written = bare(SYS_write, file, (long)bytes, (long)length, 0, 0, 0);
+    if (written > 0) {
+        uint64_t head = (uint64_t)written;
+        note("o", 1);
+        note(&head, sizeof head);
+        note(bytes, (size_t)written);
+    }
+    step();
+    return answered(written);
 }
 
 /* What a seed says. */
 
 static void settle(long seed) {
-    static const unsigned all_odds[] = {1, 2, 4, 16, 64, 400};
+    static const unsigned all_odds[] = {1, 2, 4, 16, 64, 400}, all_losses[] = {16, 64, 128, 256};
     dice = (uint64_t)seed * 0x9e3779b97f4a7c15ull + 88172645463325252ull;
     for (int at = 0; at < 8; at++) roll();
-    by_priority = (int)below(2);
+    unsigned way = below(3);
+    by_priority = way > 0;
+    is_fine = (int)below(2);
+    losses = way == 2 ? all_losses[below(4)] * (is_fine ? 4 : 1) : 0; /* There are more steps then. */
     odds = all_odds[below(6)];
     spurious = below(4) ? 0 : 50;
     place_count = 1 + (int)below(12);
     unsigned span = 1u << (8 + below(9));
     for (int at = 0; at < place_count; at++) places[at] = 1 + (long)below(span);
+    client = (enum client)below(3);
+    blocks = below(3) > 0;
 }
 
 __attribute__((constructor)) static void load(void) {
-    const char *path = getenv("SCHEDULE_RECORD");
+    const char *path = getenv("SCHEDULE_RECORD"), *finely = getenv("SCHEDULE_SITES");
     long seed = number_of("SCHEDULE", -1);
     if (seed < 0) return;
     settle(seed);
@@ -395,5 +504,6 @@ __attribute__((constructor)) static void load(void) {
     if (path) record = open(path, O_WRONLY | O_CREAT | O_TRUNC | O_CLOEXEC, 0600);
     join_in();
     members[0].thread = pthread_self();
+    if (finely && is_fine) set_traps(finely);
     own = 0;
 }
