@@ -2,6 +2,7 @@
 use Rattle.std.proofs.Common.{Bool, ◌≡◌, ◌∙◌, eq-eqb, ◌++◌, ◌==◌, true, false, All, ℕ, ◌+◌, ◌<◌, ◌≤◌, List, [], ◌∷◌}
 use Rattle.std.proofs.Common.{arith, refl, sym, ap, subst, length, take, drop, get_or, inl, inr}
 use Rattle.std.specs.Prelude.{◌⊎◌, Option, Some, None, Result, Ok, Err, IfErr, IfSome, IsSome}
+use Rattle.std.specs.List.{slice_split}
 use Rattle.std.specs.Option.{option_map, option_and_then}
 use Rattle.std.proofs.lemmas.List.{take_more, take_all, take-append-drop, length-take-le, drop_more}
 use Rattle.std.proofs.lemmas.List.Splits.{slice_split_at}
@@ -162,20 +163,21 @@ module _ (g : Bool) where
   passes_bad text (Ok script) few size h = h
   passes_bad text (Err fault) few size h = told_bad text fault few size h
 
--- a line ends at the first line feed
-pub line_ends : (text : List ℕ) (i : ℕ) → i < length text → get_or text i 0 ≡ 10
-    → All (λ byte. (byte == 10) ≡ false) (take i text) → lines_of text ≡ take i text ∷ lines_of (drop (i + 1) text)
-line_ends text i inside is none =
-    ap lines_of (sym (take-append-drop i text)
+-- a part ends at the first byte that is `end`
+pub part_ends : (end : ℕ) (text : List ℕ) (i : ℕ) → i < length text → get_or text i 0 ≡ end
+    → All (λ byte. (byte == end) ≡ false) (take i text)
+    → slice_split (λ byte. byte == end) text ≡ take i text ∷ slice_split (λ byte. byte == end) (drop (i + 1) text)
+part_ends end text i inside is none =
+    ap (slice_split (λ byte. byte == end)) (sym (take-append-drop i text)
     ∙ ap (λ (rest : List ℕ). take i text ++ rest) (drop_more text i 0 inside))
-    ∙ slice_split_at (λ byte. byte == 10) (take i text) (get_or text i 0) (drop (i + 1) text) none
-    (eq-eqb (get_or text i 0) 10 is)
+    ∙ slice_split_at (λ byte. byte == end) (take i text) (get_or text i 0) (drop (i + 1) text) none
+    (eq-eqb (get_or text i 0) end is)
 
--- one byte more that ends no line
-pub no_end : (text : List ℕ) (i : ℕ) → i < length text → (get_or text i 0 ≡ 10 → ⊥)
-    → All (λ byte. (byte == 10) ≡ false) (take i text) → All (λ byte. (byte == 10) ≡ false) (take (i + 1) text)
-no_end text i inside other none =
-    subst (All (λ byte. (byte == 10) ≡ false)) (sym (take_more text i 0 inside))
-    (All-append (λ byte. (byte == 10) ≡ false) (take i text) (get_or text i 0 ∷ []) none
-    (All-cons (λ byte. (byte == 10) ≡ false) (get_or text i 0) [] (ne_eqb (get_or text i 0) 10 other)
-    (All-nil (λ byte. (byte == 10) ≡ false))))
+-- one byte more that ends no part
+pub no_end : (end : ℕ) (text : List ℕ) (i : ℕ) → i < length text → (get_or text i 0 ≡ end → ⊥)
+    → All (λ byte. (byte == end) ≡ false) (take i text) → All (λ byte. (byte == end) ≡ false) (take (i + 1) text)
+no_end end text i inside other none =
+    subst (All (λ byte. (byte == end) ≡ false)) (sym (take_more text i 0 inside))
+    (All-append (λ byte. (byte == end) ≡ false) (take i text) (get_or text i 0 ∷ []) none
+    (All-cons (λ byte. (byte == end) ≡ false) (get_or text i 0) [] (ne_eqb (get_or text i 0) end other)
+    (All-nil (λ byte. (byte == end) ≡ false))))

@@ -3,3 +3,4 @@ pub mod Grammar
 pub mod Lines
 pub mod Script
 pub mod Faults
+pub mod Words

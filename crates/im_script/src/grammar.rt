@@ -1,15 +1,17 @@
 //! Splits a line into words, and reads single words.
-ghost use Rattle.std.specs.Prelude.{◌≡◌, ◌==◌, ◌≤◌, IfOk, codes, drop, is_some, length};
+ghost use Rattle.std.specs.Prelude.{◌≡◌, ◌==◌, ◌≤◌, ◌<◌, ◌++◌, ℕ, List, [], IfOk, IfSome, MatchOption, false, true, codes, drop, is_some, length, take};
 ghost use Rattle.std.specs.List.{before_first, list_all, list_any, position, position_or_len};
 ghost use Rattle.std.specs.Char.{is_ascii};
-ghost use Rattle.std.specs.Option.{option_and_then, option_map};
+ghost use Rattle.std.specs.Option.{option_and_then, option_map, option_map_or};
 ghost use Rattle.std.specs.Str.{bytes_eq};
 ghost use Rattle.im_script.specs.Grammar.{digit_after, is_line, is_name, is_name_byte, kind_of, number_up_to};
-ghost use Rattle.im_script.specs.Grammar.{offset_of};
+ghost use Rattle.im_script.specs.Grammar.{is_short, offset_of};
 ghost use Rattle.im_script.specs.Grammar.{place_of, place_past, texts, words_of};
+ghost use Rattle.im_script.specs.Words.{words_past};
 
 use crate::places::Place;
 use crate::{MAX_LINE, MAX_NAME, MAX_OFFSET};
+use arrayvec::ArrayVec;
 use im_types::Kind;
 use indexmap::IndexSet;
 use std::alloc::{AllocError, Global};
@@ -21,6 +23,61 @@ pub fn split_words<'a>(alloc: Global, line: &'a [u8]) -> Result<Vec<&'a [u8]>, A
     line.split(|byte| *byte == b' ')
         .filter(|word| !word.is_empty())
         .collect(alloc)
+}
+
+/// The most words of a line that are kept. No line of the grammar has as many, except a remark.
+pub const MOST_WORDS: usize = 5;
+
+/// The first words of a line.
+pub type Words<'a> = ArrayVec<&'a [u8], MOST_WORDS>;
+
+/// Cuts a line at its first space. Returns what comes before it, and the rest of the line after it, or `None` for the
+/// latter if the line has no space. Returns `None` for both if a byte up to there isn't ASCII.
+fn cut_word(line: &[u8]) -> Option<(&[u8], Option<&[u8]>)>
+    ensures plain { MatchOption result (list_all is_ascii line.now ≡ false)
+        (λ cut. list_all is_ascii line.now ≡ option_map_or (λ rest. list_all is_ascii rest.now) cut.1 true) }
+    ensures words { IfSome result (λ cut. words_of line.now
+        ≡ words_past cut.0.now (option_map_or (λ rest. words_of rest.now) cut.1 [])) }
+    ensures smaller { IfSome result (λ cut. IfSome cut.1 (λ rest. length rest.now < length line.now)) }
+{
+    for (at, byte) in line.iter().enumerate() {
+        if *byte == b' ' {
+            return Some((&line[..at], Some(&line[at + 1..])));
+        }
+        if !byte.is_ascii() {
+            return None;
+        }
+    }
+    Some((line, None))
+}
+
+/// Keeps a part of a line among its first words, if it isn't empty and there is room.
+fn keep_word<'a>(words: &mut Words<'a>, part: &'a [u8])
+    ensures { (more : List (List ℕ)) → take 5 (texts words.new.items ++ more)
+        ≡ take 5 (texts words.old.items ++ words_past part.entry.now more) }
+{
+    if part.is_empty() {
+        return;
+    }
+    if words.is_full() {
+        return;
+    }
+    words.push(part);
+}
+
+/// Returns the first five words of a line, or all if it has fewer. Returns `None` if a byte of the line isn't ASCII.
+pub fn first_words<'a>(line: &'a [u8]) -> Option<Words<'a>>
+    ensures plain { is_some result ≡ list_all is_ascii line.entry.now }
+    ensures words { IfSome result (λ words. take 5 (texts words.items) ≡ take 5 (words_of line.entry.now)) }
+{
+    let mut words = ArrayVec::new();
+    let mut rest = Some(line);
+    while let Some(text) = rest {
+        let (part, behind) = cut_word(text)?;
+        keep_word(&mut words, part);
+        rest = behind;
+    }
+    Some(words)
 }
 
 /// Appends a decimal digit to a number. Returns `None` if the byte is no digit or the result doesn't fit in a u64.
@@ -58,13 +115,28 @@ pub fn read_u32(text: &[u8]) -> Option<u32>
     }
 }
 
+/// Whether a word is this one.
+pub fn is_word(word: &[u8], this: &[u8]) -> bool
+    ensures { result ≡ bytes_eq word.now this.now }
+{
+    if word.len() != this.len() {
+        return false;
+    }
+    for (at, byte) in word.iter().enumerate() {
+        if *byte != this[at] {
+            return false;
+        }
+    }
+    true
+}
+
 /// Returns the kind that a word names.
 pub fn read_kind(word: &[u8]) -> Option<Kind>
     ensures { result ≡ kind_of word.now }
 {
-    if word == b"i".as_slice() {
+    if is_word(word, b"i") {
         Some(Kind::I)
-    } else if word == b"m".as_slice() {
+    } else if is_word(word, b"m") {
         Some(Kind::M)
     } else {
         None
@@ -85,11 +157,18 @@ pub fn is_plain(text: &[u8]) -> bool
     text.iter().all(|byte| byte.is_ascii())
 }
 
+/// Whether a line isn't too long: it has at most 4,096 bytes.
+pub fn is_short(line: &[u8]) -> bool
+    ensures { result ≡ is_short line.now }
+{
+    line.len() <= MAX_LINE
+}
+
 /// Whether a line may be read: it has at most 4,096 bytes, all of them ASCII.
 pub fn is_line(line: &[u8]) -> bool
     ensures { result ≡ is_line line.now }
 {
-    line.len() <= MAX_LINE && is_plain(line)
+    is_short(line) && is_plain(line)
 }
 
 /// Whether a name may contain each byte of a word.

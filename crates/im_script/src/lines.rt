@@ -7,7 +7,7 @@ ghost use Rattle.im_script.specs.Grammar.{texts};
 ghost use Rattle.im_script.specs.Lines.{action_of, action_past, block_of, glanced, named_block, part_number};
 ghost use Rattle.im_script.specs.Lines.{plain_action, starts_setup, valued_action};
 
-use crate::grammar::{can_name, find_name, read_kind, read_number, read_place, read_u32};
+use crate::grammar::{can_name, find_name, is_word, read_kind, read_number, read_place, read_u32};
 use crate::places::{Action, Place};
 use crate::script::Allocation;
 use indexmap::IndexSet;
@@ -26,13 +26,13 @@ fn read_block(kind: &[u8], length: &[u8]) -> Option<Allocation>
 fn read_plain(word: &[u8], place: Place) -> Option<Action>
     ensures { result ≡ plain_action word.now place }
 {
-    if word == b"fetch".as_slice() {
+    if is_word(word, b"fetch") {
         Some(Action::Fetch(place))
-    } else if word == b"take".as_slice() {
+    } else if is_word(word, b"take") {
         Some(Action::Take(place))
-    } else if word == b"release".as_slice() {
+    } else if is_word(word, b"release") {
         Some(Action::Release(place))
-    } else if word == b"reset".as_slice() {
+    } else if is_word(word, b"reset") {
         Some(Action::Reset(place))
     } else {
         None
@@ -43,9 +43,9 @@ fn read_plain(word: &[u8], place: Place) -> Option<Action>
 fn read_valued(word: &[u8], place: Place, value: u64) -> Option<Action>
     ensures { result ≡ valued_action word.now place value }
 {
-    if word == b"store".as_slice() {
+    if is_word(word, b"store") {
         Some(Action::Store(place, value))
-    } else if word == b"put".as_slice() {
+    } else if is_word(word, b"put") {
         Some(Action::Put(place, value))
     } else {
         None
@@ -56,7 +56,7 @@ fn read_valued(word: &[u8], place: Place, value: u64) -> Option<Action>
 fn read_long(names: &IndexSet<&[u8]>, word: &[u8], first: &[u8], second: &[u8]) -> Option<Action>
     ensures { result ≡ action_past (texts names.now.keys) word.now first.now second.now }
 {
-    if word == b"alloc".as_slice() {
+    if is_word(word, b"alloc") {
         let block = read_block(first, second)?;
         return Some(Action::Alloc(block.kind, block.length));
     }
@@ -81,7 +81,7 @@ pub fn read_glance(names: &IndexSet<&[u8]>, words: &[&[u8]]) -> Option<Place>
 {
     match words {
         [word, place] => {
-            if *word == b"glance".as_slice() {
+            if is_word(word, b"glance") {
                 read_place(names, place)
             } else {
                 None
@@ -103,7 +103,7 @@ pub fn read_named_block<'a>(
 {
     match words {
         [word, name, kind, length] => {
-            if *word != b"alloc".as_slice() || !can_name(name) || find_name(names, name).is_some() {
+            if !is_word(word, b"alloc") || !can_name(name) || find_name(names, name).is_some() {
                 return None;
             }
             Some((*name, read_block(kind, length)?))
@@ -118,7 +118,7 @@ pub fn read_part<'a>(words: &[&'a [u8]]) -> Option<&'a [u8]>
 {
     match words {
         [word, number] => {
-            if *word == b"element".as_slice() {
+            if is_word(word, b"element") {
                 Some(*number)
             } else {
                 None
@@ -133,7 +133,7 @@ pub fn is_setup(words: &[&[u8]]) -> bool
     ensures { result ≡ starts_setup (texts words.now) }
 {
     match words {
-        [word] => *word == b"setup".as_slice(),
+        [word] => is_word(word, b"setup"),
         _ => false,
     }
 }

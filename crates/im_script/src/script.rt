@@ -10,7 +10,7 @@ ghost use Rattle.im_script.specs.Script.{is_few, lines_of, script_of};
 
 use crate::explaining::explain;
 use crate::faults::{LineFault, ScriptFault};
-use crate::grammar::{is_line, read_number, split_words};
+use crate::grammar::{first_words, is_short, read_number, split_words};
 use crate::lines::{is_setup, read_action, read_glance, read_named_block, read_part};
 use crate::places::{Action, Place};
 use crate::{MAX_LINE, MAX_SCRIPT};
@@ -191,13 +191,15 @@ impl<'a> Reader<'a> {
     }
 
     /// Reads a line.
-    fn read_line(&mut self, alloc: Global, line: &'a [u8]) -> Result<Said, Refusal>
+    fn read_line(&mut self, line: &'a [u8]) -> Result<Said, Refusal>
         ensures { Follows result (counted (draft_of self.old) line.entry.now) (draft_of self.new) }
     {
-        if !is_line(line) {
+        if !is_short(line) {
             return Err(Refusal::BadScript);
         }
-        let words = split_words(alloc, line).map_err(|_| Refusal::NoMemory)?;
+        let Some(words) = first_words(line) else {
+            return Err(Refusal::BadScript);
+        };
         self.take_words(words.as_slice())
     }
 
@@ -238,7 +240,7 @@ impl<'a> Reader<'a> {
         ensures long { IfErr result (λ fault. IfSome (line_of fault)
             (λ _. tells_length fault ≡ not (is_short line.entry.now))) }
     {
-        match self.read_line(alloc, line) {
+        match self.read_line(line) {
             Ok(said) => Ok(said),
             Err(Refusal::BadScript) => Err(self.fault(alloc, number, line, false)),
             Err(_) => Err(ScriptFault::NoMemory),
@@ -259,11 +261,11 @@ impl<'a> Reader<'a> {
     }
 
     /// Reads a line of a script without glances.
-    fn hear_said(&mut self, alloc: Global, line: &'a [u8]) -> Result<Heard, Refusal>
+    fn hear_said(&mut self, line: &'a [u8]) -> Result<Heard, Refusal>
         ensures { Hears result (option_map (λ r. (r.0, Says r.1)) (counted (draft_of self.old) line.entry.now))
             (draft_of self.new) }
     {
-        match self.read_line(alloc, line) {
+        match self.read_line(line) {
             Ok(said) => Ok(Heard::Says(said)),
             Err(refusal) => Err(refusal),
         }
@@ -283,24 +285,26 @@ impl<'a> Reader<'a> {
     }
 
     /// Reads a line in a script that may have glances.
-    fn hear_any(&mut self, alloc: Global, line: &'a [u8]) -> Result<Heard, Refusal>
+    fn hear_any(&mut self, line: &'a [u8]) -> Result<Heard, Refusal>
         ensures { Hears result (heard true (draft_of self.old) line.entry.now) (draft_of self.new) }
     {
-        if !is_line(line) {
+        if !is_short(line) {
             return Err(Refusal::BadScript);
         }
-        let words = split_words(alloc, line).map_err(|_| Refusal::NoMemory)?;
+        let Some(words) = first_words(line) else {
+            return Err(Refusal::BadScript);
+        };
         self.hear_words(words.as_slice())
     }
 
     /// Reads a line. `glances` says whether the script may have glances.
-    fn hear_line(&mut self, alloc: Global, line: &'a [u8], glances: bool) -> Result<Heard, Refusal>
+    fn hear_line(&mut self, line: &'a [u8], glances: bool) -> Result<Heard, Refusal>
         ensures { Hears result (heard glances (draft_of self.old) line.entry.now) (draft_of self.new) }
     {
         if glances {
-            self.hear_any(alloc, line)
+            self.hear_any(line)
         } else {
-            self.hear_said(alloc, line)
+            self.hear_said(line)
         }
     }
 
@@ -320,7 +324,7 @@ impl<'a> Reader<'a> {
         ensures long { IfErr result (λ fault. IfSome (line_of fault)
             (λ _. tells_length fault ≡ not (is_short line.entry.now))) }
     {
-        match self.hear_line(alloc, line, glances) {
+        match self.hear_line(line, glances) {
             Ok(said) => Ok(said),
             Err(Refusal::BadScript) => Err(self.fault(alloc, number, line, glances)),
             Err(_) => Err(ScriptFault::NoMemory),
