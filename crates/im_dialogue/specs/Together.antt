@@ -1,7 +1,6 @@
 -- Lines that are served as one group. (Own.)
 use Rattle.std.specs.Prelude.{◌≡◌, ℕ, List, [], ◌∷◌, ◌++◌, Some, Result, Ok, Err}
-use Rattle.im_types.specs.declared.commands.Request.{Request}
-use Rattle.im_types.specs.declared.commands.Command.TheVariants.{Request as Asks}
+use Rattle.im_types.specs.declared.commands.Command.{Command}
 use Rattle.im_types.specs.declared.commands.Outcome.{Outcome}
 use Rattle.im_types.specs.declared.groups.Served.{Served}
 use Rattle.im_types.specs.declared.groups.Served.TheVariants as served
@@ -12,10 +11,10 @@ use Rattle.im_dialogue.specs.declared.answers.Answer.TheVariants as answer
 use Rattle.im_dialogue.specs.Asking.{asked_of}
 use Rattle.im_dialogue.specs.Answers.{answer_text}
 
--- a line asks for each of the requests
-abbrev pub AreAsked : List Request → Type 0
+-- a line asks for each of the commands
+abbrev pub AreAsked : List Command → Type 0
 AreAsked [] = Unit {0}
-AreAsked (r ∷ rs) = ((line : List ℕ) × (asked_of line ≡ Some (asks.Serve (Asks r)))) × AreAsked rs
+AreAsked (c ∷ cs) = ((line : List ℕ) × (asked_of line ≡ Some (asks.Serve c))) × AreAsked cs
 
 -- what a member of a group was answered
 abbrev pub result_of : Served → Result Outcome Refusal
@@ -24,7 +23,7 @@ result_of (served.Refused refusal) = Err refusal
 result_of served.Unserved = Err NoMemory
 
 -- the lines of the members' answers, one below the other
-abbrev pub AreLinesOf : List Request → List Served → List ℕ → Type 0
+abbrev pub AreLinesOf : List Command → List Served → List ℕ → Type 0
 AreLinesOf [] answers text = text ≡ []
-AreLinesOf (r ∷ rs) [] text = ⊥
-AreLinesOf (r ∷ rs) (a ∷ answers) text = (name rest : List ℕ) × (text ≡ answer_text name (answer.Served (Asks r) (result_of a)) ++ rest) × AreLinesOf rs answers rest
+AreLinesOf (c ∷ cs) [] text = ⊥
+AreLinesOf (c ∷ cs) (a ∷ answers) text = (name rest : List ℕ) × (text ≡ answer_text name (answer.Served c (result_of a)) ++ rest) × AreLinesOf cs answers rest

@@ -8,7 +8,6 @@ use Rattle.im_types.specs.declared.operations.Entry.TheVariants.{Answered}
 use Rattle.im_types.specs.declared.operations.Waiter.{Waiter}
 use Rattle.im_types.specs.declared.commands.Command.{Command}
 use Rattle.im_types.specs.declared.commands.Command.TheVariants.{Request as Asks, Confirm}
-use Rattle.im_types.specs.declared.commands.Request.{Request}
 use Rattle.im_types.specs.Contents.{Contents, Held}
 use Rattle.im_types.specs.Act.{act, same_kind}
 use Rattle.im_types.specs.Step.{asker, is_accepted}
@@ -43,10 +42,15 @@ is_quiet (Store a v) = false
 is_quiet (Put a v) = false
 is_quiet op = true
 
--- each of the requests is of such an operation
-abbrev pub AreQuiet : List Request → Type 0
+-- no request that waits is answered by such a command
+abbrev pub answers_nobody : Command → Bool
+answers_nobody (Asks r) = is_quiet r.op
+answers_nobody (Confirm element upto) = true
+
+-- no request that waits is answered by one of these commands
+abbrev pub AreQuiet : List Command → Type 0
 AreQuiet [] = Unit {0}
-AreQuiet (r ∷ rs) = (is_quiet r.op ≡ true) × AreQuiet rs
+AreQuiet (c ∷ cs) = (answers_nobody c ≡ true) × AreQuiet cs
 
 -- ---- as it is made
 

@@ -12,7 +12,7 @@ use crate::explaining::explain;
 use crate::lines::next_line;
 use crate::resting::half_of;
 use crate::talk::{answer, make_room, turn_while_quiet, wrong};
-use crate::together::{gather, serve_members};
+use crate::together::{end_of, gather, serve_members};
 use crate::watching::{make_nows, told_with};
 use arrayvec::ArrayVec;
 use im_damage::Damage;
@@ -21,7 +21,6 @@ use im_engine::Engine;
 use im_listening::Ear;
 use im_script::LineFault;
 use im_text::{Reason, put_through};
-use im_types::{MAX_GROUP, Request};
 use std::alloc::{AllocError, Global};
 use std::io::{BufRead, Write};
 
@@ -185,8 +184,8 @@ fn serve_line<D: Disk, W: Write>(
     }
 }
 
-// Serves the lines that stand together in the reader's buffer as one group, if there are two or more and room for their
-// commands. Returns how many it served, or 0.
+// Serves the first lines that stand together in the reader's buffer as one group, if there are two or more and room for
+// their commands. Returns how many it served, or 0. The others stay in the buffer.
 fn serve_together<D: Disk, R: BufRead, W: Write>(
     alloc: Global,
     engine: &mut Engine<D>,
@@ -201,11 +200,11 @@ fn serve_together<D: Disk, R: BufRead, W: Write>(
         (λ _. TalkEnds setting.watch D.now D.past D.honest
         engine.old (W.contents out.old) engine.new (W.contents out.new)) }
 {
-    let mut members: ArrayVec<Request, 16> = ArrayVec::new();
-    let taken = match gather(alloc, input, setting.watch, MAX_GROUP, &mut members) {
-        Ok(taken) => taken,
-        Err(reason) => return Err(reason),
-    };
+    let mut members = ArrayVec::new();
+    let mut ends = ArrayVec::new();
+    if let Err(reason) = gather(alloc, input, setting.watch, &mut members, &mut ends) {
+        return Err(reason);
+    }
     let many = members.len() as u32;
     if many < 2 {
         return Ok(0);
@@ -216,9 +215,11 @@ fn serve_together<D: Disk, R: BufRead, W: Write>(
     if engine.room() < many {
         return Ok(0); // Each by itself is given what room turns can make.
     }
-    input.consume(taken);
     match serve_members(alloc, engine, setting.watch, &members, text, out) {
-        Ok(()) => Ok(many as u64),
+        Ok(served) => {
+            input.consume(end_of(ends.as_slice(), served));
+            Ok(served as u64)
+        }
         Err(reason) => Err(reason),
     }
 }
@@ -314,9 +315,11 @@ fn serve_rested<D: Disk, R: BufRead + Ear, W: Write>(
 /// A line that isn't in the grammar is answered by where it goes wrong, and changes nothing. A line of more than 4,096
 /// bytes is such a line, and no more of it is kept. An end of the input without a line feed before it is no line.
 ///
-/// Up to 16 requests of different elements are served as one group, if their lines follow each other in the reader's
-/// buffer. Their answers are written together, and are those that the lines would have by themselves. No line waits for
-/// another. All other lines are answered before the next one is read.
+/// Up to 16 requests and confirmations are served as one group, if their lines follow each other in the reader's buffer.
+/// Their answers are written together, and are those that the lines would have by themselves. A group ends before a
+/// confirmation that would drop an entry of which it isn't known, before the group acts, that it is answered: one that
+/// waits, or that a fetch or a take of the group makes. No line waits for another. All other lines are answered before
+/// the next one is read.
 ///
 /// The reader tells whether something is there to be read. While nothing is, turns of a checkpoint are taken if there
 /// is room for less than half as many commands as the journal has slots.

@@ -1,27 +1,24 @@
 //! Lines that stand together in the reader's buffer are served as one group.
-ghost use Rattle.std.specs.Prelude.{◌≡◌, ◌↔◌, ◌+◌, ◌<◌, ◌≤◌, [], length, true, IfOk, IfSome, IsTrue, MatchResult, OnOk, Some, List, ℕ, string_bytes, ◌++◌};
-ghost use Rattle.im_types.specs.declared.commands.Command.TheVariants.{Request as Asks};
-ghost use Rattle.im_types.specs.Groups.{AreApart, AreOthers};
+ghost use Rattle.std.specs.Prelude.{◌≡◌, ◌+◌, ◌<◌, ◌≤◌, length, take, true, IfSome, MatchResult, OnOk, Some, List, ℕ, string_bytes, ◌++◌};
 ghost use Rattle.im_dialogue.specs.declared.asking.Asked.TheVariants.{Serve};
 ghost use Rattle.im_dialogue.specs.declared.answers.Answer.TheVariants.{Served as ServedAs};
 ghost use Rattle.im_dialogue.specs.Answers.{answer_text};
 ghost use Rattle.im_dialogue.specs.Asking.{asked_of};
 ghost use Rattle.im_dialogue.specs.Talk.{TalkEnds, TalksOn};
 ghost use Rattle.im_dialogue.specs.Together.{AreAsked, AreLinesOf, result_of};
-ghost use Rattle.im_dialogue.specs.Watching.{AreQuiet, is_quiet};
+ghost use Rattle.im_dialogue.specs.Watching.{AreQuiet, answers_nobody};
 
 use crate::answers::{Answer, add_answer};
 use crate::asking::{Asked, read_asked};
 use crate::lines::unread;
 use crate::serving::name_of;
-use crate::talk::make_room;
-use crate::watching::is_quiet;
+use crate::watching::answers_nobody;
 use arrayvec::ArrayVec;
 use im_damage::Damage;
 use im_disk::Disk;
 use im_engine::Engine;
 use im_text::{Reason, put_through};
-use im_types::{Command, Outcome, Refusal, Request, Served};
+use im_types::{Command, Outcome, Refusal, Served};
 use std::alloc::{AllocError, Global};
 use std::io::{BufRead, ErrorKind, Write};
 
@@ -40,82 +37,64 @@ fn split_line(text: &[u8]) -> Option<(&[u8], &[u8])>
     None
 }
 
-// Returns whether none of the requests is this element's.
-fn are_others(element: u16, members: &[Request]) -> bool
-    ensures { IsTrue result ↔ AreOthers element members.now }
-{
-    for member in members {
-        if member.element == element {
-            return false;
-        }
-    }
-    true
-}
-
-// Returns the request that a line asks for, if it may be served with others. If the dialogue is watched, a request that
+// Returns the command that a line asks for, if it may be served with others. If the dialogue is watched, a request that
 // may answer waiting ones may not.
-fn member_of(asked: Option<Asked>, watch: bool) -> Option<Request>
-    ensures asked { IfSome result (λ r. asked ≡ Some (Serve (Asks r))) }
-    ensures quiet { IfSome result (λ r. watch ≡ true → is_quiet r.op ≡ true) }
+fn member_of(asked: Option<Asked>, watch: bool) -> Option<Command>
+    ensures asked { IfSome result (λ command. asked ≡ Some (Serve command)) }
+    ensures quiet { IfSome result (λ command. watch ≡ true → answers_nobody command ≡ true) }
 {
     match asked {
-        Some(Asked::Serve(Command::Request(request))) => {
-            if watch && !is_quiet(request.op) {
+        Some(Asked::Serve(command)) => {
+            if watch && !answers_nobody(command) {
                 None
             } else {
-                Some(request)
+                Some(command)
             }
         }
         _ => None,
     }
 }
 
-// Takes a line's request as a member of a group, if it may be one. Returns whether it did.
+// Takes a line's command as a member of a group, if it may be one. Returns whether it did.
 fn take_line(
     alloc: Global,
     line: &[u8],
     watch: bool,
-    members: &mut ArrayVec<Request, 16>,
+    members: &mut ArrayVec<Command, 16>,
 ) -> Result<bool, AllocError>
     requires room { length members.old.items < 16 }
-    requires apart { AreApart members.old.items }
     requires asked { AreAsked members.old.items }
     requires quiet { watch ≡ true → AreQuiet members.old.items }
-    ensures apart { AreApart members.new.items }
     ensures asked { AreAsked members.new.items }
     ensures quiet { watch ≡ true → AreQuiet members.new.items }
 {
     let asked = read_asked(alloc, line)?;
     match member_of(asked, watch) {
-        Some(request) => {
-            if are_others(request.element, members.as_slice()) {
-                members.push(request);
-                Ok(true)
-            } else {
-                Ok(false)
-            }
+        Some(command) => {
+            members.push(command);
+            Ok(true)
         }
         None => Ok(false),
     }
 }
 
-// Takes the requests of the first whole lines of a text: at most `most`, each of another element. Returns how many
-// bytes these lines have, with their line feeds.
+// Takes the commands of the first whole lines of a text, as far as there is room for them. Adds for each where its line
+// ends, behind its line feed.
 fn take_lines(
     alloc: Global,
     text: &[u8],
     watch: bool,
-    most: usize,
-    members: &mut ArrayVec<Request, 16>,
-) -> Result<usize, AllocError>
-    requires empty { members.old.items ≡ [] }
-    ensures apart { AreApart members.new.items }
+    members: &mut ArrayVec<Command, 16>,
+    ends: &mut ArrayVec<usize, 16>,
+) -> Result<(), AllocError>
+    requires asked { AreAsked members.old.items }
+    requires quiet { watch ≡ true → AreQuiet members.old.items }
     ensures asked { AreAsked members.new.items }
     ensures quiet { watch ≡ true → AreQuiet members.new.items }
 {
     let mut rest = text;
     for _line in 0..text.len() {
-        if members.len() >= most || members.is_full() {
+        if members.is_full() || ends.is_full() {
             break;
         }
         let Some((line, later)) = split_line(rest) else {
@@ -125,34 +104,44 @@ fn take_lines(
             break;
         }
         rest = later;
+        ends.push(text.len() - rest.len());
     }
-    Ok(text.len() - rest.len())
+    Ok(())
 }
 
-/// Takes the requests of the first whole lines in a reader's buffer. It waits for more if the buffer is empty. Returns
-/// how many bytes these lines have; they stay in the buffer.
+/// Takes the commands of the first whole lines in a reader's buffer, at most 16. It waits for more if the buffer is
+/// empty. Of each it notes in `ends` how many bytes the lines have up to it; they stay in the buffer.
 pub(crate) fn gather<R: BufRead>(
     alloc: Global,
     input: &mut R,
     watch: bool,
-    most: usize,
-    members: &mut ArrayVec<Request, 16>,
-) -> Result<usize, Reason>
-    ensures apart { AreApart members.new.items }
+    members: &mut ArrayVec<Command, 16>,
+    ends: &mut ArrayVec<usize, 16>,
+) -> Result<(), Reason>
     ensures asked { AreAsked members.new.items }
     ensures quiet { watch ≡ true → AreQuiet members.new.items }
 {
     members.clear();
+    ends.clear();
     match input.fill_buf() {
-        Ok(text) => match take_lines(alloc, text, watch, most, members) {
-            Ok(taken) => Ok(taken),
+        Ok(text) => match take_lines(alloc, text, watch, members, ends) {
+            Ok(()) => Ok(()),
             Err(_) => Err(Reason::Memory),
         },
         Err(error) => match error.kind() {
-            ErrorKind::Interrupted => Ok(0), // Reading a line tries again.
+            ErrorKind::Interrupted => Ok(()), // Reading a line tries again.
             kind => Err(unread(kind)),
         },
     }
+}
+
+/// Returns how many bytes the first `many` lines have, by where each line ends.
+pub(crate) fn end_of(ends: &[usize], many: usize) -> usize {
+    let mut end = 0;
+    for line_end in ends.iter().take(many) {
+        end = *line_end;
+    }
+    end
 }
 
 // ---- their answers
@@ -172,13 +161,13 @@ fn result_of(served: Served) -> Result<Outcome, Refusal>
 fn add_line(
     alloc: Global,
     text: &mut String,
-    member: &Request,
+    member: &Command,
     served: Served,
 ) -> Result<(), AllocError>
     ensures { OnOk result ((name : List ℕ) × (string_bytes text.new ≡ string_bytes text.old
-        ++ answer_text name (ServedAs (Asks member.now) (result_of served)))) }
+        ++ answer_text name (ServedAs member.now (result_of served)))) }
 {
-    let answer = Answer::Served(Command::Request(*member), result_of(served));
+    let answer = Answer::Served(*member, result_of(served));
     let name = name_of(alloc, answer)?;
     add_answer(text, answer, name.as_str())
 }
@@ -187,7 +176,7 @@ fn add_line(
 fn make_lines(
     alloc: Global,
     text: &mut String,
-    members: &[Request],
+    members: &[Command],
     served: &[Served],
 ) -> Result<(), AllocError>
     requires whole { length served.now ≡ length members.now }
@@ -200,8 +189,9 @@ fn make_lines(
     Ok(())
 }
 
-/// Serves the requests of lines that stand together as one group, and prints their answers in the order of the lines.
-/// If the dialogue is watched, none of them answers a request that waits.
+/// Serves the commands of lines that stand together as one group, and prints their answers in the order of the lines.
+/// If the dialogue is watched, none of them answers a request that waits. Returns how many members it served: the first
+/// ones, at least one. The others weren't asked.
 ///
 /// A member that finds no room is answered `JournalFull`. If a call of the disk fails, the dialogue ends. Then the
 /// commands of the group are on the disk all together or not at all, and none is answered.
@@ -209,28 +199,29 @@ pub(crate) fn serve_members<D: Disk, W: Write>(
     alloc: Global,
     engine: &mut Engine<D>,
     watch: bool,
-    members: &ArrayVec<Request, 16>,
+    members: &ArrayVec<Command, 16>,
     text: &mut String,
     out: &mut W,
-) -> Result<(), Reason>
-    requires apart { AreApart members.now.items }
+) -> Result<usize, Reason>
     requires asked { AreAsked members.now.items }
     requires quiet { watch ≡ true → AreQuiet members.now.items }
     ensures { MatchResult result
         (λ _. TalksOn watch D.now D.past D.honest engine.old (W.contents out.old) engine.new (W.contents out.new))
         (λ _. TalkEnds watch D.now D.past D.honest engine.old (W.contents out.old) engine.new (W.contents out.new)) }
 {
-    let requests = members.as_slice();
+    let commands = members.as_slice();
     let mut served = ArrayVec::new();
     // A crash in this call leaves on the disk all that the group puts there, or nothing of it. No answer is given
     // before.
-    engine.serve_group(members, &mut served);
+    engine.serve_commands(members, &mut served);
     if engine.failed() {
         return Err(Reason::Image(Refusal::Device, Damage::Unknown));
     }
-    match make_lines(alloc, text, requests, served.as_slice()) {
+    let many = served.len();
+    let answered = &commands[..many];
+    match make_lines(alloc, text, answered, served.as_slice()) {
         Ok(()) => match put_through(out, text.as_str()) {
-            Ok(()) => Ok(()),
+            Ok(()) => Ok(many),
             Err(reason) => Err(reason),
         },
         Err(_) => Err(Reason::Memory),

@@ -5,7 +5,7 @@ ghost use Rattle.im_types.specs.declared.operations.Reply.TheVariants.{Value};
 ghost use Rattle.im_types.specs.Act.{act, at_cell, put, store};
 ghost use Rattle.im_types.specs.Contents.{held_at};
 ghost use Rattle.im_types.specs.Step.{asker, is_accepted};
-ghost use Rattle.im_dialogue.specs.Watching.{is_of_kind, is_quiet, nows_text, resumed_by, told_by, told_now, told_with};
+ghost use Rattle.im_dialogue.specs.Watching.{answers_nobody, is_of_kind, is_quiet, nows_text, resumed_by, told_by, told_now, told_with};
 
 use crate::answers::Answer;
 use crate::asking::Asked;
@@ -14,11 +14,21 @@ use im_text::add_entry;
 use im_types::{Command, Entry, Kind, Op, Reply, Request, Waiter};
 use std::alloc::AllocError;
 
-/// Returns whether such an operation never answers a request that waits.
-pub(crate) fn is_quiet(op: Op) -> bool
+// Returns whether such an operation never answers a request that waits.
+fn is_quiet(op: Op) -> bool
     ensures { result ≡ is_quiet op }
 {
     !matches!(op, Op::Store(_, _) | Op::Put(_, _))
+}
+
+/// Returns whether such a command never answers a request that waits.
+pub(crate) fn answers_nobody(command: Command) -> bool
+    ensures { result ≡ answers_nobody command }
+{
+    match command {
+        Command::Request(request) => is_quiet(request.op),
+        Command::Confirm { .. } => true,
+    }
 }
 
 // Adds `E.N now value VALUE`.

@@ -21,7 +21,7 @@ disk 450560 = 450560 bytes
 format 4096 16 256 = formatted
 script 0.1 alloc i 2 / 1.1 fetch 0 / 2.1 store 0 42 / 2.1 store 0 42 / 1.1 fetch 1 / = 5 lines
 script collect 1.1 / confirm 1 2 / window 1 / = 8 lines
--- The first three are a group: six calls. The next two are one that puts nothing. The confirmation takes four.
+-- The first five are a group that puts three commands: six calls. The confirmation stands alone, and takes four.
 talk = 0, 10 calls
 printed = 8 lines
 printed 0 = 0.1 base 0
@@ -123,17 +123,108 @@ talk = 0, 6 calls
 printed = 3 lines
 printed 2 = 2.1 stored
 
-# An element has one request in a group
+# Requests of one element are a group
 disk 450560 = 450560 bytes
 format 4096 16 256 = formatted
 script 1.1 fetch 0 / 1.2 fetch 1 / 1.3 fetch 2 / = 3 lines
-talk = 0, 12 calls
+talk = 0, 6 calls
 printed = 3 lines
 printed 0 = 1.1 nocell
 printed 1 = 1.2 nocell
 printed 2 = 1.3 nocell
+count = 3
 
-# A line that is no request ends a group, and is answered in its place
+# A group has 16 members at most
+disk 450560 = 450560 bytes
+format 4096 16 256 = formatted
+numbered 1 to 18 1.@ fetch 0 / = 18 lines
+-- 19 calls for sixteen, and five for two.
+talk = 0, 24 calls
+printed = 18 lines
+printed 0 to 17 = 1.1 to 1.18 nocell
+count = 18
+
+# Confirmations are members of a group
+disk 450560 = 450560 bytes
+format 4096 16 256 = formatted
+script 0.1 alloc i 2 / 1.1 store 0 5 / confirm 0 2 / 1.2 store 1 6 / confirm 1 2 / 2.1 fetch 1 / confirm 0 2 / = 7 lines
+script window 1 / = 8 lines
+-- Six commands are put on the disk: the last confirmation drops nothing more.
+talk = 0, 9 calls
+printed = 8 lines
+printed 0 = 0.1 base 0
+printed 1 = 1.1 stored
+printed 2 = 0 confirmed 2
+printed 3 = 1.2 stored
+printed 4 = 1 confirmed 2
+printed 5 = 2.1 value 6
+printed 6 = 0 confirmed 2
+printed 7 = 1 window 2 3
+count = 6
+
+# A group ends before the confirmation of a fetch that is in it, and the lines behind it are the next group
+disk 450560 = 450560 bytes
+format 4096 16 256 = formatted
+script 0.1 alloc i 1 / 1.1 store 0 5 / 2.1 fetch 0 / confirm 2 2 / 2.2 fetch 0 / mend / = 6 lines
+-- Six calls for three, five for two.
+talk = 0, 11 calls
+printed = 6 lines
+printed 0 = 0.1 base 0
+printed 1 = 1.1 stored
+printed 2 = 2.1 value 5
+printed 3 = 2 confirmed 2
+printed 4 = 2.2 value 5
+printed 5 = error 6: 'mend', where E.N, collect, entry, confirm, window, room, turn, count, about or quit is expected
+count = 5
+
+# A group of one fetch, whose confirmation stands behind it, and so on
+disk 450560 = 450560 bytes
+format 4096 16 256 = formatted
+script 1.1 fetch 0 / confirm 1 2 / 1.2 fetch 0 / confirm 1 3 / = 4 lines
+-- The fetch takes four calls. The first confirmation and the next fetch are a group, of five. The last one takes four.
+talk = 0, 13 calls
+printed = 4 lines
+printed 0 = 1.1 nocell
+printed 1 = 1 confirmed 2
+printed 2 = 1.2 nocell
+printed 3 = 1 confirmed 3
+count = 4
+
+# Members of one element are refused within a group, each by the window that those before it leave
+disk 450560 = 450560 bytes
+format 4096 16 256 = formatted
+script 1.1 store 0 5 / 1.3 store 0 5 / 1.2 store 0 6 / confirm 1 2 / 1.1 store 0 5 / confirm 1 9 / 1.2 store 0 7 / 1.3 store 0 7 / = 8 lines
+-- Four commands are put on the disk.
+talk = 0, 7 calls
+printed = 8 lines
+printed 0 = 1.1 nocell
+printed 1 = 1.3 refused 1 Gap
+printed 2 = 1.2 nocell
+printed 3 = 1 confirmed 2
+printed 4 = 1.1 refused 2 Forgotten
+printed 5 = 1 refused 1 Gap
+printed 6 = 1.2 refused 4 Mismatch
+printed 7 = 1.3 nocell
+count = 4
+
+# Where it is watched, requests of one element and confirmations are members too, and a store isn't
+disk 450560 = 450560 bytes
+format 4096 16 256 = formatted
+script 0.1 alloc i 2 / 1.1 fetch 0 / 1.2 fetch 1 / confirm 0 2 / 2.1 store 0 7 / 1.3 fetch 0 / confirm 2 2 / = 7 lines
+-- Seven calls for four, four for the store, five for two.
+talk watched = 0, 16 calls
+printed = 8 lines
+printed 0 = 0.1 base 0
+printed 1 = 1.1 waiting
+printed 2 = 1.2 waiting
+printed 3 = 0 confirmed 2
+printed 4 = 2.1 stored
+printed 5 = 1.1 now value 7
+printed 6 = 1.3 value 7
+printed 7 = 2 confirmed 2
+count = 7
+
+# A line that is no command ends a group, and is answered in its place
 disk 450560 = 450560 bytes
 format 4096 16 256 = formatted
 script 1.1 fetch 0 / 2.1 fetch 0 / count / 3.1 fetch 0 / 4.1 fetch 0 / 5.1 fetch 0 / = 6 lines
@@ -249,6 +340,7 @@ printed 4 = 16 refused 5 NoElement
 disk 450560 = 450560 bytes
 format 4096 16 256 = formatted
 script 0.1 alloc i 1 / 1.1 fetch 0 / confirm 1 2 / collect 1.1 / = 4 lines
+-- The group ends before the confirmation: what a fetch in it comes to isn't known before it acts.
 talk = 0, 5 calls
 printed = 4 lines
 printed 2 = 1 refused 6 NotAnswered
@@ -261,6 +353,50 @@ script 1.1 fetch 0 / 2.1 fetch 0 / 3.1 fetch 0 / = 3 lines
 talk 3 calls = 1, 4 calls
 printed = 1 lines
 printed 0 = refused 8 Device
+
+# The disk fails at each call within a group with a confirmation: all of it is there, or nothing
+-- Three bodies, a sync, the gate and a sync.
+disk 450560 = 450560 bytes
+format 4096 16 256 = formatted
+script 1.1 store 0 5 / confirm 1 2 / 1.2 store 0 6 / = 3 lines
+talk 0 calls = 1, 1 calls
+printed = 1 lines
+count = 0
+script 1.1 store 0 5 / confirm 1 2 / 1.2 store 0 6 / = 3 lines
+talk 1 calls = 1, 2 calls
+count = 0
+script 1.1 store 0 5 / confirm 1 2 / 1.2 store 0 6 / = 3 lines
+talk 2 calls = 1, 3 calls
+count = 0
+script 1.1 store 0 5 / confirm 1 2 / 1.2 store 0 6 / = 3 lines
+talk 3 calls = 1, 4 calls
+count = 0
+script 1.1 store 0 5 / confirm 1 2 / 1.2 store 0 6 / = 3 lines
+talk 4 calls = 1, 5 calls
+count = 0
+script 1.1 store 0 5 / confirm 1 2 / 1.2 store 0 6 / = 3 lines
+talk 5 calls = 1, 6 calls
+printed = 1 lines
+printed 0 = refused 8 Device
+count = 3
+-- Asked again, what is there isn't put again.
+script 1.1 store 0 5 / confirm 1 2 / 1.2 store 0 6 / = 3 lines
+talk = 0, 0 calls
+printed 0 = 1.1 refused 2 Forgotten
+printed 1 = 1 confirmed 2
+printed 2 = 1.2 nocell
+count = 3
+
+# The disk fails in the second group of the lines that stand there: the first one is answered
+disk 450560 = 450560 bytes
+format 4096 16 256 = formatted
+script 1.1 fetch 0 / 2.1 fetch 0 / confirm 1 2 / 1.2 fetch 0 / = 4 lines
+talk 7 calls = 1, 8 calls
+printed = 3 lines
+printed 0 = 1.1 nocell
+printed 1 = 2.1 nocell
+printed 2 = refused 8 Device
+count = 2
 
 # A writer that takes a part of the answers
 disk 450560 = 450560 bytes
@@ -332,8 +468,8 @@ disk 450560 = 450560 bytes
 format 4096 16 256 = formatted
 numbered 1 to 64 1.@ fetch 0 / = 64 lines
 script 1.65 fetch 0 / confirm 1 2 / 1.65 fetch 0 / window 1 / = 68 lines
--- 64 requests, a confirmation and one request more, of four calls each.
-talk = 0, 264 calls
+-- Four groups of 16, and one that puts a confirmation and a request.
+talk = 0, 81 calls
 printed 0 to 63 = 1.1 to 1.64 nocell
 printed 64 = 1.65 refused 3 WindowFull
 printed 65 = 1 confirmed 2
@@ -344,8 +480,8 @@ printed 67 = 1 window 2 66
 disk 33792 = 33792 bytes
 format 1 1 16 = formatted
 script turn / 0.1 alloc i 1 / 0.2 fetch 0 / 0.3 store 0 0 / turn / turn / turn / turn / turn / turn / turn / turn / room / = 13 lines
--- Three commands take twelve calls, and the turns thirteen.
-talk = 0, 25 calls
+-- Three commands take six calls, and the turns thirteen.
+talk = 0, 19 calls
 printed 0 = turn idle
 printed 1 = 0.1 base 0
 printed 2 = 0.2 waiting
@@ -380,3 +516,19 @@ printed 0 = 0.1 refused 7 JournalFull
 printed 1 = 0.1 refused 1 Gap
 printed 2 = 0 window 1 1
 printed 3 = room 0
+
+# Lines for whose commands there are no places together are served one by one
+-- Two commands are left to the last count that there is. A checkpoint of no page takes six calls, and makes no place; then
+-- each of two commands takes four.
+disk 33792 = 33792 bytes
+format 1 1 16 = formatted
+write 16 fe ff ff ff ff ff ff 3f = 00 00 00 00 00 00 00 00
+script 0.1 fetch 0 / 0.2 store 0 5 / confirm 0 2 / 0.1 fetch 0 / 0.3 fetch 0 / room / = 6 lines
+talk = 0, 14 calls
+printed = 6 lines
+printed 0 = 0.1 nocell
+printed 1 = 0.2 nocell
+printed 2 = 0 refused 7 JournalFull
+printed 3 = 0.1 nocell
+printed 4 = 0.3 refused 7 JournalFull
+printed 5 = room 0
