@@ -59,18 +59,38 @@ def line(text):
 
 
 def as_it_stands(lines):
-    return [".PP", ".RS", ".nf", *map(line, textwrap.dedent("\n".join(lines)).splitlines()), ".fi", ".RE"]
+    return [".PP", ".RS 2", ".nf", *map(line, textwrap.dedent("\n".join(lines)).splitlines()), ".fi", ".RE"]
 
 
 def heading(name, section, about):
-    words = [f'"{it}"' for it in (name.upper(), section, "", f"luntrebis {packaging.VERSION}", "Luntrebis")]
+    words = [f'"{it}"' for it in (name.upper(), section, packaging.date(), f"luntrebis {packaging.VERSION}", "Luntrebis")]
     return ["'\\\" t", f".TH {' '.join(words)}", ".SH NAME", f"{name} \\- {line(about)}"]
+
+
+def finished(lines):
+    """Returns the text of a page. No paragraph macro follows a heading directly, as mandoc warns about that."""
+    return re.sub(r"^(\.S[HS] .*\n)\.PP\n", r"\1", "\n".join(lines) + "\n", flags=re.M)
+
+
+def indented(lines):
+    """Returns lines that begin with a space: as a list if they have two columns, else as they are."""
+    rows = [re.split(r" {2,}", it.strip(), maxsplit=1) for it in lines]
+    if sum(len(row) == 2 for row in rows) < len(rows) - len(rows) // 4:
+        return as_it_stands(lines)
+    made = []
+    for text, row in zip(lines, rows):
+        if text.startswith(" " * 12):  # Text for the row above, whose words have the line for themselves.
+            made.append(line(text.strip()))
+            continue
+        head = f"\\fB{escaped(row[0])}\\fR"
+        made += [".PP", head, ".br"] if len(row) == 1 else [".TP", head, line(row[1])]
+    return made
 
 
 def runs(part):
     """Yields the lines of a paragraph. Lines that begin with a space stay as they are; the others are filled."""
     for stands, run in itertools.groupby(part.splitlines(), lambda it: it.startswith("  ")):
-        yield from as_it_stands(run) if stands else [".PP", *map(line, run)]
+        yield from indented(list(run)) if stands else [".PP", *map(line, run)]
 
 
 def prose(text):
@@ -105,7 +125,7 @@ def page_of_help(name, it, others):
     if it.subcommands:
         lines += [".SH COMMANDS", *listed([row for row in it.subcommands if row[0] != "help"])]
     lines += [".SH OPTIONS", *listed([(f"{option} {value}".strip(), text) for option, value, text in it.options])]
-    return "\n".join([*lines, *paragraphs[first:], *see_also(others)]) + "\n"
+    return finished([*lines, *paragraphs[first:], *see_also(others)])
 
 
 def pages_of_help(imem):
@@ -133,7 +153,7 @@ def page_of_headers():
         lines += [f".SH {title}", *paragraphs(head.comment)]
         for it in items:
             lines += item(it)
-    return "\n".join([*lines, *see_also([("imem", "1"), ("imem-image", "5")])]) + "\n"
+    return finished([*lines, *see_also([("imem", "1"), ("imem-image", "5")])])
 
 
 def item(it):
@@ -204,7 +224,7 @@ def page_of_format():
     title, text = (TOP / "docs" / "FORMAT.md").read_text().split("\n", 1)
     lines = heading("imem-image", "5", "the file in which imem and luntrebis keep a memory")
     others = [("imem", "1"), ("imem-inspect", "1"), ("luntrebis", "3")]
-    return "\n".join([*lines, ".SH DESCRIPTION", *of_markdown(text), *see_also(others)]) + "\n"
+    return finished([*lines, ".SH DESCRIPTION", *of_markdown(text), *see_also(others)])
 
 
 def pages(imem):

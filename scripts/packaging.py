@@ -1,4 +1,5 @@
 """What the packages are made of, for the scripts beside this file: the version, and the library in its two forms."""
+import email.utils
 import re
 import subprocess
 import tempfile
@@ -16,6 +17,12 @@ ARCHIVE, SHARED, IMEM = OUT / "libluntrebis.a", OUT / SONAME, OUT / "imem"
 PROVED = OUT / "libluntrebis.proved"  # Of which commit the library is, and what the prover said of it.
 FLAGS = ["-std=c11", "-O2", "-fPIC", "-Wall", "-Wextra", "-Werror"]
 SAFE = "-Wl,-z,defs,-z,relro,-z,now,-z,noexecstack"
+
+
+def date():
+    """Returns the day of the version, as the changelog of the Debian packages has it."""
+    found = re.search(r"^ -- .*>  (.*)$", (PACKAGES / "debian" / "changelog").read_text(), re.M)
+    return email.utils.parsedate_to_datetime(found[1]).date().isoformat()
 
 
 def names():

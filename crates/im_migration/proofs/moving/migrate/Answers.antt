@@ -1,4 +1,4 @@
-use Rattle.std.proofs.Common.{sym}
+use Rattle.std.proofs.Common.{inl, inr, ⊎_elim, sym}
 use Rattle.im_migration.proofs.Parts.{has_count, leaves_same, means_same, refused_old, refused_place}
 use Rattle.im_migration.proofs.moving.migrate.Goals as goal
 
@@ -38,3 +38,11 @@ pub returns-clause-refused : goal.returns-clause-refused
 returns-clause-refused g c =
     refused_old (g.O.Disk.honest c.read_old.new.disk) (g.N.Disk.honest c.args.new)
     (g.O.Disk.now c.args.old.now).bytes (g.N.Disk.now c.args.new).bytes c.in-Err.refusal c.in-Err.ensures.fault
+
+pub returns-in-Ok-clause-faults : goal.returns-in-Ok-clause-faults
+returns-in-Ok-clause-faults g c =
+    let f = c.in-Err-put.ensures.runs.faults in record {
+      one_of = ⊎_elim (λ wrong. inr (inr (inr (inl (inl wrong))))) (⊎_elim inl (λ device. inr (inr (inl device)))) f.0;
+      failed = λ device. inr (f.1 device).0;
+      passed = λ other. (c.in-Ok.ensures.reads.faults, f.2 other);
+    }
