@@ -90,6 +90,7 @@ enum lt_refusal {
     LT_BAD_RECORD = 16,
     LT_BAD_LIMITS = 17,   /* of lt_memory_new and lt_format */
     LT_OLD_VERSION = 21,  /* of lt_open: an image of the first layout; `imem migrate` makes one of this layout */
+    LT_UNSERVED = 254,    /* of a member of lt_serve_group: it isn't served, and changed nothing; put it again */
     LT_NO_CALL = 255      /* an unknown tag, no such write, or no group */
 };
 
@@ -217,15 +218,22 @@ uint8_t lt_open(const uint8_t *bytes, size_t length, struct lt_image *next);
 uint8_t lt_serve(struct lt_image image, const struct lt_command *command, struct lt_image *next,
                  struct lt_outcome *outcome);
 
-/* Serves 1 to 16 requests, each of another element, and puts them on the disk together. Returns 0, and writes the
- * outcome of each request at its place in `outcomes`. Each is LT_DEVICE if the steps couldn't be listed. Else the
- * outcomes are as they were, and it returns LT_DEVICE after a lost step, or LT_NO_CALL if the commands are no such
- * requests or `places` isn't their count. lt_steps returns how many steps it left. */
+/* Serves 1 to 16 commands together: requests, of one element or of several, and confirmations. Each gets the outcome
+ * that lt_serve would give it after those before it. All that are accepted are put on the disk together. Returns 0, and
+ * writes the outcome of each command at its place in `outcomes`. lt_steps returns how many steps it left.
+ *
+ * The first commands are served, at least one. The call ends before a confirmation if it isn't known, before the
+ * commands ahead of it act, whether each entry that it would drop is answered. The outcome of each command from there
+ * on is LT_UNSERVED: put them again. A program that confirms only what it was told never gets it. The outcome of each
+ * command that would be served is LT_DEVICE if the steps couldn't be listed.
+ *
+ * It returns LT_DEVICE after a lost step, and LT_NO_CALL if a tag is unknown, `count` isn't 1 to 16, or `places` isn't
+ * `count`. Then the outcomes are as they were. */
 uint8_t lt_serve_group(struct lt_image image, const struct lt_command *commands, size_t count, struct lt_image *next,
                        struct lt_outcome *outcomes, size_t places);
 
-/* Returns the index, from 0, of the first command that is no request, for example because no request has its tag. Such
- * a command keeps lt_serve_group from taking them. Returns `count` if there is none. */
+/* Returns the index, from 0, of the first command with an unknown tag. Such a command keeps lt_serve_group from taking
+ * them. Returns `count` if there is none. */
 size_t lt_first_unknown(const struct lt_command *commands, size_t count);
 
 /* Makes one turn of a checkpoint. Returns its refusal, and writes what it did at `outcome`. */
@@ -280,9 +288,9 @@ void lt_close(struct lt_image image);
  * as it was. Else returns the refusal, and nothing is changed. */
 uint8_t lt_inspect(const uint8_t *bytes, size_t length, char *buffer, size_t room, size_t *written);
 
-/* Returns the length of the name of the refusal with this number, 1 to 24 or LT_NO_CALL. The name is at the start of
- * the buffer if there is room for it, with no zero after it, and the rest of the buffer is as it was. The name of
- * LT_OK, and of any other number, is empty. No name has more than 11 letters. */
+/* Returns the length of the name of the refusal with this number: 1 to 24, LT_UNSERVED or LT_NO_CALL. The name is at
+ * the start of the buffer if there is room for it, with no zero after it, and the rest of the buffer is as it was. The
+ * name of LT_OK, and of any other number, is empty. No name has more than 11 letters. */
 size_t lt_refusal_name(uint8_t refusal, char *buffer, size_t room);
 
 /* Returns the length of the name of an answer, by its tag, in the same way. No name has more than 12 letters. */

@@ -274,59 +274,61 @@ int ltf_serve(struct ltf *file, const struct lt_command *command, struct lt_outc
     return serve_alone(file, command, outcome);
 }
 
-/* How many of the commands are the next group, with one request of each element. 0 if the first one is no request. */
-static size_t next_group(const struct lt_command *commands, size_t count) {
-    size_t members = 0;
-    if (count > MEMBERS) count = MEMBERS;
-    count = lt_first_unknown(commands, count);
-    for (; members < count; members++)
-        for (size_t other = 0; other < members; other++)
-            if (commands[other].element == commands[members].element) return members;
-    return members;
+/* How many of the first members count as served: up to one that isn't served, or for which the journal had no room.
+ * After that one no member was accepted. */
+static size_t count_served(const struct lt_outcome *outcomes, size_t members) {
+    size_t served = 0;
+    while (served < members && outcomes[served].refusal != LT_UNSERVED && outcomes[served].refusal != LT_JOURNAL_FULL)
+        served++;
+    return served;
 }
 
-static int serve_group(struct ltf *file, const struct lt_command *commands, size_t count, struct lt_outcome *outcomes) {
-    size_t waited[MEMBERS] = {0};
+/* Serves commands together. Returns how many of the first ones are served, or -1 after a lost step. */
+static int serve_members(struct ltf *file, const struct lt_command *commands, size_t members, struct lt_outcome *outcomes) {
+    size_t waited[MEMBERS] = {0}, served = 0;
     int refusal;
-    memset(outcomes, 0, count * sizeof *outcomes);
-    note_waiters(file, commands, count, waited);
-    refusal = lt_serve_group(file->image, commands, count, &file->image, outcomes, count);
+    if (ltf_tidy(file) == LT_DEVICE) return -1;
+    memset(outcomes, 0, members * sizeof *outcomes);
+    note_waiters(file, commands, members, waited);
+    refusal = lt_serve_group(file->image, commands, members, &file->image, outcomes, members);
     file->work.groups++;
-    if (is_lost(file, refusal ? refusal : outcomes[0].refusal)) return LT_DEVICE;
-    if (refusal == 0) note_all_woken(file, commands, count, outcomes, waited);
-    return refusal;
+    if (is_lost(file, refusal ? refusal : outcomes[0].refusal)) return -1;
+    if (refusal == 0) served = count_served(outcomes, members);
+    note_all_woken(file, commands, served, outcomes, waited);
+    return (int)served;
 }
 
-/* Serves a group, and then alone each member for which the journal had no room. */
-static int serve_members(struct ltf *file, const struct lt_command *commands, size_t count, struct lt_outcome *outcomes) {
-    int refusal = serve_group(file, commands, count, outcomes);
-    for (size_t at = 0; at < count && refusal == 0; at++)
-        if (outcomes[at].refusal == LT_JOURNAL_FULL && serve_alone(file, &commands[at], &outcomes[at]) == LT_DEVICE)
-            refusal = LT_DEVICE;
-    return refusal;
+/* Serves the first of these commands, at least one: 2 to 16 of them together, or one alone if its tag is unknown or the
+ * journal has no room for it. Returns how many, or 0 after a lost step. */
+static size_t serve_first(struct ltf *file, const struct lt_command *commands, size_t count, struct lt_outcome *outcomes) {
+    size_t members = lt_first_unknown(commands, count < MEMBERS ? count : MEMBERS);
+    int served = members > 1 ? serve_members(file, commands, members, outcomes) : 0;
+    if (served == 0) served = serve_alone(file, commands, outcomes) == LT_DEVICE ? -1 : 1;
+    return served < 0 ? 0 : (size_t)served;
 }
 
 static void refuse_all(struct lt_outcome *outcomes, size_t count, uint8_t refusal) {
     for (size_t at = 0; at < count; at++) outcomes[at] = (struct lt_outcome){refusal, 0, 0};
 }
 
-int ltf_serve_all(struct ltf *file, const struct lt_command *commands, size_t count, struct lt_outcome *outcomes) {
-    int refusal = forget_woken(file, count);
-    if (refusal) refuse_all(outcomes, count, LT_NO_MEMORY);
-    if (refusal) return refusal;
-    for (size_t at = 0, members; at < count && refusal != LT_DEVICE; at += members) {
-        members = next_group(commands + at, count - at);
-        if (ltf_tidy(file) == LT_DEVICE) refusal = LT_DEVICE;
-        if (members > 1) {
-            refusal = serve_members(file, commands + at, members, outcomes + at);
-        } else {
-            members = 1;
-            refusal = serve_alone(file, commands + at, outcomes + at);
-        }
-    }
-    if (refusal != LT_DEVICE) return 0;
+int ltf_serve_group(struct ltf *file, const struct lt_command *commands, size_t count, struct lt_outcome *outcomes,
+                    size_t *served) {
+    file->woken_count = 0;
+    *served = count ? serve_first(file, commands, count, outcomes) : 0;
+    if (*served || !count) return 0;
+    *served = count;
     refuse_all(outcomes, count, LT_DEVICE);
     return LT_DEVICE;
+}
+
+int ltf_serve_all(struct ltf *file, const struct lt_command *commands, size_t count, struct lt_outcome *outcomes) {
+    int refusal = forget_woken(file, count);
+    for (size_t at = 0, served; at < count && refusal == 0; at += served) {
+        served = serve_first(file, commands + at, count - at, outcomes + at);
+        if (served == 0) refusal = LT_DEVICE;
+    }
+    if (refusal) refuse_all(outcomes, count, (uint8_t)refusal);
+    return refusal;
 }
 
 /* ---- What is kept */

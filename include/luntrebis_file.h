@@ -39,19 +39,25 @@ int ltf_open_or_create(const char *path, uint32_t cells, uint16_t elements, uint
  * LT_JOURNAL_FULL only if no checkpoint makes room. */
 int ltf_serve(struct ltf *file, const struct lt_command *command, struct lt_outcome *outcome);
 
-/* Serves any commands, in their order, with the outcomes that ltf_serve would give for one after another. Neighbours of
- * up to 16 elements, one request of each, share two syncs; a confirmation has two of its own. Returns 0, and writes the
+/* Serves any commands, in their order, with the outcomes that ltf_serve would give for one after another. Up to 16
+ * neighbours share two syncs: requests, of one element or of several, and confirmations. Returns 0, and writes the
  * outcome of each command at its place in `outcomes`. Returns LT_DEVICE if a step failed: then each outcome may be
  * untrue. Returns LT_NO_MEMORY for more than 16 commands if there is no memory for them: then none was served. */
 int ltf_serve_all(struct ltf *file, const struct lt_command *commands, size_t count, struct lt_outcome *outcomes);
 
-/* Returns the requests that the last ltf_serve or ltf_serve_all resumed: they waited before, and are answered now.
- * Those of one cell are in the order in which they came. Their number is at `count`. They stay there until the next of
- * these calls. */
+/* Serves the first of these commands with two syncs, as ltf_serve_all does: at least one if there is any, and at most 16.
+ * Their number is at `served`; the others are untouched, and are put again. It is for programs to which commands keep
+ * coming. Returns 0, or LT_DEVICE if a step failed: then each of all outcomes is LT_DEVICE. */
+int ltf_serve_group(struct ltf *file, const struct lt_command *commands, size_t count, struct lt_outcome *outcomes,
+                    size_t *served);
+
+/* Returns the requests that the last ltf_serve, ltf_serve_group or ltf_serve_all resumed: they waited before, and are
+ * answered now. Those of one cell are in the order in which they came. Their number is at `count`. They stay there
+ * until the next of these calls. */
 const struct lt_waiter *ltf_woken(const struct ltf *file, size_t *count);
 
 /* Makes a sweep, or a turn of a checkpoint, if less than half of the journal is free. Returns 1, or 0 if there is
- * nothing to do. It is for a program that is idle; ltf_serve and ltf_serve_all do the same work. */
+ * nothing to do. It is for a program that is idle; each call that serves does the same work. */
 int ltf_tidy(struct ltf *file);
 
 /* Writes the entry that is kept under an element's number at `outcome`, and returns its refusal, as lt_collect does. */
@@ -72,7 +78,7 @@ struct lt_sizes ltf_limits(const struct ltf *file);
 
 /* The work that was done since the file was opened. */
 struct ltf_counts {
-    uint64_t groups;  /* of requests that shared their syncs, or one command alone */
+    uint64_t groups;  /* of commands that shared their syncs, or one command alone */
     uint64_t syncs, writes, sweeps, turns;
 };
 struct ltf_counts ltf_work(const struct ltf *file);

@@ -40,8 +40,16 @@ struct list {
     struct ticket *first, **end;
 };
 
-/* What is known of a leased element: which numbers' last answers weren't delivered yet, by their place in the
- * window. */
+/* A group that is served: its commands, and the ticket of each. A confirmation that is made here has no ticket. */
+struct group {
+    struct lt_command commands[MEMBERS];
+    struct lt_outcome outcomes[MEMBERS];
+    struct ticket *tickets[MEMBERS];
+    size_t count;
+};
+
+/* What is known of a leased element: its window, as it is after the group that is served, and which numbers' last
+ * answers weren't delivered yet, by their place in the window. */
 struct lane {
     int leased, ready;
     uint64_t base, next;
@@ -86,6 +94,21 @@ static void take_out(struct list *list, struct ticket *ticket) {
     *ticket->link = ticket->next;
     if (ticket->next) ticket->next->link = ticket->link;
     if (list && list->end == &ticket->next) list->end = ticket->link;
+}
+
+static void put_first(struct list *list, struct ticket *ticket) {
+    ticket->next = list->first;
+    ticket->link = &list->first;
+    list->first = ticket;
+    if (ticket->next)
+        ticket->next->link = &ticket->next;
+    else
+        list->end = &ticket->next;
+}
+
+static void add(struct group *group, struct ticket *ticket, const struct lt_command *command) {
+    group->tickets[group->count] = ticket;
+    group->commands[group->count++] = *command;
 }
 
 static struct ticket **waiting_for(struct lts *shared, uint16_t element, uint64_t number) {
@@ -190,8 +213,8 @@ static void look(struct lts *shared, struct ticket *ticket) {
         wait_for_it(shared, ticket);
 }
 
-/* Confirms the entries of a leased element up to the first one whose last answer wasn't delivered. */
-static void confirm(struct lts *shared, uint16_t element, struct lane *lane) {
+/* Adds a confirmation of a leased element's entries, up to the first one whose last answer wasn't delivered. */
+static void confirm(struct lts *shared, struct group *group, uint16_t element, struct lane *lane) {
     struct lt_command command = {LT_CONFIRM, element, 0, lane->base, 0};
     struct lt_outcome outcome = {0, 0, 0};
     while (command.number < lane->next && !lane->open[command.number % KEPT]) {
@@ -200,25 +223,34 @@ static void confirm(struct lts *shared, uint16_t element, struct lane *lane) {
         command.number++;
     }
     if (command.number == lane->base) return;
-    pthread_mutex_unlock(&shared->lock);
-    ltf_serve(shared->file, &command, &outcome);
-    pthread_mutex_lock(&shared->lock);
-    if (outcome.refusal == 0) lane->base = command.number;
+    lane->base = command.number;
+    add(group, NULL, &command);
 }
 
-/* Numbers a request of a leased element if it has the number 0. Returns whether it may be asked. */
-static int number(struct lts *shared, struct ticket *ticket) {
+/* The leased element by which a request is numbered; none if it has a number, or if the memory refuses it. */
+static struct lane *lane_of(struct lts *shared, const struct ticket *ticket) {
     uint16_t element = ticket->command.element;
     struct lane *lane = &shared->lanes[element % ELEMENTS];
-    if (ticket->command.number != 0 || ticket->command.tag == LT_CONFIRM) return 1;
-    if (element >= shared->elements || !lane->leased) return 1; /* It is refused by the memory. */
+    if (ticket->kind != ASKS || ticket->command.number != 0 || ticket->command.tag == LT_CONFIRM) return NULL;
+    if (element >= shared->elements || !lane->leased) return NULL;
     if (!lane->ready) {
         struct lt_bounds window = ltf_window(shared->file, element);
         lane->base = window.base;
         lane->next = window.next;
         lane->ready = 1;
     }
-    if (lane->next - lane->base >= CONFIRM_AT) confirm(shared, element, lane);
+    return lane;
+}
+
+static int is_due(const struct lane *lane) {
+    return lane && lane->next - lane->base >= CONFIRM_AT;
+}
+
+/* Numbers a request of a leased element, after a confirmation if one is due. Returns whether it may be asked. */
+static int number(struct lts *shared, struct group *group, struct ticket *ticket) {
+    struct lane *lane = lane_of(shared, ticket);
+    if (!lane) return 1;
+    if (is_due(lane)) confirm(shared, group, ticket->command.element, lane);
     if (lane->next - lane->base >= KEPT) return 0;
     ticket->command.number = lane->next;
     ticket->leased = 1;
@@ -238,45 +270,35 @@ static void lease(struct lts *shared, struct ticket *ticket) {
     tell(shared, ticket, 0);
 }
 
-/* Takes up to a group of those who asked, the first of each element. Requests that need no step are answered at
- * once. */
-static size_t gather(struct lts *shared, struct ticket **members) {
-    uint8_t seen[ELEMENTS] = {0};
-    struct ticket *ticket = shared->asked.first, *next;
-    size_t count = 0;
-    for (; ticket && count < MEMBERS; ticket = next) {
-        uint8_t *is_seen = &seen[ticket->command.element % ELEMENTS];
-        next = ticket->next;
-        if (ticket->kind == ASKS && *is_seen) continue;
+/* Answers what needs no step, or lets it wait; adds each other command to the group. */
+static void sort_in(struct lts *shared, struct group *group, struct ticket *ticket) {
+    if (ticket->kind == SHOWS_WINDOW) {
+        ticket->window = ltf_window(shared->file, ticket->command.element);
+        tell(shared, ticket, 0);
+    } else if (ticket->kind == LEASES) {
+        lease(shared, ticket);
+    } else if (ticket->kind == AWAITS) {
+        look(shared, ticket);
+    } else if (number(shared, group, ticket)) {
+        add(group, ticket, &ticket->command);
+    } else {
+        refuse(shared, ticket, LT_WINDOW_FULL, 0);
+    }
+}
+
+/* Takes those who asked, in their order, up to a group. */
+static void gather(struct lts *shared, struct group *group) {
+    struct ticket *ticket;
+    for (size_t taken = 0; taken < MEMBERS && (ticket = shared->asked.first); taken++) {
+        size_t places = is_due(lane_of(shared, ticket)) ? 2 : 1;
+        if (group->count + places > MEMBERS) return;
         take_out(&shared->asked, ticket);
         shared->queued--;
         ticket->state = TAKEN;
-        if (ticket->kind == SHOWS_WINDOW) {
-            ticket->window = ltf_window(shared->file, ticket->command.element);
-            tell(shared, ticket, 0);
-        } else if (ticket->kind == LEASES) {
-            lease(shared, ticket);
-        } else {
-            *is_seen = 1;
-            members[count++] = ticket;
-        }
+        if (ticket->kind == ASKS || ticket->kind == AWAITS)
+            shared->lately[0] |= (uint64_t)1 << ticket->command.element % ELEMENTS;
+        sort_in(shared, group, ticket);
     }
-    return count;
-}
-
-/* Numbers the requests of a batch; the others are answered, or wait. Returns how many requests are left. */
-static size_t sort_out(struct lts *shared, struct ticket **members, size_t count) {
-    size_t asks = 0;
-    for (size_t at = 0; at < count; at++) {
-        struct ticket *ticket = members[at];
-        if (ticket->kind == AWAITS)
-            look(shared, ticket);
-        else if (number(shared, ticket))
-            members[asks++] = ticket;
-        else
-            refuse(shared, ticket, LT_WINDOW_FULL, 0);
-    }
-    return asks;
 }
 
 /* Gives a member its answer. One that is answered later waits from then on. That of a thread doesn't: the thread asks
@@ -288,19 +310,49 @@ static void answer(struct lts *shared, struct ticket *ticket) {
     if (waits) look(shared, ticket);
 }
 
-static void serve(struct lts *shared, struct ticket **members, size_t count) {
-    struct lt_command commands[MEMBERS];
-    struct lt_outcome outcomes[MEMBERS];
+/* Takes back the number that a request got with this group. */
+static void give_up_number(struct lts *shared, struct ticket *ticket) {
+    struct lane *lane = &shared->lanes[ticket->command.element];
+    lane->next = ticket->command.number;
+    lane->open[lane->next % KEPT] = 0;
+    ticket->command.number = 0;
+    ticket->leased = 0;
+}
+
+/* Puts those who aren't served back, in front of all others, in their order. */
+static void put_back(struct lts *shared, struct group *group, size_t served) {
+    for (; group->count > served; group->count--) {
+        struct ticket *ticket = group->tickets[group->count - 1];
+        if (!ticket) continue;
+        if (ticket->leased) give_up_number(shared, ticket);
+        ticket->state = QUEUED;
+        put_first(&shared->asked, ticket);
+        shared->queued++;
+    }
+}
+
+/* Reads the bases of the windows anew for which the group had a confirmation. */
+static void note_bases(struct lts *shared, const struct group *group) {
+    for (size_t at = 0; at < group->count; at++) {
+        uint16_t element = group->commands[at].element;
+        if (!group->tickets[at]) shared->lanes[element].base = ltf_window(shared->file, element).base;
+    }
+}
+
+static void serve(struct lts *shared, struct group *group) {
+    size_t served;
     int refusal;
-    count = sort_out(shared, members, count);
-    if (count == 0) return;
-    for (size_t at = 0; at < count; at++) commands[at] = members[at]->command;
+    if (group->count == 0) return;
     pthread_mutex_unlock(&shared->lock);
-    refusal = ltf_serve_all(shared->file, commands, count, outcomes);
+    refusal = ltf_serve_group(shared->file, group->commands, group->count, group->outcomes, &served);
     pthread_mutex_lock(&shared->lock);
-    for (size_t at = 0; at < count; at++) {
-        members[at]->outcome = outcomes[at];
-        answer(shared, members[at]);
+    note_bases(shared, group);
+    put_back(shared, group, served);
+    for (size_t at = 0; at < group->count; at++) {
+        struct ticket *ticket = group->tickets[at];
+        if (!ticket) continue;
+        ticket->outcome = group->outcomes[at];
+        answer(shared, ticket);
     }
     if (refusal == 0) wake_all(shared);
 }
@@ -341,16 +393,14 @@ static void linger(struct lts *shared) {
 
 /* Serves a group of those who asked. */
 static void serve_next(struct lts *shared) {
-    struct ticket *members[MEMBERS];
-    size_t count;
+    struct group group = {.count = 0};
     int64_t start;
     linger(shared);
-    count = gather(shared, members);
     shared->lately[1] = shared->lately[0];
     shared->lately[0] = 0;
-    for (size_t at = 0; at < count; at++) shared->lately[0] |= (uint64_t)1 << members[at]->command.element % ELEMENTS;
+    gather(shared, &group);
     start = now();
-    serve(shared, members, count);
+    serve(shared, &group);
     shared->pace = now() - start;
 }
 

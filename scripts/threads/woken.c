@@ -59,7 +59,7 @@ int main(int count, char **words) {
     SERVE("two puts for one who waits and one who comes", " 2.2 1.2", {LT_TAKE, 1, M, 2, 0}, {LT_PUT, 0, M, 8, 6}, {LT_PUT, 4, M, 2, 7});
     SERVE("one who comes behind the store doesn't wait", "", {LT_STORE, 0, I + 3, 9, 5}, {LT_FETCH, 1, I + 3, 3, 0});
     SERVE("one who comes before it does", " 1.4", {LT_FETCH, 1, I + 4, 4, 0}, {LT_STORE, 0, I + 4, 10, 5});
-    SERVE("several groups", " 2.3 3.3", {LT_FETCH, 2, I + 5, 3, 0}, {LT_STORE, 0, I + 5, 11, 5}, {LT_TAKE, 3, M + 1, 3, 0}, {LT_PUT, 0, M + 1, 12, 5});
+    SERVE("several in turn", " 2.3 3.3", {LT_FETCH, 2, I + 5, 3, 0}, {LT_STORE, 0, I + 5, 11, 5}, {LT_TAKE, 3, M + 1, 3, 0}, {LT_PUT, 0, M + 1, 12, 5});
     SERVE("one who asks again while it waits", "", {LT_TAKE, 5, M + 2, 1, 0});
     SERVE("is told once", " 5.1", {LT_TAKE, 5, M + 2, 1, 0}, {LT_PUT, 0, M + 2, 13, 5});
     SERVE("a confirmation", "", {LT_CONFIRM, 0, 0, 14, 0});

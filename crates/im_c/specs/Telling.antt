@@ -69,6 +69,7 @@ refusal_name number =
     else if number == 22 then codes "NotBlank"
     else if number == 23 then codes "BadPlan"
     else if number == 24 then codes "PaneGone"
+    else if number == 254 then codes "Unserved"
     else if number == 255 then codes "NoCall"
     else codes ""
 

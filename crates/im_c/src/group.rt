@@ -1,49 +1,45 @@
-//! A group of requests on an image, for C.
-ghost use Rattle.std.specs.Prelude.{◌≡◌, ◌↔◌, ◌<◌, ◌≤◌, ◌++◌, [], length, map, IsSome, IsTrue};
+//! A group of commands on an image, for C.
+ghost use Rattle.std.specs.Prelude.{◌≡◌, ◌↔◌, ◌<◌, ◌≤◌, ◌+◌, ◌++◌, [], length, map, replicate, IsSome, IsTrue};
 ghost use Rattle.im_c.specs.Handing.{Becomes};
-ghost use Rattle.im_c.specs.Group.{IsGroup, ServesGroup, first_unknown, outcome_served, request_in, requests_of};
+ghost use Rattle.im_c.specs.Plain.{meant};
+ghost use Rattle.im_c.specs.Group.{IsGroup, ServesGroup, first_unknown, listed, all_meant};
+ghost use Rattle.im_c.specs.Group.{unserved, outcome_served, outcomes_of};
 
 use crate::image::LtImage;
-use crate::plain::{LtCommand, LtOutcome, NO_CALL, outcome_of, refused};
+use crate::plain::{LtCommand, LtOutcome, NO_CALL, UNSERVED, meant, outcome_of, refused};
 use arrayvec::ArrayVec;
-use im_engine::are_apart;
 use im_listed::Image;
-use im_types::codes::op_of;
-use im_types::{Refusal, Request, Served};
+use im_types::{Command, Refusal, Served};
 
-// Adds the request that a command means, if it means one.
-fn add_request(command: &LtCommand, members: &mut ArrayVec<Request, 16>)
+// Adds the command that is meant, if there is one.
+fn add_command(command: &LtCommand, members: &mut ArrayVec<Command, 16>)
     requires room { length members.old.items < 16 }
-    ensures { members.new.items ≡ members.old.items ++ request_in command.now }
+    ensures { members.new.items ≡ members.old.items ++ listed (meant command.now) }
 {
-    match op_of(command.tag, command.address, command.value) {
-        Some(op) => members.push(Request {
-            element: command.element,
-            number: command.number,
-            op,
-        }),
+    match meant(command) {
+        Some(command) => members.push(command),
         None => {}
     }
 }
 
-// The requests that the commands mean.
-fn gather(commands: &[LtCommand], members: &mut ArrayVec<Request, 16>)
+// The commands that are meant.
+fn gather(commands: &[LtCommand], members: &mut ArrayVec<Command, 16>)
     requires few { length commands.now ≤ 16 }
     requires empty { members.old.items ≡ [] }
-    ensures { members.new.items ≡ requests_of commands.now }
+    ensures { members.new.items ≡ all_meant commands.now }
 {
     let mut rest = commands;
     while let Some((command, later)) = rest.split_first() {
-        add_request(command, members);
+        add_command(command, members);
         rest = later;
     }
 }
 
-// Whether the commands are a group, with one place for each answer. Then `members` are its requests.
-fn gathered(commands: &[LtCommand], places: usize, members: &mut ArrayVec<Request, 16>) -> bool
+// Whether these are a group, with one place for each outcome. Then `members` are its commands.
+fn gathered(commands: &[LtCommand], places: usize, members: &mut ArrayVec<Command, 16>) -> bool
     requires empty { members.old.items ≡ [] }
     ensures group { IsTrue result ↔ IsGroup commands.now places }
-    ensures members { IsTrue result → members.new.items ≡ requests_of commands.now }
+    ensures members { IsTrue result → members.new.items ≡ all_meant commands.now }
 {
     if commands.is_empty() {
         return false;
@@ -55,20 +51,17 @@ fn gathered(commands: &[LtCommand], places: usize, members: &mut ArrayVec<Reques
         return false;
     }
     gather(commands, members);
-    if members.len() != commands.len() {
-        return false;
-    }
-    are_apart(members.as_slice())
+    members.len() == commands.len()
 }
 
-// The index of the first command that means no request.
+// The index of the first that means no command.
 fn first_unknown(commands: &[LtCommand]) -> usize
     ensures { result ≡ first_unknown commands.now }
 {
     let mut rest = commands;
     let mut place = 0;
     while let Some((command, later)) = rest.split_first() {
-        match op_of(command.tag, command.address, command.value) {
+        match meant(command) {
             Some(_) => place += 1,
             None => return place,
         }
@@ -82,7 +75,7 @@ fn outcome_served(served: Served) -> LtOutcome
     ensures { result ≡ outcome_served served }
 {
     match served {
-        Served::Unserved => refused(NO_CALL),
+        Served::Unserved => refused(UNSERVED),
         Served::Done(outcome) => outcome_of(Ok(outcome)),
         Served::Refused(refusal) => outcome_of(Err(refusal)),
     }
@@ -99,14 +92,25 @@ fn spell_all(served: &[Served], outcomes: &mut ArrayVec<LtOutcome, 16>)
     }
 }
 
-// Writes the outcomes of the answers.
+// Adds the outcomes of this many members that aren't served.
+fn add_unserved(count: usize, outcomes: &mut ArrayVec<LtOutcome, 16>)
+    requires room { length outcomes.old.items + count ≤ 16 }
+    ensures { outcomes.new.items ≡ outcomes.old.items ++ replicate count unserved }
+{
+    for _ in 0..count {
+        outcomes.push(refused(UNSERVED));
+    }
+}
+
+// Writes the outcomes of the members: of those that are served, and of the others.
 fn tell_all(served: &[Served], places: &mut [LtOutcome])
-    requires few { length served.now ≤ 16 }
-    requires same { length (map outcome_served served.now) ≡ length places.old }
-    ensures { places.new ≡ map outcome_served served.now }
+    requires few { length served.now ≤ length places.old }
+    requires most { length places.old ≤ 16 }
+    ensures { places.new ≡ outcomes_of (length places.old) served.now }
 {
     let mut outcomes = ArrayVec::new();
     spell_all(served, &mut outcomes);
+    add_unserved(places.len() - served.len(), &mut outcomes);
     places.copy_from_slice(outcomes.as_slice());
 }
 
@@ -123,17 +127,22 @@ fn serve_group(image: &mut Image, commands: &[LtCommand], outcomes: &mut [LtOutc
         return Refusal::Device.number();
     }
     let mut served = ArrayVec::new();
-    image.serve_group(&members, &mut served);
+    image.serve_commands(&members, &mut served);
     tell_all(served.as_slice(), outcomes);
     0
 }
 
-/// Serves 1 to 16 requests, each of another element, as [`lt_serve`](crate::lt_serve) would one after another. All that
-/// are accepted are put on the disk together. Returns 0, and writes the outcome of each request at its place in
-/// `outcomes`, which has one place for each request. If the list of steps can't grow, each outcome is `Device`.
+/// Serves 1 to 16 commands together: requests, of one element or of several, and confirmations. Each is answered as
+/// [`lt_serve`](crate::lt_serve) would answer it after those before it. All that are accepted are put on the disk
+/// together. Returns 0, and writes the outcome of each command at its place in `outcomes`, which has one place for each.
 ///
-/// Returns the number of `Device` if a step was lost before, and 255 if the commands are no such group. Then the memory
-/// doesn't change, and `outcomes` are as they were.
+/// The first commands are served, at least one. The call ends before a confirmation if it isn't known, before the
+/// commands ahead of it act, whether each entry that it would drop is answered. The outcome of each command from there
+/// on is 254, `Unserved`: it changed nothing, and the caller puts it again. If the list of steps can't grow, each
+/// outcome of a command that would be served is `Device`.
+///
+/// Returns the number of `Device` if a step was lost before, and 255 if a tag is unknown, there are no commands or more
+/// than 16, or `outcomes` has another length. Then the memory doesn't change, and `outcomes` are as they were.
 #[unsafe(no_mangle)]
 pub extern "C" fn lt_serve_group(
     image: LtImage,
@@ -151,8 +160,8 @@ pub extern "C" fn lt_serve_group(
     number
 }
 
-/// Returns the index, from 0, of the first command that is no request, for example because no request has its tag. Such
-/// a command keeps the commands from being a group. Returns the number of commands if each is a request.
+/// Returns the index, from 0, of the first of these with an unknown tag, which keeps them from being a group. Returns
+/// how many there are if each is a command.
 #[unsafe(no_mangle)]
 pub extern "C" fn lt_first_unknown(commands: &[LtCommand]) -> usize
     ensures place { result ≡ first_unknown commands.now }

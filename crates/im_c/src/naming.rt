@@ -33,6 +33,7 @@ fn name_of(number: u8) -> &'static str
         22 => "NotBlank",
         23 => "BadPlan",
         24 => "PaneGone",
+        254 => "Unserved",
         255 => "NoCall",
         _ => "",
     }

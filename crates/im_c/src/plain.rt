@@ -9,6 +9,9 @@ use im_types::{Command, Entry, Outcome, Refusal, Reply, Request};
 /// The number of the refusal of something that is no call, such as an unknown tag.
 pub(crate) const NO_CALL: u8 = 255;
 
+/// The number for a member of a group that isn't served, and changed nothing.
+pub(crate) const UNSERVED: u8 = 254;
+
 // The tag of a confirmation that was accepted.
 const CONFIRMED: u8 = 128;
 
@@ -36,10 +39,11 @@ pub struct LtCommand {
     pub value: u64,
 }
 
-/// The outcome of a call. `refusal` is 0, the number of the refusal, or 255 for something that is no call. If it isn't
-/// 0, the rest is 0. The tag is the code that the image has for an entry: 0 it waits, 1 a base in `value`, 2 no space,
-/// 3 bad length, 4 a value in `value`, 5 stored, 6 clash, 7 no cell, 8 wrong kind, 9 released, 10 no block, 11 still
-/// waiting, 12 cleared. The tag of an accepted confirmation is 128.
+/// The outcome of a call. `refusal` is 0, the number of the refusal, 254 for a member of a group that isn't served, or
+/// 255 for something that is no call. If it isn't 0, the rest is 0. The tag is the code that the image has for an
+/// entry: 0 it waits, 1 a base in `value`, 2 no space, 3 bad length, 4 a value in `value`, 5 stored, 6 clash, 7 no
+/// cell, 8 wrong kind, 9 released, 10 no block, 11 still waiting, 12 cleared. The tag of an accepted confirmation is
+/// 128.
 #[repr(C)]
 #[derive(Clone, Copy, Default)]
 pub struct LtOutcome {

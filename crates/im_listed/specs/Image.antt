@@ -1,10 +1,14 @@
 -- An image in the hands of a caller that carries out the writes and syncs.
-use Rattle.std.specs.Prelude.{◌≡◌, ◌⊎◌, ℕ, Bool, false, List, [], Result, Ok, Err, if◌then◌else◌}
+use Rattle.std.specs.Prelude.{◌≡◌, ◌⊎◌, ℕ, Bool, false, List, [], length, take, Result, Ok, Err, if◌then◌else◌}
+use Rattle.im_types.specs.declared.commands.Command.{Command}
+use Rattle.im_types.specs.declared.groups.Served.{Served}
 use Rattle.im_types.specs.declared.refusals.Refusal.{Refusal}
 use Rattle.im_types.specs.declared.refusals.Refusal.TheVariants.{NoMemory, Device}
 use Rattle.im_disk.specs.Moment.{Moment}
 use Rattle.im_disk.specs.Since.{LeavesNow}
+use Rattle.im_groups.specs.Ahead.{ServesPrefix}
 use Rattle.im_engine.specs.State.{EngineState, MeansState, IsFirstFault}
+use Rattle.im_engine.specs.Commands.{CommandsAnswered, MeansCommands, commands_put}
 use Rattle.im_engine.specs.Run.{is_device}
 use Rattle.im_listed.specs.Listing.{Task, Listing, carried, LeftOnTheWay, with_no_steps}
 
@@ -42,3 +46,12 @@ pub record Carries (old : Moment) (new : ImageState) (P : List ℕ → Type 0) :
   pub way : LeftOnTheWay old (steps_of new) P
   -- and a crash at their end leaves a file that means the engine
   pub means : new.lost ≡ false → LeavesNow new.engine.disk.now (MeansState new.engine)
+
+-- The first members are served together, as many as there are answers. The others are untouched.
+pub record ServesFirst (old : ImageState) (members : List Command) (answers : List Served) (new : ImageState) : Type 0 where
+  -- how many are served, and where it ends
+  pub begins : ServesPrefix (begun_in old).memory (commands_put (begun_in old) (take (length answers) members)) members
+      (length answers)
+  pub answered : CommandsAnswered (begun_in old) (take (length answers) members) answers new.engine
+  -- on the way the file means the memory before those that are served, or after all of them
+  pub carried : Carries old.engine.disk.now new (MeansCommands (begun_in old) (take (length answers) members))

@@ -1,7 +1,6 @@
 //! An image in the hands of a caller that carries out the writes and syncs.
 ghost use Rattle.std.specs.Prelude.{◌≡◌, true, false, [], map, replicate, Err, IfOk, IfErr};
 ghost use Rattle.im_types.specs.Contents.{empty_contents, kept_for, waiters_at};
-ghost use Rattle.im_types.specs.Groups.{AreApart};
 ghost use Rattle.im_types.specs.Layout.{image_length, layout_in_use, sizes_of};
 ghost use Rattle.im_types.specs.Window.{ask, bounds};
 ghost use Rattle.im_disk.specs.Moment.{synced};
@@ -9,10 +8,10 @@ ghost use Rattle.im_disk.specs.Since.{LeavesNow};
 ghost use Rattle.im_checkpoint.specs.Step.{NoCheckpoint};
 ghost use Rattle.im_engine.specs.State.{MeansState, MeansEither, IsFound};
 ghost use Rattle.im_engine.specs.Run.{Answered, SweepAnswered, TurnAnswered};
-ghost use Rattle.im_engine.specs.Groups.{GroupAnswered, MeansGroup, all_refused};
 ghost use Rattle.im_listed.specs.Listing.{Accounts, task_of, carried};
 ghost use Rattle.im_listed.specs.History.{given};
 ghost use Rattle.im_listed.specs.Image.{ImageState, Carries, IsFaultOf, IsWant, begun_in, steps_of, tells_device};
+ghost use Rattle.im_listed.specs.Image.{ServesFirst};
 
 use crate::listed::Listed;
 use crate::step::Step;
@@ -22,7 +21,7 @@ use im_disk::{DeviceFault, Disk};
 use im_engine::Engine;
 use im_memory::Waiters;
 use im_types::layout::image_length;
-use im_types::{Command, Entry, Kept, Limits, Outcome, Refusal, Request, Served};
+use im_types::{Command, Entry, Kept, Limits, Outcome, Refusal, Served};
 use std::alloc::Global;
 use std::marker::Model;
 
@@ -141,7 +140,7 @@ impl Image {
         }
     }
 
-    /// Empties the list of steps. Each call of `serve`, `serve_group` and `turn` does so first.
+    /// Empties the list of steps. Each call of `serve`, `serve_commands`, `turn` and `sweep` does so first.
     pub fn forget_steps(&mut self)
         ensures { self.new ≡ record self.old { engine = begun_in self.old } }
     {
@@ -175,31 +174,28 @@ impl Image {
         answer
     }
 
-    /// Serves the members of a group, as [`Engine::serve_group`] does. All are refused with `Device` if the list
-    /// couldn't grow. If a step was lost, nobody is answered.
-    pub fn serve_group(
+    /// Serves commands together, as [`Engine::serve_commands`] does: the first of them, as many as there are answers,
+    /// and at least one if there is any. The others are untouched, and are put again. Those that are served are all
+    /// refused with `Device` if the list couldn't grow. If a step was lost, nobody is answered.
+    pub fn serve_commands(
         &mut self,
-        members: &ArrayVec<Request, 16>,
+        members: &ArrayVec<Command, 16>,
         served: &mut ArrayVec<Served, 16>,
     )
-        requires apart { AreApart members.now.items }
         requires empty { served.old.items ≡ [] }
-        ensures lost { self.old.lost ≡ true
-            → (served.new.items ≡ []) × (self.new ≡ self.old) }
+        ensures lost { self.old.lost ≡ true → (served.new.items ≡ []) × (self.new ≡ self.old) }
         ensures works { self.old.lost ≡ false → self.old.engine.failed ≡ false }
-        ensures answered { self.old.lost ≡ false
-            → GroupAnswered (begun_in self.old) members.now.items served.new.items self.new.engine }
-        // On the way the file means the memory before the group or after all of it.
-        ensures carried { self.old.lost ≡ false
-            → Carries self.old.engine.disk.now self.new (MeansGroup (begun_in self.old) members.now.items) }
+        // How many are served, their answers, and what the file means on the way.
+        ensures served { self.old.lost ≡ false
+            → ServesFirst self.old members.now.items served.new.items self.new }
     {
         if self.lost {
             return;
         }
         let _ = known(&self.engine);
         self.engine.empty_list();
-        self.engine.serve_group(members, served);
-        self.lost = known(&self.engine);
+        self.engine.serve_commands(members, served);
+        self.lost = known(&self.engine); // A step of the group couldn't be listed.
     }
 
     /// Makes one checkpoint turn, like [`Engine::turn`]. Returns `Device` if a step couldn't be listed or was lost.

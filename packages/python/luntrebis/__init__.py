@@ -43,6 +43,7 @@ from ._words import (
     StillWaiting,
     SyncFailed,
     Tag,
+    Unserved,
     Waiting,
     Window,
     WindowFull,
@@ -54,6 +55,6 @@ __all__ = [
     "Answer", "Answered", "BadHeader", "BadLength", "BadLimits", "BadPage", "BadRecord", "Clash", "Deferred",
     "Device", "Element", "Failed", "Forgotten", "Gap", "Image", "JournalFull", "Memory", "Mismatch", "NoBlock",
     "NoCall", "NoCell", "NoElement", "NoHeader", "NoMemory", "NoSpace", "NotAnswered", "OldVersion", "Refused",
-    "Reply", "Request", "Shared", "SharedElement", "StillWaiting", "SyncFailed", "Tag", "Waiting", "Window",
+    "Reply", "Request", "Shared", "SharedElement", "StillWaiting", "SyncFailed", "Tag", "Unserved", "Waiting", "Window",
     "WindowFull", "WrongKind", "WrongLength", "answered", "create", "inspect", "open", "open_or_create",
 ]

@@ -64,6 +64,7 @@ class lt_refusal(enum.IntEnum):
     BAD_RECORD = 16
     BAD_LIMITS = 17  # of lt_memory_new and lt_format
     OLD_VERSION = 21  # of lt_open: an image of the first layout; `imem migrate` makes one of this layout
+    UNSERVED = 254  # of a member of lt_serve_group: it isn't served, and changed nothing; put it again
     NO_CALL = 255  # an unknown tag, no such write, or no group
 
 
@@ -259,6 +260,14 @@ CALLS: dict[str, tuple[Any, ...]] = {
     "ltf_open_or_create": (c.c_int, c.c_char_p, c.c_uint32, c.c_uint16, c.c_uint32, c.POINTER(c.POINTER(ltf))),
     "ltf_serve": (c.c_int, c.POINTER(ltf), c.POINTER(lt_command), c.POINTER(lt_outcome)),
     "ltf_serve_all": (c.c_int, c.POINTER(ltf), c.POINTER(lt_command), c.c_size_t, c.POINTER(lt_outcome)),
+    "ltf_serve_group": (
+        c.c_int,
+        c.POINTER(ltf),
+        c.POINTER(lt_command),
+        c.c_size_t,
+        c.POINTER(lt_outcome),
+        c.POINTER(c.c_size_t),
+    ),
     "ltf_woken": (c.POINTER(lt_waiter), c.POINTER(ltf), c.POINTER(c.c_size_t)),
     "ltf_tidy": (c.c_int, c.POINTER(ltf)),
     "ltf_collect": (c.c_int, c.POINTER(ltf), c.c_uint16, c.c_uint64, c.POINTER(lt_outcome)),

@@ -132,8 +132,8 @@ class Image(Held):
         return outcome
 
     def ask_all(self, requests: Iterable[Request]) -> list[Union[Reply, Refused]]:
-        """Sends any requests, in their order. Returns the reply or the refusal of each. Neighbours of up to sixteen
-        elements are put on the disk together."""
+        """Sends any requests, in their order. Returns the reply or the refusal of each. Up to sixteen neighbours
+        are put on the disk together."""
         asked = [spelled(it) for it in requests]
         commands, outcomes = (lt_command * len(asked))(*asked), (lt_outcome * len(asked))()
         passed(self._carried_out(self._call("ltf_serve_all", commands, len(asked), outcomes)))

@@ -122,8 +122,14 @@ class OldVersion(Refused):
     number = 21
 
 
+class Unserved(Refused):
+    """A command of a group that wasn't served, and changed nothing. No call of this package raises it."""
+
+    number = 254
+
+
 class NoCall(Refused):
-    """An unknown tag, or requests that make no group."""
+    """An unknown tag, or commands that make no group."""
 
     number = 255
 

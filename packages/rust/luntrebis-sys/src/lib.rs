@@ -138,6 +138,9 @@ pub const LT_BAD_LIMITS: u8 = 17;
 /// Of lt_open: an image of the first layout; `imem migrate` makes one of this layout
 pub const LT_OLD_VERSION: u8 = 21;
 
+/// Of a member of lt_serve_group: it isn't served, and changed nothing; put it again
+pub const LT_UNSERVED: u8 = 254;
+
 /// An unknown tag, no such write, or no group
 pub const LT_NO_CALL: u8 = 255;
 
@@ -252,7 +255,7 @@ pub const LTF_UNSYNCED: u32 = 300;
 #[repr(C)]
 #[derive(Clone, Copy, Debug, Default, PartialEq, Eq)]
 pub struct ltf_counts {
-    /// Of requests that shared their syncs, or one command alone
+    /// Of commands that shared their syncs, or one command alone
     pub groups: u64,
     pub syncs: u64,
     pub writes: u64,
@@ -319,10 +322,18 @@ extern "C" {
     /// left. This call and all that follow with a handle take one that holds an image.
     pub fn lt_serve(image: lt_image, command: *const lt_command, next: *mut lt_image, outcome: *mut lt_outcome) -> u8;
 
-    /// Serves 1 to 16 requests, each of another element, and puts them on the disk together. Returns 0, and writes the
-    /// outcome of each request at its place in `outcomes`. Each is LT_DEVICE if the steps couldn't be listed. Else the
-    /// outcomes are as they were, and it returns LT_DEVICE after a lost step, or LT_NO_CALL if the commands are no such
-    /// requests or `places` isn't their count. lt_steps returns how many steps it left.
+    /// Serves 1 to 16 commands together: requests, of one element or of several, and confirmations. Each gets the
+    /// outcome that lt_serve would give it after those before it. All that are accepted are put on the disk together.
+    /// Returns 0, and writes the outcome of each command at its place in `outcomes`. lt_steps returns how many steps it
+    /// left.
+    ///
+    /// The first commands are served, at least one. The call ends before a confirmation if it isn't known, before the
+    /// commands ahead of it act, whether each entry that it would drop is answered. The outcome of each command from
+    /// there on is LT_UNSERVED: put them again. A program that confirms only what it was told never gets it. The
+    /// outcome of each command that would be served is LT_DEVICE if the steps couldn't be listed.
+    ///
+    /// It returns LT_DEVICE after a lost step, and LT_NO_CALL if a tag is unknown, `count` isn't 1 to 16, or `places`
+    /// isn't `count`. Then the outcomes are as they were.
     pub fn lt_serve_group(
         image: lt_image,
         commands: *const lt_command,
@@ -332,8 +343,8 @@ extern "C" {
         places: usize,
     ) -> u8;
 
-    /// Returns the index, from 0, of the first command that is no request, for example because no request has its tag.
-    /// Such a command keeps lt_serve_group from taking them. Returns `count` if there is none.
+    /// Returns the index, from 0, of the first command with an unknown tag. Such a command keeps lt_serve_group from
+    /// taking them. Returns `count` if there is none.
     pub fn lt_first_unknown(commands: *const lt_command, count: usize) -> usize;
 
     /// Makes one turn of a checkpoint. Returns its refusal, and writes what it did at `outcome`.
@@ -395,9 +406,9 @@ extern "C" {
         written: *mut usize,
     ) -> u8;
 
-    /// Returns the length of the name of the refusal with this number, 1 to 24 or LT_NO_CALL. The name is at the start
-    /// of the buffer if there is room for it, with no zero after it, and the rest of the buffer is as it was. The name
-    /// of LT_OK, and of any other number, is empty. No name has more than 11 letters.
+    /// Returns the length of the name of the refusal with this number: 1 to 24, LT_UNSERVED or LT_NO_CALL. The name is
+    /// at the start of the buffer if there is room for it, with no zero after it, and the rest of the buffer is as it
+    /// was. The name of LT_OK, and of any other number, is empty. No name has more than 11 letters.
     pub fn lt_refusal_name(refusal: u8, buffer: *mut core::ffi::c_char, room: usize) -> usize;
 
     /// Returns the length of the name of an answer, by its tag, in the same way. No name has more than 12 letters.
@@ -433,11 +444,10 @@ extern "C" {
     /// it returns LT_JOURNAL_FULL only if no checkpoint makes room.
     pub fn ltf_serve(file: *mut ltf, command: *const lt_command, outcome: *mut lt_outcome) -> core::ffi::c_int;
 
-    /// Serves any commands, in their order, with the outcomes that ltf_serve would give for one after another.
-    /// Neighbours of up to 16 elements, one request of each, share two syncs; a confirmation has two of its own.
-    /// Returns 0, and writes the outcome of each command at its place in `outcomes`. Returns LT_DEVICE if a step
-    /// failed: then each outcome may be untrue. Returns LT_NO_MEMORY for more than 16 commands if there is no memory
-    /// for them: then none was served.
+    /// Serves any commands, in their order, with the outcomes that ltf_serve would give for one after another. Up to 16
+    /// neighbours share two syncs: requests, of one element or of several, and confirmations. Returns 0, and writes the
+    /// outcome of each command at its place in `outcomes`. Returns LT_DEVICE if a step failed: then each outcome may be
+    /// untrue. Returns LT_NO_MEMORY for more than 16 commands if there is no memory for them: then none was served.
     pub fn ltf_serve_all(
         file: *mut ltf,
         commands: *const lt_command,
@@ -445,13 +455,24 @@ extern "C" {
         outcomes: *mut lt_outcome,
     ) -> core::ffi::c_int;
 
-    /// Returns the requests that the last ltf_serve or ltf_serve_all resumed: they waited before, and are answered now.
-    /// Those of one cell are in the order in which they came. Their number is at `count`. They stay there until the
-    /// next of these calls.
+    /// Serves the first of these commands with two syncs, as ltf_serve_all does: at least one if there is any, and at
+    /// most 16. Their number is at `served`; the others are untouched, and are put again. It is for programs to which
+    /// commands keep coming. Returns 0, or LT_DEVICE if a step failed: then each of all outcomes is LT_DEVICE.
+    pub fn ltf_serve_group(
+        file: *mut ltf,
+        commands: *const lt_command,
+        count: usize,
+        outcomes: *mut lt_outcome,
+        served: *mut usize,
+    ) -> core::ffi::c_int;
+
+    /// Returns the requests that the last ltf_serve, ltf_serve_group or ltf_serve_all resumed: they waited before, and
+    /// are answered now. Those of one cell are in the order in which they came. Their number is at `count`. They stay
+    /// there until the next of these calls.
     pub fn ltf_woken(file: *const ltf, count: *mut usize) -> *const lt_waiter;
 
     /// Makes a sweep, or a turn of a checkpoint, if less than half of the journal is free. Returns 1, or 0 if there is
-    /// nothing to do. It is for a program that is idle; ltf_serve and ltf_serve_all do the same work.
+    /// nothing to do. It is for a program that is idle; each call that serves does the same work.
     pub fn ltf_tidy(file: *mut ltf) -> core::ffi::c_int;
 
     /// Writes the entry that is kept under an element's number at `outcome`, and returns its refusal, as lt_collect

@@ -131,8 +131,8 @@ impl Image {
         told(&self.serve(&spelled(request))?)
     }
 
-    /// Sends any requests, in their order. Returns the reply or the refusal of each. Neighbours of up to sixteen
-    /// elements are put on the disk together.
+    /// Sends any requests, in their order. Returns the reply or the refusal of each. Up to sixteen neighbours
+    /// are put on the disk together.
     pub fn ask_all(&mut self, requests: &[Request]) -> Result<Vec<Result<Reply>>> {
         let commands: Vec<_> = requests.iter().map(spelled).collect();
         let mut outcomes = vec![sys::lt_outcome::default(); commands.len()];

@@ -120,7 +120,9 @@ pub enum Refusal {
     BadLimits = sys::LT_BAD_LIMITS,
     /// An image of the first layout: `imem migrate` makes one of this layout from it.
     OldVersion = sys::LT_OLD_VERSION,
-    /// Requests that make no group, or an unknown number of a refusal.
+    /// A command of a group that wasn't served, and changed nothing. No call of this package returns it.
+    Unserved = sys::LT_UNSERVED,
+    /// Commands that make no group, or an unknown number of a refusal.
     NoCall = sys::LT_NO_CALL,
 }
 
@@ -145,6 +147,7 @@ impl Refusal {
             BadRecord,
             BadLimits,
             OldVersion,
+            Unserved,
         ];
         known.into_iter().find(|it| *it as u8 == number).unwrap_or(NoCall)
     }

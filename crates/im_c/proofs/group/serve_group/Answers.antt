@@ -1,13 +1,19 @@
-use Rattle.std.proofs.Common.{rules, ◌≡◌, false, List, length, map, ap, sym, ◌∙◌}
+use Rattle.std.proofs.Common.{rules, arith, ◌≡◌, false, List, length, ap}
+use Rattle.im_types.specs.declared.commands.Command.{Command}
 use Rattle.im_types.specs.declared.groups.Served.{Served}
-use Rattle.im_c.specs.Group.{IsGroup, outcome_served, requests_of}
-use Rattle.im_c.proofs.Groups.{told_each}
+use Rattle.im_c.specs.Group.{IsGroup, all_meant}
 use Rattle.im_c.proofs.group.serve_group.Goals as goal
 
-pub tell_all-requires-clause-same : goal.tell_all-requires-clause-same
-tell_all-requires-clause-same c =
+pub tell_all-requires-clause-few : goal.tell_all-requires-clause-few
+tell_all-requires-clause-few c =
     let lives : c.args.image.now.lost ≡ false = search rules in
     let is : IsGroup c.args.commands.now (length c.args.outcomes.now) = search rules in
-    let members : c.gathered.new.members.items ≡ requests_of c.args.commands.now = search rules in
-    ap (λ (l : List Served). length (map outcome_served l)) c.as_slice.ensures.value
-    ∙ told_each _ _ _ _ (c.serve_group.ensures.answered lives) ∙ ap length members ∙ is.each ∙ sym is.told
+    let members : c.gathered.new.members.items ≡ all_meant c.args.commands.now = search rules in
+    omega (
+      arith,
+      ap (λ (l : List Served). length l) c.as_slice.ensures.value,
+      (c.serve_commands.ensures.served lives).begins.within,
+      ap (λ (l : List Command). length l) members,
+      is.each,
+      is.told,
+    )

@@ -1,0 +1,6 @@
+use Rattle.std.proofs.Common.{◌≡◌, ◌++◌, replicate}
+use Rattle.im_c.specs.Group.{unserved}
+use Rattle.im_c.proofs.group.add_unserved.Given as goal
+
+abbrev pub invariant-loop : goal.invariant-loop
+invariant-loop l = l.outcomes.items ≡ l.initial.outcomes.items ++ replicate l.counter unserved

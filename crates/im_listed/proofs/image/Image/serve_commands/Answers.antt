@@ -1,0 +1,39 @@
+use Rattle.std.proofs.Common.{◌≡◌, inl, List, ℕ, false, length, take, sym, ◌∙◌, ap, subst}
+use Rattle.im_groups.specs.Ahead.{ServesPrefix}
+use Rattle.im_engine.specs.State.{EngineState}
+use Rattle.im_engine.specs.Commands.{CommandsAnswered, MeansCommands, commands_put}
+use Rattle.im_listed.specs.Listing.{Listing}
+use Rattle.im_listed.specs.Image.{ImageState, begun_in}
+use Rattle.im_listed.proofs.ImageLemmas.{carries_on, start_of}
+use Rattle.im_listed.proofs.image.Image.serve_commands.Goals as goal
+
+pub returns-clause-served : goal.returns-clause-served
+returns-clause-served c = λ alive.
+    let s = c.empty_list.new.self in
+    let e = c.self.inside.engine in
+    let on : e.failed ≡ false = c.self.invariant c.if-self.false in
+    let here : s.failed ≡ false = ap (λ (t : EngineState Listing). t.failed) c.empty_list.ensures.emptied ∙ on in
+    let emptied = c.empty_list.ensures.emptied in
+    let same : s ≡ begun_in c.args.self.now = emptied ∙ ap (λ (i : ImageState). begun_in i) c.self.view_is in
+    let new : ImageState = record { engine = c.serve_commands.new.self; lost = c.known-self-inside-2.result } in
+    let calm : new.lost ≡ false → new.engine.failed ≡ false = λ is. sym c.known-self-inside-2.ensures.failed ∙ is in
+    let all = c.args.members.now.items in
+    let answers = c.serve_commands.new.served.items in
+    let served = take (length answers) all in
+    let runs = c.serve_commands.ensures.runs in
+    record {
+      begins = subst
+          (λ (t : EngineState Listing). ServesPrefix t.memory (commands_put t served) all (length answers)) same
+          c.serve_commands.ensures.begins;
+      answered = subst (λ (t : EngineState Listing). CommandsAnswered t served answers new.engine) same
+          c.serve_commands.ensures.answered;
+      carried = carries_on c.args.self.now new
+          (λ (t : EngineState Listing) (file : List ℕ). MeansCommands t served file) s same (record {
+            same = λ is. runs.faults.steady (calm is ∙ sym here);
+            leaves = runs.leaves tt here;
+            start = λ file left. inl
+                (start_of e s c.empty_list.ensures.emptied (c.known-self-inside.ensures.means on) file left);
+            account = c.known-self-inside-2.ensures.account;
+            means = λ is. c.known-self-inside-2.ensures.means (calm is);
+          });
+    }
