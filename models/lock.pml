@@ -216,7 +216,7 @@ inline see_all_wait(e) {
   do :: i < N -> assert(i == e || does[i] == Done || (does[i] == Waits && entry[i] != Told)); i++ :: else -> break od
 }
 /* of im_controller::begin_wait 9e785d1206c9
-   of im_controller::ask_once efbc0eb78cca */
+   of im_controller::ask_once b864d3750de2 */
 inline ask_once(e) {
   if :: failed -> change(e, Active); got = Failed
      :: !failed && entry[e] == Told -> change(e, Active); got = Go
@@ -266,11 +266,11 @@ inline serve_member(m) {
   fi;
   asked[m] = Nothing
 }
-/* of im_controller::hold 09a70e0e3b04
+/* of im_controller::hold 794147ae1493
    of im_controller::serve_asked 806520597510
    of im_controller::Inbox::next_group a8192a4a8c3b
    of im_controller::Inbox::gather 4744c952cbf6
-   of im_controller::Log::claim 9ee4b9d37411 */
+   of im_controller::Log::claim 926f044364f6 */
 inline hold(e) {
   if :: unclaimed[e] != Nothing -> skip
      :: else ->
@@ -291,10 +291,10 @@ inline who_is_answered() {
   do :: i < N -> if :: unclaimed[i] != Nothing -> answered = answered | (1 << i) :: else fi; i++ :: else -> break od;
   i = 0
 }
-/* of im_controller::Port::submit f0a149169b38
+/* of im_controller::Port::submit 4b6a23256070
    of im_controller::Controller::ask 6a11fccc4065
    of im_controller::Inbox::ask cf302d929a91
-   of im_controller::Controller::serve_all 3c613d6d26c2 */
+   of im_controller::Controller::serve_all 0e2dcfbcaae4 */
 inline submit(e, op) {
   d_step { asked[e] = op; got = Nothing };
   do :: got == Nothing ->
@@ -318,8 +318,8 @@ inline help(e) {
   pass_on(answered);
   wake(AFTER_A_TURN)
 }
-/* of im_controller::Port::confirm db962f76eabc
-   of im_controller::Controller::serve 227e892fa6c0
+/* of im_controller::Port::confirm b671db8ebc5b
+   of im_controller::Controller::serve f689d77506b7
    of im_controller::lend 363dc7535b36 */
 inline confirm(e) {
   wait_turn(e);
@@ -333,7 +333,7 @@ inline confirm(e) {
   pass_on(answered);
   wake(AFTER_A_CONFIRMATION)
 }
-/* of im_controller::Port::collect 1bcc57de0d56
+/* of im_controller::Port::collect f2ef03b29c5d
    of im_controller::find 05e6a733d6ac
    of im_controller::look 4a40d63c418d */
 inline collect(e) {
@@ -341,7 +341,7 @@ inline collect(e) {
   got = (failed -> Failed : Told);
   pass_on(answered)
 }
-/* of im_controller::Port::await_answer f0fdccfb58e3 */
+/* of im_controller::Port::await_answer b219403080c4 */
 inline await_answer(e) {
   if :: does[e] != Done -> does[e] = Waits :: else fi;
   do :: wait_turn(e);

@@ -1,3 +1,5 @@
+pub mod ChainLemmas
+pub mod SeenLemmas
 pub mod LogLemmas
 pub mod StuckLemmas
 pub mod LendLemmas

@@ -24,7 +24,8 @@ use Rattle.im_laws.proofs.TraceLemmas.{end_of-append, IsLegal-push}
 use Rattle.im_controller.specs.Lines.{Counts, EndsIn, EndsInAll, leaves_line, line_of, lines_of, memory_after}
 use Rattle.im_controller.specs.Lines.{counts_after}
 use Rattle.im_controller.specs.Log.{UnclaimedState, LogState, IsProof, IsProofIn, unclaimed_lines, with_line}
-use Rattle.im_controller.specs.Log.{with_unclaimed, without_unclaimed, AreFree, IsLog, IsOfTrace, receipt_for}
+use Rattle.im_controller.specs.Log.{with_unclaimed, without_unclaimed, AreFree, AreClaimed, IsLog, IsOfTrace}
+use Rattle.im_controller.specs.Log.{receipt_for}
 
 -- the line of a call, if it leaves one
 abbrev pub lines_by : Bool → Call → Result Outcome Refusal → List Line
@@ -75,7 +76,7 @@ proofs-more : (m : Contents) (trace more : List Line) (places : List (Option Unc
 proofs-more m trace more [] all = tt
 proofs-more m trace more (None ∷ places) all = (tt, proofs-more m trace more places all.1)
 proofs-more m trace more (Some w ∷ places) all =
-    ((all.0.0, prefix-more w.history trace more all.0.1), proofs-more m trace more places all.1)
+    ((all.0.0, prefix-more w.history trace more all.0.1, all.0.2), proofs-more m trace more places all.1)
 
 -- sums over places
 module _ (f : Option UnclaimedState → ℕ) (none : f None ≡ 0) (places : List (Option UnclaimedState)) (e : ℕ)
@@ -133,7 +134,8 @@ module _ (m : Contents) (marks : Line → Bool) (l : LogState) (books : Counts) 
   log-keeps r answer free room so =
       let call = Commands (Asks r) in
       let more = lines_of call answer in
-      let w : UnclaimedState = record { request = r; answer = answer; history = l.trace ++ more } in
+      let history = l.trace ++ more in
+      let w : UnclaimedState = record { request = r; answer = answer; before = length l.trace; history = history } in
       let legal = legal_by (leaves_line answer) m l.trace call answer is.legal so in record {
         legal = legal;
         few = omega (
@@ -158,7 +160,7 @@ module _ (m : Contents) (marks : Line → Bool) (l : LogState) (books : Counts) 
         );
         proofs = all-set (IsProofIn m (l.trace ++ more)) l.places r.element (Some w)
             (proofs-more m l.trace more l.places is.proofs)
-            (proof_at m l.trace call answer legal, ([], append-nil (l.trace ++ more)));
+            (proof_at m l.trace call answer legal, ([], append-nil (l.trace ++ more)), (l.trace, refl, refl));
       }
 
   -- an answer that its port takes
@@ -198,12 +200,37 @@ log-starts m marks trace limit places books none free no_lines no_marked = rw no
   proofs = free-proofs m [] places free;
 })
 
--- where no answer waits, the books count all lines
+-- no more lines are marked than there are
+count-few : (marks : Line → Bool) (xs : List Line) → count_by marks xs ≤ length xs
+count-few marks [] = omega arith
+count-few marks (x ∷ xs) = omega (arith, count-few marks xs, at_most (marks x), count-append marks (x ∷ []) xs)
+  where
+    at_most : (b : Bool) → cond b 1 0 ≤ 1
+    at_most true = omega arith
+    at_most false = omega arith
+
+marked-few : (marks : Line → Bool) (places : List (Option UnclaimedState))
+    → sum_by (λ p. count_by marks (unclaimed_lines p)) places ≤ sum_by (λ p. length (unclaimed_lines p)) places
+marked-few marks [] = omega arith
+marked-few marks (p ∷ places) = omega (
+  arith,
+  marked-few marks places,
+  count-few marks (unclaimed_lines p),
+  sum_by-append (λ q. count_by marks (unclaimed_lines q)) (p ∷ []) places,
+  sum_by-append (λ q. length (unclaimed_lines q)) (p ∷ []) places,
+)
+
+-- what isn't false
+pub must-hold : (b : Bool) → (b ≡ false → ⊥) → b ≡ true
+must-hold true not = refl
+must-hold false not = absurd (not refl)
+
+-- where no line waits, the books count all lines
 pub log-claimed : (m : Contents) (marks : Line → Bool) (l : LogState) (books : Counts) → IsLog m marks l books
-    → AreFree l.places → (books.lines ≡ length l.trace) × (books.marked ≡ count_by marks l.trace)
-log-claimed m marks l books is free = (
-  omega (arith, is.lines, free-sum (λ p. length (unclaimed_lines p)) l.places refl free),
-  omega (arith, is.marked, free-sum (λ p. count_by marks (unclaimed_lines p)) l.places refl free),
+    → AreClaimed l.places → (books.lines ≡ length l.trace) × (books.marked ≡ count_by marks l.trace)
+log-claimed m marks l books is none = (
+  omega (arith, is.lines, none),
+  omega (arith, is.marked, none, marked-few marks l.places),
 )
 
 -- an entry that is told has its line at the end

@@ -197,7 +197,7 @@ module _ (old mid new : PaneView) (changes shown : List Change)
 pub told-all : (m : Contents) (trace : List Line) (told : List Change) → told ≡ shown_by m trace → IsToldOf m trace told
 told-all m trace told is = ([], append-nil (shown_by m trace) ∙ sym is)
 
-plain-receipt : (history : List Line) (shown : List Change) (command : Command) (a : Result Outcome Refusal)
+pub plain-receipt : (history : List Line) (shown : List Change) (command : Command) (a : Result Outcome Refusal)
     → plain (receipt_for history shown command a) ≡ a
 plain-receipt history shown command (Ok outcome) = refl
 plain-receipt history shown command (Err refusal) = refl

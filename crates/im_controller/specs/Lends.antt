@@ -111,7 +111,7 @@ with_server_at s element server = record { engine = s.engine; log = s.log; serve
 -- An element's port is made exactly if its server had none yet. It was told no line, and the server is active. Else all
 -- is as it was.
 pub record MakesPort {D : Type 0} (s : SharedState D) (element : ℕ) (answer : Result PortState Refusal) (s' : SharedState D) : Type 0 where
-  pub made : slice_get s.servers element ≡ Some Unmade → answer ≡ Ok (record { element = element; told = record { lines = 0; marked = 0 } })
+  pub made : slice_get s.servers element ≡ Some Unmade → answer ≡ Ok (record { element = element; told = record { lines = 0; marked = 0 }; history = s.log.trace })
   pub active : slice_get s.servers element ≡ Some Unmade → s' ≡ record { engine = s.engine; log = s.log; servers = slice_set s.servers element Active; shown = s.shown }
   pub none : slice_get s.servers element ≢ Some Unmade → answer ≡ Err NoElement
   pub same : slice_get s.servers element ≢ Some Unmade → s' ≡ s

@@ -1,4 +1,6 @@
 pub mod Lines
+pub mod Books
+pub mod Chains
 pub mod Traced
 pub mod Log
 pub mod Servers

@@ -1,6 +1,7 @@
 -- The lines that calls leave in a trace, and how many of them a port was told. (Own.)
 use Rattle.std.specs.Prelude.{ℕ, ◌≡◌, ◌+◌, ◌++◌, List, [], ◌∷◌, Bool, true, Result, Ok, Err, length, count_by, nat_lt}
-use Rattle.std.specs.Prelude.{if◌then◌else◌}
+use Rattle.std.specs.Prelude.{if◌then◌else◌, ◌⊎◌}
+use mathlib.Core.List.{IsPrefix}
 use Rattle.im_types.specs.declared.commands.Outcome.{Outcome}
 use Rattle.im_types.specs.declared.commands.Call.{Call}
 use Rattle.im_types.specs.declared.commands.Line.{Line}
@@ -42,3 +43,11 @@ pub record Counts : Type 0 where
 -- the counts after these lines more
 abbrev pub counts_after : (Line → Bool) → Counts → List Line → Counts
 counts_after marks counts lines = record { lines = counts.lines + length lines; marked = counts.marked + count_by marks lines }
+
+-- one of two traces is a prefix of the other
+abbrev pub AreInOrder : List Line → List Line → Type 0
+AreInOrder xs ys = IsPrefix xs ys ⊎ IsPrefix ys xs
+
+-- a trace goes on after what was seen of it, and ends in these lines
+abbrev pub GoesOnTo : List Line → List Line → List Line → Type 0
+GoesOnTo seen last lines = (others : List Line) × (lines ≡ (seen ++ others) ++ last)

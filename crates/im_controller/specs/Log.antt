@@ -16,7 +16,7 @@ use Rattle.im_types.specs.Contents.{Contents}
 use Rattle.im_types.specs.Trace.{IsLegal}
 use Rattle.im_types.specs.declared.changes.Change.{Change}
 use Rattle.im_types.specs.Changes.{shown_by}
-use Rattle.im_controller.specs.Lines.{EndsIn, Counts, line_of, lines_of, counts_after}
+use Rattle.im_controller.specs.Lines.{EndsIn, Counts, GoesOnTo, line_of, lines_of, counts_after}
 
 -- a command, its outcome, the trace that ends in its line, and what was shown when its port was told
 pub record ReceiptState : Type 0 where
@@ -32,10 +32,11 @@ pub record FoundState : Type 0 where
   pub entry : Entry
   pub history : List Line
 
--- the answer to a request that its port hasn't taken yet, and the trace right after it
+-- the answer to a request that its port hasn't taken yet, how many lines there were before it, and the trace right after it
 pub record UnclaimedState : Type 0 where
   pub request : Request
   pub answer : Result Outcome Refusal
+  pub before : ℕ
   pub history : List Line
 
 -- a trace, how many lines it may have, and a place for each element's answer
@@ -76,16 +77,21 @@ with_line l call answer = record l { trace = l.trace ++ lines_of call answer }
 abbrev pub with_unclaimed : LogState → Request → Result Outcome Refusal → LogState
 with_unclaimed l r answer =
     let trace = l.trace ++ lines_of (Commands (Asks r)) answer in
-    record { trace = trace; limit = l.limit; places = slice_set l.places r.element (Some (record { request = r; answer = answer; history = trace })) }
+    record { trace = trace; limit = l.limit; places = slice_set l.places r.element (Some (record { request = r; answer = answer; before = length l.trace; history = trace })) }
 
 -- the log with an element's place free
 abbrev pub without_unclaimed : LogState → ℕ → LogState
 without_unclaimed l element = record l { places = slice_set l.places element None }
 
+-- a trace has so many lines, and then these
+abbrev pub IsBefore : ℕ → List Line → List Line → Type 0
+IsBefore before last lines = (start : List Line) × (length start ≡ before) × (lines ≡ start ++ last)
+
 -- an answer that waits in a place has a prefix of the trace, which is legal and ends in its line
 abbrev pub IsProofIn : Contents → List Line → Option UnclaimedState → Type 0
 IsProofIn m trace None = Unit {0}
 IsProofIn m trace (Some waiting) = IsProof m (Commands (Asks waiting.request)) waiting.answer waiting.history × IsPrefix waiting.history trace
+    × IsBefore waiting.before (unclaimed_lines (Some waiting)) waiting.history
 
 -- A legal trace with no more lines than it may have. The books count each line that its port was told: all but those of
 -- answers that wait.
@@ -114,6 +120,21 @@ Claims marks l t element r None l' t' = (l' ≡ l) × (t' ≡ t)
 Claims marks l t element r (Some answer) l' t' =
     (l' ≡ without_unclaimed l element) × (t' ≡ counts_after marks t (lines_of (Commands (Asks r)) (plain answer))) × IsOf (Asks r) answer
 
+-- a receipt has this trace
+abbrev pub HasHistory : List Line → Result ReceiptState Refusal → Type 0
+HasHistory history (Ok receipt) = receipt.history ≡ history
+HasHistory history (Err refusal) = Unit {0}
+
+-- What a port has seen of the trace, once it was told the answer to a command: the command's line, if it left one, stands
+-- after all that the port saw before, and the receipt has the same trace.
+abbrev pub SeesReceipt : List Line → Command → Result ReceiptState Refusal → List Line → Type 0
+SeesReceipt seen command answer seen' = GoesOnTo seen (lines_of (Commands command) (plain answer)) seen' × HasHistory seen' answer
+
+-- the same, when it looks for the answer to its request: it sees no more if there is none
+abbrev pub SeesAnswer : List Line → Request → Option (Result ReceiptState Refusal) → List Line → Type 0
+SeesAnswer seen r None seen' = seen' ≡ seen
+SeesAnswer seen r (Some answer) seen' = SeesReceipt seen (Asks r) answer seen'
+
 -- an outcome has a prefix of the trace, which is legal and ends in its line
 abbrev pub IsOfTrace : Contents → List Line → Result ReceiptState Refusal → Type 0
 IsOfTrace m trace (Ok r) = IsPrefix r.history trace × IsProof m (Commands r.command) (Ok r.outcome) r.history
@@ -122,3 +143,7 @@ IsOfTrace m trace (Err refusal) = Unit {0}
 -- no answer waits in any of these places
 abbrev pub AreFree : List (Option UnclaimedState) → Type 0
 AreFree places = AllByRecursion (λ place. place ≡ None) places
+
+-- no line waits in any of these places
+abbrev pub AreClaimed : List (Option UnclaimedState) → Type 0
+AreClaimed places = sum_by (λ place. length (unclaimed_lines place)) places ≡ 0

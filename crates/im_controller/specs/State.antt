@@ -1,10 +1,11 @@
 -- What lies under the lock, as contracts see it. (Own.)
 use Rattle.std.specs.Prelude.{ℕ, List, Option}
-use Rattle.logbook.specs.Pages.{Book}
 use Rattle.im_types.specs.declared.commands.Request.{Request}
+use Rattle.im_types.specs.declared.commands.Line.{Line}
 use Rattle.im_types.specs.declared.changes.Change.{Change}
 use Rattle.im_engine.specs.State.{EngineState}
 use Rattle.im_controller.specs.declared.servers.Server.{Server}
+use Rattle.im_controller.specs.Books.{BookNames}
 use Rattle.im_controller.specs.Lines.{Counts}
 use Rattle.im_controller.specs.Log.{LogState}
 
@@ -15,17 +16,18 @@ pub record SharedState (D : Type 0) : Type 0 where
   pub servers : List Server
   pub shown : List Change
 
--- an engine with room for a trace, before it has a name: how many ports there are, which ledgers count the lines and the marked lines, the book of what is shown, and the plan, if there is one
+-- an engine with room for a trace, before it has a name: how many ports there are, which ledgers count the lines and the marked lines, the books of what is shown and of the lines, and the plan, if there is one
 pub record OpeningState (D : Type 0) : Type 0 where
   pub engine : EngineState D
   pub limit : ℕ
   pub ports : ℕ
   pub lines_name : ℕ
   pub marked_name : ℕ
-  pub book : Book
+  pub book : BookNames
   pub plan : Option (List Request)
 
--- a port: its element, and how many lines it was told
+-- a port: its element, how many lines it was told, and how much of the trace it has seen
 pub record PortState : Type 0 where
   pub element : ℕ
   pub told : Counts
+  pub history : List Line

@@ -1,5 +1,5 @@
 -- What a port is told while it holds the lock once. (Own.)
-use Rattle.std.specs.Prelude.{◌≡◌, ◌≢◌, ℕ, ◌<◌, ◌≤◌, Bool, true, false, Option, None, Some, Result, Ok, Err, length}
+use Rattle.std.specs.Prelude.{◌≡◌, ◌≢◌, ℕ, ◌<◌, ◌≤◌, Bool, true, false, Option, None, Some, Result, Ok, Err, List, length}
 use Rattle.im_types.specs.declared.operations.Entry.{Entry}
 use Rattle.im_types.specs.declared.operations.Entry.TheVariants.{Waiting}
 use Rattle.im_types.specs.declared.commands.Call.TheVariants.{Collect}
@@ -7,7 +7,7 @@ use Rattle.im_types.specs.declared.commands.Line.{Line}
 use Rattle.im_types.specs.declared.refusals.Refusal.{Refusal}
 use Rattle.im_types.specs.declared.refusals.Refusal.TheVariants.{Failed, TraceFull, Stalled}
 use Rattle.im_types.specs.Trace.{told}
-use Rattle.im_controller.specs.Lines.{Counts, lines_of, counts_after}
+use Rattle.im_controller.specs.Lines.{Counts, GoesOnTo, lines_of, counts_after}
 use Rattle.im_controller.specs.Log.{FoundState}
 use Rattle.im_controller.specs.Servers.{entry_at, is_answered, are_stuck}
 use Rattle.im_controller.specs.State.{SharedState}
@@ -21,6 +21,11 @@ entry_of (Err refusal) = Err refusal
 abbrev pub IsFoundOf : ℕ → ℕ → Result FoundState Refusal → Type 0
 IsFoundOf element number (Ok found) = (found.element ≡ element) × (found.number ≡ number)
 IsFoundOf element number (Err refusal) = Unit {0}
+
+-- what was found has this trace
+abbrev pub IsFoundAt : List Line → Result FoundState Refusal → Type 0
+IsFoundAt history (Ok found) = found.history ≡ history
+IsFoundAt history (Err refusal) = Unit {0}
 
 -- what was found is answered
 abbrev pub IsAwaited : Result FoundState Refusal → Type 0
@@ -46,3 +51,14 @@ pub record IsTold {D : Type 0} (s : SharedState D) (element number : ℕ) (answe
   -- else the entry is answered or there is none; that is told, with its line
   pub full : s.engine.failed ≡ false → entry_at s.engine.memory element number ≢ Ok Waiting → s.log.limit ≤ length s.log.trace → answer ≡ Some (Err TraceFull)
   pub found : s.engine.failed ≡ false → entry_at s.engine.memory element number ≢ Ok Waiting → length s.log.trace < s.log.limit → entry_told answer ≡ Some (entry_at s.engine.memory element number)
+
+-- What a port has seen of the trace, once it was told what is kept under a number: the collect's line, if it left one, stands
+-- after all that the port saw before, and what was found has the same trace.
+abbrev pub SeesEntry : List Line → ℕ → ℕ → Result FoundState Refusal → List Line → Type 0
+SeesEntry seen element number answer seen' =
+    GoesOnTo seen (lines_of (Collect element number) (told (entry_of answer))) seen' × IsFoundAt seen' answer
+
+-- the same, while it awaits an answer: it sees no more as long as it is told nothing
+abbrev pub SeesFound : List Line → ℕ → ℕ → Option (Result FoundState Refusal) → List Line → Type 0
+SeesFound seen element number None seen' = seen' ≡ seen
+SeesFound seen element number (Some answer) seen' = SeesEntry seen element number answer seen'

@@ -6,13 +6,14 @@ ghost use Rattle.im_types.specs.Trace.{IsLegal};
 ghost use Rattle.im_types.specs.Changes.{opening};
 ghost use Rattle.im_types.specs.declared.commands.Call.TheVariants.{Command as Commands};
 ghost use Rattle.im_controller.specs.Lines.{EndsIn, line_of, lines_of, counts_after};
-ghost use Rattle.im_controller.specs.Log.{plain};
+ghost use Rattle.im_controller.specs.Log.{SeesAnswer, SeesReceipt, plain};
 ghost use Rattle.im_controller.specs.Groups.{Holds};
 ghost use Rattle.im_controller.specs.Planned.{TellsOf};
 ghost use Rattle.im_controller.specs.Lends.{IsTurnFault};
 
 use crate::bell::{Bell, Bells};
 use crate::books::Tally;
+use crate::chain::Prefix;
 use crate::groups::hold;
 use crate::inbox::Inbox;
 use crate::keeper::{Kept, keep_once, make_room, mark_ended};
@@ -20,7 +21,7 @@ use crate::name::{Name, Shown};
 use crate::ports::Port;
 use crate::receipts::Receipt;
 use crate::shared::{
-    Shared, Sleepers, lend, make_glance, make_port, stands_for, who_is_answered, who_sleeps,
+    Shared, Sleepers, lend_seen, make_glance, make_port, stands_for, who_is_answered, who_sleeps,
 };
 use crate::tellers::{Silent, Teller};
 use crate::turns::Turns;
@@ -164,17 +165,19 @@ impl<D: Disk, K: Name> Controller<D, K> {
         rt: &R,
         place: u16,
         tally: &mut Tally<K>,
+        seen: &mut Prefix<K>,
         command: &Command,
     ) -> Result<Receipt<K>, Refusal>
         ensures asked { IfOk result (λ r. r.command ≡ command.now) }
         ensures legal { IfOk result (λ r. IsLegal K.memory r.history) }
         ensures last { IfOk result (λ r. EndsIn r.history (line_of (Commands r.command) (plain result))) }
         ensures counts { tally.new ≡ counts_after K.marks tally.old (lines_of (Commands command.now) (plain result)) }
+        ensures order { SeesReceipt seen.old command.now result seen.new }
     {
         let turn = self.turns.wait(rt, place as usize);
         let mut guard = self.shared.lock(rt);
         make_room(&mut *guard);
-        let answer = lend(rt, &mut *guard, tally, command);
+        let answer = lend_seen(rt, &mut *guard, tally, seen, command);
         let sleepers = who_sleeps(&mut *guard);
         let _lock = MutexGuard::unlock(guard);
         self.turns.pass_on(rt, turn, &[]);
@@ -193,14 +196,16 @@ impl<D: Disk, K: Name> Controller<D, K> {
         &self,
         rt: &R,
         tally: &mut Tally<K>,
+        seen: &mut Prefix<K>,
         request: &Request,
     ) -> Option<Result<Receipt<K>, Refusal>>
         ensures holds { Holds K.marks tally.old request.now result tally.new }
         ensures planned { IfSome result (TellsOf K.memory K.plan) }
+        ensures order { SeesAnswer seen.old request.now result seen.new }
     {
         let turn = self.turns.wait(rt, request.element as usize);
         let mut guard = self.shared.lock(rt);
-        let answer = hold(rt, &mut *guard, &self.inbox, tally, request);
+        let answer = hold(rt, &mut *guard, &self.inbox, tally, seen, request);
         let sleepers = who_sleeps(&mut *guard);
         let answered = who_is_answered(&*guard);
         let _lock = MutexGuard::unlock(guard);

@@ -1,12 +1,15 @@
 //! The end of a controller.
-ghost use Rattle.std.specs.Prelude.{◌≡◌, ◌≤◌, ◌+◌, false, IsTrue, length, sum_by, count_by};
+ghost use Rattle.std.specs.Prelude.{◌≡◌, ◌↔◌, ◌≤◌, ◌+◌, false, IsTrue, length, sum_by, count_by};
+ghost use Rattle.std.specs.List.{AllByRecursion};
+ghost use mathlib.Core.List.{IsPrefix};
 ghost use Rattle.im_types.specs.Trace.{IsLegal, end_of};
 ghost use Rattle.im_controller.specs.Kept.{HasKept, accepted_in};
 ghost use Rattle.im_controller.specs.Planned.{EndsBy};
 
 use crate::books::{Books, Reserve, Tally};
+use crate::chain::Chain;
 use crate::controller::Controller;
-use crate::log::{Log, are_free};
+use crate::log::{Log, are_claimed};
 use crate::name::{Lines, Marked, Name};
 use crate::ports::Port;
 use crate::shared::Shared;
@@ -25,14 +28,19 @@ pub struct Finished<D: Disk> {
     pub trace: Vec<Traced>,
     /// Whether as many ports came back as were given out.
     pub came: bool,
-    /// Whether each port took its answer: no answer waits in a place.
+    /// How many ports weren't given out.
+    pub left: u64,
+    /// Whether no line waits for a port that didn't take its answer.
     pub claimed: bool,
 }
 
 /// Ends a controller, given the ports that were given out, and waits for its readers. From then on each glance is told
 /// `PaneGone`. The trace is legal from the memory that was opened, and it ends in the engine's memory. If all ports
-/// came back and no answer waits, the trace has each line as often as a port was given that answer to that call. This
-/// holds for whatever K marks.
+/// came back and no line waits, the trace has each line as often as a port was given that answer to that call. This
+/// holds for whatever K marks. What each port has seen is a prefix of the trace, and so is each of its receipts.
+///
+/// All ports came back exactly if as many came back as the controller has, but for those that it says weren't given
+/// out. Where they came, no line waits exactly if the ports were told as many lines as the trace has.
 ///
 /// Each file that a crash may have left since the trace began means the memory that was opened, after a prefix of the
 /// trace's accepted commands. Each file that a crash may leave now means it after all of them. If a call of the disk
@@ -56,6 +64,11 @@ pub fn finish<D: Disk, K: Name, R: Wait>(
         → length result.trace.items ≡ sum_by (λ p. p.told.lines) ports.items }
     ensures marked { IsTrue result.came → IsTrue result.claimed
         → count_by K.marks result.trace.items ≡ sum_by (λ p. p.told.marked) ports.items }
+    ensures came { IsTrue result.came ↔ (length ports.items + result.left ≡ K.ports) }
+    ensures claimed { IsTrue result.came
+        → (length result.trace.items ≡ sum_by (λ p. p.told.lines) ports.items → IsTrue result.claimed) }
+    // Each port has seen a prefix of the trace: so have all receipts that it was told.
+    ensures seen { AllByRecursion (λ p. IsPrefix p.history result.trace.items) ports.items }
 {
     let Controller {
         shared,
@@ -77,11 +90,12 @@ pub fn finish<D: Disk, K: Name, R: Wait>(
     pane.end(rt);
     let Log {
         trace,
+        mut chain,
         limit: _,
         books,
         places,
     } = log;
-    let claimed = are_free(places.as_slice());
+    let claimed = are_claimed(places.as_slice());
     let Books {
         lines: mut lines_book,
         marked: mut marked_book,
@@ -93,13 +107,14 @@ pub fn finish<D: Disk, K: Name, R: Wait>(
         ports: all,
     } = reserve;
     let came = ports.len() as u64;
-    merge_all(&mut lines, &mut marked, ports);
+    merge_all(&mut lines, &mut marked, &mut chain, ports);
     lines_book.audit(&mut lines);
     marked_book.audit(&mut marked);
     Finished {
         engine,
         trace,
         came: came == all - left,
+        left,
         claimed,
     }
 }
@@ -108,6 +123,7 @@ pub fn finish<D: Disk, K: Name, R: Wait>(
 fn merge_all<K: Name>(
     lines: &mut Share<Lines<K>>,
     marked: &mut Share<Marked<K>>,
+    chain: &mut Chain<K>,
     ports: Vec<Port<K>>,
 )
     requires bound { lines.old.parts ≤ K.ports }
@@ -116,9 +132,15 @@ fn merge_all<K: Name>(
     ensures lines_amount { lines.new.amount ≡ lines.old.amount + sum_by (λ p. p.told.lines) ports.items }
     ensures marked_amount { marked.new.amount ≡ marked.old.amount + sum_by (λ p. p.told.marked) ports.items }
     ensures bound { lines.new.parts ≤ K.ports }
+    ensures seen { AllByRecursion (λ p. IsPrefix p.history chain.old) ports.items }
 {
     for port in ports {
-        let Port { element: _, tally } = port;
+        let Port {
+            element: _,
+            tally,
+            seen,
+        } = port;
+        chain.knows(&seen);
         let Tally {
             lines: its_lines,
             marked: its_marked,

@@ -8,10 +8,12 @@ ghost use Rattle.im_engine.specs.Groups.{all_refused, group_put, calls_for_group
 ghost use Rattle.im_controller.specs.Groups.{answer_in, with_all_unclaimed, AreAnswersTo, memory_after_all, lines_left};
 ghost use Rattle.im_controller.specs.Groups.{AreFreeFor, MembersAnswered, LendsGroup, Holds, IsCut};
 ghost use Rattle.im_controller.specs.Groups.{those, spread, next_answer, answers_left};
+ghost use Rattle.im_controller.specs.Log.{SeesAnswer};
 ghost use Rattle.im_controller.specs.Planned.{AreOnPlan, StartsBy, TellsOf};
 ghost use Rattle.im_controller.specs.Admitted.{is_asked, is_picked, picked, admitted, with_refused_off};
 
 use crate::books::Tally;
+use crate::chain::Prefix;
 use crate::inbox::Inbox;
 use crate::keeper::make_room;
 use crate::log::Log;
@@ -333,19 +335,16 @@ pub(crate) fn hold<D: Disk, K: Name, R: Wait>(
     shared: &mut Shared<D, K>,
     inbox: &Mutex<Inbox>,
     tally: &mut Tally<K>,
+    seen: &mut Prefix<K>,
     request: &Request,
 ) -> Option<Result<Receipt<K>, Refusal>>
     ensures holds { Holds K.marks tally.old request.now result tally.new }
     ensures planned { IfSome result (TellsOf K.memory K.plan) }
+    ensures order { SeesAnswer seen.old request.now result seen.new }
 {
-    if let Some(answer) = shared
-        .log
-        .claim(shared.pane.told(), tally, request.element, request)
-    {
+    if let Some(answer) = shared.log.claim(shared.pane.told(), tally, seen, request) {
         return Some(answer);
     }
     serve_asked(rt, shared, inbox);
-    shared
-        .log
-        .claim(shared.pane.told(), tally, request.element, request)
+    shared.log.claim(shared.pane.told(), tally, seen, request)
 }

@@ -7,6 +7,7 @@
 
 mod bell;
 mod books;
+mod chain;
 mod controller;
 mod finishing;
 mod groups;
@@ -26,6 +27,7 @@ mod traced;
 mod turns;
 
 pub use books::Tally;
+pub use chain::Prefix;
 pub use controller::Controller;
 pub use finishing::{Finished, finish};
 pub use groups::lend_group;

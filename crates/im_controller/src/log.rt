@@ -1,6 +1,7 @@
 //! The trace, the books that count its lines, and the answers that wait for their ports.
 ghost use Rattle.std.specs.Prelude.{◌≡◌, ◌<◌, ◌≤◌, ◌+◌, ◌-◌, ◌++◌, true, false, Some, None, Ok, length, vec_len};
-ghost use Rattle.std.specs.Prelude.{vec_capacity, slice_get, slice_set, sum_by, count_by, IfOk, IfSome, MatchOption};
+ghost use Rattle.std.specs.Prelude.{vec_capacity, slice_get, slice_set, sum_by, count_by, IfOk, IfSome, MatchOption, if◌then◌else◌};
+ghost use mathlib.Core.List.{IsPrefix};
 ghost use Rattle.im_types.specs.declared.commands.Call.TheVariants.{Command as Commands, Collect};
 ghost use Rattle.im_types.specs.declared.commands.Outcome.TheVariants.{Entry as Tells};
 ghost use Rattle.im_types.specs.declared.commands.Command.TheVariants.{Request as Asks};
@@ -8,9 +9,10 @@ ghost use Rattle.im_types.specs.Trace.{answer_to, end_of, IsLegal};
 ghost use Rattle.im_controller.specs.Lines.{leaves_line, lines_of, memory_after, counts_after};
 ghost use Rattle.im_controller.specs.Lines.{EndsIn, EndsInAll, line_of};
 ghost use Rattle.im_controller.specs.Log.{with_line, with_unclaimed, Takes, Claims, IsProof, IsToldOf, AreFree};
-ghost use Rattle.im_controller.specs.Log.{receipt_for, IsOfTrace};
+ghost use Rattle.im_controller.specs.Log.{receipt_for, unclaimed_lines, IsOfTrace, SeesAnswer, AreClaimed};
 
 use crate::books::{Books, Tally};
+use crate::chain::{Chain, Prefix};
 use crate::name::{Name, Shown};
 use crate::receipts::{Found, Receipt};
 use crate::traced::Traced;
@@ -19,7 +21,7 @@ use im_glass::Told;
 use im_types::{Call, Command, Entry, Line, Outcome, Refusal, Request};
 use std::alloc::{AllocError, Global};
 use std::cmp::min;
-use std::marker::{Model, PhantomData};
+use std::marker::Model;
 use std::snapshot::Snapshot;
 
 // The answer to a request that its port hasn't taken yet.
@@ -27,28 +29,41 @@ use std::snapshot::Snapshot;
 pub(crate) struct Unclaimed {
     request: Request,
     answer: Result<Outcome, Refusal>,
+    before: usize,
+    count: usize,
     history: Snapshot<Vec<Traced>>,
+    same: Snapshot<Vec<Traced>>, // For the port, beside its receipt.
 }
 
 impl Model for Unclaimed {
+    ghost use Rattle.std.specs.Prelude.{◌≡◌, length};
     ghost use Rattle.im_controller.specs.Log.{UnclaimedState};
 
     ghost Value = { UnclaimedState };
 
-    ghost view = { λ u. record { request = u.request; answer = u.answer; history = u.history.value.items } };
+    ghost view = { λ u. record {
+      request = u.request;
+      answer = u.answer;
+      before = u.before;
+      history = u.history.value.items;
+    } };
+
+    ghost invariant = { λ u. (u.count ≡ length u.history.value.items)
+        × (u.same.value.items ≡ u.history.value.items) };
 }
 
 // The trace, with books that count those of its lines that a port was told.
 #[derive(Drop)]
 pub(crate) struct Log<K: Name> {
     pub(crate) trace: Vec<Traced>,
+    pub(crate) chain: Chain<K>,
     pub(crate) limit: usize,
     pub(crate) books: Books<K>,
     pub(crate) places: Vec<Option<Unclaimed>>,
 }
 
 impl<K: Name> Model for Log<K> {
-    ghost use Rattle.std.specs.Prelude.{◌≤◌, vec_capacity};
+    ghost use Rattle.std.specs.Prelude.{◌≡◌, ◌≤◌, vec_capacity};
     ghost use Rattle.im_controller.specs.Log.{LogState, IsLog};
 
     ghost Value = { LogState };
@@ -57,7 +72,7 @@ impl<K: Name> Model for Log<K> {
 
     ghost invariant = { λ l.
         IsLog K.memory K.marks (record { trace = l.trace.items; limit = l.limit; places = l.places.items }) l.books
-        × (l.limit ≤ vec_capacity l.trace) };
+        × (l.limit ≤ vec_capacity l.trace) × (l.chain ≡ l.trace.items) };
 }
 
 // Returns whether an answer leaves a line.
@@ -105,6 +120,22 @@ impl<K: Name> Log<K> {
         answered
     }
 
+    // Returns the whole trace, as a prefix that may go out of the lock.
+    pub(crate) fn prefix(&self) -> Prefix<K>
+        ensures same { result ≡ self.now.trace }
+        ensures legal { IsLegal K.memory self.now.trace }
+    {
+        Prefix::begun(Snapshot::of(&self.trace), self.trace.len(), &self.chain)
+    }
+
+    // A prefix that went out of the lock is a prefix of the trace.
+    pub(crate) fn knows(&mut self, seen: &Prefix<K>)
+        ensures same { self.new ≡ self.old }
+        ensures known { IsPrefix seen.now self.old.trace }
+    {
+        self.chain.knows(seen);
+    }
+
     // Leaves a call's line, if its answer leaves one. The port is told the answer at once.
     pub(crate) fn leave(
         &mut self,
@@ -119,7 +150,7 @@ impl<K: Name> Log<K> {
         ensures end { end_of K.memory self.new.trace ≡ memory_after (end_of K.memory self.old.trace) call answer }
     {
         count_line(&mut self.books, tally, call, answer);
-        push_line(&mut self.trace, call, answer);
+        push_line(&mut self.trace, &mut self.chain, call, answer);
     }
 
     // Returns the answer to a command, with the trace that ends in its line, and with what is shown.
@@ -134,7 +165,7 @@ impl<K: Name> Log<K> {
         ensures receipt { result ≡ receipt_for self.now.trace told command.now answer }
         ensures proof { IsOfTrace K.memory self.now.trace result }
     {
-        receipt_of(Snapshot::of(&self.trace), told, command, answer)
+        receipt_of(self.prefix(), told, command, answer)
     }
 
     // Returns what is kept under a number, with the trace that ends in this collect's line.
@@ -152,8 +183,7 @@ impl<K: Name> Log<K> {
             entry,
             element,
             number,
-            history: Snapshot::of(&self.trace),
-            of: PhantomData,
+            history: self.prefix(),
         }
     }
 
@@ -168,8 +198,10 @@ impl<K: Name> Log<K> {
         ensures end { end_of K.memory self.new.trace
             ≡ memory_after (end_of K.memory self.old.trace) (Commands (Asks request.now)) answer }
     {
+        let before = self.trace.len();
         push_line(
             &mut self.trace,
+            &mut self.chain,
             Call::Command(Command::Request(*request)),
             answer,
         );
@@ -178,7 +210,10 @@ impl<K: Name> Log<K> {
             Unclaimed {
                 request: *request,
                 answer,
+                before,
+                count: self.trace.len(),
                 history: Snapshot::of(&self.trace),
+                same: Snapshot::of(&self.trace),
             },
         );
     }
@@ -189,29 +224,40 @@ impl<K: Name> Log<K> {
         &mut self,
         told: Told<Shown<K>>,
         tally: &mut Tally<K>,
-        element: u16,
+        seen: &mut Prefix<K>,
         request: &Request,
     ) -> Option<Result<Receipt<K>, Refusal>>
         requires told { IsToldOf K.memory self.old.trace told }
-        ensures claims { Claims K.marks self.old tally.old element request.now result self.new tally.new }
+        ensures claims { Claims K.marks self.old tally.old request.now.element request.now result self.new tally.new }
         ensures proof { IfSome result (IsOfTrace K.memory self.old.trace) }
         ensures trace { self.new.trace ≡ self.old.trace }
+        ensures order { SeesAnswer seen.old request.now result seen.new }
     {
-        let found = take_from(&mut self.places, element, request)?;
+        let found = take_from(&mut self.places, request.element, request, seen.len())?;
         let command = Command::Request(found.request);
         let answer = found.answer;
         count_line(&mut self.books, tally, Call::Command(command), answer);
-        Some(receipt_of(found.history, told, &command, answer))
+        let history = Prefix::begun(found.history, found.count, &self.chain);
+        seen.order(&history);
+        *seen = Prefix::begun(found.same, found.count, &self.chain);
+        Some(receipt_of(history, told, &command, answer))
     }
 }
 
 // Puts a call's line at the end of the trace, if it leaves one.
-fn push_line(trace: &mut Vec<Traced>, call: Call, answer: Result<Outcome, Refusal>)
+fn push_line<K: Name>(
+    trace: &mut Vec<Traced>,
+    chain: &mut Chain<K>,
+    call: Call,
+    answer: Result<Outcome, Refusal>,
+)
     requires { leaves_line answer ≡ true → vec_len trace.old < vec_capacity trace.old }
     ensures items { trace.new.items ≡ trace.old.items ++ lines_of call answer }
     ensures capacity { vec_capacity trace.new ≡ vec_capacity trace.old }
+    ensures chain { chain.new ≡ chain.old ++ lines_of call answer }
 {
     if leaves_line(answer) {
+        chain.add(&Line { call, answer });
         trace.push_reserved(Traced::new(call, answer));
     }
 }
@@ -233,14 +279,14 @@ fn count_line<K: Name>(
 
 // Returns an answer with the trace that ends in its line.
 fn receipt_of<K: Name>(
-    history: Snapshot<Vec<Traced>>,
+    history: Prefix<K>,
     told: Told<Shown<K>>,
     command: &Command,
     answer: Result<Outcome, Refusal>,
 ) -> Result<Receipt<K>, Refusal>
-    requires proof { IsProof K.memory (Commands command.now) answer history.value.items }
-    requires told { IsToldOf K.memory history.value.items told }
-    ensures { result ≡ receipt_for history.value.items told command.now answer }
+    requires proof { IsProof K.memory (Commands command.now) answer history }
+    requires told { IsToldOf K.memory history told }
+    ensures { result ≡ receipt_for history told command.now answer }
 {
     match answer {
         Ok(outcome) => Ok(Receipt {
@@ -248,7 +294,6 @@ fn receipt_of<K: Name>(
             command: Snapshot::of(command),
             history,
             told,
-            of: PhantomData,
         }),
         Err(refusal) => Err(refusal),
     }
@@ -268,22 +313,27 @@ fn take_from(
     places: &mut Vec<Option<Unclaimed>>,
     element: u16,
     request: &Request,
+    seen: usize,
 ) -> Option<Unclaimed>
-    ensures { Takes places.old.items element request.now result places.new.items }
+    ensures takes { Takes places.old.items element request.now result places.new.items }
+    ensures later { IfSome result (λ w. seen ≤ w.before) }
 {
     let at = element as usize;
-    if at >= places.len() || !is_of(&places[at], request) {
+    if at >= places.len() || !is_of(&places[at], request, seen) {
         return None;
     }
     places[at].take()
 }
 
 // Returns whether the answer that waits in a place is the answer to this request.
-fn is_of(place: &Option<Unclaimed>, request: &Request) -> bool
-    ensures { result ≡ true → MatchOption place.now ⊥ (λ w. w.request ≡ request.now) }
+fn is_of(place: &Option<Unclaimed>, request: &Request, seen: usize) -> bool
+    ensures same { result ≡ true → MatchOption place.now ⊥ (λ w. w.request ≡ request.now) }
+    ensures later { result ≡ true → MatchOption place.now ⊥ (λ w. seen ≤ w.before) }
 {
     match place {
-        Some(waiting) => waiting.request == *request,
+        // It was served after the port asked, so its line stands after all that the port has seen. No clause of the inbox
+        // says so.
+        Some(waiting) => waiting.request == *request && seen <= waiting.before,
         None => false,
     }
 }
@@ -302,12 +352,23 @@ pub(crate) fn free_places(
     Ok(places)
 }
 
-// Returns whether all these places are free.
-pub(crate) fn are_free(places: &[Option<Unclaimed>]) -> bool
-    ensures { result ≡ true → AreFree places.now }
+// Returns whether the answer that waits in a place left a line.
+fn has_line(place: &Option<Unclaimed>) -> bool
+    ensures { length (unclaimed_lines place.now) ≡ (if result then 1 else 0) }
+{
+    match place {
+        Some(waiting) => leaves_line(waiting.answer),
+        None => false,
+    }
+}
+
+// Returns whether no line waits in these places.
+pub(crate) fn are_claimed(places: &[Option<Unclaimed>]) -> bool
+    ensures claimed { result ≡ true → AreClaimed places.now }
+    ensures waits { result ≡ false → 0 < sum_by (λ place. length (unclaimed_lines place)) places.now }
 {
     for place in places {
-        if place.is_some() {
+        if has_line(place) {
             return false;
         }
     }

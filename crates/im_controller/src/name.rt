@@ -10,7 +10,7 @@ pub trait Name {
     ghost use Rattle.im_types.specs.declared.commands.Request.{Request};
     ghost use Rattle.im_types.specs.declared.commands.Line.{Line};
     ghost use Rattle.im_types.specs.Contents.{Contents};
-    ghost use Rattle.logbook.specs.Pages.{Book};
+    ghost use Rattle.im_controller.specs.Books.{BookNames};
     ghost use Rattle.im_controller.specs.Kept.{Begun};
 
     /// The memory that the trace begins with.
@@ -31,8 +31,8 @@ pub trait Name {
     /// How many ports there are.
     ghost ports: { ℕ };
 
-    /// The book of the changes that are shown.
-    ghost book: { Book };
+    /// The book of the changes that are shown, and the book of the lines.
+    ghost book: { BookNames };
 
     /// What was known of the engine when the trace began.
     ghost begun: { Begun };
@@ -56,7 +56,10 @@ impl Name for Brand {
 
     ghost ports = { 0 };
 
-    ghost book = { record { number = 0; log_name = 0; cells_name = 0 } };
+    ghost book = { record {
+      shown = record { number = 0; log_name = 0; cells_name = 0 };
+      lines = record { book = record { number = 0; log_name = 0; cells_name = 0 }; root = 0 };
+    } };
 
     ghost begun = { record {
       now = record { bytes = []; ranges = [] };
@@ -91,5 +94,5 @@ impl<K: Name> Ledger for Marked<K> {
 pub struct Shown<K>(PhantomData<K>);
 
 impl<K: Name> PaneName for Shown<K> {
-    ghost book = { K.book };
+    ghost book = { K.book.shown };
 }

@@ -11,6 +11,7 @@ ghost use Rattle.im_controller.specs.Servers.{is_unmade};
 
 use crate::bell::Bells;
 use crate::books::{Books, Reserve};
+use crate::chain::NewChain;
 use crate::controller::Controller;
 use crate::inbox::Inbox;
 use crate::keeper::Keeper;
@@ -39,6 +40,7 @@ pub struct Opening<D: Disk> {
     engine: Engine<D>,
     parts: Parts,
     pane: Unnamed,
+    chain: NewChain,
     plan: Option<Plan>,
     lines: Blank,
     marked: Blank,
@@ -60,7 +62,7 @@ impl<D: Disk> Model for Opening<D> {
       ports = o.parts.ports;
       lines_name = o.lines.name;
       marked_name = o.marked.name;
-      book = o.pane.book;
+      book = record { shown = o.pane.book; lines = o.chain };
       plan = o.plan;
     } };
 
@@ -137,6 +139,7 @@ pub fn start<D: Disk + Drop, R: Wait>(
     trace_room: usize,
 ) -> Result<Opening<D>, (Refusal, Engine<D>)>
     ensures found { IfOk result (λ o. (o.engine ≡ engine) × (o.limit ≡ trace_room) × (o.plan ≡ None)) }
+    ensures ports { IfOk result (λ o. o.ports ≡ length engine.memory.windows) }
     ensures refused { IfErr result (λ e. (e.0 ≡ NoMemory) × (e.1 ≡ engine)) }
 {
     match make_parts(alloc, trace_room, engine.memory().elements()) {
@@ -147,6 +150,7 @@ pub fn start<D: Disk + Drop, R: Wait>(
                     engine,
                     parts,
                     pane,
+                    chain: NewChain::new(),
                     plan: None,
                     lines: Blank::new(ports),
                     marked: Blank::new(ports),
@@ -181,6 +185,7 @@ pub fn start_planned<D: Disk + Drop, R: Wait>(
     trace_room: usize,
 ) -> Result<Opening<D>, (Refusal, Engine<D>)>
     ensures found { IfOk result (λ o. (o.engine ≡ engine) × (o.limit ≡ trace_room) × (o.plan ≡ Some plan)) }
+    ensures ports { IfOk result (λ o. o.ports ≡ length engine.memory.windows) }
     ensures fits { OnOk result (FitsPlan engine.memory plan) }
     ensures bad { IfErr result (λ e. e.0 ≡ BadPlan → FitsPlan engine.memory plan → ⊥) }
     ensures refused { IfErr result (λ e. ((e.0 ≡ NoMemory) ⊎ (e.0 ≡ BadPlan)) × (e.1 ≡ engine)) }
@@ -204,6 +209,7 @@ impl<D: Disk> Opening<D> {
             engine,
             parts,
             pane,
+            chain,
             plan: _,
             lines,
             marked,
@@ -212,6 +218,7 @@ impl<D: Disk> Opening<D> {
             engine,
             parts,
             pane,
+            chain,
             plan: Some(plan),
             lines,
             marked,
@@ -233,6 +240,7 @@ impl<D: Disk> Opening<D> {
             engine,
             parts,
             pane,
+            chain,
             plan,
             lines,
             marked,
@@ -252,6 +260,7 @@ impl<D: Disk> Opening<D> {
         let (marked_book, marked) = marked.open::<Marked<K>>();
         let log = Log {
             trace,
+            chain: chain.named::<K>(),
             limit,
             books: Books {
                 lines: lines_book,

@@ -6,27 +6,32 @@ ghost use Rattle.im_types.specs.declared.commands.Outcome.TheVariants.{Entry as 
 ghost use Rattle.im_types.specs.declared.refusals.Refusal.TheVariants.{JournalFull};
 ghost use Rattle.im_types.specs.Trace.{IsLegal, told};
 ghost use Rattle.im_controller.specs.Lines.{EndsIn, line_of, lines_of, counts_after};
-ghost use Rattle.im_controller.specs.Log.{plain};
+ghost use Rattle.im_controller.specs.Log.{SeesReceipt, plain};
 ghost use Rattle.im_controller.specs.Lends.{IsTurnFault};
-ghost use Rattle.im_controller.specs.Waits.{entry_of, IsFoundOf, IsAwaited};
+ghost use Rattle.im_controller.specs.Waits.{entry_of, IsFoundOf, IsAwaited, SeesEntry};
 ghost use Rattle.im_controller.specs.Planned.{TellsOf, TellsFound};
 
 use crate::books::Tally;
+use crate::chain::Prefix;
 use crate::controller::Controller;
 use crate::name::Name;
 use crate::receipts::{Found, Receipt};
-use crate::shared::{ask_once, find, lend_turn, note_sleep, retire, who_may_be_stuck, who_sleeps};
+use crate::shared::{
+    ask_once, find_seen, lend_turn, note_sleep, retire, who_may_be_stuck, who_sleeps,
+};
 use im_checkpoint::TurnDone;
 use im_disk::Disk;
 use im_types::{Command, Op, Refusal, Request};
 use std::marker::Model;
 use std::sync::{MutexGuard, Wait};
 
-/// The way of one element to the lock. Contracts see how many lines it was told, and how many of these were marked.
+/// The way of one element to the lock. Contracts see how many lines it was told, how many of these were marked, and the
+/// prefix of the trace that it has seen. Each call that leaves a line adds it to what the port has seen.
 #[derive(Drop)]
 pub struct Port<K: Name> {
     pub(crate) element: u16,
     pub(crate) tally: Tally<K>,
+    pub(crate) seen: Prefix<K>,
 }
 
 impl<K: Name> Model for Port<K> {
@@ -34,7 +39,7 @@ impl<K: Name> Model for Port<K> {
 
     ghost Value = { PortState };
 
-    ghost view = { λ p. record { element = p.element; told = p.tally } };
+    ghost view = { λ p. record { element = p.element; told = p.tally; history = p.seen } };
 }
 
 // Returns the number for which a port sleeps, if it sleeps.
@@ -43,6 +48,14 @@ fn awaited(number: u64, sleeps: bool) -> Option<u64> {
 }
 
 impl<K: Name> Port<K> {
+    /// Returns the prefix of the trace that this port has seen. It is the history of the last receipt that the port was
+    /// told, or goes on after it.
+    pub fn history(&self) -> &Prefix<K>
+        ensures { result.now ≡ self.now.history }
+    {
+        &self.seen
+    }
+
     /// Asks for an operation under a number of this element, and waits until it is answered. This port serves it, or
     /// another port serves it in a group. If this port serves while the journal is short of room, it makes room in the
     /// keeper's place.
@@ -66,6 +79,9 @@ impl<K: Name> Port<K> {
             (lines_of (Commands (Asks (record { element = self.old.element; number = number; op = op })))
             (plain result)) }
         ensures element { self.new.element ≡ self.old.element }
+        // Its line stands after all that this port has seen: the port's calls have their lines in its own order.
+        ensures order { SeesReceipt self.old.history
+            (Asks (record { element = self.old.element; number = number; op = op })) result self.new.history }
     {
         let request = Request {
             element: self.element,
@@ -74,7 +90,12 @@ impl<K: Name> Port<K> {
         };
         controller.ask(rt, &request);
         for _ in rt.forever() {
-            if let Some(answer) = controller.serve_all(rt, &mut self.tally, &request) {
+            if let Some(answer) = controller.serve_all(
+                rt,
+                &mut self.tally,
+                &mut self.seen,
+                &request,
+            ) {
                 return answer;
             }
         }
@@ -95,11 +116,13 @@ impl<K: Name> Port<K> {
         ensures counts { self.new.told ≡ counts_after K.marks self.old.told
             (lines_of (Commands (Confirm self.old.element upto)) (plain result)) }
         ensures element { self.new.element ≡ self.old.element }
+        ensures order { SeesReceipt self.old.history (Confirm self.old.element upto) result self.new.history }
     {
         controller.serve(
             rt,
             self.element,
             &mut self.tally,
+            &mut self.seen,
             &Command::Confirm {
                 element: self.element,
                 upto,
@@ -123,10 +146,17 @@ impl<K: Name> Port<K> {
         ensures counts { self.new.told ≡ counts_after K.marks self.old.told
             (lines_of (Collect self.old.element number) (told (entry_of result))) }
         ensures element { self.new.element ≡ self.old.element }
+        ensures order { SeesEntry self.old.history self.old.element number result self.new.history }
     {
         let turn = controller.turns.wait(rt, self.element as usize);
         let mut guard = controller.shared.lock(rt);
-        let found = find(&mut *guard, &mut self.tally, self.element, number);
+        let found = find_seen(
+            &mut *guard,
+            &mut self.tally,
+            &mut self.seen,
+            self.element,
+            number,
+        );
         let _lock = MutexGuard::unlock(guard);
         controller.turns.pass_on(rt, turn, &[]);
         found
@@ -154,11 +184,18 @@ impl<K: Name> Port<K> {
         ensures counts { self.new.told ≡ counts_after K.marks self.old.told
             (lines_of (Collect self.old.element number) (told (entry_of result))) }
         ensures element { self.new.element ≡ self.old.element }
+        ensures order { SeesEntry self.old.history self.old.element number result self.new.history }
     {
         for _ in rt.forever() {
             let turn = controller.turns.wait(rt, self.element as usize);
             let mut guard = controller.shared.lock(rt);
-            let answer = ask_once(&mut *guard, &mut self.tally, self.element, number);
+            let answer = ask_once(
+                &mut *guard,
+                &mut self.tally,
+                &mut self.seen,
+                self.element,
+                number,
+            );
             note_sleep(&mut *guard, self.element, awaited(number, answer.is_none()));
             // Read before the lock is let go: whoever changes something after this rings later.
             let seen = controller.answers.read(rt, self.element);

@@ -6,11 +6,11 @@ ghost use Rattle.im_types.specs.Trace.{IsLegal};
 ghost use Rattle.im_controller.specs.Lines.{EndsIn, line_of};
 ghost use Rattle.im_controller.specs.Log.{IsToldOf};
 
+use crate::chain::Prefix;
 use crate::name::{Name, Shown};
-use crate::traced::Traced;
 use im_glass::Told;
 use im_types::{Command, Entry, Outcome};
-use std::marker::{Model, PhantomData};
+use std::marker::Model;
 use std::snapshot::Snapshot;
 
 /// The outcome of a command. Contracts see with it the command, what was shown by then, and the controller's trace up
@@ -19,9 +19,8 @@ use std::snapshot::Snapshot;
 pub struct Receipt<K: Name> {
     pub(crate) outcome: Outcome,
     pub(crate) command: Snapshot<Command>,
-    pub(crate) history: Snapshot<Vec<Traced>>,
+    pub(crate) history: Prefix<K>,
     pub(crate) told: Told<Shown<K>>,
-    pub(crate) of: PhantomData<K>,
 }
 
 impl<K: Name> Model for Receipt<K> {
@@ -34,12 +33,12 @@ impl<K: Name> Model for Receipt<K> {
     ghost view = { λ r. record {
       command = r.command.value;
       outcome = r.outcome;
-      history = r.history.value.items;
+      history = r.history;
       told = r.told;
     } };
 
-    ghost invariant = { λ r. IsProof K.memory (Commands r.command.value) (Ok r.outcome) r.history.value.items
-        × IsToldOf K.memory r.history.value.items r.told };
+    ghost invariant = { λ r. IsProof K.memory (Commands r.command.value) (Ok r.outcome) r.history
+        × IsToldOf K.memory r.history r.told };
 }
 
 impl<K: Name> Receipt<K> {
@@ -60,6 +59,14 @@ impl<K: Name> Receipt<K> {
     {
         &self.told
     }
+
+    /// Returns the trace up to the command's line. The histories of all receipts of a controller are of one trace, as
+    /// [`Prefix::order`] says.
+    pub fn history(&self) -> &Prefix<K>
+        ensures { result.now ≡ self.now.history }
+    {
+        &self.history
+    }
 }
 
 /// What is kept under a number. Contracts see with it the element, the number, and the controller's trace up to the
@@ -69,8 +76,7 @@ pub struct Found<K: Name> {
     pub(crate) entry: Entry,
     pub(crate) element: u16,
     pub(crate) number: u64,
-    pub(crate) history: Snapshot<Vec<Traced>>,
-    pub(crate) of: PhantomData<K>,
+    pub(crate) history: Prefix<K>,
 }
 
 impl<K: Name> Model for Found<K> {
@@ -85,11 +91,11 @@ impl<K: Name> Model for Found<K> {
       element = f.element;
       number = f.number;
       entry = f.entry;
-      history = f.history.value.items;
+      history = f.history;
     } };
 
     ghost invariant = { λ f.
-        IsProof K.memory (Collect f.element f.number) (Ok (Tells f.entry)) f.history.value.items };
+        IsProof K.memory (Collect f.element f.number) (Ok (Tells f.entry)) f.history };
 }
 
 impl<K: Name> Found<K> {
@@ -101,5 +107,13 @@ impl<K: Name> Found<K> {
             (line_of (Collect self.now.element self.now.number) (Ok (Tells self.now.entry))) }
     {
         self.entry
+    }
+
+    /// Returns the trace up to the line of this collect. It is of the same trace as the histories of all receipts, as
+    /// [`Prefix::order`] says.
+    pub fn history(&self) -> &Prefix<K>
+        ensures { result.now ≡ self.now.history }
+    {
+        &self.history
     }
 }

@@ -11,12 +11,14 @@ ghost use Rattle.im_disk.specs.Since.{LeavesWithin, LeavesNow, CallsAtMost, Call
 ghost use Rattle.im_engine.specs.Run.{calls_for};
 ghost use Rattle.im_engine.specs.State.{MeansState, MeansEither};
 ghost use Rattle.im_controller.specs.Lines.{EndsIn, line_of};
+ghost use Rattle.im_controller.specs.Log.{SeesReceipt};
 ghost use Rattle.im_controller.specs.Lends.{Lends, Looks, LendsTurn, IsTurnFault, BeginsWait, told_turn, standing_in, with_server_at};
 ghost use Rattle.im_controller.specs.Lends.{MakesPort};
 ghost use Rattle.im_controller.specs.Planned.{TellsOf, TellsFound};
-ghost use Rattle.im_controller.specs.Waits.{Awaits, IsTold, IsFoundOf, entry_of};
+ghost use Rattle.im_controller.specs.Waits.{Awaits, SeesEntry, SeesFound, IsTold, IsFoundAt, IsFoundOf, entry_of};
 
 use crate::books::{Reserve, Tally};
+use crate::chain::Prefix;
 use crate::keeper::{Keeper, wake_keeper};
 use crate::log::Log;
 use crate::name::{Name, Shown};
@@ -145,6 +147,40 @@ pub fn lend<D: Disk, K: Name, R: Wait>(
         }
         Err(_) => Err(Refusal::NoMemory),
     }
+}
+
+// What went out of the lock is a prefix of the trace.
+fn know<D: Disk, K: Name>(shared: &mut Shared<D, K>, seen: &Prefix<K>)
+    ensures same { shared.new ≡ shared.old }
+    ensures known { IsPrefix seen.now shared.old.log.trace }
+{
+    shared.log.knows(seen);
+}
+
+// Returns the whole trace, as a prefix that may go out of the lock.
+fn seen_all<D: Disk, K: Name>(shared: &Shared<D, K>) -> Prefix<K>
+    ensures { result ≡ shared.now.log.trace }
+{
+    shared.log.prefix()
+}
+
+// Does the same as `lend` for a port that has seen a prefix of the trace. It has seen the whole trace afterwards.
+pub(crate) fn lend_seen<D: Disk, K: Name, R: Wait>(
+    rt: &R,
+    shared: &mut Shared<D, K>,
+    tally: &mut Tally<K>,
+    seen: &mut Prefix<K>,
+    command: &Command,
+) -> Result<Receipt<K>, Refusal>
+    ensures lends { Lends K.marks K.plan shared.old tally.old command.now result shared.new tally.new }
+    ensures planned { TellsOf K.memory K.plan result }
+    ensures legal { IfOk result (λ r. IsLegal K.memory r.history) }
+    ensures order { SeesReceipt seen.old command.now result seen.new }
+{
+    know(shared, seen);
+    let answer = lend(rt, shared, tally, command);
+    *seen = seen_all(shared);
+    answer
 }
 
 // Returns the answer for an entry as an outcome.
@@ -282,6 +318,7 @@ pub(crate) fn find<D: Disk, K: Name>(
     ensures looks { Looks K.marks shared.old tally.old element number (entry_of result) shared.new tally.new }
     ensures found { IsFoundOf element number result }
     ensures planned { TellsFound K.memory K.plan result }
+    ensures own { IsFoundAt shared.new.log.trace result }
 {
     match look(shared, tally, element, number) {
         Ok(entry) => Ok(shared.log.found(element, number, entry)),
@@ -289,25 +326,46 @@ pub(crate) fn find<D: Disk, K: Name>(
     }
 }
 
+// Does the same as `find` for a port that has seen a prefix of the trace. It has seen the whole trace afterwards.
+pub(crate) fn find_seen<D: Disk, K: Name>(
+    shared: &mut Shared<D, K>,
+    tally: &mut Tally<K>,
+    seen: &mut Prefix<K>,
+    element: u16,
+    number: u64,
+) -> Result<Found<K>, Refusal>
+    ensures looks { Looks K.marks shared.old tally.old element number (entry_of result) shared.new tally.new }
+    ensures found { IsFoundOf element number result }
+    ensures planned { TellsFound K.memory K.plan result }
+    ensures order { SeesEntry seen.old element number result seen.new }
+{
+    know(shared, seen);
+    let found = find(shared, tally, element, number);
+    *seen = seen_all(shared);
+    found
+}
+
 // Holds the lock once for a port that awaits an answer. Returns the answer, or none if the port is to wait.
 pub(crate) fn ask_once<D: Disk, K: Name>(
     shared: &mut Shared<D, K>,
     tally: &mut Tally<K>,
+    seen: &mut Prefix<K>,
     element: u16,
     number: u64,
 ) -> Option<Result<Found<K>, Refusal>>
     ensures awaits { Awaits K.marks tally.old element number result tally.new }
     ensures told { IsTold shared.old element number result }
     ensures planned { IfSome result (TellsFound K.memory K.plan) }
+    ensures order { SeesFound seen.old element number result seen.new }
 {
     match begin_wait(shared, element, number) {
         Ok(Ask::Wait) => None,
-        Ok(Ask::Go) => Some(find(shared, tally, element, number)),
+        Ok(Ask::Go) => Some(find_seen(shared, tally, seen, element, number)),
         Err(refusal) => {
             if refusal == Refusal::Stalled {
                 return Some(Err(refusal)); // Any other is told again, with its line.
             }
-            Some(find(shared, tally, element, number))
+            Some(find_seen(shared, tally, seen, element, number))
         }
     }
 }
@@ -393,6 +451,7 @@ pub fn make_port<D: Disk, K: Name>(
     Ok(Port {
         element,
         tally: shared.reserve.take(),
+        seen: shared.log.prefix(),
     })
 }
 

@@ -9,7 +9,8 @@ use Rattle.im_pipes.specs.Ends.{PipeEnd, PipeId}
 use Rattle.im_serving.specs.declared.intent.Intent.{Intent}
 use Rattle.im_serving.specs.Serving.{AreDone, AreGlanced, HasBegun}
 use Rattle.im_serving.specs.Elements.{Deeds, Asked, End, HasServed, IsEnded, AreEnded, IsUnserved, HasStopped, HasSent}
-use Rattle.im_serving.proofs.GlanceLemmas.{prefix_trans, begun_more}
+use Rattle.im_controller.proofs.ChainLemmas.{prefix-trans}
+use Rattle.im_serving.proofs.GlanceLemmas.{begun_more}
 
 from_none : {T E : Type 0} (r : Result T E) (P : List Intent → Type 0) (Q : Type 0) (before : List Intent) → before
     ≡ [] → OnOk r (P before → Q) → OnOk r (P [] → Q)
@@ -61,14 +62,14 @@ settled m p d e outlet sent intents all it begins whole within sends (inl (wante
     (λ (x : End). HasServed m p x.deeds x.result intents) (sym same) (record {
       element = it.0.element;
       begun = λ (start : AreDone p.entries p.made []). begun_more d.deeds.entries d.deeds.made outlet.items intents
-          (prefix_trans outlet.items sent intents begins within) (it.0.begun start);
+          (prefix-trans outlet.items sent intents begins within) (it.0.begun start);
       done = whole_done d.result (AreDone d.deeds.entries d.deeds.made)
           (AreDone p.entries p.made []) outlet.items intents outlet.ended it.0.done it.1
           (λ ended. whole ended ∙ sends wanted);
       seen = it.0.seen;
     })
 settled m p d e outlet sent intents all it begins whole within sends (inr (_, refused)) =
-    refused_less m p d e outlet.items intents refused (prefix_trans outlet.items sent intents begins within) it.0
+    refused_less m p d e outlet.items intents refused (prefix-trans outlet.items sent intents begins within) it.0
 
 -- nothing was sent
 pub unserved : (m : Contents) (p : Deeds) (d e : End) (outlet : PipeEnd Intent) (sent : List Intent) (all : Bool)

@@ -2,7 +2,7 @@
 use Rattle.std.proofs.Common.{◌≡◌, ◌∙◌, ℕ, ◌+◌, suc, All, List, [], ◌∷◌, ◌++◌, arith, refl, sym, ap, subst, length}
 use Rattle.std.proofs.Common.{map, length-append}
 use Rattle.std.specs.Prelude.{Option, None, Some, Result, Ok, Err, OnOk, OnErr}
-use Rattle.std.proofs.lemmas.List.{append_assoc, append-nil, map-append}
+use Rattle.std.proofs.lemmas.List.{append-nil, map-append}
 use Rattle.std.proofs.lemmas.List.Elements.{All-append, All-cons, All-nil}
 use mathlib.Core.List.{IsPrefix}
 use Rattle.im_types.specs.Contents.{Contents}
@@ -18,21 +18,19 @@ use Rattle.im_types.specs.declared.commands.Call.TheVariants.{Command as Command
 use Rattle.im_types.specs.declared.commands.Command.TheVariants.{Request as Asks}
 use Rattle.im_types.specs.declared.commands.Outcome.TheVariants.{Entry as Tells}
 use Rattle.im_controller.specs.Lines.{EndsIn, line_of}
+use Rattle.im_controller.proofs.ChainLemmas.{prefix-trans}
 use Rattle.im_serving.specs.declared.glances.Glanced.{Glanced}
 use Rattle.im_serving.specs.declared.intent.Intent.{Intent}
 use Rattle.im_serving.specs.declared.intent.Intent.TheVariants.{Request, Glance}
 use Rattle.im_serving.specs.Serving.{AreDone, AreGlanced, HasBegun, HasLearnt, IsGlanced, requests, sites}
 
-pub prefix_trans : {A : Type 0} (xs ys zs : List A) → IsPrefix xs ys → IsPrefix ys zs → IsPrefix xs zs
-prefix_trans xs ys zs p q = (p.0 ++ q.0, sym (append_assoc xs p.0 q.0) ∙ ap (λ l. l ++ q.0) p.1 ∙ q.1)
-
 -- ---- what was seen
 
 learnt_more : (m : Contents) (element : ℕ) (last : Option ℕ) (xs ys : List Change) → HasLearnt m element last xs
     → IsPrefix xs ys → HasLearnt m element last ys
-learnt_more m element None xs ys h p = prefix_trans (opening m) xs ys h p
+learnt_more m element None xs ys h p = prefix-trans (opening m) xs ys h p
 learnt_more m element (Some number) xs ys h p =
-    (h.0, h.1, h.2, h.3, h.4, prefix_trans (shown_by m h.2) xs ys h.5 p)
+    (h.0, h.1, h.2, h.3, h.4, prefix-trans (shown_by m h.2) xs ys h.5 p)
 
 -- more is seen
 pub glanced_more : (m : Contents) (element : ℕ) (last last' : Option ℕ) (xs ys : List Change)
@@ -168,4 +166,4 @@ counted_then a b k n xs ys intent e f is = one_more a b k n (length xs) (length 
 -- a beginning of more
 pub begun_more : (e : List Entry) (g : List Glanced) (xs ys : List Intent) → IsPrefix xs ys → HasBegun e g xs
     → HasBegun e g ys
-begun_more e g xs ys within it = (it.0, prefix_trans it.0 xs ys it.1 within, it.2)
+begun_more e g xs ys within it = (it.0, prefix-trans it.0 xs ys it.1 within, it.2)

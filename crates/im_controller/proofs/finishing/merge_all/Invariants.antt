@@ -1,4 +1,6 @@
 use Rattle.std.proofs.Common.{◌≡◌, ◌+◌, ◌≤◌, length, sum_by}
+use Rattle.std.specs.List.{AllByRecursion}
+use mathlib.Core.List.{IsPrefix}
 use Rattle.im_controller.proofs.finishing.merge_all.Given as goal
 
 abbrev pub invariant-loop-port : goal.invariant-loop-port
@@ -10,3 +12,6 @@ invariant-loop-port g l =
     × (l.marked.amount + sum_by (λ p. p.told.marked) l.port-iterator.rest.items
     ≡ l.fn.marked.amount + sum_by (λ p. p.told.marked) l.fn.ports.items)
     × (l.lines.parts ≤ g.K.Name.ports)
+    × (l.chain ≡ l.fn.chain)
+    × (AllByRecursion (λ p. IsPrefix p.history l.fn.chain) l.port-iterator.rest.items
+    → AllByRecursion (λ p. IsPrefix p.history l.fn.chain) l.fn.ports.items)

@@ -1,4 +1,6 @@
-use Rattle.std.proofs.Common.{sym, subst, Result}
+use Rattle.std.proofs.Common.{ap, sym, subst, ◌∙◌, Result}
+use Rattle.im_controller.specs.State.{SharedState}
+use Rattle.im_controller.specs.Waits.{IsFoundAt}
 use Rattle.im_types.specs.declared.commands.Call.TheVariants.{Collect}
 use Rattle.im_types.specs.declared.commands.Outcome.TheVariants.{Entry as Tells}
 use Rattle.im_types.specs.declared.refusals.Refusal.{Refusal}
@@ -18,4 +20,15 @@ returns-clause-planned g c =
           (tells-last m plan
           (Collect c.args.element c.args.number) _ c.shared.inside.log.trace c.shared.invariant.8 w.found.ensures.proof))
       | in-Err w ↦ subst (λ (a : Result FoundState Refusal). TellsFound m plan a) (sym w.result-is) tt
+    ]
+
+pub returns-clause-own : goal.returns-clause-own
+returns-clause-own g c =
+    elim c.match-look.branch [
+      | in-Ok w ↦ subst (λ (a : Result FoundState Refusal). IsFoundAt c.look.new.shared.log.trace a)
+          (sym w.result-is)
+          (ap (λ (f : FoundState). f.history) w.found.ensures.found
+          ∙ ap (λ (s : SharedState g.row.D.Denot). s.log.trace) c.shared.view_is)
+      | in-Err w ↦ subst (λ (a : Result FoundState Refusal). IsFoundAt c.look.new.shared.log.trace a)
+          (sym w.result-is) tt
     ]

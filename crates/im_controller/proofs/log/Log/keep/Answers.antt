@@ -1,8 +1,8 @@
-use Rattle.std.proofs.Common.{◌≡◌, ◌<◌, true, Some, None, subst, sym, ap, ◌∙◌, length, slice_get, arith}
+use Rattle.std.proofs.Common.{◌≡◌, ◌<◌, ◌++◌, true, Some, None, subst, sym, ap, ◌∙◌, length, slice_get, arith}
 use Rattle.im_types.specs.declared.commands.Call.TheVariants.{Command as Commands}
 use Rattle.im_types.specs.declared.commands.Command.TheVariants.{Request as Asks}
 use Rattle.im_types.specs.Trace.{answer_to, end_of}
-use Rattle.im_controller.specs.Lines.{leaves_line, memory_after}
+use Rattle.im_controller.specs.Lines.{leaves_line, lines_of, memory_after}
 use Rattle.im_controller.specs.Log.{LogState}
 use Rattle.im_controller.proofs.LogLemmas.{log-keeps, end-lines}
 use Rattle.im_controller.proofs.log.Log.keep.Goals as goal
@@ -14,9 +14,10 @@ invariant_of-self g c =
     ≡ answer_to (end_of m l.trace) (Commands (Asks r))) v c.requires.is_so in
     let room = subst (λ (l : LogState). leaves_line answer ≡ true → length l.trace < l.limit) v c.requires.room in
     let free = subst (λ (l : LogState). slice_get l.places r.element ≡ Some None) v c.requires.free in
-    rw (c.put_in.ensures, c.of.ensures, c.push_line.ensures.items) (
+    rw (c.put_in.ensures, c.of.ensures, c.len-before.ensures, c.self.inside.trace.ok.0, c.push_line.ensures.items) (
       log-keeps m g.K.Name.marks _ c.self.inside.books c.self.invariant.0 r answer free room so,
       omega (arith, c.self.invariant.1, c.push_line.ensures.capacity),
+      c.push_line.ensures.chain ∙ ap (λ ls. ls ++ lines_of (Commands (Asks r)) answer) c.self.invariant.2,
     )
 
 pub returns-clause-end : goal.returns-clause-end

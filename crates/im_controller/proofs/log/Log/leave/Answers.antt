@@ -1,6 +1,6 @@
-use Rattle.std.proofs.Common.{◌≡◌, ◌<◌, true, subst, sym, ap, ◌∙◌, length, arith}
+use Rattle.std.proofs.Common.{◌≡◌, ◌<◌, ◌++◌, true, subst, sym, ap, ◌∙◌, length, arith}
 use Rattle.im_types.specs.Trace.{answer_to, end_of}
-use Rattle.im_controller.specs.Lines.{leaves_line, memory_after}
+use Rattle.im_controller.specs.Lines.{leaves_line, lines_of, memory_after}
 use Rattle.im_controller.specs.Log.{LogState}
 use Rattle.im_controller.proofs.LogLemmas.{log-leaves, end-lines}
 use Rattle.im_controller.proofs.log.Log.leave.Goals as goal
@@ -14,6 +14,7 @@ invariant_of-self g c =
     rw (c.push_line.ensures.items, c.count_line.ensures.books) (
       log-leaves m g.K.Name.marks _ c.self.inside.books c.self.invariant.0 call answer (λ _. room) so,
       omega (arith, c.self.invariant.1, c.push_line.ensures.capacity),
+      c.push_line.ensures.chain ∙ ap (λ ls. ls ++ lines_of call answer) c.self.invariant.2,
     )
 
 pub returns-clause-end : goal.returns-clause-end
