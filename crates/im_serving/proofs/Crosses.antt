@@ -11,11 +11,14 @@ use Rattle.im_engine.specs.contracts.engine.Engine as Engine
 use Rattle.im_controller.specs.contracts.books.Books as Books
 use Rattle.im_controller.specs.contracts.log.Unclaimed as Unclaimed
 use Rattle.im_controller.specs.contracts.traced.Traced as Traced
+use Rattle.im_controller.specs.contracts.chain.Prefix as Prefix
 use Rattle.im_controller.specs.contracts.log.Log as Log
 use Rattle.im_controller.specs.contracts.servers.Servers as Servers
 use Rattle.im_controller.specs.contracts.books.Reserve as Reserve
 use Rattle.im_controller.specs.contracts.books.Tally as Tally
 use Rattle.im_controller.specs.contracts.ports.Port as Port
+use Rattle.logbook.proofs.tokens.Seen.TheSendSync.{the_send as seen_send}
+use Rattle.im_controller.proofs.chain.Chain.TheSendSync.{the_send as chain_send}
 use Rattle.im_glass.proofs.pane.Pane.TheSendSync.{the_send as pane_send}
 use Rattle.im_planning.proofs.plan.Plan.TheSendSync.{the_send as plan_send}
 use Rattle.im_controller.specs.contracts.shared.Shared as Shared
@@ -28,6 +31,8 @@ use Rattle.im_pipes.proofs.ends.Outlet.TheSendSync as outlet
 use Rattle.im_serving.specs.contracts.intent.Intent as Intent
 use Rattle.im_serving.specs.contracts.glances.Glances as Glances
 use Rattle.im_serving.specs.contracts.elements.Server as Server
+use Rattle.im_serving.specs.contracts.elements.Done as Done
+use Rattle.im_serving.specs.contracts.elements.Stopped as Stopped
 use Rattle.im_glass.proofs.glance.Glance.TheSendSync.{the_send as glance_send}
 use Rattle.im_controller.specs.contracts.turns.Turns as Turns
 use Rattle.im_controller.specs.contracts.bell.Bell as Bell
@@ -55,7 +60,7 @@ module _ (K : RattleType) (n : name.Ghosts K.Denot) where
 
   pub Log-send : IsSend (Log.the_field K n).row
   Log-send = let b = Books-send in let u = Unclaimed-send in let t = Traced-send in search
-      (sendable, crosses) depth 40 fits 30000
+      (sendable, crosses, chain_send) depth 40 fits 30000
 
   pub Reserve-send : IsSend (Reserve.the_field K n).row
   Reserve-send = search (sendable, crosses, share_send) depth 40 fits 30000
@@ -63,8 +68,11 @@ module _ (K : RattleType) (n : name.Ghosts K.Denot) where
   pub Tally-send : IsSend (Tally.the_field K n).row
   Tally-send = search (sendable, crosses, share_send) depth 40 fits 30000
 
+  pub Prefix-send : IsSend (Prefix.the_field K n).row
+  Prefix-send = search (sendable, crosses, seen_send) depth 40 fits 30000
+
   pub Port-send : IsSend (Port.the_field K n).row
-  Port-send = let t = Tally-send in search (sendable, crosses) depth 40 fits 30000
+  Port-send = let t = Tally-send in let p = Prefix-send in search (sendable, crosses) depth 40 fits 30000
 
   pub Glances-send : IsSend (Glances.the_field K n).row
   Glances-send = search (sendable, crosses, glance_send) depth 40 fits 30000
@@ -116,3 +124,11 @@ Outlet-row-send = outlet.the_send Intent.the_row Intent-row-send
 
 pub Inlet-row-send : IsSend (Inlet.the_row Intent.the_row)
 Inlet-row-send = inlet.the_send Intent.the_row Intent-row-send
+
+module _ (K : RattleType) (n : name.Ghosts K.Denot) where
+  pub Done-send : IsSend (Done.the_field K n).row
+  Done-send = let p = Port-send K n in let s = Served-send in let g = Glances-send K n in search
+      (sendable, crosses) depth 40 fits 30000
+
+  pub Stopped-row-send : IsSend (Stopped.the_row K n)
+  Stopped-row-send = let d = Done-send in let o = Outlet-row-send in search (sendable, crosses) depth 40 fits 30000

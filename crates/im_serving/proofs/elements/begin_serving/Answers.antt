@@ -2,7 +2,8 @@ use Rattle.std.proofs.Common.{rules}
 use denote.Param.{param}
 use denote.Param.Send.{sendable}
 use Rattle.std.proofs.Crossing.{crosses}
-use Rattle.im_serving.proofs.Crosses.{Controller-row-sync, Server-row-send, Outlet-row-send}
+use Rattle.im_serving.proofs.Crosses.{Controller-row-sync, Server-row-send, Stopped-row-send}
+use Rattle.im_serving.proofs.Crosses.{Outlet-row-send}
 use Rattle.im_serving.proofs.ElementLemmas.{unserved}
 use Rattle.im_serving.proofs.elements.begin_serving.Goals as goal
 
@@ -12,6 +13,9 @@ spawn_with-requires-send-F g c κs within = let controller = Controller-row-sync
     (param 2 g.row.K) g.K.Name in
     let r = c.type_bounds.sync-R in let gate = c.type_bounds.sync-G in let o = Outlet-row-send in search
     (sendable, crosses) depth 40
+
+pub spawn_with-requires-send-T : goal.spawn_with-requires-send-T
+spawn_with-requires-send-T g c = let s = Stopped-row-send (param 2 g.row.K) g.K.Name in search (sendable, crosses) depth 40
 
 pub returns-in-Err-clause-err : goal.returns-in-Err-clause-err
 returns-in-Err-clause-err g c =
