@@ -10,6 +10,7 @@ use crate::failing::Failing;
 use crate::opening::{made, made_new, readable, removed, settled};
 use crate::{DeviceFault, Disk, Failure, OpenFault, Start};
 use std::fs::File;
+use std::io::{Seek, SeekFrom};
 use std::marker::PhantomData;
 use std::os::unix::fs::FileExt;
 use std::rt::Files;
@@ -144,9 +145,8 @@ impl<S: Start> FileDisk<S> {
         if !self.usable {
             return Err(self.failing.fail(Failure::Length));
         }
-        match self.file.metadata() {
-            Ok(data) => {
-                let len = data.len();
+        match self.file.seek(SeekFrom::End(0)) {
+            Ok(len) => {
                 note(&mut self.ledger, &[MEASURED, len, 1], &[]);
                 if len != self.len {
                     self.usable = false;
