@@ -1,90 +1,8 @@
-//! The memory written with the standard library alone: the same commands, checks and answers. It has the workloads of
-//! `crates/im_bench/src/memory.rt`, and prints the same lines: `memory WORKLOAD COUNT`.
+//! The memory written plainly: a Vec of cells, each with its own VecDeque of waiters, a VecDeque of entries for each
+//! element, and BTreeMaps for blocks and for holes.
 
+use super::{Entry, Judged, Kind, Memory, Op, Refusal, Reply, Request, Waiter, LAST, WINDOW};
 use std::collections::{BTreeMap, VecDeque};
-use std::process::ExitCode;
-
-const MAX_CELLS: u32 = 1_048_576;
-const ELEMENTS: u32 = 64;
-const WINDOW: usize = 64;
-const LAST: u64 = 1 << 62;
-
-#[derive(Clone, Copy, Debug, PartialEq, Eq)]
-enum Kind {
-    I,
-    M,
-}
-
-#[derive(Clone, Copy, Debug, PartialEq, Eq)]
-enum Op {
-    Alloc(Kind, u32),
-    Release(u32),
-    Fetch(u32),
-    Store(u32, u64),
-    Take(u32),
-    Put(u32, u64),
-}
-
-#[derive(Clone, Copy, Debug, PartialEq, Eq)]
-enum Reply {
-    Base(u32),
-    NoSpace,
-    BadLength,
-    Value(u64),
-    Stored,
-    Clash,
-    NoCell,
-    WrongKind,
-    Released,
-    NoBlock,
-    StillWaiting,
-}
-
-#[derive(Clone, Copy, Debug, PartialEq, Eq)]
-enum Entry {
-    Waiting,
-    Answered(Reply),
-}
-
-#[derive(Clone, Copy, Debug, PartialEq, Eq)]
-enum Refusal {
-    Gap,
-    Forgotten,
-    WindowFull,
-    Mismatch,
-    NoElement,
-    NotAnswered,
-}
-
-#[derive(Clone, Copy, Debug)]
-struct Request {
-    element: u16,
-    number: u64,
-    op: Op,
-}
-
-#[derive(Clone, Copy, Debug)]
-enum Command {
-    Request(Request),
-    Confirm { element: u16, upto: u64 },
-}
-
-#[derive(Clone, Copy, Debug)]
-enum Outcome {
-    Entry(Entry),
-    Confirmed,
-}
-
-enum Judged {
-    Fresh,
-    Repeat(Entry),
-}
-
-#[derive(Clone, Copy, Debug)]
-struct Waiter {
-    element: u16,
-    number: u64,
-}
 
 // The cells.
 
@@ -256,41 +174,17 @@ impl Window {
 
 // The memory.
 
-struct Memory {
+pub struct Plain {
     cells: Cells,
     windows: Vec<Window>,
 }
 
-impl Memory {
+impl Memory for Plain {
     fn new(cells: u32, elements: u32) -> Self {
-        Memory {
+        Plain {
             cells: Cells::new(cells),
             windows: (0..elements).map(|_| Window::new()).collect(),
         }
-    }
-
-    fn step(&mut self, command: &Command) -> Result<Outcome, Refusal> {
-        match command {
-            Command::Request(request) => self.request(request).map(Outcome::Entry),
-            Command::Confirm { element, upto } => {
-                let window = self.windows.get_mut(*element as usize);
-                window.ok_or(Refusal::NoElement)?.confirm(*upto)?;
-                Ok(Outcome::Confirmed)
-            }
-        }
-    }
-
-    fn collect(&self, element: u16, number: u64) -> Result<Entry, Refusal> {
-        self.element(element)?.entry(number)
-    }
-
-    fn window(&self, element: u16) -> Result<(u64, u64), Refusal> {
-        let window = self.element(element)?;
-        Ok((window.base, window.next()))
-    }
-
-    fn element(&self, element: u16) -> Result<&Window, Refusal> {
-        self.windows.get(element as usize).ok_or(Refusal::NoElement)
     }
 
     fn request(&mut self, request: &Request) -> Result<Entry, Refusal> {
@@ -307,6 +201,25 @@ impl Memory {
                 Ok(entry)
             }
         }
+    }
+
+    fn confirm(&mut self, element: u16, upto: u64) -> Result<(), Refusal> {
+        self.windows.get_mut(element as usize).ok_or(Refusal::NoElement)?.confirm(upto)
+    }
+
+    fn collect(&self, element: u16, number: u64) -> Result<Entry, Refusal> {
+        self.element(element)?.entry(number)
+    }
+
+    fn window(&self, element: u16) -> Result<(u64, u64), Refusal> {
+        let window = self.element(element)?;
+        Ok((window.base, window.next()))
+    }
+}
+
+impl Plain {
+    fn element(&self, element: u16) -> Result<&Window, Refusal> {
+        self.windows.get(element as usize).ok_or(Refusal::NoElement)
     }
 
     fn act(&mut self, who: Waiter, op: Op) -> Entry {
@@ -399,156 +312,5 @@ impl Memory {
             Cell::Clashed(_) => Reply::Clash,
         };
         Ok(Entry::Answered(reply))
-    }
-}
-
-// The workloads.
-
-fn element_of(index: u32) -> u16 {
-    (index % ELEMENTS) as u16
-}
-
-fn number_of(index: u32) -> u64 {
-    (index / ELEMENTS) as u64 + 1
-}
-
-fn digest(entry: Entry) -> u64 {
-    match entry {
-        Entry::Waiting => 100,
-        Entry::Answered(Reply::Value(value)) => value,
-        Entry::Answered(Reply::Base(base)) => base as u64,
-        Entry::Answered(Reply::NoSpace) => 101,
-        Entry::Answered(Reply::BadLength) => 102,
-        Entry::Answered(Reply::Stored) => 103,
-        Entry::Answered(Reply::Clash) => 104,
-        Entry::Answered(Reply::NoCell) => 105,
-        Entry::Answered(Reply::WrongKind) => 106,
-        Entry::Answered(Reply::Released) => 107,
-        Entry::Answered(Reply::NoBlock) => 108,
-        Entry::Answered(Reply::StillWaiting) => 109,
-    }
-}
-
-fn mixed(sum: u64, entry: Entry) -> u64 {
-    sum.wrapping_mul(31).wrapping_add(digest(entry))
-}
-
-fn with_windows(mut sum: u64, memory: &Memory) -> Result<u64, Refusal> {
-    for element in 0..memory.windows.len() {
-        let (base, next) = memory.window(element as u16)?;
-        sum = sum.wrapping_mul(31).wrapping_add(base).wrapping_mul(31).wrapping_add(next);
-    }
-    Ok(sum)
-}
-
-fn ask(memory: &mut Memory, index: u32, op: Op) -> Result<Entry, Refusal> {
-    let element = element_of(index);
-    let number = number_of(index);
-    if number > WINDOW as u64 && number % WINDOW as u64 == 1 {
-        let upto = number;
-        memory.step(&Command::Confirm { element, upto })?;
-    }
-    let request = Request { element, number, op };
-    match memory.step(&Command::Request(request))? {
-        Outcome::Entry(entry) => Ok(entry),
-        Outcome::Confirmed => Ok(Entry::Waiting),
-    }
-}
-
-fn one_block(kind: Kind) -> Result<Memory, Refusal> {
-    let mut memory = Memory::new(MAX_CELLS, ELEMENTS);
-    ask(&mut memory, 0, Op::Alloc(kind, MAX_CELLS))?;
-    Ok(memory)
-}
-
-fn read(kind: Kind, a: u32) -> Op {
-    match kind {
-        Kind::I => Op::Fetch(a),
-        Kind::M => Op::Take(a),
-    }
-}
-
-fn write(kind: Kind, a: u32) -> Op {
-    let value = a as u64 + 7;
-    match kind {
-        Kind::I => Op::Store(a, value),
-        Kind::M => Op::Put(a, value),
-    }
-}
-
-fn write_and_read(kind: Kind, count: u32) -> Result<u64, Refusal> {
-    let mut memory = one_block(kind)?;
-    let mut sum = 0;
-    for a in 0..count {
-        let index = 2 * a + 1;
-        sum = mixed(sum, ask(&mut memory, index, write(kind, a))?);
-        sum = mixed(sum, ask(&mut memory, index + 1, read(kind, a))?);
-    }
-    with_windows(sum, &memory)
-}
-
-fn read_and_write(kind: Kind, count: u32) -> Result<u64, Refusal> {
-    let mut memory = one_block(kind)?;
-    let mut sum = 0;
-    for a in 0..count {
-        let index = 2 * a + 1;
-        sum = mixed(sum, ask(&mut memory, index, read(kind, a))?);
-        sum = mixed(sum, ask(&mut memory, index + 1, write(kind, a))?);
-        sum = mixed(sum, memory.collect(element_of(index), number_of(index))?);
-    }
-    with_windows(sum, &memory)
-}
-
-fn release_and_allocate(count: u32) -> Result<u64, Refusal> {
-    let mut memory = Memory::new(MAX_CELLS, ELEMENTS);
-    let mut bases = [u32::MAX; 64];
-    let mut seed = 1u32;
-    let mut sum = 0;
-    for round in 0..count {
-        seed = seed.wrapping_mul(1_664_525).wrapping_add(1_013_904_223);
-        let place = (seed >> 26) as usize;
-        let n = (seed >> 16) % 16 + 1;
-        let index = 4 * round;
-        sum = mixed(sum, ask(&mut memory, index, Op::Release(bases[place]))?);
-        let made = ask(&mut memory, index + 1, Op::Alloc(Kind::I, n))?;
-        sum = mixed(sum, made);
-        bases[place] = u32::MAX;
-        if let Entry::Answered(Reply::Base(base)) = made {
-            let last = base + n - 1;
-            sum = mixed(sum, ask(&mut memory, index + 2, write(Kind::I, last))?);
-            sum = mixed(sum, ask(&mut memory, index + 3, read(Kind::I, last))?);
-            bases[place] = base;
-        }
-    }
-    with_windows(sum, &memory)
-}
-
-fn checksum(workload: &str, count: u32) -> Option<Result<u64, Refusal>> {
-    Some(match workload {
-        "store_and_fetch" => write_and_read(Kind::I, count),
-        "put_and_take" => write_and_read(Kind::M, count),
-        "fetch_and_store" => read_and_write(Kind::I, count),
-        "take_and_put" => read_and_write(Kind::M, count),
-        "release_and_allocate" => release_and_allocate(count),
-        _ => return None,
-    })
-}
-
-fn main() -> ExitCode {
-    let words: Vec<String> = std::env::args().collect();
-    let [_, workload, count] = words.as_slice() else {
-        eprintln!("usage: memory WORKLOAD COUNT");
-        return ExitCode::from(2);
-    };
-    match count.parse().ok().and_then(|count| checksum(workload, count)) {
-        Some(Ok(sum)) => {
-            println!("{workload} {count} {sum}");
-            ExitCode::SUCCESS
-        }
-        Some(Err(refusal)) => {
-            println!("refused {refusal:?}");
-            ExitCode::FAILURE
-        }
-        None => ExitCode::from(2),
     }
 }
