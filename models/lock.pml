@@ -35,6 +35,7 @@
 #define PLACES (N + 1)
 #define KEEPER N
 #define ROOM (SLOTS - fresh - taken - stale)
+#define ENOUGH (SLOTS > 3 -> 2 : 1)     /* What two ports need, or a group, but at most half of the slots. */
 #ifdef ENDLESS
 #define SPEND skip                      /* Ports that ask for ever need no slots: so the journal is never full. */
 #else
@@ -244,11 +245,12 @@ inline turn() {
      :: taken == 0 && stale == 0 && fresh > 0 && !worn -> taken = fresh; fresh = 0; did = true
      :: else -> did = false fi
 }
-/* of im_controller::make_room 4a21f830692a
-   of im_controller::is_pressed 511dac7cb2a9
+/* of im_controller::make_room 5c10b5aa6256
+   of im_controller::is_pressed a592e5b6f217
+   of im_controller::enough_for 220409385c58
    of im_controller::is_room_nearer bc732fad2a64: a fault in it is one of the call behind it. */
 inline make_room() {
-  do :: keeper == Works && !failed && ROOM < N ->
+  do :: keeper == Works && !failed && ROOM < ENOUGH ->
         if :: stale > 0 -> stale = 0 :: else -> turn(); if :: !did -> break :: else fi fi
      :: else -> break od;
   did = false
@@ -267,7 +269,7 @@ inline serve_member(m) {
   asked[m] = Nothing
 }
 /* of im_controller::hold 794147ae1493
-   of im_controller::serve_asked 806520597510
+   of im_controller::serve_asked 0a69fd091337
    of im_controller::Inbox::next_group a8192a4a8c3b
    of im_controller::Inbox::gather 4744c952cbf6
    of im_controller::Log::claim 926f044364f6 */
@@ -277,8 +279,8 @@ inline hold(e) {
 #if !defined(FORGETS_WHO_WAS_PAST) || !defined(BOUND)
         assert(!let_past[e]);              /* Who was let past takes its answer, and lends nothing. */
 #endif
-        make_room(); j = 0;
-        do :: j < N -> if :: asked[j] != Nothing && unclaimed[j] == Nothing -> serve_member(j) :: else fi; j++
+        j = 0;
+        do :: j < N -> make_room(); if :: asked[j] != Nothing && unclaimed[j] == Nothing -> serve_member(j) :: else fi; j++
            :: else -> break od;
         j = 0
   fi;
@@ -319,7 +321,7 @@ inline help(e) {
   wake(AFTER_A_TURN)
 }
 /* of im_controller::Port::confirm b671db8ebc5b
-   of im_controller::Controller::serve f689d77506b7
+   of im_controller::Controller::serve d3095a419a96
    of im_controller::lend 363dc7535b36 */
 inline confirm(e) {
   wait_turn(e);
@@ -334,7 +336,7 @@ inline confirm(e) {
   wake(AFTER_A_CONFIRMATION)
 }
 /* of im_controller::Port::collect f2ef03b29c5d
-   of im_controller::find 05e6a733d6ac
+   of im_controller::find 22f41e2bec52
    of im_controller::look 4a40d63c418d */
 inline collect(e) {
   wait_turn(e);
@@ -442,7 +444,7 @@ gone:
   atomic { got = Nothing; awaits = false; first = Nothing; second = Nothing; ended++ }
 }
 
-/* of im_controller::keep_once 6b7a37edfd93
+/* of im_controller::keep_once 4596bed492d9
    of im_controller::fall_asleep c434cd36bdfa
    of im_controller::mark_ended 6d93c18ca7af */
 inline keep_once() {
@@ -453,7 +455,7 @@ inline keep_once() {
            :: else ->
               turn();
               if :: !did -> keeper = Sleeps; kept = Idle
-                 :: else -> kept = (ROOM < N -> Pressed : Worked) fi;
+                 :: else -> kept = (ROOM < ENOUGH -> Pressed : Worked) fi;
               did = false
         fi
   fi

@@ -4,7 +4,13 @@ use Rattle.std.specs.List.{AllByRecursion}
 use mathlib.Core.List.{IsPrefix}
 use Rattle.logbook.specs.Pages.{Cell, cell, Step, View, Book, Named, may_make}
 use Rattle.im_types.specs.declared.commands.Line.{Line}
+use Rattle.im_types.specs.Contents.{Contents}
+use Rattle.im_types.specs.Memory.{IsMemory}
 use Rattle.im_controller.specs.declared.chain.Link.{Link}
+
+-- these contents are a memory's, as an engine has them when its trace begins
+abbrev pub IsOpened : Contents → Type 0
+IsOpened m = IsMemory (length m.cells) (length m.windows) m
 
 -- the word of the pen that wrote an entry is at home: the pen is used up
 abbrev pub IsUsed : List Cell → Link → Type 0

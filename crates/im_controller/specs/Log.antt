@@ -25,12 +25,13 @@ pub record ReceiptState : Type 0 where
   pub history : List Line
   pub told : List Change
 
--- what was kept under a number, and the trace that ends in the line of this collect
+-- what was kept under a number, the trace that ends in the line of this collect, and what was shown then
 pub record FoundState : Type 0 where
   pub element : ℕ
   pub number : ℕ
   pub entry : Entry
   pub history : List Line
+  pub told : List Change
 
 -- the answer to a request that its port hasn't taken yet, how many lines there were before it, and the trace right after it
 pub record UnclaimedState : Type 0 where

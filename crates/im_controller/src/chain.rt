@@ -4,7 +4,7 @@ ghost use Rattle.std.specs.Prelude.{◌≡◌, ◌<◌, ◌++◌, ◌∷◌, [],
 ghost use mathlib.Core.List.{IsPrefix};
 ghost use Rattle.logbook.specs.Pages.{may_write};
 ghost use Rattle.im_controller.specs.Lines.{AreInOrder};
-ghost use Rattle.im_controller.specs.Chains.{first_of};
+ghost use Rattle.im_controller.specs.Chains.{IsOpened, first_of};
 
 use crate::name::Name;
 use crate::traced::Traced;
@@ -152,7 +152,8 @@ impl NewChain {
 
     // Returns the book under a name.
     pub(crate) fn named<K: Name>(self) -> Chain<K>
-        requires { self ≡ K.book.lines }
+        requires book { self ≡ K.book.lines }
+        requires memory { IsOpened K.memory }
         ensures { result ≡ [] }
     {
         let NewChain { head, seen, pen } = self;
@@ -178,7 +179,7 @@ impl<K: Name> Model for Chain<K> {
     ghost use Rattle.std.specs.Prelude.{◌≡◌, List};
     ghost use Rattle.logbook.specs.Pages.{may_write};
     ghost use Rattle.im_types.specs.declared.commands.Line.{Line};
-    ghost use Rattle.im_controller.specs.Chains.{first_of, lines_from, tip_from};
+    ghost use Rattle.im_controller.specs.Chains.{IsOpened, first_of, lines_from, tip_from};
 
     ghost Value = { List Line };
 
@@ -186,7 +187,7 @@ impl<K: Name> Model for Chain<K> {
 
     ghost invariant = { λ c. (c.head ≡ first_of K.book.lines.book) × (c.seen.book ≡ K.book.lines.book)
         × (c.pen.book ≡ K.book.lines.book) × (c.pen.nib.right ≡ may_write)
-        × (tip_from K.book.lines.root c.seen.log ≡ c.pen.nib.key) };
+        × (tip_from K.book.lines.root c.seen.log ≡ c.pen.nib.key) × IsOpened K.memory };
 }
 
 impl<K: Name> Chain<K> {
@@ -235,14 +236,14 @@ impl<K: Name> Model for Prefix<K> {
     ghost use Rattle.std.specs.Prelude.{◌≡◌, List, length};
     ghost use mathlib.Core.List.{IsPrefix};
     ghost use Rattle.im_types.specs.declared.commands.Line.{Line};
-    ghost use Rattle.im_controller.specs.Chains.{lines_from};
+    ghost use Rattle.im_controller.specs.Chains.{IsOpened, lines_from};
 
     ghost Value = { List Line };
 
     ghost view = { λ p. p.lines.value.items };
 
     ghost invariant = { λ p. (p.count ≡ length p.lines.value.items) × (p.seen.book ≡ K.book.lines.book)
-        × IsPrefix p.lines.value.items (lines_from K.book.lines.root p.seen.log) };
+        × IsPrefix p.lines.value.items (lines_from K.book.lines.root p.seen.log) × IsOpened K.memory };
 }
 
 // Returns what two have seen together.
@@ -281,10 +282,12 @@ impl<K: Name> Prefix<K> {
         self.count
     }
 
-    /// One of two prefixes is a prefix of the other: all ports and receipts of a controller are of one trace. The call does
-    /// nothing at run time. Contracts alone see what it says.
+    /// One of two prefixes is a prefix of the other: all ports and receipts of a controller are of one trace. It begins
+    /// with a memory whose waiters and entries agree, as an engine's do. The call does nothing at run time. Contracts
+    /// alone see what it says.
     pub fn order(&self, other: &Prefix<K>)
-        ensures { AreInOrder self.now other.now }
+        ensures order { AreInOrder self.now other.now }
+        ensures memory { IsOpened K.memory }
     {
         let _both = both_of(&self.seen, &other.seen);
     }

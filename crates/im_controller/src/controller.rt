@@ -61,9 +61,8 @@ impl<D: Disk, K: Name> Controller<D, K> {
         }
     }
 
-    /// Makes an element's port, which has been told no line yet. Its server is active from now on. As
-    /// [`make_port`](crate::make_port), it returns `NoElement` exactly if there is no such element or it already has
-    /// its port.
+    /// Makes an element's port, which has been told no line yet. Its server is active from now on. Returns `NoElement`
+    /// exactly if there is no such element or it already has its port.
     pub fn port<R: Wait>(&self, rt: &R, element: u16) -> Result<Port<K>, Refusal>
         ensures found { IfOk result (λ p. (p.element ≡ element) × (p.told ≡ record { lines = 0; marked = 0 })) }
         ensures refused { IfErr result (λ e. e ≡ NoElement) }
@@ -100,9 +99,10 @@ impl<D: Disk, K: Name> Controller<D, K> {
     /// The loop of the thread that keeps checkpoints. It makes one turn each time it holds the lock, sleeps while there
     /// is nothing to do, and returns when the controller ends.
     ///
-    /// It goes last in the queue, so it makes its turns while no port asks. If the journal has less room than there are
-    /// elements, whoever is about to lend the engine makes room in its place. If the keeper has its turn in the queue
-    /// then, it keeps that turn.
+    /// It goes last in the queue, so it makes its turns while no port asks. If the journal is short of room, whoever is
+    /// about to lend the engine makes room in its place. It is short of room if it has less than one group takes, or
+    /// than is asked for, but not if half of its slots are free. If the keeper has its turn in the queue then, it keeps
+    /// that turn.
     ///
     /// Returns `Device` if a call of the disk failed in its turn, and `Failed` if an earlier one did.
     pub fn keep_checkpoints<R: Wait>(&self, rt: &R) -> Result<(), Refusal>
@@ -176,7 +176,7 @@ impl<D: Disk, K: Name> Controller<D, K> {
     {
         let turn = self.turns.wait(rt, place as usize);
         let mut guard = self.shared.lock(rt);
-        make_room(&mut *guard);
+        make_room(&mut *guard, 1);
         let answer = lend_seen(rt, &mut *guard, tally, seen, command);
         let sleepers = who_sleeps(&mut *guard);
         let _lock = MutexGuard::unlock(guard);

@@ -86,6 +86,7 @@ pub fn finish<D: Disk, K: Name, R: Wait>(
         plan: _,
         reserve,
         keeper: _,
+        most_room: _,
     } = shared.into_inner();
     pane.end(rt);
     let Log {

@@ -262,21 +262,21 @@ fn admit<D: Disk, K: Name>(
     keep_all(&mut shared.log, off.as_slice(), refused.as_slice());
 }
 
-/// Lends the engine to the requests of a group. Each gets what [`lend`](crate::lend) would answer, one after another.
-/// The answers wait for their ports, and their lines are counted when the ports take them. What the members change is
-/// shown once, after all of them are on the disk.
-///
-/// It returns, for each member that isn't off the plan, whether the pane has room for what that member changes. A
-/// member without that room isn't lent, and is refused with `NoMemory`.
-///
-/// Errors, in this order:
-///
-/// - `Failed` for all members if the engine has failed.
-/// - `TraceFull` for all members if the trace has no room left.
-/// - `OffPlan` for each member that a plan doesn't have with its operation under its number.
-/// - What [`Engine::serve_group`] answers each: a refusal of numbers, `JournalFull`, or `Device` for all that are lent.
-///   `Device` leaves no line. After it the engine has failed, and nothing more is shown.
-pub fn lend_group<D: Disk, K: Name, R: Wait>(
+// Lends the engine to the requests of a group. Each gets what `lend` would answer, one after another.
+// The answers wait for their ports, and their lines are counted when the ports take them. What the members change is
+// shown once, after all of them are on the disk.
+//
+// It returns, for each member that isn't off the plan, whether the pane has room for what that member changes. A
+// member without that room isn't lent, and is refused with `NoMemory`.
+//
+// Errors, in this order:
+//
+// - `Failed` for all members if the engine has failed.
+// - `TraceFull` for all members if the trace has no room left.
+// - `OffPlan` for each member that a plan doesn't have with its operation under its number.
+// - What `Engine::serve_group` answers each: a refusal of numbers, `JournalFull`, or `Device` for all that are lent.
+//   `Device` leaves no line. After it the engine has failed, and nothing more is shown.
+pub(crate) fn lend_group<D: Disk, K: Name, R: Wait>(
     rt: &R,
     shared: &mut Shared<D, K>,
     members: &ArrayVec<Request, 16>,
@@ -309,14 +309,30 @@ pub fn lend_group<D: Disk, K: Name, R: Wait>(
     lend_members(rt, shared, &lent)
 }
 
-// Makes room for all elements. Then serves, group by group, each request that is asked and has a free place for its
-// answer.
+// Returns how many members a group may have: as many as the trace and the journal have room for. If one of them has
+// none, each member is refused for that.
+fn most_members<D: Disk, K: Name>(shared: &Shared<D, K>) -> usize
+    ensures { length shared.now.log.trace < shared.now.log.limit
+        → length shared.now.log.trace + result ≤ shared.now.log.limit }
+{
+    let lines = shared.log.room();
+    let slots = shared.engine.room() as usize;
+    if lines == 0 {
+        return 16;
+    }
+    if slots > 0 && slots < lines {
+        return slots;
+    }
+    lines
+}
+
+// Serves, group by group, each request that is asked and has a free place for its answer. Makes room before each group.
 fn serve_asked<D: Disk, K: Name, R: Wait>(rt: &R, shared: &mut Shared<D, K>, inbox: &Mutex<Inbox>) {
-    make_room(shared);
+    let asked = inbox.lock(rt).asked();
     let mut from = 0;
     for _ in 0..shared.log.elements() {
-        let room = shared.log.room();
-        let most = if room == 0 { 16 } else { room };
+        make_room(shared, asked);
+        let most = most_members(shared);
         let group = inbox.lock(rt).next_group(&shared.log, from, most);
         if group.next == from {
             break;

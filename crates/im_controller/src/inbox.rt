@@ -115,6 +115,17 @@ impl Inbox {
         }
     }
 
+    // Returns how many elements ask, at most 65,535.
+    pub(crate) fn asked(&self) -> u32 {
+        let mut asked: u16 = 0;
+        for place in &self.places {
+            if place.is_some() {
+                asked = asked.saturating_add(1);
+            }
+        }
+        u32::from(asked)
+    }
+
     // Takes out what an element asks.
     fn take(&mut self, element: u16) -> Option<Request>
         ensures { IfSome result (λ r. r.element ≡ element) }

@@ -7,12 +7,16 @@ use crate::shared::{Shared, lend_sweep, lend_turn};
 use im_checkpoint::TurnDone;
 use im_disk::Disk;
 use im_types::Refusal;
+use std::cmp::{max, min};
 
 // More turns than a checkpoint of the largest image takes, with all slots that it closes.
 const TURNS: u32 = 65_536;
 
 // The number of slots that one sync closes when room is made: as many as there may be elements.
 const SWEEP: u32 = 64;
+
+// The most members of a group.
+const GROUP: u32 = 16;
 
 // What the thread that keeps checkpoints does.
 #[derive(Clone, Copy)]
@@ -28,25 +32,34 @@ pub(crate) enum Keeper {
 pub(crate) enum Kept {
     Ended,
     Worked,
-    Pressed, // It worked, and more has to be made free before all elements are served.
+    Pressed, // It worked, and the journal is still short of room.
     Idle,
 }
 
-// Returns whether the journal has less room than there are elements.
-fn is_pressed<D: Disk, K: Name>(shared: &Shared<D, K>) -> bool {
-    shared.engine.room() < shared.log.elements() as u32
+// Returns how many free slots are enough, given how many elements ask: one for each of them, and for each member of a
+// group. But they are never more than half of the slots, and never none.
+fn enough_for(asked: u32, slots: u32) -> u32 {
+    max(min(max(asked, GROUP), slots / 2), 1)
 }
 
-// Makes room in the keeper's place until all elements have some. Whoever is about to lend the engine calls it, so no
-// thread has to wait for another one between a group and the next. It closes the slots that are to be swept together,
-// and makes any other turn as the keeper would. It does nothing if there is no keeper, or if the keeper has found
-// nothing to do.
-pub(crate) fn make_room<D: Disk, K: Name>(shared: &mut Shared<D, K>) {
+// Returns whether the journal is short of room, given how many elements ask. As the number of its slots it takes the most
+// room that it was seen to have.
+fn is_pressed<D: Disk, K: Name>(shared: &mut Shared<D, K>, asked: u32) -> bool {
+    let room = shared.engine.room();
+    shared.most_room = max(shared.most_room, room);
+    room < enough_for(asked, shared.most_room)
+}
+
+// Makes room in the keeper's place until there is enough for those who ask. Whoever is about to lend the engine calls
+// it, so no thread has to wait for another one between a group and the next. It closes the slots that are to be swept
+// together, and makes any other turn as the keeper would. It does nothing if there is no keeper, or if the keeper has
+// found nothing to do.
+pub(crate) fn make_room<D: Disk, K: Name>(shared: &mut Shared<D, K>, asked: u32) {
     if !matches!(shared.keeper, Keeper::Works) {
         return;
     }
     for _ in 0..TURNS {
-        if !is_pressed(shared) || !is_room_nearer(shared) {
+        if !is_pressed(shared, asked) || !is_room_nearer(shared) {
             return;
         }
     }
@@ -85,7 +98,7 @@ pub(crate) fn keep_once<D: Disk, K: Name>(shared: &mut Shared<D, K>) -> Result<K
     match lend_turn(shared) {
         Ok(TurnDone::Idle) => Ok(fall_asleep(shared)),
         Ok(_) => {
-            if is_pressed(shared) {
+            if is_pressed(shared, 0) {
                 return Ok(Kept::Pressed);
             }
             Ok(Kept::Worked)

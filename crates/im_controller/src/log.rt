@@ -168,14 +168,22 @@ impl<K: Name> Log<K> {
         receipt_of(self.prefix(), told, command, answer)
     }
 
-    // Returns what is kept under a number, with the trace that ends in this collect's line.
-    pub(crate) fn found(&self, element: u16, number: u64, entry: Entry) -> Found<K>
-        requires { EndsIn self.now.trace (line_of (Collect element number) (Ok (Tells entry))) }
+    // Returns what is kept under a number, with the trace that ends in this collect's line, and with what is shown.
+    pub(crate) fn found(
+        &self,
+        told: Told<Shown<K>>,
+        element: u16,
+        number: u64,
+        entry: Entry,
+    ) -> Found<K>
+        requires ends { EndsIn self.now.trace (line_of (Collect element number) (Ok (Tells entry))) }
+        requires told { IsToldOf K.memory self.now.trace told }
         ensures found { result ≡ record {
           element = element;
           number = number;
           entry = entry;
           history = self.now.trace;
+          told = told;
         } }
         ensures proof { IsProof K.memory (Collect element number) (Ok (Tells entry)) self.now.trace }
     {
@@ -184,6 +192,7 @@ impl<K: Name> Log<K> {
             element,
             number,
             history: self.prefix(),
+            told,
         }
     }
 

@@ -256,6 +256,8 @@ impl<D: Disk> Opening<D> {
             watched,
             ports,
         } = parts;
+        // So that it is known below that waiters and entries agree.
+        let _cells = engine.memory().cells();
         let (lines_book, lines) = lines.open::<Lines<K>>();
         let (marked_book, marked) = marked.open::<Marked<K>>();
         let log = Log {
@@ -286,6 +288,7 @@ impl<D: Disk> Opening<D> {
             plan,
             reserve,
             keeper: Keeper::Absent,
+            most_room: 0,
         };
         Controller::over(shared, inbox, turns, answers)
     }

@@ -27,6 +27,7 @@ use std::sync::{MutexGuard, Wait};
 
 /// The way of one element to the lock. Contracts see how many lines it was told, how many of these were marked, and the
 /// prefix of the trace that it has seen. Each call that leaves a line adds it to what the port has seen.
+/// Call [`Port::retire`] before you drop it: else its element's server counts as active for ever.
 #[derive(Drop)]
 pub struct Port<K: Name> {
     pub(crate) element: u16,
@@ -60,7 +61,7 @@ impl<K: Name> Port<K> {
     /// another port serves it in a group. If this port serves while the journal is short of room, it makes room in the
     /// keeper's place.
     ///
-    /// It is refused as by [`lend_group`](crate::lend_group): `Failed`, `TraceFull`, `OffPlan`, a refusal of numbers,
+    /// It is refused as by [`lend`](crate::lend): `Failed`, `TraceFull`, `OffPlan`, `NoMemory`, a refusal of numbers,
     /// `JournalFull`, `Device`. Under a plan the receipt tells what the plan says, in whatever order its requests are
     /// served.
     pub fn submit<D: Disk, R: Wait>(

@@ -69,21 +69,22 @@ impl<K: Name> Receipt<K> {
     }
 }
 
-/// What is kept under a number. Contracts see with it the element, the number, and the controller's trace up to the
-/// line of this collect. That trace is legal from the memory that was opened.
+/// What is kept under a number. Contracts see with it the element, the number, what was shown by then, and the
+/// controller's trace up to the line of this collect. That trace is legal from the memory that was opened.
 #[derive(Drop)]
 pub struct Found<K: Name> {
     pub(crate) entry: Entry,
     pub(crate) element: u16,
     pub(crate) number: u64,
     pub(crate) history: Prefix<K>,
+    pub(crate) told: Told<Shown<K>>,
 }
 
 impl<K: Name> Model for Found<K> {
     ghost use Rattle.std.specs.Prelude.{Ok};
     ghost use Rattle.im_types.specs.declared.commands.Call.TheVariants.{Collect};
     ghost use Rattle.im_types.specs.declared.commands.Outcome.TheVariants.{Entry as Tells};
-    ghost use Rattle.im_controller.specs.Log.{FoundState, IsProof};
+    ghost use Rattle.im_controller.specs.Log.{FoundState, IsProof, IsToldOf};
 
     ghost Value = { FoundState };
 
@@ -92,10 +93,11 @@ impl<K: Name> Model for Found<K> {
       number = f.number;
       entry = f.entry;
       history = f.history;
+      told = f.told;
     } };
 
-    ghost invariant = { λ f.
-        IsProof K.memory (Collect f.element f.number) (Ok (Tells f.entry)) f.history };
+    ghost invariant = { λ f. IsProof K.memory (Collect f.element f.number) (Ok (Tells f.entry)) f.history
+        × IsToldOf K.memory f.history f.told };
 }
 
 impl<K: Name> Found<K> {
@@ -107,6 +109,14 @@ impl<K: Name> Found<K> {
             (line_of (Collect self.now.element self.now.number) (Ok (Tells self.now.entry))) }
     {
         self.entry
+    }
+
+    /// Returns what was shown when the entry was found: what [`Receipt::told`] says of a receipt, for this trace.
+    pub fn told(&self) -> &Told<Shown<K>>
+        ensures told { result.now ≡ self.now.told }
+        ensures holds { IsToldOf K.memory self.now.history result.now }
+    {
+        &self.told
     }
 
     /// Returns the trace up to the line of this collect. It is of the same trace as the histories of all receipts, as

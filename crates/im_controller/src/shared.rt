@@ -59,6 +59,7 @@ pub struct Shared<D: Disk, K: Name> {
     pub(crate) plan: Option<Plan>,
     pub(crate) reserve: Reserve<K>,
     pub(crate) keeper: Keeper,
+    pub(crate) most_room: u32, // The most room that the journal was seen to have.
 }
 
 impl<D: Disk, K: Name> Model for Shared<D, K> {
@@ -321,7 +322,7 @@ pub(crate) fn find<D: Disk, K: Name>(
     ensures own { IsFoundAt shared.new.log.trace result }
 {
     match look(shared, tally, element, number) {
-        Ok(entry) => Ok(shared.log.found(element, number, entry)),
+        Ok(entry) => Ok(shared.log.found(shared.pane.told(), element, number, entry)),
         Err(refusal) => Err(refusal),
     }
 }
@@ -370,8 +371,8 @@ pub(crate) fn ask_once<D: Disk, K: Name>(
     }
 }
 
-/// Returns how things stand.
-pub fn stands<D: Disk, K: Name>(shared: &Shared<D, K>) -> Standing
+// Returns how things stand.
+fn stands<D: Disk, K: Name>(shared: &Shared<D, K>) -> Standing
     ensures stands { result ≡ standing_in shared.now }
 {
     Standing {
@@ -435,9 +436,9 @@ pub(crate) fn who_is_answered<D: Disk, K: Name>(shared: &Shared<D, K>) -> ArrayV
     shared.log.answered()
 }
 
-/// Makes an element's port, which has been told no line yet. Its server is active from now on. It takes no memory.
-/// Returns `NoElement`, and leaves all as it was, exactly if there is no such element or it already has its port.
-pub fn make_port<D: Disk, K: Name>(
+// Makes an element's port, which has been told no line yet. Its server is active from now on. It takes no memory.
+// Returns `NoElement`, and leaves all as it was, exactly if there is no such element or it already has its port.
+pub(crate) fn make_port<D: Disk, K: Name>(
     shared: &mut Shared<D, K>,
     element: u16,
 ) -> Result<Port<K>, Refusal>

@@ -106,9 +106,17 @@ impl<J: PaneName> Glance<J> {
         self.seen = self.seen.longer(told.beginning());
     }
 
+    /// Returns what the reader has seen, so that it can tell another one.
+    pub fn told(&self) -> Told<J>
+        ensures { result ≡ self.now }
+    {
+        Told::of(self.seen.again())
+    }
+
     /// Returns the value of a full I cell, and none if the cell isn't full. It reads the cells after all that it has
     /// seen or was told before, and after whatever was shown since. It waits for nobody and takes no memory. Returns
-    /// `PaneGone` if the pane has ended; then it has seen nothing more. (Readers that never wait: Ramalhete, Correia,
+    /// `PaneGone` if the pane has ended; then it has seen nothing more. It would return that, too, if less were shown
+    /// than it was told. That never happens, though no clause says so. (Readers that never wait: Ramalhete, Correia,
     /// Left-Right, 2015.)
     pub fn glance(&mut self, a: u32) -> Result<Option<u64>, Refusal>
         ensures later { IfOk result (λ _. IsPrefix self.old self.new) }
@@ -118,7 +126,7 @@ impl<J: PaneName> Glance<J> {
     {
         match replace_with(&mut self.reader, a, |reader, a| look::<J>(reader, a)) {
             Some((value, seen)) => {
-                // What was told was shown before, so this never holds. No clause of the two copies says so.
+                // What was told was shown before, so this never holds.
                 if seen.len() < self.seen.len() {
                     return Err(Refusal::PaneGone);
                 }

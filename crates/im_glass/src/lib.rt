@@ -9,9 +9,6 @@ mod glance;
 mod pane;
 mod rule;
 
-pub use book::{Beginning, Book, InOrder, NewBook, PaneName};
-pub use cells::FullCells;
-pub use copies::{Ahead, Copy, History};
-pub use glance::{Glance, Spare};
+pub use book::{NewBook, PaneName};
+pub use glance::Glance;
 pub use pane::{Pane, Told, Unnamed, open};
-pub use rule::{Known, Shows};

@@ -84,6 +84,13 @@ impl<J: PaneName> Model for Told<J> {
 }
 
 impl<J: PaneName> Told<J> {
+    // Tells what was seen.
+    pub(crate) fn of(all: Beginning<J>) -> Told<J>
+        ensures { result ≡ all }
+    {
+        Told { all }
+    }
+
     // Returns the changes.
     pub(crate) fn beginning(&self) -> &Beginning<J>
         ensures { result.now ≡ self.now }
@@ -142,7 +149,8 @@ impl<J: PaneName> Pane<J> {
     }
 
     /// Puts ahead a change of this pane's cells, which isn't shown yet. Returns `NoMemory` if there is no room for it.
-    /// It takes no memory while at most 16 changes are put ahead and at most 16 were before the last show. (Own.)
+    /// Each later change is refused so too, since the list then has a change that the pane lacks. It takes no memory
+    /// while at most 16 changes are put ahead and at most 16 were before the last show. (Own.)
     pub fn put_ahead(&mut self, change: Change) -> Result<(), Refusal>
         requires { is_below self.old.cells change ≡ true }
         ensures contents { OnOk result (self.new ≡ record self.old { ahead = self.old.ahead ++ change ∷ [] }) }

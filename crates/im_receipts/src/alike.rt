@@ -1,7 +1,6 @@
 //! Two receipts of one request.
 ghost use Rattle.im_types.specs.declared.operations.Entry.{Entry};
 ghost use Rattle.im_types.specs.declared.commands.Request.{Request};
-ghost use Rattle.im_types.specs.Agreement.{WaitingAgrees};
 ghost use Rattle.im_receipts.specs.Alike.{GivesEntry, AreToldAlike};
 
 use im_controller::{Name, Receipt};
@@ -9,11 +8,10 @@ use im_promise::traces_tell_a_request_alike;
 
 /// Two receipts of a controller that give one request an entry agree, whichever threads were told them. They are of one
 /// line of the trace, or the one with the longer history has the same entry, or the answer that has come since. The
-/// request isn't accepted at that later line, so it acted once. The premise is that waiters and entries agree in the
-/// memory that was opened. Contracts alone see what the call says.
+/// request isn't accepted at that later line, so it acted once. Nothing is asked of the memory that was opened. Contracts
+/// alone see what the call says.
 pub fn told_alike<K: Name>(one: &Receipt<K>, two: &Receipt<K>)
-    ensures alike { (r : Request) (first second : Entry) → WaitingAgrees K.memory
-        → GivesEntry one.now r first → GivesEntry two.now r second
+    ensures alike { (r : Request) (first second : Entry) → GivesEntry one.now r first → GivesEntry two.now r second
         → AreToldAlike K.memory r one.now.history first two.now.history second }
 {
     let _outcomes = (one.outcome(), two.outcome());

@@ -7,8 +7,13 @@ use Rattle.im_types.specs.declared.refusals.Refusal.{Refusal}
 use Rattle.im_controller.specs.Log.{FoundState}
 use Rattle.im_controller.specs.Planned.{TellsBy, TellsFound}
 use Rattle.im_controller.proofs.PlannedLemmas.{tells-last}
+use Rattle.im_controller.proofs.ShownLemmas.{told-all}
 use Rattle.im_controller.proofs.shared.find.Goals as goal
 use Rattle.im_controller.proofs.shared.find.Goals.{in-Ok, in-Err}
+
+pub found-requires-clause-told : goal.found-requires-clause-told
+found-requires-clause-told g c =
+    told-all g.K.Name.memory c.shared.inside.log.trace c.told.result (c.told.ensures ∙ c.shared.invariant.1)
 
 pub returns-clause-planned : goal.returns-clause-planned
 returns-clause-planned g c =

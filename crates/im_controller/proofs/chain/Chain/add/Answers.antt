@@ -26,6 +26,7 @@ invariant_of-self g c =
       c.new_pen.ensures.book ∙ h.1,
       c.new_pen.ensures.right,
       all.1 ∙ ap (λ (l : Link). l.next) c.plain-offer.ensures.1,
+      h.5,
     )
 
 pub returns : goal.returns

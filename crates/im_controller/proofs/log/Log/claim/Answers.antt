@@ -70,7 +70,7 @@ returns-clause-order g c =
     (all-get (IsProofIn m trace) c.self.inside.places.items c.args.request.now.element
     (Some c.in_ok-found.found) c.self.invariant.0.proofs c.in_ok-found.ensures.takes.0) in
     let asked = ap (λ (w : UnclaimedState). w.request) c.found.view_is ∙ c.in_ok-found.ensures.takes.1 in
-    let order = subst (λ (ls : List Line). AreInOrder c.args.seen.now ls) c.begun-history.ensures c.order.ensures in
+    let order = subst (λ (ls : List Line). AreInOrder c.args.seen.now ls) c.begun-history.ensures c.order.ensures.order in
     let less : length c.args.seen.now ≤ c.found.inside.before = omega
     (arith, c.in_ok-found.ensures.later, c.len.ensures, ap (λ (w : UnclaimedState). w.before) c.found.view_is) in
     let behind = subst (λ (r : Request). IsBefore c.found.inside.before (lines_of (Commands (Asks r)) a) history)

@@ -4,11 +4,17 @@ use Rattle.im_types.specs.declared.commands.Request.{Request}
 use Rattle.im_types.specs.Contents.{Contents}
 use Rattle.im_controller.specs.State.{OpeningState}
 use Rattle.im_controller.specs.Kept.{Begun, begun_in, accepted_in, HasKept}
+use Rattle.im_controller.specs.Chains.{IsOpened}
 use Rattle.im_controller.specs.Planned.{StartsBy, KeepsTo}
 use Rattle.im_controller.proofs.PlannedLemmas.{keeps-start}
 use Rattle.im_controller.proofs.LogLemmas.{log-starts}
 use Rattle.im_controller.proofs.KeptLemmas.{kept_start}
 use Rattle.im_controller.proofs.opening.Opening.named.Goals as goal
+
+pub named-requires-clause-memory : goal.named-requires-clause-memory
+named-requires-clause-memory g c =
+    subst IsOpened (c.memory.ensures ∙ ap (λ (o : OpeningState g.row.D.Denot). o.engine.memory) c.self.view_is
+    ∙ c.requires.memory) c.cells-cells.ensures.memory
 
 pub invariant_of-log : goal.invariant_of-log
 invariant_of-log g c =
