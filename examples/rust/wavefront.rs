@@ -23,22 +23,28 @@ fn main() -> Result<()> {
     Ok(())
 }
 
-/// Fills a row, as the row above comes to be there: a fetch of the cell above, where there is one, and a store for each.
+/// Fills a row, as the row above comes to be there: by a fetch of each cell above, where there are some, and a store of each
+/// cell behind them. No request waits for another one: what is there at the same time is put on the disk together.
 fn fill(shared: &Shared, row: u32) -> Result<Vec<u64>> {
-    let mut cells = Vec::new();
     let mut number = if row == 0 { 1 } else { 0 };
-    let mut ask = |op| {
+    let mut submit = |op| {
         number += 1;
-        shared.submit(Request { element: row as u16, number, op }).wait()?.value()
+        shared.submit(Request { element: row as u16, number, op })
     };
+    let fetched = if row > 0 { SIDE } else { 0 };
+    let above: Vec<_> = (0..fetched).map(|at| submit(Op::Fetch((row - 1) * SIDE + at))).collect();
+    let (mut cells, mut stores, mut above) = (Vec::new(), Vec::new(), above.into_iter());
     for at in 0..SIDE {
-        let above = if row > 0 { ask(Op::Fetch((row - 1) * SIDE + at))? } else { 0 };
+        let above = above.next().map_or(Ok(0), |it| it.wait()?.value())?;
         let cell = match cells.last() {
             Some(left) if row > 0 => above + left,
             _ => 1,
         };
-        ask(Op::Store(row * SIDE + at, cell))?;
+        stores.push(submit(Op::Store(row * SIDE + at, cell)));
         cells.push(cell);
+    }
+    for store in stores {
+        store.wait()?.value()?;
     }
     Ok(cells)
 }

@@ -47,6 +47,7 @@ from ._words import (
     Waiting,
     Window,
     WindowFull,
+    Work,
     WrongKind,
     WrongLength,
 )
@@ -56,5 +57,5 @@ __all__ = [
     "Device", "Element", "Failed", "Forgotten", "Gap", "Image", "JournalFull", "Memory", "Mismatch", "NoBlock",
     "NoCall", "NoCell", "NoElement", "NoHeader", "NoMemory", "NoSpace", "NotAnswered", "OldVersion", "Refused",
     "Reply", "Request", "Shared", "SharedElement", "StillWaiting", "SyncFailed", "Tag", "Unserved", "Waiting", "Window",
-    "WindowFull", "WrongKind", "WrongLength", "answered", "create", "inspect", "open", "open_or_create",
+    "WindowFull", "Work", "WrongKind", "WrongLength", "answered", "create", "inspect", "open", "open_or_create",
 ]

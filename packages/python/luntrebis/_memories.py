@@ -6,11 +6,11 @@ import fcntl
 import io
 import os
 import threading
-from typing import Any, Iterable, Iterator, Union
+from typing import Any, Iterable, Iterator, Sequence, Union
 
 from ._calls import LTF_UNSYNCED, lt_command, lt_memory, lt_outcome, ltf
 from ._library import LIB
-from ._words import Answer, Device, Refused, Reply, Request, SyncFailed, Tag, Waiting, Window
+from ._words import Answer, Device, Refused, Reply, Request, SyncFailed, Tag, Waiting, Window, Work
 from ._words import passed, refusal, spelled, told
 
 Path = Union[str, "os.PathLike[str]"]
@@ -132,16 +132,25 @@ class Image(Held):
         return outcome
 
     def ask_all(self, requests: Iterable[Request]) -> list[Union[Reply, Refused]]:
-        """Sends any requests, in their order. Returns the reply or the refusal of each. Up to sixteen neighbours
-        are put on the disk together."""
+        """Sends any requests, in their order. Returns the reply or the refusal of each. Up to sixteen neighbours are
+        put on the disk together: of one element or several, with confirmations (the tag CONFIRM) among them."""
         asked = [spelled(it) for it in requests]
         commands, outcomes = (lt_command * len(asked))(*asked), (lt_outcome * len(asked))()
         passed(self._carried_out(self._call("ltf_serve_all", commands, len(asked), outcomes)))
         return [refusal(it.refusal) if it.refusal else told(it) for it in outcomes]
 
+    def ask_group(self, requests: Sequence[Request]) -> list[Union[Reply, Refused]]:
+        """Sends the first of these requests, at most sixteen, and puts them on the disk together. Returns the reply or
+        the refusal of each that was served: at least one if there is any. The others changed nothing, and are sent
+        again. It is for a program to which requests keep coming."""
+        asked = [spelled(it) for it in requests]
+        commands, outcomes, served = (lt_command * len(asked))(*asked), (lt_outcome * len(asked))(), c.c_size_t()
+        passed(self._carried_out(self._call("ltf_serve_group", commands, len(asked), outcomes, served)))
+        return [refusal(it.refusal) if it.refusal else told(it) for it in outcomes[: served.value]]
+
     def woken(self) -> list[tuple[int, int]]:
-        """Returns the requests that the last `ask` or `ask_all` resumed: they waited before, and are answered now. Each
-        is an element and a number. Those of one cell are in the order in which they came."""
+        """Returns the requests that the last `ask`, `ask_all` or `ask_group` resumed: they waited before, and are
+        answered now. Each is an element and a number. Those of one cell are in the order in which they came."""
         count = c.c_size_t()
         with self._lock:
             waiters = self._call("ltf_woken", count)
@@ -182,6 +191,12 @@ class Image(Held):
         """The numbers of cells, elements, and journal slots."""
         sizes = self._call("ltf_limits")
         return sizes.cells, sizes.elements, sizes.slots
+
+    @property
+    def work(self) -> Work:
+        """The work that was done since the image was opened."""
+        counts = self._call("ltf_work")
+        return Work(counts.groups, counts.syncs, counts.writes, counts.sweeps, counts.turns)
 
     def element(self, number: int) -> Element:
         """Returns an element whose requests are numbered here, from its window's next number on."""

@@ -9,15 +9,15 @@ from concurrent.futures import CancelledError, Future, InvalidStateError
 from typing import Any, Callable, Generic, NamedTuple, Optional, TypeVar, Union
 
 from . import _memories
-from ._memories import Image, Path
-from ._words import Answer, Device, Refused, Reply, Request, Tag, WindowFull, spelled
+from ._memories import KEPT, Image, Path
+from ._words import Answer, Device, Refused, Reply, Request, Tag, Window, spelled
 
 T = TypeVar("T")
 MOST = 16  # The most members of a group.
 
 
 class Asked(NamedTuple):
-    """A request that is to be served."""
+    """A request or a confirmation that is to be served."""
 
     request: Request
     future: Future[Reply]
@@ -104,9 +104,10 @@ class SharedElement(Requests["Future[int]"]):
 class Shared:
     """An image for any number of threads.
 
-    Requests of several elements that come together are put on the disk together. A future is done when the answer to
-    its request is on the disk. For a fetch or a take that is as soon as its cell is full. What still waits at `close`
-    is cancelled. It isn't lost, and is answered under its number after the next opening. After a lost step all futures
+    What is sent is done in the order in which it came. Up to sixteen commands that stand there together are put on the
+    disk together: requests, of one element or several, and confirmations. A future is done when the answer to its
+    request is on the disk. For a fetch or a take that is as soon as its cell is full. What still waits at `close` is
+    cancelled. It isn't lost, and is answered under its number after the next opening. After a lost step all futures
     raise `Device`, or why the step failed: close, open again, and ask again under the same numbers.
     """
 
@@ -149,15 +150,14 @@ class Shared:
 
     def submit(self, request: Request) -> Future[Reply]:
         """Sends a request, and returns a future of its answer. A request with the number 0 gets the element's next one.
-        Answered entries of that element are then confirmed when its window is full."""
+        Answered entries of that element are then confirmed when its window is full, together with other requests."""
         return self._submit(request, True)
 
     def _submit(self, request: Request, waits: bool) -> Future[Reply]:
-        if Tag(request.tag) == Tag.CONFIRM:
-            raise ValueError("a confirmation is no request: confirm(element, upto)")
         spelled(request)
+        is_numbered = Tag(request.tag) == Tag.CONFIRM or request.number > 0
         future: Future[Reply] = Future()
-        self._send(Asked(request, future, waits, request.number > 0))
+        self._send(Asked(request, future, waits, is_numbered))
         return future
 
     def ask(self, request: Request) -> Reply:
@@ -165,11 +165,12 @@ class Shared:
         return self._submit(request, False).result()
 
     def confirm(self, element: int, upto: int) -> None:
-        """Drops the entries of the element below the number."""
-        self.call(lambda image: image.confirm(element, upto)).result()
+        """Drops the entries of the element below the number. `submit` takes a request with the tag CONFIRM and that
+        number, too, so that nobody has to wait for it."""
+        self.ask(Request(Tag.CONFIRM, element, upto))
 
     def call(self, call: Callable[[Image], T]) -> Future[T]:
-        """Makes a call of the image in its thread, between two groups. An example is `lambda it: it.count`."""
+        """Makes a call of the image in its thread, after what was sent before. An example is `lambda it: it.count`."""
         future: Future[T] = Future()
         self._send(Called(call, future))
         return future
@@ -188,6 +189,57 @@ class Shared:
             self._thread.join()
 
 
+class Group:
+    """Commands that are served together, each with who asked for it. A confirmation that is made here has nobody."""
+
+    def __init__(self, image: Image) -> None:
+        self.image = image
+        self.commands: list[Request] = []
+        self.asked: list[Optional[Asked]] = []
+        self.windows: dict[int, Window] = {}  # As the requests that are numbered here leave them.
+        self.others: set[int] = set()  # The elements of the other commands.
+
+    def takes(self, asked: Asked) -> bool:
+        """Adds a command, under its number. Returns False if it has to wait for the next group."""
+        request = asked.request
+        if asked.is_numbered:
+            self.others.add(request.element)
+        else:
+            number = self.number(request.element)
+            if number is None:
+                return False
+            request = request._replace(number=number)
+        self.add(asked, request)
+        return True
+
+    def add(self, asked: Optional[Asked], command: Request) -> None:
+        self.asked.append(asked)
+        self.commands.append(command)
+
+    def number(self, element: int) -> Optional[int]:
+        """Returns the number of an element's next request. Before that it adds a confirmation if the window is full.
+        Returns None if the request has to wait until the commands so far are served."""
+        if element in self.others:
+            return None
+        base, after = self.windows.get(element) or self.image.window(element)
+        if after - base >= KEPT:
+            upto = self.first_that_waits(element, base)
+            if self.commands and (upto == base or len(self.commands) + 2 > MOST):
+                return None
+            if upto > base:
+                self.add(None, Request(Tag.CONFIRM, element, upto))
+            base = upto
+        self.windows[element] = Window(base, after + 1)
+        return after
+
+    def first_that_waits(self, element: int, number: int) -> int:
+        """Returns the first number from this one on that waits, or wasn't asked before this group."""
+        after = self.image.window(element).next
+        while number < after and self.image.collect(element, number).answer != Answer.WAITING:
+            number += 1
+        return number
+
+
 class Owner:
     """The thread that makes the calls."""
 
@@ -195,7 +247,7 @@ class Owner:
 
     def __init__(self, asked: queue.SimpleQueue[Union[Asked, Called, None]]) -> None:
         self.asked = asked
-        self.ready: dict[int, collections.deque[Asked]] = {}  # What is to be served, by element; none is empty.
+        self.ready: collections.deque[Union[Asked, Called]] = collections.deque()  # What came, in its order.
         self.waiting: dict[tuple[int, int], list[Future[Reply]]] = {}  # Who waits, by element and number.
         self.ends = False
 
@@ -208,7 +260,7 @@ class Owner:
         with self.image:
             began.set_result(None)
             while self.take_in():
-                self.serve()
+                self.do_next()
         for futures in self.waiting.values():
             for future in futures:
                 future.cancel()
@@ -224,17 +276,9 @@ class Owner:
                 continue
             if one is None:
                 self.ends = True
-            elif isinstance(one, Called):
-                self.call(one)
             else:
-                self.ready.setdefault(one.request.element, collections.deque()).append(one)
-        return bool(self.ready) or not self.ends
-
-    def call(self, called: Called) -> None:
-        try:
-            give(called.future, called.call(self.image))
-        except BaseException as fault:
-            give(called.future, fault)
+                self.ready.append(one)
+        return bool(self.ready)
 
     def make_room(self) -> bool:
         """Makes room in the journal while nobody asks. Returns whether there was anything to do."""
@@ -244,57 +288,64 @@ class Owner:
             self.tell_lost()
             return False
 
-    def serve(self) -> None:
-        """Serves a group: the first request of up to sixteen elements."""
-        group = [it for it in map(self.take, list(self.ready)[:MOST]) if it]
+    def do_next(self) -> None:
+        """Makes the call that came first, or serves a group of the commands that came first."""
+        first = self.ready[0]
+        if isinstance(first, Called):
+            self.ready.popleft()
+            self.call(first)
+        else:
+            self.serve(self.gather())
+
+    def call(self, called: Called) -> None:
         try:
-            replies = self.image.ask_all(it.request for it in group)
+            give(called.future, called.call(self.image))
         except BaseException as fault:
-            for asked in group:
+            give(called.future, fault)
+        for of in list(self.waiting):  # The call may have answered anyone.
+            self.tell_resumed(of)
+
+    def gather(self) -> Group:
+        """Takes the commands that came first, in their order, up to a group."""
+        group = Group(self.image)
+        while self.ready and len(group.commands) < MOST:
+            asked = self.ready[0]
+            if isinstance(asked, Called):
+                break
+            try:
+                if not group.takes(asked):
+                    break
+            except BaseException as fault:
+                give(asked.future, fault)
+            self.ready.popleft()
+        return group
+
+    def serve(self, group: Group) -> None:
+        """Serves a group. What isn't served with it comes first in the next one."""
+        if not group.commands:
+            return
+        try:
+            replies = self.image.ask_group(group.commands)
+        except BaseException as fault:
+            for asked in filter(None, group.asked):
                 give(asked.future, fault)
             self.tell_lost()
             return
-        woken = self.image.woken()
-        for asked, reply in zip(group, replies):
-            self.tell(asked, reply)
-        for of in woken:
+        self.ready.extendleft(filter(None, reversed(group.asked[len(replies) :])))
+        for asked, command, reply in zip(group.asked, group.commands, replies):
+            if asked:
+                self.tell(asked, command, reply)
+        for of in self.image.woken():
             self.tell_resumed(of)
 
-    def take(self, element: int) -> Optional[Asked]:
-        """Returns the element's first request, under its number, or None if there is no such element."""
-        asked = self.ready[element].popleft()
-        left = self.ready.pop(element)
-        if left:
-            self.ready[element] = left  # After the other elements.
-        if asked.is_numbered:
-            return asked
-        try:
-            number = self.image.window(element).next
-        except BaseException as fault:
-            give(asked.future, fault)
-            return None
-        return asked._replace(request=asked.request._replace(number=number))
-
-    def tell(self, asked: Asked, reply: Union[Reply, Refused]) -> None:
+    def tell(self, asked: Asked, command: Request, reply: Union[Reply, Refused]) -> None:
         """Gives a request its reply. If the request waits, its future is kept instead."""
-        element, number = asked.request.element, asked.request.number
-        if isinstance(reply, WindowFull) and not asked.is_numbered and self.confirms(element):
-            self.ready.setdefault(element, collections.deque()).appendleft(asked)
-        elif isinstance(reply, Reply) and reply.answer == Answer.WAITING and asked.waits:
-            self.waiting.setdefault((element, number), []).append(asked.future)
-            self.tell_resumed((element, number))  # It may have been answered with its group.
+        if isinstance(reply, Reply) and reply.answer == Answer.WAITING and asked.waits:
+            of = command.element, command.number
+            self.waiting.setdefault(of, []).append(asked.future)
+            self.tell_resumed(of)  # It may have been answered with its group.
         else:
             give(asked.future, reply)
-
-    def confirms(self, element: int) -> bool:
-        """Confirms an element's answered entries up to the first that waits. Returns whether there was any."""
-        base, after = self.image.window(element)
-        upto = base
-        while upto < after and self.image.collect(element, upto).answer != Answer.WAITING:
-            upto += 1
-        if upto > base:
-            self.image.confirm(element, upto)
-        return upto > base
 
     def tell_lost(self) -> None:
         """Fails all futures that wait, because a step was lost: no answer comes any more."""
@@ -305,7 +356,11 @@ class Owner:
 
     def tell_resumed(self, of: tuple[int, int]) -> None:
         """Gives the reply to those who waited for an entry that is answered now."""
-        reply = self.image.collect(*of)
-        if reply.answer != Answer.WAITING:
+        reply: Union[Reply, Exception]
+        try:
+            reply = self.image.collect(*of)
+        except (Refused, ValueError) as fault:
+            reply = fault
+        if not isinstance(reply, Reply) or reply.answer != Answer.WAITING:
             for future in self.waiting.pop(of, []):
                 give(future, reply)

@@ -195,6 +195,7 @@ ERRORS: dict[Answer, type[Answered]] = {
 
 class Request(NamedTuple):
     """A request of an element, under a number of its own: 1, 2, 3 and so on. `address` is a block's length at an alloc.
+    Or a confirmation, with the tag CONFIRM: the entries below `number` are dropped.
 
     If the same request is sent again under its number, it is answered as before, and doesn't act again.
     """
@@ -211,6 +212,17 @@ class Window(NamedTuple):
 
     base: int
     next: int
+
+
+class Work(NamedTuple):
+    """How many groups were served, a command alone being one, and how many syncs and writes were made. Sweeps and turns
+    make room in the journal."""
+
+    groups: int
+    syncs: int
+    writes: int
+    sweeps: int
+    turns: int
 
 
 @dataclass(frozen=True)

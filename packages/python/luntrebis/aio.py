@@ -43,6 +43,10 @@ class Image:
         answered as before."""
         return asyncio.wrap_future(self.shared.submit(request))
 
+    def confirm(self, element: int, upto: int) -> Awaitable[Reply]:
+        """Drops the entries of the element below the number. It is sent at this call, and nobody has to await it."""
+        return self.ask(Request(Tag.CONFIRM, element, upto))
+
     def element(self, number: int) -> Element:
         """Returns an element whose requests are numbered here."""
         return Element(self, number)

@@ -15,8 +15,8 @@
 //! ```
 //!
 //! [`Image`] is for one thread at a time, and the caller numbers its requests. [`Shared`] is `Send + Sync`: a thread of
-//! its own makes the calls. Requests of several elements that come together are put on the disk together, and each
-//! answer is a future. [`Memory`] has no disk.
+//! its own makes the calls. Requests that come together, of one element or several, are put on the disk together, and
+//! each answer is a future. [`Memory`] has no disk.
 //!
 //! A request that is sent again under its number is answered as before, and doesn't act again. So a program that
 //! doesn't know how far it came sends its requests again.
@@ -27,6 +27,6 @@ mod owner;
 mod shared;
 mod words;
 
-pub use memories::{inspect, Image, Limits, Memory};
+pub use memories::{inspect, Image, Limits, Memory, Work};
 pub use shared::{Element, Pending, Shared, Value};
 pub use words::{Error, Op, Refusal, Reply, Request, Result};

@@ -22,6 +22,24 @@ pub struct Limits {
     pub slots: u32,
 }
 
+/// The most entries that are kept of an element.
+pub(crate) const KEPT: u64 = 64;
+
+/// What was done since an image was opened.
+#[derive(Clone, Copy, Debug, PartialEq, Eq)]
+pub struct Work {
+    /// How many groups were served. A command alone is one, too.
+    pub groups: u64,
+    /// How many syncs were made.
+    pub syncs: u64,
+    /// How many writes were made.
+    pub writes: u64,
+    /// How many sweeps made room in the journal.
+    pub sweeps: u64,
+    /// How many turns of a checkpoint made room in the journal.
+    pub turns: u64,
+}
+
 impl Default for Limits {
     /// The default sizes of `imem format`.
     fn default() -> Limits {
@@ -55,7 +73,7 @@ impl Memory {
 
     /// Drops the entries of the element below the number.
     pub fn confirm(&mut self, element: u16, upto: u64) -> Result<()> {
-        passed(self.step(&confirmation(element, upto)).refusal)
+        passed(self.step(&spelled(&confirmation(element, upto))).refusal)
     }
 
     /// Returns the reply that is kept under an element's number.
@@ -131,8 +149,8 @@ impl Image {
         told(&self.serve(&spelled(request))?)
     }
 
-    /// Sends any requests, in their order. Returns the reply or the refusal of each. Up to sixteen neighbours
-    /// are put on the disk together.
+    /// Sends any requests, in their order. Returns the reply or the refusal of each. Up to sixteen neighbours are put on
+    /// the disk together: of one element or several, with confirmations ([`Op::Confirm`](crate::Op::Confirm)) among them.
     pub fn ask_all(&mut self, requests: &[Request]) -> Result<Vec<Result<Reply>>> {
         let commands: Vec<_> = requests.iter().map(spelled).collect();
         let mut outcomes = vec![sys::lt_outcome::default(); commands.len()];
@@ -142,8 +160,21 @@ impl Image {
         Ok(outcomes.iter().map(told).collect())
     }
 
-    /// Returns the requests that the last `ask` or `ask_all` resumed: they waited before, and are answered now. Each is
-    /// an element and a number. Those of one cell are in the order in which they came.
+    /// Sends the first of these requests, at most sixteen, and puts them on the disk together. Returns the reply or the
+    /// refusal of each that was served: at least one if there is any. The others changed nothing, and are sent again. It
+    /// is for a program to which requests keep coming.
+    pub fn ask_group(&mut self, requests: &[Request]) -> Result<Vec<Result<Reply>>> {
+        let commands: Vec<_> = requests.iter().map(spelled).collect();
+        let (mut outcomes, mut served) = (vec![sys::lt_outcome::default(); commands.len()], 0);
+        let (asked, count) = (commands.as_ptr(), commands.len());
+        // SAFETY: the handle is held, and there are as many outcomes as commands.
+        let answer = unsafe { sys::ltf_serve_group(self.file, asked, count, outcomes.as_mut_ptr(), &mut served) };
+        self.check(answer)?;
+        Ok(outcomes[..served].iter().map(told).collect())
+    }
+
+    /// Returns the requests that the last `ask`, `ask_all` or `ask_group` resumed: they waited before, and are answered
+    /// now. Each is an element and a number. Those of one cell are in the order in which they came.
     pub fn woken(&self) -> Vec<(u16, u64)> {
         let mut count = 0;
         // SAFETY: the handle is held; what the call points to stays until the next request.
@@ -154,7 +185,7 @@ impl Image {
 
     /// Drops the entries of the element below the number. Their replies can't be asked for again.
     pub fn confirm(&mut self, element: u16, upto: u64) -> Result<()> {
-        passed(self.serve(&confirmation(element, upto))?.refusal)
+        passed(self.serve(&spelled(&confirmation(element, upto)))?.refusal)
     }
 
     /// Returns the reply that is kept under an element's number.
@@ -190,6 +221,13 @@ impl Image {
         // SAFETY: as above.
         let sys::lt_sizes { cells, elements, slots } = unsafe { sys::ltf_limits(self.file) };
         Limits { cells, elements, slots }
+    }
+
+    /// Returns the work that was done since the image was opened.
+    pub fn work(&self) -> Work {
+        // SAFETY: as above.
+        let sys::ltf_counts { groups, syncs, writes, sweeps, turns } = unsafe { sys::ltf_work(self.file) };
+        Work { groups, syncs, writes, sweeps, turns }
     }
 
     /// Makes room in the journal, by a sweep or a turn of a checkpoint, if less than half of it is free. Returns

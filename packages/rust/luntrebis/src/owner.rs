@@ -1,10 +1,11 @@
 //! The thread that makes the calls of a shared image.
 
-use crate::memories::Image;
+use crate::memories::{Image, KEPT};
 use crate::shared::{Asked, Teller};
-use crate::words::{Error, Refusal, Reply, Request, Result};
-use std::collections::{HashMap, VecDeque};
+use crate::words::{confirmation, Error, Refusal, Reply, Request, Result};
+use std::collections::{HashMap, HashSet, VecDeque};
 use std::fmt;
+use std::ops::Range;
 use std::sync::mpsc::{Receiver, TryRecvError};
 
 /// The most members of a group.
@@ -27,12 +28,83 @@ impl fmt::Debug for Message {
     }
 }
 
+/// Commands that are served together, each with who asked for it. A confirmation that is made here has nobody.
+#[derive(Default)]
+struct Group {
+    commands: Vec<Request>,
+    asked: Vec<Option<Asked>>,
+    /// The windows of elements, as the requests that are numbered here leave them.
+    windows: HashMap<u16, Range<u64>>,
+    /// The elements of the other commands.
+    others: HashSet<u16>,
+}
+
+impl Group {
+    /// Adds a command, under its number. Returns it if it has to wait for the next group.
+    fn take(&mut self, image: &Image, asked: Asked) -> Option<Asked> {
+        let mut request = asked.request;
+        if asked.is_numbered {
+            self.others.insert(request.element);
+        } else {
+            match self.number(image, request.element) {
+                Ok(Some(number)) => request.number = number,
+                Ok(None) => return Some(asked),
+                Err(error) => {
+                    asked.teller.tell(Err(error));
+                    return None;
+                }
+            }
+        }
+        self.add(Some(asked), request);
+        None
+    }
+
+    fn add(&mut self, asked: Option<Asked>, command: Request) {
+        self.asked.push(asked);
+        self.commands.push(command);
+    }
+
+    /// Returns the number of an element's next request. Before that it adds a confirmation if the window is full.
+    /// Returns `None` if the request has to wait until the commands so far are served.
+    fn number(&mut self, image: &Image, element: u16) -> Result<Option<u64>> {
+        if self.others.contains(&element) {
+            return Ok(None);
+        }
+        let mut window = match self.windows.get(&element) {
+            Some(window) => window.clone(),
+            None => image.window(element)?,
+        };
+        if window.end - window.start >= KEPT {
+            let upto = first_that_waits(image, element, window.start)?;
+            let is_stuck = upto == window.start;
+            if !self.commands.is_empty() && (is_stuck || self.commands.len() + 2 > MOST) {
+                return Ok(None);
+            }
+            if !is_stuck {
+                self.add(None, confirmation(element, upto));
+            }
+            window.start = upto;
+        }
+        let number = window.end;
+        self.windows.insert(element, window.start..number + 1);
+        Ok(Some(number))
+    }
+}
+
+/// Returns the first number from this one on that waits, or wasn't asked before this group.
+fn first_that_waits(image: &Image, element: u16, mut number: u64) -> Result<u64> {
+    let end = image.window(element)?.end;
+    while number < end && image.collect(element, number)? != Reply::Waiting {
+        number += 1;
+    }
+    Ok(number)
+}
+
 pub(crate) struct Owner {
     image: Image,
     asked: Receiver<Message>,
-    /// The elements that ask, in the order in which they are served, and the requests of each. No list is empty.
-    order: VecDeque<u16>,
-    ready: HashMap<u16, VecDeque<Asked>>,
+    /// What came, in its order.
+    ready: VecDeque<Message>,
     /// Who waits, by the element and the number of the request.
     waiting: HashMap<(u16, u64), Vec<Teller>>,
     ends: bool,
@@ -40,31 +112,30 @@ pub(crate) struct Owner {
 
 impl Owner {
     pub(crate) fn new(image: Image, asked: Receiver<Message>) -> Owner {
-        Owner { image, asked, order: VecDeque::new(), ready: HashMap::new(), waiting: HashMap::new(), ends: false }
+        Owner { image, asked, ready: VecDeque::new(), waiting: HashMap::new(), ends: false }
     }
 
     /// Serves until it is asked to end and all that was asked before is served.
     pub(crate) fn run(mut self) {
         while self.take_in() {
-            self.serve();
+            self.do_next();
         }
     }
 
     /// Takes what was asked, and makes room while nobody asks. Returns whether there is more to do.
     fn take_in(&mut self) -> bool {
         while !self.ends {
-            let rests = self.order.is_empty() && !self.make_room();
+            let rests = self.ready.is_empty() && !self.make_room();
             let message =
                 if rests { self.asked.recv().map_err(|_| TryRecvError::Disconnected) } else { self.asked.try_recv() };
             match message {
-                Ok(Message::Ask(asked)) => self.line_up(asked, false),
-                Ok(Message::Call(call)) => call(&mut self.image),
                 Ok(Message::End) | Err(TryRecvError::Disconnected) => self.ends = true,
-                Err(TryRecvError::Empty) if self.order.is_empty() => {}
+                Ok(message) => self.ready.push_back(message),
+                Err(TryRecvError::Empty) if self.ready.is_empty() => {}
                 Err(TryRecvError::Empty) => break,
             }
         }
-        !self.order.is_empty() || !self.ends
+        !self.ready.is_empty()
     }
 
     /// Makes room in the journal while nobody asks. Returns whether there was anything to do.
@@ -75,35 +146,60 @@ impl Owner {
         })
     }
 
-    fn line_up(&mut self, asked: Asked, is_first: bool) {
-        let element = asked.request.element;
-        let list = self.ready.entry(element).or_default();
-        if list.is_empty() {
-            self.order.push_back(element);
-        }
-        if is_first {
-            list.push_front(asked);
-        } else {
-            list.push_back(asked);
+    /// Makes the call that came first, or serves a group of the commands that came first.
+    fn do_next(&mut self) {
+        match self.ready.pop_front() {
+            Some(Message::Call(call)) => {
+                call(&mut self.image);
+                let waiting: Vec<_> = self.waiting.keys().copied().collect();
+                waiting.into_iter().for_each(|of| self.tell_resumed(of)); // The call may have answered anyone.
+            }
+            Some(first) => {
+                self.ready.push_front(first);
+                let group = self.gather();
+                self.serve(group);
+            }
+            None => {}
         }
     }
 
-    /// Serves a group: the first request of up to sixteen elements.
-    fn serve(&mut self) {
-        let elements = self.order.len().min(MOST);
-        let group: Vec<Asked> = (0..elements).filter_map(|_| self.take()).collect();
-        if group.is_empty() {
+    /// Takes the commands that came first, in their order, up to a group.
+    fn gather(&mut self) -> Group {
+        let mut group = Group::default();
+        while group.commands.len() < MOST {
+            let left = match self.ready.pop_front() {
+                Some(Message::Ask(asked)) => group.take(&self.image, asked).map(Message::Ask),
+                other => other,
+            };
+            if let Some(left) = left {
+                self.ready.push_front(left);
+                break;
+            }
+            if self.ready.is_empty() {
+                break;
+            }
+        }
+        group
+    }
+
+    /// Serves a group. What isn't served with it comes first in the next one.
+    fn serve(&mut self, mut group: Group) {
+        if group.commands.is_empty() {
             return;
         }
-        let requests: Vec<Request> = group.iter().map(|it| it.request).collect();
-        match self.image.ask_all(&requests) {
+        match self.image.ask_group(&group.commands) {
             Ok(replies) => {
-                let woken = self.image.woken();
-                group.into_iter().zip(replies).for_each(|(asked, reply)| self.tell(asked, reply));
-                woken.into_iter().for_each(|of| self.tell_resumed(of));
+                let left = group.asked.split_off(replies.len());
+                left.into_iter().flatten().rev().for_each(|it| self.ready.push_front(Message::Ask(it)));
+                for ((asked, command), reply) in group.asked.into_iter().zip(group.commands).zip(replies) {
+                    if let Some(asked) = asked {
+                        self.tell(asked, command, reply);
+                    }
+                }
+                self.image.woken().into_iter().for_each(|of| self.tell_resumed(of));
             }
             Err(error) => {
-                group.iter().for_each(|it| it.teller.tell(Err(error.again())));
+                group.asked.iter().flatten().for_each(|it| it.teller.tell(Err(error.again())));
                 self.tell_lost();
             }
         }
@@ -116,57 +212,17 @@ impl Owner {
         }
     }
 
-    /// Returns the first request of the first element, under its number. Returns `None` if there is no such element.
-    fn take(&mut self) -> Option<Asked> {
-        let element = self.order.pop_front()?;
-        let list = self.ready.get_mut(&element)?;
-        let mut asked = list.pop_front()?;
-        if list.is_empty() {
-            self.ready.remove(&element);
-        } else {
-            self.order.push_back(element); // After the others.
-        }
-        if !asked.is_numbered {
-            match self.image.window(element) {
-                Ok(window) => asked.request.number = window.end,
-                Err(error) => {
-                    asked.teller.tell(Err(error));
-                    return None;
-                }
-            }
-        }
-        Some(asked)
-    }
-
     /// Gives a request its reply. If the request waits, keeps who is to get the reply. A request that was answered
     /// while its group was served gets its reply at once.
-    fn tell(&mut self, asked: Asked, reply: Result<Reply>) {
-        let Request { element, number, .. } = asked.request;
+    fn tell(&mut self, asked: Asked, command: Request, reply: Result<Reply>) {
         match reply {
-            Err(Error::Refused(Refusal::WindowFull)) if !asked.is_numbered => match self.confirm(element) {
-                Ok(true) => self.line_up(asked, true),
-                Ok(false) => asked.teller.tell(Err(Error::Refused(Refusal::WindowFull))),
-                Err(error) => asked.teller.tell(Err(error)),
-            },
             Ok(Reply::Waiting) if asked.waits => {
-                self.waiting.entry((element, number)).or_default().push(asked.teller);
-                self.tell_resumed((element, number));
+                let of = (command.element, command.number);
+                self.waiting.entry(of).or_default().push(asked.teller);
+                self.tell_resumed(of);
             }
             reply => asked.teller.tell(reply),
         }
-    }
-
-    /// Confirms an element's answered entries up to the first that waits. Returns whether there was any.
-    fn confirm(&mut self, element: u16) -> Result<bool> {
-        let window = self.image.window(element)?;
-        let mut upto = window.start;
-        while upto < window.end && self.image.collect(element, upto)? != Reply::Waiting {
-            upto += 1;
-        }
-        if upto > window.start {
-            self.image.confirm(element, upto)?;
-        }
-        Ok(upto > window.start)
     }
 
     /// Gives the reply to those who waited for an entry that is answered now.

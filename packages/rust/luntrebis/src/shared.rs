@@ -2,7 +2,7 @@
 
 use crate::memories::{Image, Limits};
 use crate::owner::{Message, Owner};
-use crate::words::{Error, Op, Reply, Request, Result};
+use crate::words::{confirmation, Error, Op, Reply, Request, Result};
 use std::future::Future;
 use std::path::Path;
 use std::pin::Pin;
@@ -13,9 +13,9 @@ use std::thread::{self, JoinHandle};
 
 /// An image for any number of threads. A clone is the same image.
 ///
-/// Requests of several elements that come together are put on the disk together. When the last clone and the last
-/// [`Element`] are dropped, what was asked is served and the image is closed. Those who still wait then get
-/// [`Error::Closed`]. After a lost step all get [`Refusal::Device`](crate::Refusal::Device), or why the step failed:
+/// What is sent is done in the order in which it came. Up to sixteen commands that stand there together are put on the
+/// disk together: requests, of one element or several, and confirmations. When the last clone and the last [`Element`]
+/// are dropped, what was asked is served and the image is closed. Those who still wait then get [`Error::Closed`]. After a lost step all get [`Refusal::Device`](crate::Refusal::Device), or why the step failed:
 /// drop the image, open it again, and ask again under the same numbers.
 #[derive(Clone, Debug)]
 pub struct Shared {
@@ -71,8 +71,8 @@ impl Shared {
         Ok(Shared { inner: Arc::new(Inner { asked: Mutex::new(sender), thread: Some(thread) }) })
     }
 
-    /// Sends a request under its own number. Its future is done once the request is answered, for a fetch or a take as
-    /// soon as its cell is full.
+    /// Sends a request under its own number, or a confirmation. Its future is done once the request is answered, for a
+    /// fetch or a take as soon as its cell is full.
     pub fn submit(&self, request: Request) -> Pending {
         self.send(request, true, true)
     }
@@ -85,10 +85,10 @@ impl Shared {
 
     /// Drops the entries of the element below the number.
     pub fn confirm(&self, element: u16, upto: u64) -> Result<()> {
-        self.call(move |image| image.confirm(element, upto))?
+        self.ask(confirmation(element, upto)).map(|_| ())
     }
 
-    /// Makes a call of the image in its thread, between two groups.
+    /// Makes a call of the image in its thread, after what was sent before.
     pub fn call<T: Send + 'static>(&self, call: impl FnOnce(&mut Image) -> T + Send + 'static) -> Result<T> {
         let (tell, told) = channel();
         let call = Box::new(move |image: &mut Image| {
@@ -114,7 +114,8 @@ impl Shared {
 
 /// Makes the requests of an element. Each returns a future of its value, its base, or 0.
 ///
-/// Requests get the element's next numbers. When its window is full, answered entries are confirmed.
+/// Requests get the element's next numbers. When its window is full, answered entries are confirmed, together with other
+/// requests.
 #[derive(Clone, Debug)]
 pub struct Element {
     shared: Shared,

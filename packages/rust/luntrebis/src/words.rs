@@ -23,14 +23,16 @@ pub enum Op {
     Put(u32, u64),
     /// Empties the cells of the block with this base.
     Reset(u32),
+    /// Drops the entries of the element below the request's number: a confirmation.
+    Confirm,
 }
 
-/// A request of an element, under a number of its own: 1, 2, 3 and so on.
+/// A request of an element, under a number of its own: 1, 2, 3 and so on. Or a confirmation ([`Op::Confirm`]).
 #[derive(Clone, Copy, Debug, PartialEq, Eq)]
 pub struct Request {
     /// The element that asks.
     pub element: u16,
-    /// The number of the request.
+    /// The number of the request. That of a confirmation is the first number that stays.
     pub number: u64,
     /// What it asks for.
     pub op: Op,
@@ -66,6 +68,8 @@ pub enum Reply {
     StillWaiting,
     /// The cells are empty.
     Cleared,
+    /// The entries are dropped.
+    Confirmed,
 }
 
 impl Reply {
@@ -74,7 +78,7 @@ impl Reply {
         match self {
             Reply::Value(value) => Ok(value),
             Reply::Base(base) => Ok(base.into()),
-            Reply::Stored | Reply::Released | Reply::Cleared => Ok(0),
+            Reply::Stored | Reply::Released | Reply::Cleared | Reply::Confirmed => Ok(0),
             other => Err(Error::Answered(other)),
         }
     }
@@ -252,7 +256,8 @@ pub(crate) fn told(outcome: &sys::lt_outcome) -> Result<Reply> {
         sys::LT_RELEASED => Reply::Released,
         sys::LT_NO_BLOCK => Reply::NoBlock,
         sys::LT_STILL_WAITING => Reply::StillWaiting,
-        _ => Reply::Cleared,
+        sys::LT_CLEARED => Reply::Cleared,
+        _ => Reply::Confirmed,
     })
 }
 
@@ -267,11 +272,12 @@ pub(crate) fn spelled(request: &Request) -> sys::lt_command {
         Op::Take(address) => (sys::LT_TAKE, address, 0),
         Op::Put(address, value) => (sys::LT_PUT, address, value),
         Op::Reset(base) => (sys::LT_RESET, base, 0),
+        Op::Confirm => (sys::LT_CONFIRM, 0, 0),
     };
     sys::lt_command { tag, element: request.element, address, number: request.number, value }
 }
 
-/// Returns a confirmation in the library's form.
-pub(crate) fn confirmation(element: u16, upto: u64) -> sys::lt_command {
-    sys::lt_command { tag: sys::LT_CONFIRM, element, address: 0, number: upto, value: 0 }
+/// Returns a confirmation: the entries below the number are dropped.
+pub(crate) fn confirmation(element: u16, upto: u64) -> Request {
+    Request { element, number: upto, op: Op::Confirm }
 }

@@ -141,6 +141,56 @@ fn many_threads_share_an_image() {
 }
 
 #[test]
+fn commands_of_one_element_share_a_group() {
+    let path = place("together");
+    let shared = Shared::create(&path, Limits { cells: 256, elements: 3, slots: 256 }).unwrap();
+    let (one, two) = (shared.element(1), shared.element(2));
+    let base = one.alloc_i(200).wait().unwrap() as u32;
+    let before = shared.call(|image| image.work()).unwrap();
+    let (release, held) = std::sync::mpsc::channel::<()>();
+    let holder = shared.clone(); // Its call holds the image's thread until all is asked.
+    let (tell, begun) = std::sync::mpsc::channel();
+    let holds = thread::spawn(move || {
+        holder.call(move |_| {
+            tell.send(()).unwrap();
+            held.recv().unwrap();
+        })
+    });
+    begun.recv().unwrap();
+    let fetches: Vec<_> = (0..60).map(|at| two.fetch(base + at)).collect();
+    let stores: Vec<_> = (0..200).map(|at| one.store(base + at, at.into())).collect();
+    let confirmed = shared.submit(asked(2, 31, Op::Confirm));
+    let after = two.fetch(base + 199);
+    release.send(()).unwrap();
+    holds.join().unwrap().unwrap();
+    for (at, fetch) in fetches.into_iter().enumerate() {
+        assert_eq!(fetch.wait().unwrap(), at as u64);
+    }
+    stores.into_iter().for_each(|it| assert_eq!(it.wait().unwrap(), 0));
+    assert_eq!(confirmed.wait().unwrap(), Reply::Confirmed);
+    assert_eq!(after.wait().unwrap(), 199);
+    assert_eq!(shared.call(|image| image.window(2)).unwrap().unwrap(), 31..62);
+    let groups = shared.call(|image| image.work()).unwrap().groups - before.groups;
+    assert!(groups <= 24, "{groups} groups of some 270 commands");
+    std::fs::remove_file(path).unwrap();
+}
+
+#[test]
+fn a_group_is_the_first_of_a_list() {
+    let path = place("group");
+    let mut image = Image::create(&path, Limits { slots: 64, ..SMALL }).unwrap();
+    image.ask(&asked(0, 1, Op::AllocI(40))).unwrap();
+    let stores: Vec<_> = (0..20).map(|at| asked(0, 2 + u64::from(at), Op::Store(at, 7))).collect();
+    assert_eq!(image.ask_group(&stores).unwrap().len(), 16);
+    assert_eq!(image.ask_group(&stores[16..]).unwrap().len(), 4);
+    assert!(image.ask_group(&[]).unwrap().is_empty());
+    let all = image.ask_all(&[asked(0, 22, Op::Confirm), asked(0, 22, Op::Store(20, 7)), asked(0, 24, Op::Confirm)]);
+    assert!(matches!(all.unwrap()[..], [Ok(Reply::Confirmed), Ok(Reply::Stored), Err(Error::Refused(Refusal::Gap))]));
+    assert_eq!(image.window(0).unwrap(), 22..23);
+    std::fs::remove_file(path).unwrap();
+}
+
+#[test]
 fn a_shared_image_goes_from_thread_to_thread() {
     fn goes<T: Send + Sync>() {}
     goes::<Shared>();
