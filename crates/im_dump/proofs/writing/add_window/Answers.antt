@@ -1,0 +1,25 @@
+use Rattle.std.proofs.Common.{◌∙◌, sym, arith, string_bytes}
+use Rattle.std.specs.Prelude.{slice_get}
+use Rattle.std.proofs.lemmas.Result.{on_ok_weaker}
+use Rattle.im_text.proofs.WindowLemmas.{bounds_found}
+use Rattle.im_dump.proofs.WritingLemmas.{element_told, fit_found}
+use Rattle.im_dump.proofs.writing.add_window.Goals as goal
+
+pub returns-clause-lines : goal.returns-clause-lines
+returns-clause-lines c =
+    let found = bounds_found (slice_get c.args.memory.now.contents.windows c.args.element) c.in-Ok.base c.in-Ok.next
+    (sym c.window.ensures ∙ c.in-Ok.is) in
+    on_ok_weaker c.add_entries.result
+    (λ entries. element_told c.args.element (slice_get c.args.memory.now.contents.windows c.args.element) found.window
+    c.in-Ok.base c.saturating_sub-kept.result
+    (string_bytes c.args.out.now) (string_bytes c.add_base.new.out) (string_bytes c.add_entries.new.out)
+    found.found_is found.base_is (omega arith) (sym c.is_new.ensures
+    ∙ c.if-is_new.false) c.in_ok-add_base.ensures entries)
+    (c.add_entries.ensures.lines found.window found.found_is found.base_is found.next_is)
+
+pub returns-clause-fits : goal.returns-clause-fits
+returns-clause-fits c =
+    let found = bounds_found (slice_get c.args.memory.now.contents.windows c.args.element) c.in-Ok.base c.in-Ok.next
+    (sym c.window.ensures ∙ c.in-Ok.is) in
+    on_ok_weaker c.add_entries.result (fit_found c.args.memory.now.contents c.args.element found.window found.found_is)
+    (c.add_entries.ensures.fits found.window found.found_is found.base_is found.next_is)

@@ -1,0 +1,32 @@
+-- What dumping an image writes, and what a dump is read as. (Own.)
+use Rattle.std.specs.Prelude.{◌≡◌, ℕ, List, Option, Ok}
+use Rattle.std.specs.Io.KnownBytes.{Appends}
+use Rattle.im_types.specs.Header.{header_of, layout_in}
+use Rattle.im_types.specs.Contents.{Contents}
+use Rattle.im_types.specs.Layout.{Sizes, sizes_of}
+use Rattle.im_types.specs.Meaning.{Reached, Reads}
+use Rattle.im_dump.specs.Dump.{dump_text}
+use Rattle.im_dump.specs.Fitting.{FitsContents, FitsDump}
+use Rattle.im_dump.specs.declared.loading.Loaded.{Loaded}
+
+-- the bytes of a file mean a memory, its dump was written, and each number of it has its own spelling
+pub record Dumps (file : List ℕ) (was now : Option (List ℕ)) : Type 0 where
+  pub reached : Reached
+  pub reads : Reads (layout_in file) file (Ok reached)
+  pub added : Appends was now (dump_text (header_of file).sizes reached.count reached.contents)
+  pub fits : FitsContents reached.contents
+
+-- the same, if the disk is honest
+pub record WasDumped (Honest : Type 0) (file : List ℕ) (was now : Option (List ℕ)) : Type 0 where
+  pub dumps : Honest → Dumps file was now
+
+-- the text is the dump of what was loaded, which is a memory of its sizes
+pub record IsDumpOf (l : Loaded) (bytes : List ℕ) : Type 0 where
+  pub text : bytes ≡ dump_text (sizes_of l.limits) l.count l.memory.contents
+  pub fits : FitsDump (sizes_of l.limits) l.count l.memory.contents
+
+-- what was loaded has these sizes, this count and this memory
+pub record IsSame (s : Sizes) (count : ℕ) (m : Contents) (l : Loaded) : Type 0 where
+  pub sizes : sizes_of l.limits ≡ s
+  pub counted : l.count ≡ count
+  pub contents : l.memory.contents ≡ m

@@ -1,0 +1,4 @@
+pub mod Dump
+pub mod Dumping
+pub mod Faults
+pub mod Fitting
