@@ -388,7 +388,7 @@ inline confirm_to_end(e) {
 
 /* of im_serving::serve_element 20bb9aae2cee
    of im_serving::serve_to_end b227e1699eb4
-   of im_serving::serve_one 4c3d1d8d767c
+   of im_serving::serve_one fbf40b1c4f11
    of im_serving::make_place 83c6539d9850
    of im_serving::await_one 8464d289f16b
    of im_serving::await_rest 56b9cf79b970 */

@@ -25,6 +25,7 @@ use Rattle.im_engine.specs.declared.run.Answer.{Answer}
 use Rattle.im_promise.specs.Again.{IsSaidAgain, IsUnused, HasNotActed, count_after, AskedOverACrash}
 use Rattle.im_promise.specs.Recovery.{Recovers}
 use Rattle.im_promise.proofs.Recovering.{NoFault}
+use Rattle.im_promise.proofs.Answering.{none_or_some}
 
 pub said : {D : Type 0} (old new : EngineState D) (r : Request) (entry : Entry) (answer : Result Outcome Refusal) → old.failed ≡ false → Answered old (Asks r) answer new
     → IsToldAgainOrForgotten old.memory r entry → (IsForgotten old.memory.windows (asker r) → IsRefused old.memory r Forgotten)
@@ -50,10 +51,6 @@ by_is_false true n = absurd (cc)
 by_is_false false n = refl
 
 -- ---- sent for the first time
-
-none_or_some : (n : ℕ) → (n ≡ 0) ⊎ (0 < n)
-none_or_some zero = inl refl
-none_or_some (suc n) = inr (omega arith)
 
 pub bool_cases : (b : Bool) → (b ≡ true) ⊎ (b ≡ false)
 bool_cases true = inl refl

@@ -23,7 +23,7 @@ use Rattle.im_glass.proofs.pane.Pane.TheSendSync.{the_send as pane_send}
 use Rattle.im_planning.proofs.plan.Plan.TheSendSync.{the_send as plan_send}
 use Rattle.im_controller.specs.contracts.shared.Shared as Shared
 use Rattle.im_controller.specs.contracts.inbox.Inbox as Inbox
-use Rattle.im_serving.specs.contracts.server.Served as Served
+use Rattle.im_serving.specs.contracts.numbers.Served as Served
 use Rattle.im_pipes.specs.contracts.ends.Inlet as Inlet
 use Rattle.im_pipes.specs.contracts.ends.Outlet as Outlet
 use Rattle.im_pipes.proofs.ends.Inlet.TheSendSync as inlet

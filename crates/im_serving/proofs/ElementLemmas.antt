@@ -19,18 +19,22 @@ from_none (Err e) P Q before none it = tt
 
 -- a server did what came out of a pipe of which nothing had come before
 pub has_stopped : (m : Contents) (p : Deeds) (d : End) (before : List Intent) (outlet : PipeEnd Intent) → before ≡ []
-    → d.deeds.element ≡ p.element
-    → (AreDone p.entries p.made before → HasBegun d.deeds.entries d.deeds.made outlet.items)
-    → OnOk d.result (AreDone p.entries p.made before → AreDone d.deeds.entries d.deeds.made outlet.items)
+    → d.deeds.port.element ≡ p.port.element → d.deeds.served.first ≡ p.served.first
+    → (AreDone p.port p.served p.made before → HasBegun d.deeds.port d.deeds.served d.deeds.made outlet.items)
+    → OnOk d.result (AreDone p.port p.served p.made before
+    → AreDone d.deeds.port d.deeds.served d.deeds.made outlet.items)
     → OnOk d.result (outlet.ended ≡ true)
-    → (AreGlanced m p.element p.last p.seen p.made → AreGlanced m p.element d.deeds.last d.deeds.seen d.deeds.made)
+    → (AreGlanced m p.port.element p.last p.seen p.made
+    → AreGlanced m p.port.element d.deeds.last d.deeds.seen d.deeds.made)
     → HasStopped m p d outlet
-has_stopped m p d before outlet none element begun done ended seen = (
+has_stopped m p d before outlet none element first begun done ended seen = (
   record {
     element = element;
-    begun = λ (start : AreDone p.entries p.made []). begun (subst (AreDone p.entries p.made) (sym none) start);
-    done = from_none d.result (AreDone p.entries p.made)
-        (AreDone d.deeds.entries d.deeds.made outlet.items) before none done;
+    first = first;
+    begun = λ (start : AreDone p.port p.served p.made []). begun
+        (subst (AreDone p.port p.served p.made) (sym none) start);
+    done = from_none d.result (AreDone p.port p.served p.made)
+        (AreDone d.deeds.port d.deeds.served d.deeds.made outlet.items) before none done;
     seen = seen;
   },
   ended,
@@ -41,7 +45,9 @@ refused_less : (m : Contents) (p : Deeds) (d e : End) (xs ys : List Intent) → 
     → IsPrefix xs ys → HasServed m p d.deeds d.result xs → HasServed m p e.deeds e.result ys
 refused_less m p d e xs ys same within it = subst (λ (x : End). HasServed m p x.deeds x.result ys) (sym same) (record {
   element = it.element;
-  begun = λ (start : AreDone p.entries p.made []). begun_more d.deeds.entries d.deeds.made xs ys within
+  first = it.first;
+  begun = λ (start : AreDone p.port p.served p.made []). begun_more d.deeds.port d.deeds.served d.deeds.made xs ys
+      within
       (it.begun start);
   done = tt;
   seen = it.seen;
@@ -61,10 +67,12 @@ pub settled : (m : Contents) (p : Deeds) (d e : End) (outlet : PipeEnd Intent) (
 settled m p d e outlet sent intents all it begins whole within sends (inl (wanted, same)) = subst
     (λ (x : End). HasServed m p x.deeds x.result intents) (sym same) (record {
       element = it.0.element;
-      begun = λ (start : AreDone p.entries p.made []). begun_more d.deeds.entries d.deeds.made outlet.items intents
+      first = it.0.first;
+      begun = λ (start : AreDone p.port p.served p.made []). begun_more d.deeds.port d.deeds.served d.deeds.made
+          outlet.items intents
           (prefix-trans outlet.items sent intents begins within) (it.0.begun start);
-      done = whole_done d.result (AreDone d.deeds.entries d.deeds.made)
-          (AreDone p.entries p.made []) outlet.items intents outlet.ended it.0.done it.1
+      done = whole_done d.result (AreDone d.deeds.port d.deeds.served d.deeds.made)
+          (AreDone p.port p.served p.made []) outlet.items intents outlet.ended it.0.done it.1
           (λ ended. whole ended ∙ sends wanted);
       seen = it.0.seen;
     })
@@ -91,18 +99,22 @@ pub unserved_part : (m : Contents) (p : Deeds) (d : End) (intents : List Intent)
     → HasServed m p d.deeds d.result intents
 unserved_part m p d intents it = record {
   element = it.0.element;
-  begun = λ (start : AreDone p.entries p.made []). begun_more d.deeds.entries d.deeds.made [] intents (intents, refl)
+  first = it.0.first;
+  begun = λ (start : AreDone p.port p.served p.made []). begun_more d.deeds.port d.deeds.served d.deeds.made []
+      intents (intents, refl)
       (it.0.begun start);
   done = never d.result NoMemory _ it.1;
   seen = it.0.seen;
 }
 
 -- there was no memory for a pipe
-pub given_up : (m : Contents) (p : Deeds) (d : End) → d ≡ record { deeds = p; result = Err NoMemory } → IsUnserved m p d
+pub given_up : (m : Contents) (p : Deeds) (d : End) → d ≡ record { deeds = p; result = Err NoMemory }
+    → IsUnserved m p d
 given_up m p d is = subst (IsUnserved m p) (sym is) (
   record {
     element = refl;
-    begun = λ (start : AreDone p.entries p.made []). ([], ([], refl), start);
+    first = refl;
+    begun = λ (start : AreDone p.port p.served p.made []). ([], ([], refl), start);
     done = tt;
     seen = λ seen. seen;
   },

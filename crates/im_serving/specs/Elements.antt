@@ -1,20 +1,22 @@
 -- What becomes of elements that are all served at once. (Own.)
 use Rattle.std.specs.Prelude.{◌≡◌, ℕ, Bool, true, List, [], ◌∷◌, Option, Result, Err, OnOk}
 use mathlib.Core.List.{IsPrefix}
-use Rattle.im_types.specs.declared.operations.Entry.{Entry}
 use Rattle.im_types.specs.declared.changes.Change.{Change}
 use Rattle.im_types.specs.declared.refusals.Refusal.{Refusal}
 use Rattle.im_types.specs.declared.refusals.Refusal.TheVariants.{NoMemory}
 use Rattle.im_types.specs.Contents.{Contents}
+use Rattle.im_controller.specs.State.{PortState}
 use Rattle.im_pipes.specs.Ends.{PipeEnd, PipeId}
+use Rattle.im_serving.specs.declared.numbers.Served.{Served}
 use Rattle.im_serving.specs.declared.intent.Intent.{Intent}
 use Rattle.im_serving.specs.declared.glances.Glanced.{Glanced}
 use Rattle.im_serving.specs.Serving.{AreDone, AreGlanced, HasBegun}
 
--- what was done for an element: the entries of its requests, the number of the last that was answered, what it has seen, and its glances
+-- what was done for an element: its port with what it has seen of the trace, its numbers and entries, the number of the
+-- last request that was answered, what the element has seen, and its glances
 pub record Deeds : Type 0 where
-  pub element : ℕ
-  pub entries : List Entry
+  pub port : PortState
+  pub served : Served
   pub last : Option ℕ
   pub seen : List Change
   pub made : List Glanced
@@ -33,10 +35,11 @@ pub record End : Type 0 where
 -- was refused, and else a prefix of it. Each glance tells what the element had seen. What was done is counted from the
 -- start, so nothing was done before.
 pub record HasServed (m : Contents) (p q : Deeds) (result : Result (Unit {0}) Refusal) (intents : List Intent) : Type 0 where
-  pub element : q.element ≡ p.element
-  pub begun : AreDone p.entries p.made [] → HasBegun q.entries q.made intents
-  pub done : OnOk result (AreDone p.entries p.made [] → AreDone q.entries q.made intents)
-  pub seen : AreGlanced m p.element p.last p.seen p.made → AreGlanced m p.element q.last q.seen q.made
+  pub element : q.port.element ≡ p.port.element
+  pub first : q.served.first ≡ p.served.first
+  pub begun : AreDone p.port p.served p.made [] → HasBegun q.port q.served q.made intents
+  pub done : OnOk result (AreDone p.port p.served p.made [] → AreDone q.port q.served q.made intents)
+  pub seen : AreGlanced m p.port.element p.last p.seen p.made → AreGlanced m p.port.element q.last q.seen q.made
 
 -- a part has ended so, given what it asks for
 abbrev pub IsEnded : Contents → Asked → End → Type 0

@@ -9,8 +9,9 @@ ghost use Rattle.im_serving.specs.Elements.{AreEnded, HasSent, HasStopped, IsEnd
 use crate::gate::Gate;
 use crate::glances::Glances;
 use crate::intent::Intent;
+use crate::numbers::Served;
 use crate::sender::{Sent, send_all};
-use crate::server::{Served, serve_element};
+use crate::server::serve_element;
 use crate::watching::{Counted, Watcher};
 use im_controller::{Controller, Name, Port};
 use im_disk::Disk;
@@ -48,8 +49,8 @@ impl<K: Name> Model for Part<K> {
 
     ghost view = { λ p. record {
       deeds = record {
-        element = p.port.element;
-        entries = p.served.entries.items;
+        port = p.port;
+        served = p.served;
         last = p.glances.last;
         seen = p.glances.glance;
         made = p.glances.made.items;
@@ -79,8 +80,8 @@ impl<K: Name> Model for Done<K> {
 
     ghost view = { λ d. record {
       deeds = record {
-        element = d.port.element;
-        entries = d.served.entries.items;
+        port = d.port;
+        served = d.served;
         last = d.glances.last;
         seen = d.glances.glance;
         made = d.glances.made.items;
@@ -103,8 +104,8 @@ impl<K: Name> Model for Server<K> {
     ghost Value = { Deeds };
 
     ghost view = { λ s. record {
-      element = s.port.element;
-      entries = s.served.entries.items;
+      port = s.port;
+      served = s.served;
       last = s.glances.last;
       seen = s.glances.glance;
       made = s.glances.made.items;
@@ -575,8 +576,8 @@ fn serve_within<
 /// The ports come back in the order of the parts, each retired. If one of an element's threads can't be made, the
 /// element is refused with `NoMemory`, and nothing of it is served.
 ///
-/// Each port comes back with what was done of what its part asks for: a prefix of it, in order, with an entry for each
-/// request and each glance in its place. It is all of it if nothing was refused.
+/// Each port comes back with what was done of what its part asks for: a prefix of it, in order, with each request's own
+/// answer as [`serve_element`] says, and each glance in its place. It is all of it if nothing was refused.
 ///
 /// Returns `AllocError` if there is no room for a list of the elements. Then no thread has started, and the ports are
 /// dropped with the parts, not retired.

@@ -5,60 +5,18 @@ ghost use mathlib.Core.List.{IsPrefix};
 ghost use Rattle.im_types.specs.Trace.{IsLegal};
 ghost use Rattle.im_types.specs.declared.commands.Call.TheVariants.{Command as Commands};
 ghost use Rattle.im_types.specs.declared.commands.Command.TheVariants.{Request as Asks};
-ghost use Rattle.im_controller.specs.Lines.{EndsIn, line_of};
-ghost use Rattle.im_serving.specs.Serving.{AreDone, AreGlanced, HasBegun, IsAskedIn};
+ghost use Rattle.im_controller.specs.Lines.{EndsIn, GoesOnTo, line_of};
+ghost use Rattle.im_serving.specs.Serving.{AreDone, AreGlanced, HasAsked, HasBegun, IsAskedIn, Looked, asked_line};
 
 use crate::gate::Gate;
 use crate::glances::Glances;
 use crate::intent::Intent;
+use crate::numbers::Served;
 use im_controller::{Controller, Name, Port, Receipt};
 use im_disk::Disk;
 use im_pipes::{Outlet, Received};
 use im_types::{Entry, Op, Outcome, Refusal, WINDOW};
 use std::sync::Wait;
-
-/// What a server knows of its element's numbers.
-#[derive(Drop)]
-pub struct Served {
-    /// The element.
-    pub element: u16,
-    /// The number of the first request that is served.
-    pub first: u64,
-    /// The least number that is kept.
-    pub base: u64,
-    /// The entry of each request, from the first on, as the server was last told.
-    pub entries: Vec<Entry>,
-}
-
-impl Served {
-    // Returns the number of the next request.
-    fn next(&self) -> u64 {
-        self.first.saturating_add(self.entries.len() as u64)
-    }
-
-    // Returns whether the server was told a request's answer. The answer stays until it is confirmed; before it is
-    // told, it may be asked for again.
-    fn is_told(&self, number: u64) -> bool {
-        if number < self.first {
-            return false;
-        }
-        let at = (number - self.first) as usize;
-        at < self.entries.len() && self.entries[at] != Entry::Waiting
-    }
-
-    // Notes what is kept for a request, if it is one of the server's own.
-    fn note(&mut self, number: u64, entry: Entry)
-        ensures count { length self.new.entries.items ≡ length self.old.entries.items }
-    {
-        if number < self.first {
-            return;
-        }
-        let at = (number - self.first) as usize;
-        if at < self.entries.len() {
-            self.entries[at] = entry;
-        }
-    }
-}
 
 // Returns whether it is worth asking again after this refusal. It is if the journal was full and a turn of a checkpoint
 // was made.
@@ -102,6 +60,9 @@ fn submit<D: Disk, K: Name, R: Wait>(
         ≡ Asks (record { element = port.old.element; number = number; op = op })) }
     ensures legal { IfOk result (λ r. IsLegal K.memory r.history) }
     ensures last { IfOk result (λ r. EndsIn r.history (line_of (Commands r.command) (Ok r.outcome))) }
+    ensures order { IfOk result (λ r. GoesOnTo port.old.history
+        (line_of (Commands r.command) (Ok r.outcome) ∷ []) port.new.history) }
+    ensures longer { IsPrefix port.old.history port.new.history }
 {
     for _ in rt.forever() {
         match port.submit(rt, controller, number, op) {
@@ -126,6 +87,9 @@ fn ask<D: Disk, K: Name, R: Wait>(
 ) -> Result<Entry, Refusal>
     ensures element { port.new.element ≡ port.old.element }
     ensures told { IfOk result (IsAskedIn K.memory port.old.element number op) }
+    ensures order { IfOk result (λ entry. GoesOnTo port.old.history
+        (asked_line port.old.element number op entry ∷ []) port.new.history) }
+    ensures longer { IsPrefix port.old.history port.new.history }
     ensures seen { AreGlanced K.memory port.old.element glances.old.last glances.old.glance glances.old.made.items
         → AreGlanced K.memory port.old.element glances.new.last glances.new.glance glances.new.made.items }
     ensures made { glances.new.made ≡ glances.old.made }
@@ -150,6 +114,7 @@ fn confirm<D: Disk, K: Name, R: Wait>(
     upto: u64,
 ) -> Result<Receipt<K>, Refusal>
     ensures element { port.new.element ≡ port.old.element }
+    ensures longer { IsPrefix port.old.history port.new.history }
 {
     for _ in rt.forever() {
         match port.confirm(rt, controller, upto) {
@@ -172,7 +137,9 @@ fn await_one<D: Disk, K: Name, R: Wait>(
     number: u64,
 ) -> Result<(), Refusal>
     ensures element { port.new.element ≡ port.old.element }
-    ensures count { length served.new.entries.items ≡ length served.old.entries.items }
+    ensures first { served.new.first ≡ served.old.first }
+    ensures looked { Looked port.old.history port.new.history port.old.element served.old.first
+        served.old.entries.items served.new.entries.items }
 {
     if served.is_told(number) {
         return Ok(());
@@ -195,7 +162,9 @@ fn is_answered<D: Disk, K: Name, R: Wait>(
     number: u64,
 ) -> Result<bool, Refusal>
     ensures element { port.new.element ≡ port.old.element }
-    ensures count { length served.new.entries.items ≡ length served.old.entries.items }
+    ensures first { served.new.first ≡ served.old.first }
+    ensures looked { Looked port.old.history port.new.history port.old.element served.old.first
+        served.old.entries.items served.new.entries.items }
 {
     if served.is_told(number) {
         return Ok(true);
@@ -219,7 +188,9 @@ fn first_waiting<D: Disk, K: Name, R: Wait>(
     served: &mut Served,
 ) -> Result<u64, Refusal>
     ensures element { port.new.element ≡ port.old.element }
-    ensures count { length served.new.entries.items ≡ length served.old.entries.items }
+    ensures first { served.new.first ≡ served.old.first }
+    ensures looked { Looked port.old.history port.new.history port.old.element served.old.first
+        served.old.entries.items served.new.entries.items }
 {
     let base = served.base;
     match await_one(rt, controller, port, served, base) {
@@ -246,7 +217,9 @@ fn make_place<D: Disk, K: Name, R: Wait>(
     glances: &mut Glances<K>,
 ) -> Result<(), Refusal>
     ensures element { port.new.element ≡ port.old.element }
-    ensures count { length served.new.entries.items ≡ length served.old.entries.items }
+    ensures first { served.new.first ≡ served.old.first }
+    ensures looked { Looked port.old.history port.new.history port.old.element served.old.first
+        served.old.entries.items served.new.entries.items }
     ensures seen { AreGlanced K.memory port.old.element glances.old.last glances.old.glance glances.old.made.items
         → AreGlanced K.memory port.old.element glances.new.last glances.new.glance glances.new.made.items }
     ensures made { glances.new.made ≡ glances.old.made }
@@ -278,10 +251,13 @@ fn serve_one<D: Disk, K: Name, G: Gate, R: Wait>(
     op: Op,
     gate: &G,
 ) -> Result<(), Refusal>
-    ensures element { port.new.element ≡ port.old.element }
+    ensures element { (port.new.element ≡ port.old.element) × (served.new.first ≡ served.old.first) }
+    ensures asked { OnOk result (HasAsked port.old.history port.new.history port.old.element served.old.first op
+        served.old.entries.items served.new.entries.items) }
     ensures count { OnOk result (length served.new.entries.items ≡ length served.old.entries.items + 1) }
     ensures few { length served.new.entries.items ≤ length served.old.entries.items + 1 }
-    ensures kept { OnErr result (length served.new.entries.items ≡ length served.old.entries.items) }
+    ensures kept { OnErr result (Looked port.old.history port.new.history port.old.element served.old.first
+        served.old.entries.items served.new.entries.items) }
     ensures seen { AreGlanced K.memory port.old.element glances.old.last glances.old.glance glances.old.made.items
         → AreGlanced K.memory port.old.element glances.new.last glances.new.glance glances.new.made.items }
     ensures made { glances.new.made ≡ glances.old.made }
@@ -293,11 +269,10 @@ fn serve_one<D: Disk, K: Name, G: Gate, R: Wait>(
     if served.entries.reserve(1).is_err() {
         return Err(Refusal::NoMemory);
     }
-    let number = served.next();
-    let element = served.element;
-    gate.before(rt, element, number);
+    let number = served.number()?;
+    gate.before(rt, served.element, number);
     let answer = ask(rt, controller, port, glances, number, op);
-    gate.after(rt, element, number);
+    gate.after(rt, served.element, number);
     match answer {
         Ok(entry) => {
             served.entries.push_reserved(entry);
@@ -317,16 +292,17 @@ fn serve_intent<D: Disk, K: Name, G: Gate, R: Wait>(
     intent: Intent,
     gate: &G,
 ) -> Result<(), Refusal>
-    ensures element { port.new.element ≡ port.old.element }
+    ensures element { (port.new.element ≡ port.old.element) × (served.new.first ≡ served.old.first) }
     ensures done { OnOk result ((before : List Intent)
-        → AreDone served.old.entries.items glances.old.made.items before
-        → AreDone served.new.entries.items glances.new.made.items (before ++ intent ∷ [])) }
+        → AreDone port.old served.old glances.old.made.items before
+        → AreDone port.new served.new glances.new.made.items (before ++ intent ∷ [])) }
     ensures count { OnOk result (length served.new.entries.items + length glances.new.made.items
         ≡ length served.old.entries.items + length glances.old.made.items + 1) }
     ensures few { length served.new.entries.items + length glances.new.made.items
         ≤ length served.old.entries.items + length glances.old.made.items + 1 }
-    ensures kept { OnErr result ((length served.new.entries.items ≡ length served.old.entries.items)
-        × (glances.new.made.items ≡ glances.old.made.items)) }
+    ensures kept { OnErr result ((before : List Intent)
+        → AreDone port.old served.old glances.old.made.items before
+        → AreDone port.new served.new glances.new.made.items before) }
     ensures seen { AreGlanced K.memory port.old.element glances.old.last glances.old.glance glances.old.made.items
         → AreGlanced K.memory port.old.element glances.new.last glances.new.glance glances.new.made.items }
 {
@@ -347,13 +323,13 @@ fn serve_all<D: Disk, K: Name, G: Gate, R: Wait>(
     gate: &G,
 ) -> Result<(), Refusal>
     requires { outlet.old.ended ≡ false }
-    ensures element { port.new.element ≡ port.old.element }
+    ensures element { (port.new.element ≡ port.old.element) × (served.new.first ≡ served.old.first) }
     ensures same { outlet.new.pipe ≡ outlet.old.pipe }
     ensures open { MatchResult result (λ _. outlet.new.ended ≡ true) (λ _. outlet.new.ended ≡ false) }
-    ensures begun { OnErr result (AreDone served.old.entries.items glances.old.made.items outlet.old.items
-        → HasBegun served.new.entries.items glances.new.made.items outlet.new.items) }
-    ensures done { OnOk result (AreDone served.old.entries.items glances.old.made.items outlet.old.items
-        → AreDone served.new.entries.items glances.new.made.items outlet.new.items) }
+    ensures begun { OnErr result (AreDone port.old served.old glances.old.made.items outlet.old.items
+        → HasBegun port.new served.new glances.new.made.items outlet.new.items) }
+    ensures done { OnOk result (AreDone port.old served.old glances.old.made.items outlet.old.items
+        → AreDone port.new served.new glances.new.made.items outlet.new.items) }
     ensures count { OnOk result (length served.new.entries.items + length glances.new.made.items
         + length outlet.old.items
         ≡ length served.old.entries.items + length glances.old.made.items + length outlet.new.items) }
@@ -402,7 +378,9 @@ fn await_rest<D: Disk, K: Name, R: Wait>(
     served: &mut Served,
 ) -> Result<(), Refusal>
     ensures element { port.new.element ≡ port.old.element }
-    ensures count { length served.new.entries.items ≡ length served.old.entries.items }
+    ensures first { served.new.first ≡ served.old.first }
+    ensures looked { Looked port.old.history port.new.history port.old.element served.old.first
+        served.old.entries.items served.new.entries.items }
 {
     for number in served.base.max(served.first)..served.next() {
         match await_one(rt, controller, port, served, number) {
@@ -424,13 +402,13 @@ fn serve_to_end<D: Disk, K: Name, G: Gate, R: Wait>(
     gate: &G,
 ) -> Result<(), Refusal>
     requires { outlet.old.ended ≡ false }
-    ensures element { port.new.element ≡ port.old.element }
+    ensures element { (port.new.element ≡ port.old.element) × (served.new.first ≡ served.old.first) }
     ensures same { outlet.new.pipe ≡ outlet.old.pipe }
     ensures ended { OnOk result (outlet.new.ended ≡ true) }
-    ensures done { OnOk result (AreDone served.old.entries.items glances.old.made.items outlet.old.items
-        → AreDone served.new.entries.items glances.new.made.items outlet.new.items) }
-    ensures begun { AreDone served.old.entries.items glances.old.made.items outlet.old.items
-        → HasBegun served.new.entries.items glances.new.made.items outlet.new.items }
+    ensures done { OnOk result (AreDone port.old served.old glances.old.made.items outlet.old.items
+        → AreDone port.new served.new glances.new.made.items outlet.new.items) }
+    ensures begun { AreDone port.old served.old glances.old.made.items outlet.old.items
+        → HasBegun port.new served.new glances.new.made.items outlet.new.items }
     ensures count { OnOk result (length served.new.entries.items + length glances.new.made.items
         + length outlet.old.items
         ≡ length served.old.entries.items + length glances.old.made.items + length outlet.new.items) }
@@ -465,6 +443,10 @@ fn serve_to_end<D: Disk, K: Name, G: Gate, R: Wait>(
 /// ended, and `NoMemory` if there is no room for one more answer. After a refusal it serves nothing more, but it
 /// receives until the pipe ends, so that its sender returns. It also returns `NoMemory` if the pipe ends without an end
 /// mark, as it does if its sender is gone. What was done by then is a prefix of what was received.
+///
+/// The i-th entry is the answer to the i-th operation that was received, under the i-th number from the first on, or
+/// what was found under that number later. The lines of the operations stand in the trace, as far as the port has seen
+/// it, in their order.
 pub fn serve_element<D: Disk, K: Name, G: Gate, R: Wait>(
     rt: &R,
     controller: &Controller<D, K>,
@@ -475,13 +457,13 @@ pub fn serve_element<D: Disk, K: Name, G: Gate, R: Wait>(
     gate: &G,
 ) -> Result<(), Refusal>
     requires { outlet.old.ended ≡ false }
-    ensures element { port.new.element ≡ port.old.element }
+    ensures element { (port.new.element ≡ port.old.element) × (served.new.first ≡ served.old.first) }
     ensures same { outlet.new.pipe ≡ outlet.old.pipe }
     ensures ended { OnOk result (outlet.new.ended ≡ true) }
-    ensures done { OnOk result (AreDone served.old.entries.items glances.old.made.items outlet.old.items
-        → AreDone served.new.entries.items glances.new.made.items outlet.new.items) }
-    ensures begun { AreDone served.old.entries.items glances.old.made.items outlet.old.items
-        → HasBegun served.new.entries.items glances.new.made.items outlet.new.items }
+    ensures done { OnOk result (AreDone port.old served.old glances.old.made.items outlet.old.items
+        → AreDone port.new served.new glances.new.made.items outlet.new.items) }
+    ensures begun { AreDone port.old served.old glances.old.made.items outlet.old.items
+        → HasBegun port.new served.new glances.new.made.items outlet.new.items }
     ensures count { OnOk result (length served.new.entries.items + length glances.new.made.items
         + length outlet.old.items
         ≡ length served.old.entries.items + length glances.old.made.items + length outlet.new.items) }

@@ -7,8 +7,8 @@ use Rattle.im_serving.proofs.elements.give_up.Goals as goal
 pub returns : goal.returns
 returns g c = given_up g.K.Name.memory c.args.server (record {
   deeds = record {
-    element = c.retire.new.self.element;
-    entries = c.server.inside.served.entries.items;
+    port = c.retire.new.self;
+    served = c.server.inside.served;
     last = c.server.inside.glances.last;
     seen = c.server.inside.glances.glance;
     made = c.server.inside.glances.made.items;

@@ -8,9 +8,24 @@ returns-clause-stopped g c =
     let new = c.serve_element-done.new in
     let said = c.serve_element-done.ensures in
     let was = c.server.inside in
-    let start : Deeds = record { element = was.port.element; entries = was.served.entries.items; last = was.glances.last; seen = was.glances.glance; made = was.glances.made.items } in
-    let left : Deeds = record { element = new.port.element; entries = new.served.entries.items; last = new.glances.last; seen = new.glances.glance; made = new.glances.made.items } in
+    let start : Deeds = record {
+      port = was.port;
+      served = was.served;
+      last = was.glances.last;
+      seen = was.glances.glance;
+      made =
+          was.glances.made.items;
+    } in
+    let left : Deeds = record {
+      port = new.port;
+      served = new.served;
+      last = new.glances.last;
+      seen = new.glances.glance;
+      made =
+          new.glances.made.items;
+    } in
     subst (λ (p : Deeds). HasStopped g.K.Name.memory p
     (record { deeds = left; result = c.serve_element-done.result }) new.outlet) c.server.view_is
     (has_stopped g.K.Name.memory start
-    (record { deeds = left; result = c.serve_element-done.result }) c.args.outlet.items new.outlet c.requires.empty said.element said.begun said.done said.ended said.seen)
+    (record { deeds = left; result = c.serve_element-done.result }) c.args.outlet.items new.outlet c.requires.empty
+    said.element.0 said.element.1 said.begun said.done said.ended said.seen)

@@ -1,14 +1,77 @@
+use Rattle.std.proofs.Common.{rules, refl, arith}
+use Rattle.im_serving.proofs.AnswerLemmas.{asked_as, looked_count, looked_few, looked_on}
 use Rattle.im_serving.proofs.GlanceLemmas.{glanced_then}
 use Rattle.im_serving.proofs.server.serve_one.Goals as goal
 
 pub returns-in-Ok-answer-clause-seen : goal.returns-in-Ok-answer-clause-seen
 returns-in-Ok-answer-clause-seen g c =
-    glanced_then g.K.Name.memory c.args.port.now.element c.make_place.new.port.element c.args.glances.now.last c.make_place.new.glances.last c.ask-answer.new.glances.last
+    glanced_then g.K.Name.memory c.args.port.now.element c.make_place.new.port.element c.args.glances.now.last
+    c.make_place.new.glances.last c.ask-answer.new.glances.last
     c.args.glances.now.glance c.make_place.new.glances.glance c.ask-answer.new.glances.glance
-    c.args.glances.now.made.items c.make_place.new.glances.made.items c.ask-answer.new.glances.made.items c.make_place.ensures.element c.make_place.ensures.seen c.ask-answer.ensures.seen
+    c.args.glances.now.made.items c.make_place.new.glances.made.items c.ask-answer.new.glances.made.items
+    c.make_place.ensures.element c.make_place.ensures.seen c.ask-answer.ensures.seen
 
 pub returns-in-Err-answer-clause-seen : goal.returns-in-Err-answer-clause-seen
 returns-in-Err-answer-clause-seen g c =
-    glanced_then g.K.Name.memory c.args.port.now.element c.make_place.new.port.element c.args.glances.now.last c.make_place.new.glances.last c.ask-answer.new.glances.last
+    glanced_then g.K.Name.memory c.args.port.now.element c.make_place.new.port.element c.args.glances.now.last
+    c.make_place.new.glances.last c.ask-answer.new.glances.last
     c.args.glances.now.glance c.make_place.new.glances.glance c.ask-answer.new.glances.glance
-    c.args.glances.now.made.items c.make_place.new.glances.made.items c.ask-answer.new.glances.made.items c.make_place.ensures.element c.make_place.ensures.seen c.ask-answer.ensures.seen
+    c.args.glances.now.made.items c.make_place.new.glances.made.items c.ask-answer.new.glances.made.items
+    c.make_place.ensures.element c.make_place.ensures.seen c.ask-answer.ensures.seen
+
+pub returns-in-Ok-answer-clause-asked : goal.returns-in-Ok-answer-clause-asked
+returns-in-Ok-answer-clause-asked g c =
+    let m = c.make_place in
+    record {
+      before = m.new.served.entries.items;
+      entry = c.in-Ok-answer.entry;
+      seen = m.new.port.history;
+      looked = m.ensures.looked;
+      asked = asked_as m.new.port.history c.ask-answer.new.port.history c.args.port.now.element m.new.port.element _ _
+          c.args.op c.in-Ok-answer.entry m.ensures.element (search rules) c.in-Ok-answer.ensures.order;
+      added = search rules;
+    }
+
+pub returns-in-Err-answer-clause-kept : goal.returns-in-Err-answer-clause-kept
+returns-in-Err-answer-clause-kept g c =
+    let m = c.make_place in
+    looked_on c.args.port.now.history m.new.port.history c.ask-answer.new.port.history c.args.port.now.element
+    c.args.served.now.first c.args.served.now.entries.items m.new.served.entries.items c.reserve.new.self.items
+    (search rules) c.ask-answer.ensures.longer m.ensures.looked
+
+pub returns-in-Err-clause-few : goal.returns-in-Err-clause-few
+returns-in-Err-clause-few g c =
+    looked_few c.args.port.now.history c.make_place.new.port.history c.args.port.now.element c.args.served.now.first
+    c.args.served.now.entries.items c.make_place.new.served.entries.items _ refl
+    c.make_place.ensures.looked
+
+pub returns-then-is_err-clause-few : goal.returns-then-is_err-clause-few
+returns-then-is_err-clause-few g c =
+    looked_few c.args.port.now.history c.make_place.new.port.history c.args.port.now.element c.args.served.now.first
+    c.args.served.now.entries.items c.make_place.new.served.entries.items c.reserve.new.self.items (search rules)
+    c.make_place.ensures.looked
+
+pub returns-in_err-number-clause-few : goal.returns-in_err-number-clause-few
+returns-in_err-number-clause-few g c =
+    looked_few c.args.port.now.history c.make_place.new.port.history c.args.port.now.element c.args.served.now.first
+    c.args.served.now.entries.items c.make_place.new.served.entries.items c.reserve.new.self.items (search rules)
+    c.make_place.ensures.looked
+
+pub returns-in-Err-answer-clause-few : goal.returns-in-Err-answer-clause-few
+returns-in-Err-answer-clause-few g c =
+    looked_few c.args.port.now.history c.make_place.new.port.history c.args.port.now.element c.args.served.now.first
+    c.args.served.now.entries.items c.make_place.new.served.entries.items c.reserve.new.self.items (search rules)
+    c.make_place.ensures.looked
+
+pub returns-in-Ok-answer-clause-count : goal.returns-in-Ok-answer-clause-count
+returns-in-Ok-answer-clause-count g c =
+    looked_count c.args.port.now.history c.make_place.new.port.history c.args.port.now.element c.args.served.now.first
+    c.args.served.now.entries.items c.make_place.new.served.entries.items c.push_reserved.new.self.items
+    c.in-Ok-answer.entry (search rules) c.make_place.ensures.looked
+
+pub returns-in-Ok-answer-clause-few : goal.returns-in-Ok-answer-clause-few
+returns-in-Ok-answer-clause-few g c =
+    let one = looked_count c.args.port.now.history c.make_place.new.port.history c.args.port.now.element c.args.served.now.first
+    c.args.served.now.entries.items c.make_place.new.served.entries.items c.push_reserved.new.self.items
+    c.in-Ok-answer.entry (search rules) c.make_place.ensures.looked in
+    omega (arith, one)
