@@ -2,10 +2,11 @@
  *
  * A thread goes on until it waits, wakes, yields, begins or joins another, reads its input, writes its output or calls
  * the disk, and by half of the seeds until an instruction that changes a word for all threads. There the seed says who
- * goes on: anyone at random, or who has the highest priority, which is lost at a few places, or at one in so many. A wait
- * may end for no reason, as a futex's may; one that has an end ends when nobody else can go on. The client at the other
- * end of the input is idle (a line comes when nobody else can go on), busy (all is there at once) or both, and the input
- * may be one that doesn't block. The output takes a part of what is written, often. Syncs aren't made.
+ * goes on: anyone at random, or who has the highest priority, which is lost at a few places, at one in so many, or for a
+ * while: where a thread comes to an instruction by one of the ways that the seed picks, it rests. A wait may end for no
+ * reason, as a futex's may; one that has an end ends when nobody else can go on. The client at the other end of the input
+ * is idle (a line comes when nobody else can go on), busy (all is there at once) or both, and the input may be one that
+ * doesn't block. The output takes a part of what is written, often. Syncs aren't made.
  *
  * SCHEDULE is the seed. Where they are set: SCHEDULE_RECORD, a file that gets, one after another, each write of the disk (`w`,
  * its place and length in eight bytes each, its bytes), each sync (`s`), each call of it that fails (`f`) and what is written to
@@ -35,9 +36,10 @@
 #include <unistd.h>
 
 enum { MOST = 256, PLACES = 32, STUCK = 99, ENDLESS = 98, MANY = 97, LONG_TIME = 1000000000 };
-enum { MOST_SITES = 4096, TRAP = 0xCC, STEPPING = 0x100, PATIENCE = 100, PAGE = 4096 };
+enum { MOST_SITES = 4096, TRAP = 0xCC, STEPPING = 0x100, PATIENCE = 100, PAGE = 4096, CALLERS = 8, LOOKED_AT = 1024 };
 enum state { RUNS, WAITS, JOINS, ENDED };
 enum client { BOTH, IDLE, BUSY };
+enum does { AT_FUTEX = 1, WOKE, YIELDS, NAPS, JOINING, CALLS_DISK, SYNCED, WROTE, READS, HAS_READ, PRINTS, HAS_PRINTED };
 
 struct member {
     enum state state;
@@ -47,6 +49,9 @@ struct member {
     int ends;       /* its wait has an end */
     int is_late;    /* its wait came to that end */
     long priority;
+    long rests;     /* until so many steps were made, it goes on only if nobody else can */
+    const uintptr_t *base; /* of its stack */
+    uint64_t before[2]; /* what it did at its last two steps, the last one first */
     pthread_t thread;
 };
 
@@ -57,6 +62,9 @@ static __thread int own = -1;
 static uint64_t dice;
 static int by_priority;
 static unsigned losses;   /* one in so many that the priority is lost; 0: at the places alone */
+static unsigned ways;     /* one in so many ways to an instruction on which a thread rests; 0: on none */
+static uint64_t picked;   /* which of the ways */
+static long rest_length;
 static unsigned odds;     /* one in so many that another goes on */
 static unsigned spurious; /* one in so many that a wait ends for no reason; 0: none does */
 static long places[PLACES], lowest;
@@ -132,10 +140,15 @@ static int any(int (*is_one)(int)) {
 
 static int has_end(int who) { return members[who].state == WAITS && members[who].ends; }
 
+static int is_before(int who, int other) {
+    int rests = members[who].rests > steps, other_rests = members[other].rests > steps;
+    return rests == other_rests ? members[who].priority > members[other].priority : other_rests;
+}
+
 static int highest(void) {
     int best = -1;
     for (int who = 0; who < count; who++)
-        if (can_go(who) && (best < 0 || members[who].priority > members[best].priority)) best = who;
+        if (can_go(who) && (best < 0 || is_before(who, best))) best = who;
     return best;
 }
 
@@ -163,9 +176,11 @@ static void pass_on(void) {
 
 static int waits(int who) { return members[who].state == WAITS; }
 
-/* A place where another thread may go on. */
-static void step(void) {
+/* A place where another thread may go on: what a thread does there. */
+static void step(uint64_t what) {
     if (own < 0) return;
+    members[own].before[1] = members[own].before[0];
+    members[own].before[0] = what;
     if (++steps > most_steps) stop(ENDLESS, "no end");
     for (int at = 0; by_priority && at < place_count; at++)
         if (places[at] == steps) members[own].priority = --lowest;
@@ -205,14 +220,14 @@ static long wake(void *at, long most) {
 
 static long on_futex(uint32_t *at, int operation, uint32_t value, const struct timespec *time) {
     int what = operation & FUTEX_CMD_MASK;
-    step();
+    step(AT_FUTEX);
     if (what == FUTEX_WAIT || what == FUTEX_WAIT_BITSET) {
         if (__atomic_load_n(at, __ATOMIC_SEQ_CST) != value) return answered(-EAGAIN);
         return wait_at(at, time != NULL && time->tv_sec < LONG_TIME) ? 0 : answered(-ETIMEDOUT);
     }
     if (what == FUTEX_WAKE || what == FUTEX_WAKE_BITSET) {
         long woken = wake(at, (long)value);
-        step();
+        step(WOKE);
         return woken;
     }
     return answered(-ENOSYS);
@@ -231,20 +246,20 @@ long syscall(long which, ...) {
 int sched_yield(void) {
     if (own < 0) return (int)answered(bare(SYS_sched_yield, 0, 0, 0, 0, 0, 0));
     if (by_priority) members[own].priority = --lowest;
-    step();
+    step(YIELDS);
     return 0;
 }
 
 int nanosleep(const struct timespec *time, struct timespec *left) {
     if (own < 0) return (int)answered(bare(SYS_nanosleep, (long)time, (long)left, 0, 0, 0, 0));
-    step();
+    step(NAPS);
     wait_at(&steps, 1);
     return 0;
 }
 
 int clock_nanosleep(clockid_t clock, int flags, const struct timespec *time, struct timespec *left) {
     if (own < 0) return (int)-bare(SYS_clock_nanosleep, clock, flags, (long)time, (long)left, 0, 0);
-    step();
+    step(NAPS);
     wait_at(&steps, 1);
     return 0;
 }
@@ -269,6 +284,7 @@ static void *begin(void *given) {
     struct beginning beginning = *(struct beginning *)given;
     free(given);
     own = beginning.who;
+    members[own].base = __builtin_frame_address(0);
     rest(own);
     void *result = beginning.run(beginning.given);
     end_own();
@@ -303,7 +319,7 @@ int pthread_join(pthread_t thread, void **result) {
     int who = own < 0 ? 0 : count - 1;
     while (who > 0 && !pthread_equal(members[who].thread, thread)) who--;
     if (who > 0) {
-        step();
+        step(JOINING);
         members[own].joins = who;
         if (members[who].state != ENDED) {
             members[own].state = JOINS;
@@ -317,6 +333,7 @@ int pthread_join(pthread_t thread, void **result) {
 
 static uint8_t *sites[MOST_SITES], firsts[MOST_SITES]; /* in order, and the byte under each trap */
 static int site_count, stepped = -1;                   /* stepped: whose instruction is stepped over */
+static uintptr_t program, code, code_end;              /* where the program lies, and its instructions */
 
 static int site_at(const uint8_t *at) {
     int low = 0, high = site_count;
@@ -327,6 +344,27 @@ static int site_at(const uint8_t *at) {
     }
     return low < site_count && sites[low] == at ? low : -1;
 }
+
+static uint64_t mixed(uint64_t sum, uint64_t more) {
+    sum = (sum ^ more) * 0x9e3779b97f4a7c15ull;
+    return sum ^ sum >> 29;
+}
+
+/* A number for the place where the program is: an instruction, and those of the last callers on the stack. */
+static uint64_t place_of(const greg_t *registers) {
+    const uintptr_t *at = (const uintptr_t *)registers[REG_RSP], *end = at + LOOKED_AT;
+    uint64_t sum = (uint64_t)registers[REG_RIP] - program;
+    if (end > members[own].base) end = members[own].base;
+    for (int found = 0; at < end && found < CALLERS; at++)
+        if (*at >= code && *at < code_end) {
+            sum = mixed(sum, *at - program);
+            found++;
+        }
+    return sum;
+}
+
+/* A number for the way on which a thread comes to a place: from its last two steps. */
+static uint64_t way_to(uint64_t what) { return mixed(mixed(what, members[own].before[0]), members[own].before[1]); }
 
 static void on_trap(int signal, siginfo_t *info, void *given) {
     static __thread int last = -1, times;
@@ -347,7 +385,9 @@ static void on_trap(int signal, siginfo_t *info, void *given) {
     times = site == last ? times + 1 : 0;
     last = site;
     if (by_priority && times > PATIENCE && own >= 0) members[own].priority = --lowest; /* It may wait for another one here. */
-    step();
+    uint64_t what = own >= 0 ? place_of(registers) : 0;
+    if (ways && own >= 0 && (way_to(what) ^ picked) % ways == 0) members[own].rests = steps + rest_length;
+    step(what);
     registers[REG_RIP]--;
     *sites[site] = firsts[site];
     stepped = site;
@@ -356,16 +396,23 @@ static void on_trap(int signal, siginfo_t *info, void *given) {
 
 static int find_program(struct dl_phdr_info *info, size_t size, void *given) {
     (void)size;
-    *(uintptr_t *)given = info->dlpi_addr;
+    (void)given;
+    program = info->dlpi_addr;
+    for (int at = 0; at < info->dlpi_phnum; at++) {
+        const ElfW(Phdr) *part = &info->dlpi_phdr[at];
+        if (part->p_type != PT_LOAD || !(part->p_flags & PF_X)) continue;
+        code = program + part->p_vaddr;
+        code_end = code + part->p_memsz;
+    }
     return 1; /* The first one is the program. */
 }
 
 static void set_traps(const char *path) {
-    uintptr_t program = 0, found[MOST_SITES];
+    uintptr_t found[MOST_SITES];
     struct sigaction action = {.sa_sigaction = on_trap, .sa_flags = SA_SIGINFO};
     int file = open(path, O_RDONLY | O_CLOEXEC);
     long length = file < 0 ? 0 : bare(SYS_read, file, (long)found, sizeof found, 0, 0, 0);
-    dl_iterate_phdr(find_program, &program);
+    dl_iterate_phdr(find_program, NULL);
     if (length <= 0 || sigaction(SIGTRAP, &action, NULL) != 0) return;
     close(file);
     for (site_count = 0; site_count < length / (long)sizeof found[0]; site_count++) {
@@ -385,7 +432,7 @@ static void note(const void *bytes, size_t length) {
 
 static int fails(void) {
     if (own < 0) return 0;
-    step();
+    step(CALLS_DISK);
     long call = disk_calls++;
     return fault >= 0 && (call == fault || (for_good && call > fault));
 }
@@ -408,7 +455,7 @@ static int synced(int file) {
         return (int)answered(-EIO);
     }
     note("s", 1);
-    step();
+    step(SYNCED);
     return 0;
 }
 
@@ -424,7 +471,7 @@ static ssize_t put(int file, const void *bytes, size_t length, off_t place) {
         return answered(-EIO);
     }
     long written = write_down(file, bytes, length, place);
-    step();
+    step(WROTE);
     return answered(written);
 }
 
@@ -445,7 +492,7 @@ static long given_now(const char *bytes, long length) {
 
 ssize_t read(int file, void *bytes, size_t length) {
     if (file != 0 || own < 0) return answered(bare(SYS_read, file, (long)bytes, (long)length, 0, 0, 0));
-    step();
+    step(READS);
     if (client == IDLE || (client == BOTH && below(3) == 0)) {
         if (!blocks && below(2)) return answered(-EAGAIN);
         wait_at(&input, 1);
@@ -455,13 +502,13 @@ ssize_t read(int file, void *bytes, size_t length) {
         long now = given_now(bytes, found);
         if (now < found && bare(SYS_lseek, file, now - found, SEEK_CUR, 0, 0, 0) >= 0) found = now;
     }
-    step();
+    step(HAS_READ);
     return answered(found);
 }
 
 ssize_t write(int file, const void *bytes, size_t length) {
     if (file != 1 || own < 0) return answered(bare(SYS_write, file, (long)bytes, (long)length, 0, 0, 0));
-    step();
+    step(PRINTS);
     if (length > 1 && below(4) == 0) length = 1 + below((unsigned)length);
     long written = bare(SYS_write, file, (long)bytes, (long)length, 0, 0, 0);
     if (written > 0) {
@@ -470,14 +517,14 @@ ssize_t write(int file, const void *bytes, size_t length) {
         note(&head, sizeof head);
         note(bytes, (size_t)written);
     }
-    step();
+    step(HAS_PRINTED);
     return answered(written);
 }
 
 /* What a seed says. */
 
 static void settle(long seed) {
-    static const unsigned all_odds[] = {1, 2, 4, 16, 64, 400}, all_losses[] = {16, 64, 128, 256};
+    static const unsigned all_odds[] = {1, 2, 4, 16, 64, 400}, all_losses[] = {16, 64, 128, 256}, all_ways[] = {4, 8, 16, 32};
     dice = (uint64_t)seed * 0x9e3779b97f4a7c15ull + 88172645463325252ull;
     for (int at = 0; at < 8; at++) roll();
     unsigned way = below(3);
@@ -491,6 +538,13 @@ static void settle(long seed) {
     for (int at = 0; at < place_count; at++) places[at] = 1 + (long)below(span);
     client = (enum client)below(3);
     blocks = below(3) > 0;
+    if (seed % 6 != 0) return;
+    by_priority = is_fine = 1;
+    place_count = 0;
+    losses = 0;
+    ways = all_ways[below(4)];
+    picked = roll();
+    rest_length = 8l << below(8);
 }
 
 __attribute__((constructor)) static void load(void) {
@@ -504,6 +558,7 @@ __attribute__((constructor)) static void load(void) {
     if (path) record = open(path, O_WRONLY | O_CREAT | O_TRUNC | O_CLOEXEC, 0600);
     join_in();
     members[0].thread = pthread_self();
+    members[0].base = (const uintptr_t *)environ;
     if (finely && is_fine) set_traps(finely);
     own = 0;
 }
