@@ -1,5 +1,9 @@
 pub mod TalkLemmas
 pub mod WatchLemmas
+pub mod LookLemmas
+pub mod ReachLemmas
 pub mod GroupTalk
+pub mod PartLemmas
+pub mod FitLemmas
 pub mod DialogueLemmas
 pub mod LineLemmas

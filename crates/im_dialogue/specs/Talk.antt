@@ -1,6 +1,6 @@
 -- A dialogue over an engine: what was asked, what it was answered, and what a crash leaves of it. (Own.)
 use Rattle.std.specs.Prelude.{◌≡◌, ◌⊎◌, ℕ, ◌+◌, ◌≤◌, nat_lt, Bool, true, false, List, [], ◌∷◌, ◌++◌, length}
-use Rattle.std.specs.Prelude.{Option, None, Some, Result, Ok, Err, if◌then◌else◌}
+use Rattle.std.specs.Prelude.{Option, None, Some, MatchResult, Result, Ok, Err, if◌then◌else◌}
 use Rattle.im_types.specs.declared.TheConstants.{MAX_GROUP}
 use Rattle.std.specs.Io.KnownBytes.{Appends}
 use Rattle.im_types.specs.declared.commands.Command.{Command}
@@ -14,6 +14,7 @@ use Rattle.im_types.specs.Contents.{Contents, Window as WindowOf, kept_for}
 use Rattle.im_types.specs.Window.{ask, bounds}
 use Rattle.im_types.specs.Step.{step, is_accepted}
 use Rattle.im_types.specs.Run.{after}
+use Rattle.im_disk.specs.declared.disk.Disk.{Ghosts}
 use Rattle.im_disk.specs.Moment.{Moment}
 use Rattle.im_disk.specs.Since.{Leaves, LeavesNow}
 use Rattle.im_engine.specs.State.{EngineState, MeansState}
@@ -174,3 +175,9 @@ TalksOn {D} watch now past honest old was new is = (start : EngineState D) (held
 -- the same, and it was ended
 abbrev pub TalkEnds : {D : Type 0} → Bool → (D → Moment) → (D → List Moment) → (D → Type 0) → EngineState D → Option (List ℕ) → EngineState D → Option (List ℕ) → Type 0
 TalkEnds {D} watch now past honest old was new is = (start : EngineState D) (held : Option (List ℕ)) → Talking watch now past honest start held old was → Silenced watch now past honest start held new.disk is
+
+-- what a call comes to that serves lines and prints their answers: they were answered and printed, or it was ended
+abbrev pub TalksThrough : {D T E : Type 0} → Ghosts D → Bool → EngineState D → Option (List ℕ) → EngineState D → Option (List ℕ) → Result T E → Type 0
+TalksThrough disk watch old was new is result = MatchResult result
+    (λ done. TalksOn watch disk.now disk.past disk.honest old was new is)
+    (λ e. TalkEnds watch disk.now disk.past disk.honest old was new is)

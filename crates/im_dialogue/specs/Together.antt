@@ -1,20 +1,39 @@
--- Lines that are served as one group. (Own.)
-use Rattle.std.specs.Prelude.{◌≡◌, ℕ, List, [], ◌∷◌, ◌++◌, Some, Result, Ok, Err}
+-- Lines that are served as one group: commands, and lines that change nothing. (Own.)
+use Rattle.std.specs.Prelude.{◌≡◌, ℕ, ◌+◌, ◌≤◌, Bool, false, List, [], ◌∷◌, ◌++◌, length, Option, None, Some, Result}
+use Rattle.std.specs.Prelude.{Ok, Err}
+use Rattle.std.specs.List.{list_any}
+use Rattle.im_types.specs.declared.TheConstants.{MAX_GROUP}
 use Rattle.im_types.specs.declared.commands.Command.{Command}
 use Rattle.im_types.specs.declared.commands.Outcome.{Outcome}
 use Rattle.im_types.specs.declared.groups.Served.{Served}
 use Rattle.im_types.specs.declared.groups.Served.TheVariants as served
 use Rattle.im_types.specs.declared.refusals.Refusal.{Refusal}
 use Rattle.im_types.specs.declared.refusals.Refusal.TheVariants.{NoMemory}
+use Rattle.im_types.specs.Contents.{Contents}
+use Rattle.im_types.specs.Window.{ask}
+use Rattle.im_groups.specs.Commands.{places, answer_with, commands_at, contents_after, left_after}
+use Rattle.im_engine.specs.State.{EngineState}
+use Rattle.im_dialogue.specs.declared.asking.Asked.{Asked}
 use Rattle.im_dialogue.specs.declared.asking.Asked.TheVariants as asks
+use Rattle.im_dialogue.specs.declared.answers.Answer.{Answer}
 use Rattle.im_dialogue.specs.declared.answers.Answer.TheVariants as answer
+use Rattle.im_dialogue.specs.declared.group_line.GroupLine.{GroupLine}
+use Rattle.im_dialogue.specs.declared.group_line.GroupLine.TheVariants.{Member, Collect, Entry, Known}
 use Rattle.im_dialogue.specs.Asking.{asked_of}
-use Rattle.im_dialogue.specs.Answers.{answer_text}
+use Rattle.im_dialogue.specs.Looks.{may_change}
+use Rattle.im_dialogue.specs.Talk.{Answers, put_by, recall}
+use Rattle.im_dialogue.specs.Watching.{told_with, watch_text}
 
--- a line asks for each of the commands
-abbrev pub AreAsked : List Command → Type 0
+-- ---- what lines ask for
+
+-- a line asks for this
+abbrev pub IsAsked : Asked → Type 0
+IsAsked asked = (line : List ℕ) × (asked_of line ≡ Some asked)
+
+-- a line asks for each of these
+abbrev pub AreAsked : List Asked → Type 0
 AreAsked [] = Unit {0}
-AreAsked (c ∷ cs) = ((line : List ℕ) × (asked_of line ≡ Some (asks.Serve c))) × AreAsked cs
+AreAsked (first ∷ others) = IsAsked first × AreAsked others
 
 -- what a member of a group was answered
 abbrev pub result_of : Served → Result Outcome Refusal
@@ -22,8 +41,120 @@ result_of (served.Done outcome) = Ok outcome
 result_of (served.Refused refusal) = Err refusal
 result_of served.Unserved = Err NoMemory
 
--- the lines of the members' answers, one below the other
-abbrev pub AreLinesOf : List Command → List Served → List ℕ → Type 0
-AreLinesOf [] answers text = text ≡ []
-AreLinesOf (c ∷ cs) [] text = ⊥
-AreLinesOf (c ∷ cs) (a ∷ answers) text = (name rest : List ℕ) × (text ≡ answer_text name (answer.Served c (result_of a)) ++ rest) × AreLinesOf cs answers rest
+-- ---- the memory between two members
+
+-- where an engine is before a group: its memory, how many more commands it can accept, and how many it accepted
+pub record GroupStart : Type 0 where
+  pub memory : Contents
+  pub places : ℕ
+  pub count : ℕ
+
+-- an engine as it is before a group
+abbrev pub group_start : {D : Type 0} → EngineState D → GroupStart
+group_start s = record { memory = s.memory; places = places s.count s.room; count = s.count }
+
+-- the memory after these members
+abbrev pub memory_between : GroupStart → List Command → Contents
+memory_between b ahead = contents_after b.memory b.places ahead
+
+-- how many more commands can be accepted after them
+abbrev pub places_between : GroupStart → List Command → ℕ
+places_between b ahead = left_after b.memory b.places ahead
+
+-- how many commands were accepted after them
+abbrev pub count_between : GroupStart → List Command → ℕ
+count_between b ahead = b.count + length (commands_at b.memory b.places ahead)
+
+-- ---- the parts of a group
+
+-- the members with that of one more part
+abbrev pub with_member : List Command → GroupLine → List Command
+with_member ahead (Member command) = ahead ++ command ∷ []
+with_member ahead (Collect who) = ahead
+with_member ahead (Entry who) = ahead
+with_member ahead (Known answer) = ahead
+
+-- the members among parts
+abbrev pub members_in : List GroupLine → List Command
+members_in [] = []
+members_in (Member command ∷ parts) = command ∷ members_in parts
+members_in (Collect who ∷ parts) = members_in parts
+members_in (Entry who ∷ parts) = members_in parts
+members_in (Known answer ∷ parts) = members_in parts
+
+-- after these members a command may change what a part shows that is answered behind the group
+abbrev pub disturbs : Contents → List Command → Command → GroupLine → Bool
+disturbs m ahead command (Member other) = false
+disturbs m ahead command (Collect who) = may_change m ahead who command
+disturbs m ahead command (Entry who) = may_change m ahead who command
+disturbs m ahead command (Known answer) = false
+
+-- a part that stands behind these members and parts changes nothing of what those parts show
+abbrev pub LeavesShown : Contents → List Command → List GroupLine → GroupLine → Type 0
+LeavesShown m ahead shown (Member command) = list_any (disturbs m ahead command) shown ≡ false
+LeavesShown m ahead shown (Collect who) = Unit {0}
+LeavesShown m ahead shown (Entry who) = Unit {0}
+LeavesShown m ahead shown (Known answer) = Unit {0}
+
+-- what is asked has this answer on this memory, after this many commands, and nothing is put on the disk or told for it
+pub record IsKnown (m : Contents) (commands : ℕ) (asked : Asked) (answer : Answer) : Type 0 where
+  pub answers : Answers m commands (Some asked) answer
+  pub puts : (any : Contents) → put_by any answer ≡ []
+  pub tells : (watch : Bool) (any : Contents) → watch_text watch any answer ≡ []
+
+-- the text is what those that watch are told behind the answer of a command, which stands behind these members
+abbrev pub TellsWatchers : Bool → GroupStart → List Command → Command → List ℕ → Type 0
+TellsWatchers watch b ahead command text = (outcome : Result Outcome Refusal)
+    → outcome ≡ answer_with (memory_between b ahead) (places_between b ahead) command
+    → told_with (answer.Served command outcome) text ≡ watch_text watch (memory_between b ahead)
+    (answer.Served command outcome)
+
+-- a line stands as this part behind these members, with this text for those that watch
+abbrev pub IsGroupLine : Bool → GroupStart → List Command → GroupLine → List ℕ → Type 0
+IsGroupLine watch b ahead (Member command) text = IsAsked (asks.Serve command)
+    × TellsWatchers watch b ahead command text
+IsGroupLine watch b ahead (Collect who) text = IsAsked (asks.Collect who) × (text ≡ [])
+IsGroupLine watch b ahead (Entry who) text = IsAsked (asks.Entry who) × (text ≡ [])
+IsGroupLine watch b ahead (Known given) text = ((asked : Asked) × IsAsked asked
+    × IsKnown (memory_between b ahead) (count_between b ahead) asked given) × (text ≡ [])
+
+-- the parts may stand so behind these members and parts
+abbrev pub StandTogether : Bool → GroupStart → List Command → List GroupLine → List GroupLine → List (List ℕ) → Type 0
+StandTogether watch b ahead shown [] [] = Unit {0}
+StandTogether watch b ahead shown [] (text ∷ texts) = ⊥
+StandTogether watch b ahead shown (part ∷ parts) [] = ⊥
+StandTogether watch b ahead shown (part ∷ parts) (text ∷ texts) = IsGroupLine watch b ahead part text
+    × (LeavesShown b.memory ahead shown part × StandTogether watch b (with_member ahead part) (shown ++ part ∷ []) parts
+    texts)
+
+-- a group that may be served: its parts, what those that watch are told behind each, and its members
+pub record MayBeServed (watch : Bool) (b : GroupStart) (parts : List GroupLine) (texts : List (List ℕ))
+    (members : List Command) : Type 0 where
+  pub parts_are : StandTogether watch b [] [] parts texts
+  pub members_are : members ≡ members_in parts
+  pub few : length members ≤ MAX_GROUP
+
+-- one more part fits a group
+pub record MayStandNext (watch : Bool) (b : GroupStart) (members : List Command) (shown : List GroupLine)
+    (part : GroupLine) (text : List ℕ) : Type 0 where
+  pub is : IsGroupLine watch b members part text
+  pub leaves : LeavesShown b.memory members shown part
+  pub room : length (with_member members part) ≤ MAX_GROUP
+
+-- ---- the answers
+
+-- the answer to a part: a member's is the first of those that are left
+abbrev pub line_answer : Contents → List Served → GroupLine → Option Answer
+line_answer m [] (Member command) = None
+line_answer m (first ∷ others) (Member command) = Some (answer.Served command (result_of first))
+line_answer m answers (Collect who) = Some (answer.Kept who (ask m.windows who))
+line_answer m answers (Entry who) = Some (answer.Entry who (recall m.windows who))
+line_answer m answers (Known given) = Some given
+
+-- those that are left behind it
+abbrev pub answers_behind : GroupLine → List Served → List Served
+answers_behind (Member command) [] = []
+answers_behind (Member command) (first ∷ others) = others
+answers_behind (Collect who) answers = answers
+answers_behind (Entry who) answers = answers
+answers_behind (Known given) answers = answers

@@ -1,5 +1,5 @@
 -- What those that watch are told: which request that waited is answered, and how. (Own.)
-use Rattle.std.specs.Prelude.{◌≡◌, ℕ, Bool, true, false, List, [], ◌∷◌, ◌++◌, Option, None, Some, Ok, if◌then◌else◌}
+use Rattle.std.specs.Prelude.{ℕ, Bool, true, false, List, [], ◌∷◌, ◌++◌, Option, None, Some, Ok, if◌then◌else◌}
 use Rattle.im_types.specs.declared.operations.Op.{Op}
 use Rattle.im_types.specs.declared.operations.Op.TheVariants.{Store, Put}
 use Rattle.im_types.specs.declared.operations.Kind.{Kind}
@@ -46,11 +46,6 @@ is_quiet op = true
 abbrev pub answers_nobody : Command → Bool
 answers_nobody (Asks r) = is_quiet r.op
 answers_nobody (Confirm element upto) = true
-
--- no request that waits is answered by one of these commands
-abbrev pub AreQuiet : List Command → Type 0
-AreQuiet [] = Unit {0}
-AreQuiet (c ∷ cs) = (answers_nobody c ≡ true) × AreQuiet cs
 
 -- ---- as it is made
 

@@ -4,15 +4,17 @@ ghost use Rattle.std.specs.Io.KnownBytes.{Appends};
 ghost use Rattle.im_text.specs.Printing.{Begins};
 ghost use Rattle.im_dialogue.specs.Answers.{answer_text};
 ghost use Rattle.im_dialogue.specs.Asking.{asked_of};
-ghost use Rattle.im_dialogue.specs.Talk.{TalkEnds, TalksOn};
+ghost use Rattle.im_dialogue.specs.Talk.{TalkEnds, TalksOn, TalksThrough};
+ghost use Rattle.im_dialogue.specs.Together.{AreAsked};
 
 use crate::answers::{Answer, add_answer};
 use crate::asking::{Asked, read_asked};
 use crate::explaining::explain;
+use crate::grouping::{Gathered, take_parts};
 use crate::lines::next_line;
 use crate::resting::half_of;
 use crate::talk::{answer, make_room, turn_while_quiet, wrong};
-use crate::together::{end_of, gather, serve_members};
+use crate::together::{InBuffer, commands_among, end_of, gather, serve_parts};
 use crate::watching::{make_nows, told_with};
 use arrayvec::ArrayVec;
 use im_damage::Damage;
@@ -83,6 +85,10 @@ struct Drafts {
     text: String,
     // The lines for those that watch, which follow it.
     nows: String,
+    // What the lines ask for that stand in the reader's buffer.
+    standing: InBuffer,
+    // Those of them that are served as one group.
+    group: Gathered,
 }
 
 // Does what a line asks, and prints the answer. Returns whether the dialogue continues.
@@ -184,28 +190,42 @@ fn serve_line<D: Disk, W: Write>(
     }
 }
 
-// Serves the first lines that stand together in the reader's buffer as one group, if there are two or more and room for
-// their commands. Returns how many it served, or 0. The others stay in the buffer.
+// Takes lines into a group, and serves it. Returns how many lines it answered, or 0.
+fn serve_group<D: Disk, W: Write>(
+    alloc: Global,
+    engine: &mut Engine<D>,
+    setting: Setting,
+    drafts: &mut Drafts,
+    out: &mut W,
+) -> Result<usize, Reason>
+    requires asked { AreAsked drafts.old.standing.asked.items }
+    ensures { TalksThrough D.Disk setting.watch
+        engine.old (W.contents out.old) engine.new (W.contents out.new) result }
+{
+    let asked = drafts.standing.asked.as_slice();
+    match take_parts(alloc, engine, setting, asked, &mut drafts.group) {
+        Ok(()) => serve_parts(alloc, engine, &drafts.group, &mut drafts.text, out),
+        Err(_) => Err(Reason::Memory),
+    }
+}
+
+// Serves the first lines that stand together in the reader's buffer as one group, if two or more of them are commands
+// and there is room for these. Returns how many lines it served, or 0. The others stay in the buffer.
 fn serve_together<D: Disk, R: BufRead, W: Write>(
     alloc: Global,
     engine: &mut Engine<D>,
     input: &mut R,
     setting: Setting,
-    text: &mut String,
+    drafts: &mut Drafts,
     out: &mut W,
 ) -> Result<u64, Reason>
-    ensures { MatchResult result
-        (λ _. TalksOn setting.watch D.now D.past D.honest
-        engine.old (W.contents out.old) engine.new (W.contents out.new))
-        (λ _. TalkEnds setting.watch D.now D.past D.honest
-        engine.old (W.contents out.old) engine.new (W.contents out.new)) }
+    ensures { TalksThrough D.Disk setting.watch
+        engine.old (W.contents out.old) engine.new (W.contents out.new) result }
 {
-    let mut members = ArrayVec::new();
-    let mut ends = ArrayVec::new();
-    if let Err(reason) = gather(alloc, input, setting.watch, &mut members, &mut ends) {
+    if let Err(reason) = gather(alloc, input, &mut drafts.standing) {
         return Err(reason);
     }
-    let many = members.len() as u32;
+    let many = commands_among(drafts.standing.asked.as_slice());
     if many < 2 {
         return Ok(0);
     }
@@ -215,9 +235,9 @@ fn serve_together<D: Disk, R: BufRead, W: Write>(
     if engine.room() < many {
         return Ok(0); // Each by itself is given what room turns can make.
     }
-    match serve_members(alloc, engine, setting.watch, &members, text, out) {
+    match serve_group(alloc, engine, setting, drafts, out) {
         Ok(served) => {
-            input.consume(end_of(ends.as_slice(), served));
+            input.consume(end_of(drafts.standing.ends.as_slice(), served));
             Ok(served as u64)
         }
         Err(reason) => Err(reason),
@@ -278,7 +298,7 @@ fn serve_next<D: Disk, R: BufRead, W: Write>(
         (λ _. TalkEnds setting.watch D.now D.past D.honest
         engine.old (W.contents out.old) engine.new (W.contents out.new)) }
 {
-    match serve_together(alloc, engine, input, setting, &mut drafts.text, out) {
+    match serve_together(alloc, engine, input, setting, drafts, out) {
         Ok(0) => serve_alone(alloc, engine, input, number, setting, drafts, out),
         Ok(many) => Ok(many),
         Err(reason) => Err(reason),
@@ -315,18 +335,19 @@ fn serve_rested<D: Disk, R: BufRead + Ear, W: Write>(
 /// A line that isn't in the grammar is answered by where it goes wrong, and changes nothing. A line of more than 4,096
 /// bytes is such a line, and no more of it is kept. An end of the input without a line feed before it is no line.
 ///
-/// Up to 16 requests and confirmations are served as one group, if their lines follow each other in the reader's buffer.
-/// Their answers are written together, and are those that the lines would have by themselves. A group ends before a
-/// confirmation that would drop an entry of which it isn't known, before the group acts, that it is answered: one that
-/// waits, or that a fetch or a take of the group makes. No line waits for another. All other lines are answered before
-/// the next one is read.
+/// Up to 16 requests and confirmations are served as one group, if their lines follow each other in the reader's buffer,
+/// with lines between them that change nothing. Their answers are written together, and are those that the lines would
+/// have by themselves. A group ends before a confirmation that would drop an entry of which it isn't known, before the
+/// group acts, that it is answered: one that waits, or that a fetch or a take of the group makes. It also ends before a
+/// command that may change what a `collect` or `entry` ahead of it tells. No line waits for another. All other lines are
+/// answered before the next one is read.
 ///
 /// The reader tells whether something is there to be read. While nothing is, turns of a checkpoint are taken if there
 /// is room for less than half as many commands as the journal has slots.
 ///
 /// If the dialogue is watched, lines `E.N now REPLY` follow the answer to a request: one for each request that waited
-/// and is answered by it, in the order in which they came. A request that may bring such lines is then served by
-/// itself.
+/// and is answered by it, in the order in which they came. A group then ends before a store or put of which it isn't
+/// known, before the group acts, whom it answers.
 ///
 /// A refusal is an answer, except for `Device` and `Failed`, which say that a call of the disk failed. They end the
 /// dialogue, as do an input that can't be read, an output that can't be written, and want of memory. What was printed
@@ -349,6 +370,15 @@ pub fn serve_lines<D: Disk, R: BufRead + Ear, W: Write>(
         line: Vec::new(alloc),
         text: String::new(alloc),
         nows: String::new(alloc),
+        standing: InBuffer {
+            asked: Vec::new(alloc),
+            ends: Vec::new(alloc),
+        },
+        group: Gathered {
+            parts: Vec::new(alloc),
+            nows: Vec::new(alloc),
+            members: ArrayVec::new(),
+        },
     };
     let mut number: u64 = 1;
     for _served in 0..u64::MAX {

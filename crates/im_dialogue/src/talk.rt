@@ -146,9 +146,9 @@ fn collect<D: Disk>(engine: &Engine<D>, who: Waiter) -> Answer
     Answer::Kept(who, engine.collect(who.element, who.number))
 }
 
-// Returns a request and what is kept for it. It is refused with `NoElement`, with `Forgotten` below the window, and
-// with `Gap` if the number isn't used yet.
-fn recall(memory: &Memory, who: Waiter) -> Result<Kept, Refusal>
+/// Returns a request and what is kept for it. It is refused with `NoElement`, with `Forgotten` below the window, and
+/// with `Gap` if the number isn't used yet.
+pub(crate) fn recall(memory: &Memory, who: Waiter) -> Result<Kept, Refusal>
     ensures { result ≡ recall memory.now.contents.windows who }
 {
     let (base, _next) = memory.window(who.element)?;

@@ -1,26 +1,42 @@
 //! Lines that stand together in the reader's buffer are served as one group.
-ghost use Rattle.std.specs.Prelude.{◌≡◌, ◌+◌, ◌<◌, ◌≤◌, length, take, true, IfSome, MatchResult, OnOk, Some, List, ℕ, string_bytes, ◌++◌};
-ghost use Rattle.im_dialogue.specs.declared.asking.Asked.TheVariants.{Serve};
-ghost use Rattle.im_dialogue.specs.declared.answers.Answer.TheVariants.{Served as ServedAs};
+ghost use Rattle.std.specs.Prelude.{◌≡◌, ◌+◌, ◌∷◌, [], Bool, length, map, IfSome, OnOk, Some, List, ℕ, string_bytes, ◌++◌};
+ghost use Rattle.im_types.specs.declared.commands.Command.{Command};
+ghost use Rattle.im_engine.specs.State.{EngineState};
 ghost use Rattle.im_dialogue.specs.Answers.{answer_text};
-ghost use Rattle.im_dialogue.specs.Asking.{asked_of};
-ghost use Rattle.im_dialogue.specs.Talk.{TalkEnds, TalksOn};
-ghost use Rattle.im_dialogue.specs.Together.{AreAsked, AreLinesOf, result_of};
-ghost use Rattle.im_dialogue.specs.Watching.{AreQuiet, answers_nobody};
+ghost use Rattle.im_dialogue.specs.Talk.{TalksThrough};
+ghost use Rattle.im_dialogue.specs.Together.{AreAsked, IsAsked, MayBeServed, line_answer, group_start, answers_behind, result_of};
+ghost use Rattle.im_dialogue.specs.Telling.{WasServed, SaysAll};
+ghost use Rattle.im_dialogue.specs.Watching.{told_with};
 
 use crate::answers::{Answer, add_answer};
 use crate::asking::{Asked, read_asked};
+use crate::group_line::GroupLine;
+use crate::grouping::Gathered;
 use crate::lines::unread;
 use crate::serving::name_of;
-use crate::watching::answers_nobody;
+use crate::talk::recall;
+use crate::watching::told_with;
 use arrayvec::ArrayVec;
 use im_damage::Damage;
 use im_disk::Disk;
 use im_engine::Engine;
+use im_memory::Memory;
 use im_text::{Reason, put_through};
-use im_types::{Command, Outcome, Refusal, Served};
+use im_types::{Outcome, Refusal, Served};
 use std::alloc::{AllocError, Global};
 use std::io::{BufRead, ErrorKind, Write};
+
+// The most lines that are looked at for one group.
+const MOST_LINES: usize = 64;
+
+/// What the first lines in a reader's buffer ask for.
+#[derive(Drop)]
+pub(crate) struct InBuffer {
+    /// What each line asks for.
+    pub(crate) asked: Vec<Asked>,
+    /// How many bytes the lines have up to each one, with its line feed.
+    pub(crate) ends: Vec<usize>,
+}
 
 // ---- which lines
 
@@ -37,94 +53,71 @@ fn split_line(text: &[u8]) -> Option<(&[u8], &[u8])>
     None
 }
 
-// Returns the command that a line asks for, if it may be served with others. If the dialogue is watched, a request that
-// may answer waiting ones may not.
-fn member_of(asked: Option<Asked>, watch: bool) -> Option<Command>
-    ensures asked { IfSome result (λ command. asked ≡ Some (Serve command)) }
-    ensures quiet { IfSome result (λ command. watch ≡ true → answers_nobody command ≡ true) }
+// Returns what a line asks for, if it may stand in a group: a command, or what changes nothing.
+fn groups(asked: Option<Asked>) -> Option<Asked>
+    ensures { IfSome result (λ found. asked ≡ Some found) }
 {
     match asked {
-        Some(Asked::Serve(command)) => {
-            if watch && !answers_nobody(command) {
-                None
-            } else {
-                Some(command)
-            }
-        }
-        _ => None,
+        Some(Asked::Turn) => None,
+        Some(Asked::Quit) => None,
+        other => other,
     }
 }
 
-// Takes a line's command as a member of a group, if it may be one. Returns whether it did.
-fn take_line(
-    alloc: Global,
-    line: &[u8],
-    watch: bool,
-    members: &mut ArrayVec<Command, 16>,
-) -> Result<bool, AllocError>
-    requires room { length members.old.items < 16 }
-    requires asked { AreAsked members.old.items }
-    requires quiet { watch ≡ true → AreQuiet members.old.items }
-    ensures asked { AreAsked members.new.items }
-    ensures quiet { watch ≡ true → AreQuiet members.new.items }
+// Adds what a line asks for.
+fn add_asked(asked: &mut Vec<Asked>, found: Asked) -> Result<(), AllocError>
+    ensures { OnOk result (asked.new.items ≡ asked.old.items ++ found ∷ []) }
 {
-    let asked = read_asked(alloc, line)?;
-    match member_of(asked, watch) {
-        Some(command) => {
-            members.push(command);
+    asked.push(found)?;
+    Ok(())
+}
+
+// Takes what a line asks for, if it may stand in a group. Returns whether it did.
+fn take_line(alloc: Global, line: &[u8], asked: &mut Vec<Asked>) -> Result<bool, AllocError>
+    requires asked { AreAsked asked.old.items }
+    ensures { OnOk result (AreAsked asked.new.items) }
+{
+    match groups(read_asked(alloc, line)?) {
+        Some(found) => {
+            add_asked(asked, found)?;
             Ok(true)
         }
         None => Ok(false),
     }
 }
 
-// Takes the commands of the first whole lines of a text, as far as there is room for them. Adds for each where its line
-// ends, behind its line feed.
-fn take_lines(
-    alloc: Global,
-    text: &[u8],
-    watch: bool,
-    members: &mut ArrayVec<Command, 16>,
-    ends: &mut ArrayVec<usize, 16>,
-) -> Result<(), AllocError>
-    requires asked { AreAsked members.old.items }
-    requires quiet { watch ≡ true → AreQuiet members.old.items }
-    ensures asked { AreAsked members.new.items }
-    ensures quiet { watch ≡ true → AreQuiet members.new.items }
+// Takes what the first whole lines of a text ask for. Adds for each where it ends, behind its line feed.
+fn take_lines(alloc: Global, text: &[u8], standing: &mut InBuffer) -> Result<(), AllocError>
+    requires asked { AreAsked standing.old.asked.items }
+    ensures { OnOk result (AreAsked standing.new.asked.items) }
 {
     let mut rest = text;
-    for _line in 0..text.len() {
-        if members.is_full() || ends.is_full() {
-            break;
-        }
+    for _line in 0..MOST_LINES {
         let Some((line, later)) = split_line(rest) else {
             break;
         };
-        if !take_line(alloc, line, watch, members)? {
+        if !take_line(alloc, line, &mut standing.asked)? {
             break;
         }
         rest = later;
-        ends.push(text.len() - rest.len());
+        standing.ends.push(text.len() - rest.len())?;
     }
     Ok(())
 }
 
-/// Takes the commands of the first whole lines in a reader's buffer, at most 16. It waits for more if the buffer is
-/// empty. Of each it notes in `ends` how many bytes the lines have up to it; they stay in the buffer.
+/// Takes what the first whole lines in a reader's buffer ask for, at most 64, up to the first line that stands in no
+/// group. It waits for more if the buffer is empty. The lines stay in the buffer.
 pub(crate) fn gather<R: BufRead>(
     alloc: Global,
     input: &mut R,
-    watch: bool,
-    members: &mut ArrayVec<Command, 16>,
-    ends: &mut ArrayVec<usize, 16>,
+    standing: &mut InBuffer,
 ) -> Result<(), Reason>
-    ensures asked { AreAsked members.new.items }
-    ensures quiet { watch ≡ true → AreQuiet members.new.items }
+    ensures { OnOk result (AreAsked standing.new.asked.items) }
 {
-    members.clear();
-    ends.clear();
+    standing.asked.clear();
+    standing.ends.clear();
     match input.fill_buf() {
-        Ok(text) => match take_lines(alloc, text, watch, members, ends) {
+        Ok(text) => match take_lines(alloc, text, standing) {
             Ok(()) => Ok(()),
             Err(_) => Err(Reason::Memory),
         },
@@ -133,6 +126,17 @@ pub(crate) fn gather<R: BufRead>(
             kind => Err(unread(kind)),
         },
     }
+}
+
+/// Returns how many of the lines are commands, at most 16.
+pub(crate) fn commands_among(asked: &[Asked]) -> u32 {
+    let mut many: u32 = 0;
+    for line in asked {
+        if let Asked::Serve(_) = line {
+            many = many.saturating_add(1);
+        }
+    }
+    many.min(16)
 }
 
 /// Returns how many bytes the first `many` lines have, by where each line ends.
@@ -157,70 +161,109 @@ fn result_of(served: Served) -> Result<Outcome, Refusal>
     }
 }
 
-// Adds the line of a member's answer.
-fn add_line(
-    alloc: Global,
-    text: &mut String,
-    member: &Command,
-    served: Served,
-) -> Result<(), AllocError>
-    ensures { OnOk result ((name : List ℕ) × (string_bytes text.new ≡ string_bytes text.old
-        ++ answer_text name (ServedAs member.now (result_of served)))) }
+// Returns the answer to a part of a group that was served, given the memory behind the group, and the answers to the
+// members that aren't told yet. Returns `None` if no answer is left for the part.
+fn line_answer(memory: &Memory, answers: &[Served], part: GroupLine) -> Option<Answer>
+    ensures { result ≡ line_answer memory.now.contents answers.now part }
 {
-    let answer = Answer::Served(*member, result_of(served));
-    let name = name_of(alloc, answer)?;
-    add_answer(text, answer, name.as_str())
+    match part {
+        GroupLine::Member(command) => match answers.first() {
+            Some(first) => Some(Answer::Served(command, result_of(*first))),
+            None => None,
+        },
+        GroupLine::Collect(who) => Some(Answer::Kept(who, memory.collect(who.element, who.number))),
+        GroupLine::Entry(who) => Some(Answer::Entry(who, recall(memory, who))),
+        GroupLine::Known(answer) => Some(answer),
+    }
 }
 
-// Makes the lines of the members' answers.
-fn make_lines(
+// Returns the answers to the members behind a part.
+fn answers_behind(part: GroupLine, answers: &[Served]) -> &[Served]
+    ensures { result.now ≡ answers_behind part answers.entry.now }
+{
+    match part {
+        GroupLine::Member(_) => match answers.split_first() {
+            Some((_, others)) => others,
+            None => answers,
+        },
+        GroupLine::Collect(_) => answers,
+        GroupLine::Entry(_) => answers,
+        GroupLine::Known(_) => answers,
+    }
+}
+
+// Adds the line of an answer, and what those that watch are told behind it.
+fn add_line(alloc: Global, text: &mut String, answer: Answer, now: &str) -> Result<(), AllocError>
+    ensures { OnOk result ((name : List ℕ) × (string_bytes text.new ≡ string_bytes text.old
+        ++ (answer_text name answer ++ told_with answer now.now))) }
+{
+    let name = name_of(alloc, answer)?;
+    add_answer(text, answer, name.as_str())?;
+    let told = told_with(answer, now);
+    text.push_str(told)
+}
+
+// Makes the lines of the answers to a group that was served, in the order of its lines. Returns how many lines it has:
+// those up to the first member that wasn't served.
+fn make_lines<D: Disk>(
     alloc: Global,
-    text: &mut String,
-    members: &[Command],
+    engine: &Engine<D>,
+    group: &Gathered,
     served: &[Served],
-) -> Result<(), AllocError>
-    requires whole { length served.now ≡ length members.now }
-    ensures { OnOk result (AreLinesOf members.now served.now (string_bytes text.new)) }
+    text: &mut String,
+) -> Result<usize, AllocError>
+    ensures { OnOk result ((watch : Bool) (old : EngineState D) (commands : List Command)
+        → WasServed watch old group.now.parts.items (map string_bytes group.now.nows.items)
+        group.now.members.items commands served.now engine.now.memory
+        → SaysAll watch old commands (string_bytes text.new)) }
 {
     text.clear();
-    for i in 0..members.len() {
-        add_line(alloc, text, &members[i], served[i])?;
+    let mut told: usize = 0;
+    let mut parts = group.parts.as_slice();
+    let mut nows = group.nows.as_slice();
+    let mut answers = served;
+    while let Some((part, later)) = parts.split_first() {
+        let Some((now, others)) = nows.split_first() else {
+            return Ok(told); // There is one for each part.
+        };
+        let Some(answer) = line_answer(engine.memory(), answers, *part) else {
+            return Ok(told);
+        };
+        add_line(alloc, text, answer, now.as_str())?;
+        answers = answers_behind(*part, answers);
+        parts = later;
+        nows = others;
+        told = told.saturating_add(1);
     }
-    Ok(())
+    Ok(told)
 }
 
-/// Serves the commands of lines that stand together as one group, and prints their answers in the order of the lines.
-/// If the dialogue is watched, none of them answers a request that waits. Returns how many members it served: the first
-/// ones, at least one. The others weren't asked.
+/// Serves a group, and prints its answers in the order of its lines, each with what those that watch are told behind it.
+/// Returns how many lines it answered: those up to the first member that wasn't served, at least one.
 ///
 /// A member that finds no room is answered `JournalFull`. If a call of the disk fails, the dialogue ends. Then the
 /// commands of the group are on the disk all together or not at all, and none is answered.
-pub(crate) fn serve_members<D: Disk, W: Write>(
+pub(crate) fn serve_parts<D: Disk, W: Write>(
     alloc: Global,
     engine: &mut Engine<D>,
-    watch: bool,
-    members: &ArrayVec<Command, 16>,
+    group: &Gathered,
     text: &mut String,
     out: &mut W,
 ) -> Result<usize, Reason>
-    requires asked { AreAsked members.now.items }
-    requires quiet { watch ≡ true → AreQuiet members.now.items }
-    ensures { MatchResult result
-        (λ _. TalksOn watch D.now D.past D.honest engine.old (W.contents out.old) engine.new (W.contents out.new))
-        (λ _. TalkEnds watch D.now D.past D.honest engine.old (W.contents out.old) engine.new (W.contents out.new)) }
+    ensures { (watch : Bool) → MayBeServed watch (group_start engine.old)
+        group.now.parts.items (map string_bytes group.now.nows.items) group.now.members.items
+        → TalksThrough D.Disk watch engine.old (W.contents out.old) engine.new (W.contents out.new) result }
 {
-    let commands = members.as_slice();
+    let _cells = engine.memory().cells(); // So that it is known to be a memory.
     let mut served = ArrayVec::new();
     // A crash in this call leaves on the disk all that the group puts there, or nothing of it. No answer is given
     // before.
-    engine.serve_commands(members, &mut served);
+    engine.serve_commands(&group.members, &mut served);
     if engine.failed() {
         return Err(Reason::Image(Refusal::Device, Damage::Unknown));
     }
-    let many = served.len();
-    let answered = &commands[..many];
-    match make_lines(alloc, text, answered, served.as_slice()) {
-        Ok(()) => match put_through(out, text.as_str()) {
+    match make_lines(alloc, engine, group, served.as_slice(), text) {
+        Ok(many) => match put_through(out, text.as_str()) {
             Ok(()) => Ok(many),
             Err(reason) => Err(reason),
         },

@@ -207,12 +207,12 @@ printed 6 = 1.2 refused 4 Mismatch
 printed 7 = 1.3 nocell
 count = 4
 
-# Where it is watched, requests of one element and confirmations are members too, and a store isn't
+# Where it is watched, a store is a member, but not behind a request that names its cell
 disk 450560 = 450560 bytes
 format 4096 16 256 = formatted
 script 0.1 alloc i 2 / 1.1 fetch 0 / 1.2 fetch 1 / confirm 0 2 / 2.1 store 0 7 / 1.3 fetch 0 / confirm 2 2 / = 7 lines
--- Seven calls for four, four for the store, five for two.
-talk watched = 0, 16 calls
+-- Seven calls for four, six for three.
+talk watched = 0, 13 calls
 printed = 8 lines
 printed 0 = 0.1 base 0
 printed 1 = 1.1 waiting
@@ -224,17 +224,116 @@ printed 6 = 1.3 value 7
 printed 7 = 2 confirmed 2
 count = 7
 
-# A line that is no command ends a group, and is answered in its place
+# Where it is watched, stores and puts are a group, and each is followed by those that it answers
+disk 450560 = 450560 bytes
+format 4096 16 256 = formatted
+script 0.1 alloc i 2 / 0.2 alloc m 3 / 1.1 fetch 0 / 1.2 take 2 / 2.1 take 2 / 3.1 fetch 0 / 3.2 take 3 / = 7 lines
+talk watched = 0, 10 calls
+script 4.1 put 2 5 / 4.2 store 0 6 / 4.3 put 3 7 / 4.4 store 1 8 / 4.4 store 1 8 / 4.5 put 2 9 / 4.6 put 3 7 / = 7 lines
+-- Seven calls for four. The line that is sent again is served alone, with none, and then two are a group, of five.
+talk watched = 0, 12 calls
+printed = 12 lines
+printed 0 = 4.1 stored
+printed 1 = 1.2 now value 5
+printed 2 = 4.2 stored
+printed 3 = 1.1 now value 6
+printed 4 = 3.1 now value 6
+printed 5 = 4.3 stored
+printed 6 = 3.2 now value 7
+printed 7 = 4.4 stored
+printed 8 = 4.4 stored
+printed 9 = 4.5 stored
+printed 10 = 2.1 now value 9
+printed 11 = 4.6 stored
+count = 13
+
+# Where it is watched, a store that is refused answers nobody
+disk 450560 = 450560 bytes
+format 4096 16 256 = formatted
+script 0.1 alloc i 2 / 1.1 fetch 0 / 1.2 fetch 1 / = 3 lines
+talk watched = 0, 6 calls
+script 2.2 store 0 5 / 16.1 store 0 5 / 2.1 store 1 6 / = 3 lines
+talk watched = 0, 4 calls
+printed = 4 lines
+printed 0 = 2.2 refused 1 Gap
+printed 1 = 16.1 refused 5 NoElement
+printed 2 = 2.1 stored
+printed 3 = 1.2 now value 6
+count = 4
+
+# A line that changes nothing ends no group, and is answered in its place
 disk 450560 = 450560 bytes
 format 4096 16 256 = formatted
 script 1.1 fetch 0 / 2.1 fetch 0 / count / 3.1 fetch 0 / 4.1 fetch 0 / 5.1 fetch 0 / = 6 lines
--- Five calls for two, six for three.
-talk = 0, 11 calls
+talk = 0, 8 calls
 printed = 6 lines
 printed 0 = 1.1 nocell
 printed 1 = 2.1 nocell
 printed 2 = count 2
 printed 5 = 5.1 nocell
+
+# Each such line tells the memory after the lines before it
+disk 450560 = 450560 bytes
+format 4096 16 256 = formatted
+script room / collect 1.1 / 0.1 alloc i 2 / window 0 / 1.1 store 0 5 / collect 1.1 / collect 1.2 / entry 1.1 / window 1 / = 9 lines
+script 1.3 store 1 5 / window 1 / 2.1 store 1 6 / count / room / 2.2 fetch 0 / about / confirm 2 3 / window 2 / = 18 lines
+-- Four calls for one command, since the next one was asked for ahead of it. Six for three; the confirmation would drop
+-- a fetch of the group, and takes four.
+talk = 0, 14 calls
+printed = 18 lines
+printed 0 = room 256
+printed 1 = 1.1 refused 1 Gap
+printed 2 = 0.1 base 0
+printed 3 = 0 window 1 2
+printed 4 = 1.1 stored
+printed 5 = 1.1 stored
+printed 6 = 1.2 refused 1 Gap
+printed 7 = 1.1 entry store 0 5 -> stored
+printed 8 = 1 window 1 2
+printed 9 = 1.3 refused 1 Gap
+printed 10 = 1 window 1 2
+printed 11 = 2.1 stored
+printed 12 = count 3
+printed 13 = room 253
+printed 14 = 2.2 value 5
+printed 15 = about version 2 cells 4096 elements 16 slots 256 count 4 room 252
+printed 16 = 2 confirmed 3
+printed 17 = 2 window 3 3
+
+# An entry that waits is asked for between the puts of a group, before and behind the one that answers it
+disk 450560 = 450560 bytes
+format 4096 16 256 = formatted
+script 0.1 alloc m 3 / 1.1 take 0 / 2.1 take 1 / = 3 lines
+talk = 0, 6 calls
+script 3.1 put 1 5 / collect 2.1 / collect 1.1 / 3.2 put 2 6 / collect 1.1 / 3.3 put 0 7 / collect 1.1 / 3.4 put 1 8 / = 8 lines
+-- A put answers the request that was asked for ahead of it, so it begins the next group: five calls, and five.
+talk = 0, 10 calls
+printed = 8 lines
+printed 0 = 3.1 stored
+printed 1 = 2.1 value 5
+printed 2 = 1.1 waiting
+printed 3 = 3.2 stored
+printed 4 = 1.1 waiting
+printed 5 = 3.3 stored
+printed 6 = 1.1 value 7
+printed 7 = 3.4 stored
+count = 7
+
+# What a line tells that only looks stays as it was if its entry is confirmed or asked behind it
+disk 450560 = 450560 bytes
+format 4096 16 256 = formatted
+script 1.1 fetch 0 / collect 1.1 / collect 1.2 / 1.2 fetch 0 / collect 1.1 / 2.1 fetch 0 / confirm 1 2 / collect 1.1 / = 8 lines
+-- Four calls for one command, five for two, four for the confirmation.
+talk = 0, 13 calls
+printed = 8 lines
+printed 0 = 1.1 nocell
+printed 1 = 1.1 nocell
+printed 2 = 1.2 refused 1 Gap
+printed 3 = 1.2 nocell
+printed 4 = 1.1 nocell
+printed 5 = 2.1 nocell
+printed 6 = 1 confirmed 2
+printed 7 = 1.1 refused 2 Forgotten
 
 # An element that isn't there is refused within a group, and the others are served
 disk 450560 = 450560 bytes

@@ -1,11 +1,9 @@
-use Rattle.std.proofs.Common.{◌≡◌, ◌≤◌, true, length}
-use Rattle.im_dialogue.specs.Watching.{AreQuiet}
+use Rattle.std.proofs.Common.{◌≤◌, length}
 use Rattle.im_dialogue.specs.Together.{AreAsked}
 use Rattle.im_dialogue.proofs.together.take_lines.Given as goal
 
 abbrev pub invariant-loop-line : goal.invariant-loop-line
 invariant-loop-line l = record {
   within : length l.rest ≤ length l.text;
-  asked : AreAsked l.members.items;
-  quiet : l.watch ≡ true → AreQuiet l.members.items;
+  asked : AreAsked l.standing.asked.items;
 }

@@ -1,0 +1,475 @@
+-- The parts of a group: how it grows, and how its answers are told.
+use Rattle.std.proofs.Common.{◌≡◌, ◌∙◌, ℕ, zero, suc, ◌≤◌, Bool, false, List, [], ◌∷◌}
+use Rattle.std.proofs.Common.{◌++◌, length, map, take, refl, sym, ap, subst, append_assoc, arith}
+use Rattle.std.specs.Prelude.{MatchOption, Option, Some, None, Result, Ok, Err}
+use Rattle.std.specs.List.{list_any}
+use Rattle.std.proofs.lemmas.List.{append-nil}
+use Rattle.im_types.specs.declared.TheConstants.{MAX_GROUP}
+use Rattle.im_types.specs.declared.operations.Waiter.{Waiter}
+use Rattle.im_types.specs.declared.commands.Command.{Command}
+use Rattle.im_types.specs.declared.commands.Outcome.{Outcome}
+use Rattle.im_types.specs.declared.groups.Served.{Served}
+use Rattle.im_types.specs.declared.refusals.Refusal.{Refusal}
+use Rattle.im_types.specs.Contents.{Contents}
+use Rattle.im_types.specs.Window.{ask}
+use Rattle.im_types.specs.Groups.{as_served}
+use Rattle.im_types.specs.Memory.{IsMemory}
+use Rattle.im_laws.proofs.Tests.{or_left, or_right}
+use Rattle.im_groups.specs.Commands.{answer_with, answers_with, contents_with}
+use Rattle.im_groups.specs.Commands.{places_behind}
+use Rattle.im_groups.proofs.CommandLemmas.{left_behind}
+use Rattle.im_engine.specs.State.{EngineState}
+use Rattle.im_dialogue.specs.declared.asking.Asked.{Asked}
+use Rattle.im_dialogue.specs.declared.asking.Asked.TheVariants as asks
+use Rattle.im_dialogue.specs.declared.answers.Answer.{Answer}
+use Rattle.im_dialogue.specs.declared.answers.Answer.TheVariants as answer
+use Rattle.im_dialogue.specs.declared.group_line.GroupLine.{GroupLine}
+use Rattle.im_dialogue.specs.declared.group_line.GroupLine.TheVariants.{Member, Collect, Entry, Known}
+use Rattle.im_dialogue.specs.Answers.{answer_text}
+use Rattle.im_dialogue.specs.Looks.{may_change}
+use Rattle.im_dialogue.specs.Talk.{Answers, put_by, recall}
+use Rattle.im_dialogue.specs.Together.{IsAsked, GroupStart, group_start, memory_between, places_between}
+use Rattle.im_dialogue.specs.Together.{count_between, with_member, members_in}
+use Rattle.im_dialogue.specs.Together.{disturbs, LeavesShown, IsKnown, IsGroupLine, StandTogether, MayBeServed}
+use Rattle.im_dialogue.specs.Together.{MayStandNext, result_of, line_answer, answers_behind}
+use Rattle.im_dialogue.specs.Watching.{told_with, watch_text}
+use Rattle.im_dialogue.specs.Telling.{SaysAll, WasServed}
+use Rattle.im_dialogue.proofs.GroupTalk.{told_none, told_member, told_shown}
+use Rattle.im_dialogue.proofs.LookLemmas.{ask_recalls, entry_of, may_change_there, recall_with}
+use Rattle.im_dialogue.proofs.ReachLemmas.{after_memory, contents_behind}
+
+-- ---- a group grows
+
+members_onto : (ahead : List Command) (p : GroupLine) (parts : List GroupLine)
+    → with_member ahead p ++ members_in parts ≡ ahead ++ members_in (p ∷ parts)
+members_onto ahead (Member c) parts = append_assoc ahead (c ∷ []) (members_in parts)
+members_onto ahead (Collect who) parts = refl
+members_onto ahead (Entry who) parts = refl
+members_onto ahead (Known given) parts = refl
+
+with_more : (c : Command) (ahead : List Command) (p : GroupLine) → with_member (c ∷ ahead) p ≡ c ∷ with_member ahead p
+with_more c ahead (Member d) = refl
+with_more c ahead (Collect who) = refl
+with_more c ahead (Entry who) = refl
+with_more c ahead (Known given) = refl
+
+members_alone : (p : GroupLine) → members_in (p ∷ []) ≡ with_member [] p
+members_alone (Member c) = refl
+members_alone (Collect who) = refl
+members_alone (Entry who) = refl
+members_alone (Known given) = refl
+
+members_push : (parts : List GroupLine) (p : GroupLine) → members_in (parts ++ p ∷ []) ≡ with_member (members_in parts)
+    p
+members_push [] p = members_alone p
+members_push (Member c ∷ parts) p = ap (λ (l : List Command). c ∷ l) (members_push parts p)
+    ∙ sym (with_more c (members_in parts) p)
+members_push (Collect who ∷ parts) p = members_push parts p
+members_push (Entry who ∷ parts) p = members_push parts p
+members_push (Known given ∷ parts) p = members_push parts p
+
+module _ (watch : Bool) (b : GroupStart) where
+  abbrev Stands : List Command → List GroupLine → GroupLine → List ℕ → Type 0
+  Stands ahead shown p text = IsGroupLine watch b ahead p text × LeavesShown b.memory ahead shown p
+
+  parts_push : (ahead : List Command) (shown parts : List GroupLine) (texts : List (List ℕ)) (p : GroupLine)
+      (text : List ℕ) → StandTogether watch b ahead shown parts texts
+      → Stands (ahead ++ members_in parts) (shown ++ parts) p text
+      → StandTogether watch b ahead shown (parts ++ p ∷ []) (texts ++ text ∷ [])
+  parts_push ahead shown [] [] p text are stands =
+      let here = subst (λ (l : List Command). Stands l shown p text) (append-nil ahead)
+      (subst (λ (l : List GroupLine). Stands (ahead ++ []) l p text) (append-nil shown) stands) in
+      (here.0, (here.1, tt))
+  parts_push ahead shown [] (t ∷ texts) p text are stands = absurd are
+  parts_push ahead shown (q ∷ parts) [] p text are stands = absurd are
+  parts_push ahead shown (q ∷ parts) (t ∷ texts) p text are stands = (
+    are.0,
+    (
+      are.1.0,
+      parts_push (with_member ahead q) (shown ++ q ∷ []) parts texts p text are.1.1
+          (subst (λ (l : List Command). Stands l ((shown ++ q ∷ []) ++ parts) p text) (sym (members_onto ahead q parts))
+          (subst (λ (l : List GroupLine). Stands (ahead ++ members_in (q ∷ parts)) l p text)
+          (sym (append_assoc shown (q ∷ []) parts)) stands)),
+    ),
+  )
+
+  pub group_push : (parts : List GroupLine) (texts : List (List ℕ)) (members now : List Command) (p : GroupLine)
+      (text : List ℕ)
+      → MayBeServed watch b parts texts members → MayStandNext watch b members parts p text
+      → now ≡ with_member members p
+      → MayBeServed watch b (parts ++ p ∷ []) (texts ++ text ∷ []) now
+  group_push parts texts members now p text group fits is = record {
+    parts_are = parts_push [] [] parts texts p text group.parts_are
+        (subst (λ (l : List Command). Stands l parts p text) group.members_are (fits.is, fits.leaves));
+    members_are = is ∙ ap (λ (l : List Command). with_member l p) group.members_are ∙ sym (members_push parts p);
+    few = subst (λ (l : List Command). length l ≤ MAX_GROUP) (sym is) fits.room;
+  }
+
+-- ---- what a part shows stays
+
+any_there : (m : Contents) (ahead : List Command) (c : Command) (before : List GroupLine) (p : GroupLine)
+    (later : List GroupLine)
+    → list_any (disturbs m ahead c) (before ++ p ∷ later) ≡ false → disturbs m ahead c p ≡ false
+any_there m ahead c [] p later none = or_left (disturbs m ahead c p) (list_any (disturbs m ahead c) later) none
+any_there m ahead c (q ∷ before) p later none = any_there m ahead c before p later
+    (or_right (disturbs m ahead c q) (list_any (disturbs m ahead c) (before ++ p ∷ later)) none)
+
+module _ (watch : Bool) (b : GroupStart) (cells elements : ℕ) (is : IsMemory cells elements b.memory) (p : GroupLine)
+    (who : Waiter)
+    (looks : (m : Contents) (ahead : List Command) (c : Command) → disturbs m ahead c p ≡ false
+    → may_change m ahead who c ≡ false) where
+  recalled_next : (ahead : List Command) (c : Command) → disturbs b.memory ahead c p ≡ false
+      → recall (memory_between b (ahead ++ c ∷ [])).windows who ≡ recall (memory_between b ahead).windows who
+  recalled_next ahead c calm =
+      ap (λ (m : Contents). recall m.windows who) (contents_behind b.memory b.places ahead c)
+      ∙ recall_with cells elements (memory_between b ahead) (after_memory cells elements b.memory b.places ahead is)
+      (places_between b ahead) c who
+      (may_change_there cells elements b.memory b.places ahead who c is (looks b.memory ahead c calm))
+
+  -- whatever members of these parts act
+  recalled_still : (k : ℕ) (ahead : List Command) (shown before later parts : List GroupLine) (texts : List (List ℕ))
+      → shown ≡ before ++ p ∷ later
+      → StandTogether watch b ahead shown parts texts
+      → recall (memory_between b (ahead ++ take k (members_in parts))).windows who ≡ recall
+      (memory_between b ahead).windows who
+  recalled_still zero ahead shown before later parts texts there are = ap
+      (λ (l : List Command). recall (memory_between b l).windows who) (append-nil ahead)
+  recalled_still (suc k) ahead shown before later [] texts there are = ap
+      (λ (l : List Command). recall (memory_between b l).windows who) (append-nil ahead)
+  recalled_still (suc k) ahead shown before later (q ∷ parts) [] there are = absurd are
+  recalled_still (suc k) ahead shown before later (Member c ∷ parts) (t ∷ texts) there are =
+      ap (λ (l : List Command). recall (memory_between b l).windows who)
+      (sym (append_assoc ahead (c ∷ []) (take k (members_in parts))))
+      ∙ recalled_still k (ahead ++ c ∷ []) (shown ++ Member c ∷ []) before (later ++ Member c ∷ []) parts texts
+      (ap (λ (l : List GroupLine). l ++ Member c ∷ []) there ∙ append_assoc before (p ∷ later) (Member c ∷ [])) are.1.1
+      ∙ recalled_next ahead c
+      (any_there b.memory ahead c before p later
+      (subst (λ (l : List GroupLine). list_any (disturbs b.memory ahead c) l ≡ false) there are.1.0))
+  recalled_still (suc k) ahead shown before later (Collect other ∷ parts) (t ∷ texts) there are =
+      recalled_still (suc k) ahead (shown ++ Collect other ∷ []) before (later ++ Collect other ∷ []) parts texts
+      (ap (λ (l : List GroupLine). l ++ Collect other ∷ []) there
+      ∙ append_assoc before (p ∷ later) (Collect other ∷ [])) are.1.1
+  recalled_still (suc k) ahead shown before later (Entry other ∷ parts) (t ∷ texts) there are =
+      recalled_still (suc k) ahead (shown ++ Entry other ∷ []) before (later ++ Entry other ∷ []) parts texts
+      (ap (λ (l : List GroupLine). l ++ Entry other ∷ []) there ∙ append_assoc before (p ∷ later) (Entry other ∷ []))
+      are.1.1
+  recalled_still (suc k) ahead shown before later (Known given ∷ parts) (t ∷ texts) there are =
+      recalled_still (suc k) ahead (shown ++ Known given ∷ []) before (later ++ Known given ∷ []) parts texts
+      (ap (λ (l : List GroupLine). l ++ Known given ∷ []) there ∙ append_assoc before (p ∷ later) (Known given ∷ []))
+      are.1.1
+
+-- ---- the answers are told
+
+pub told_nothing : (given : Answer) → told_with given [] ≡ []
+told_nothing (answer.Served c (Ok outcome)) = refl
+told_nothing (answer.Served c (Err refusal)) = refl
+told_nothing (answer.Kept who result) = refl
+told_nothing (answer.Entry who result) = refl
+told_nothing (answer.Window element result) = refl
+told_nothing (answer.Room room) = refl
+told_nothing (answer.Turned done) = refl
+told_nothing (answer.Count count) = refl
+told_nothing (answer.About about) = refl
+told_nothing (answer.Wrong number fault) = refl
+
+back : (a : Result Outcome Refusal) → result_of (as_served a) ≡ a
+back (Ok outcome) = refl
+back (Err refusal) = refl
+
+pub mapped_none : {X Y : Type 0} (f : X → Y) (xs : List X) → length xs ≡ 0 → length (map f xs) ≡ 0
+mapped_none f [] none = refl
+mapped_none f (x ∷ xs) none = absurd (omega (arith, none))
+
+pub none_by : {X : Type 0} (o : Option X) → ((x : X) → o ≡ Some x → ⊥) → o ≡ None
+none_by None not = refl
+none_by (Some x) not = absurd (not x refl)
+
+-- what an option says that is no `Some`
+pub match_none : {X : Type 0} (o : Option X) (A : Type 0) (B : X → Type 0) → MatchOption o A B
+    → ((x : X) → o ≡ Some x → ⊥) → A
+match_none None A B is not = is
+match_none (Some x) A B is not = absurd (not x refl)
+
+module _ {D : Type 0} (watch : Bool) (old : EngineState D) where
+  abbrev b : GroupStart
+  b = group_start old
+
+  -- these members were served; the answers to some parts were told, and these parts and answers are left
+  pub record Telling (cs : List Command) (parts : List GroupLine) (texts : List (List ℕ)) (answers : List Served)
+      (text : List ℕ) : Type 0 where
+    pub ahead : List Command
+    pub shown : List GroupLine
+    pub more : List Command
+    pub many : ℕ
+    pub all : cs ≡ ahead ++ more
+    pub first : more ≡ take many (members_in parts)
+    pub parts_are : StandTogether watch b ahead shown parts texts
+    pub answers_are : answers ≡ map as_served (answers_with (memory_between b ahead) (places_between b ahead) more)
+    pub tells : SaysAll watch old ahead text
+
+  -- a member's answer
+  tells_member : (ahead : List Command) (text told more name : List ℕ) (c : Command) → SaysAll watch old ahead text
+      → IsGroupLine watch b ahead (Member c) told
+      → let a = answer_with (memory_between b ahead) (places_between b ahead) c in
+      more ≡ text ++ (answer_text name (answer.Served c a) ++ told_with (answer.Served c a) told)
+      → SaysAll watch old (ahead ++ c ∷ []) more
+  tells_member ahead text told more name c tells (asked, is_told) is = λ start base at.
+      told_member watch start b base ahead text (tells start base at) asked.0 name c asked.1 more
+      (is ∙ ap (λ (t : List ℕ). text
+      ++ (answer_text name (answer.Served c (answer_with (memory_between b ahead) (places_between b ahead) c))
+      ++ t)) (is_told _ refl))
+
+  tells_shown : (ahead : List Command) (text more name : List ℕ) (asked : Asked) (given : Answer)
+      → SaysAll watch old ahead text → IsAsked asked
+      → IsKnown (memory_between b ahead) (count_between b ahead) asked given
+      → more ≡ text ++ (answer_text name given ++ told_with given []) → SaysAll watch old ahead more
+  tells_shown ahead text more name asked given tells read shown is = λ start base at.
+      told_shown watch start b base ahead text (tells start base at) read.0 name asked given read.1 shown more
+      (is ∙ ap (λ (t : List ℕ). text ++ (answer_text name given ++ t))
+      (told_nothing given ∙ sym (shown.tells watch (memory_between b ahead))))
+
+  looked : (m : Contents) (n : ℕ) (asked : Asked) (given : Answer) → Answers m n (Some asked) given
+      → ((any : Contents) → put_by any given ≡ []) → ((watch : Bool) (any : Contents) → watch_text watch any given ≡ [])
+      → IsKnown m n asked given
+  looked m n asked given answers puts tells = record { answers = answers; puts = puts; tells = tells }
+
+  module _ (cells elements : ℕ) (is : IsMemory cells elements old.memory) (m : Contents) (cs : List Command)
+      (after_all : m ≡ memory_between b cs) where
+    -- the next part's answer
+    pub telling_next : (p : GroupLine) (parts : List GroupLine) (t : List ℕ) (texts : List (List ℕ))
+        (answers : List Served) (text more name : List ℕ) (given : Answer)
+        → Telling cs (p ∷ parts) (t ∷ texts) answers text → line_answer m answers p ≡ Some given
+        → more ≡ text ++ (answer_text name given ++ told_with given t)
+        → Telling cs parts texts (answers_behind p answers) more
+    telling_next (Member c) parts t texts [] text more name given telling is_given same = absurd (cc)
+    telling_next (Member c) parts t texts (a ∷ answers) text more name given telling is_given same =
+        by_many telling.many telling.more telling.first telling.all telling.answers_are
+      where
+        M : Contents
+        M = memory_between b telling.ahead
+
+        L : ℕ
+        L = places_between b telling.ahead
+
+        given_is : given ≡ answer.Served c (result_of a)
+        given_is = cc
+
+        on : (rest : List Command) → cs ≡ telling.ahead ++ (c ∷ rest) → (k : ℕ) → rest ≡ take k (members_in parts)
+            → a ∷ answers ≡ as_served (answer_with M L c) ∷ map as_served
+            (answers_with (contents_with M L c) (places_behind M L c) rest)
+            → Telling cs parts texts answers more
+        on rest all k first are =
+            let head : a ≡ as_served (answer_with M L c) = cc in
+            let tail : answers ≡ map as_served (answers_with (contents_with M L c) (places_behind M L c) rest) = cc in
+            let result : result_of a ≡ answer_with M L c = ap result_of head ∙ back (answer_with M L c) in
+            record {
+              ahead = telling.ahead ++ c ∷ [];
+              shown = telling.shown ++ Member c ∷ [];
+              more = rest;
+              many = k;
+              all = all ∙ sym (append_assoc telling.ahead (c ∷ []) rest);
+              first = first;
+              parts_are = telling.parts_are.1.1;
+              answers_are = tail
+                  ∙ ap (λ (n : Contents). map as_served (answers_with n (places_behind M L c) rest))
+                  (sym (contents_behind b.memory b.places telling.ahead c))
+                  ∙ ap (λ (k : ℕ). map as_served (answers_with (memory_between b (telling.ahead ++ c ∷ [])) k rest))
+                  (sym (left_behind b.memory b.places telling.ahead c));
+              tells = tells_member telling.ahead text t more name c telling.tells telling.parts_are.0
+                  (same ∙ ap (λ (g : Answer). text ++ (answer_text name g ++ told_with g t))
+                  (given_is ∙ ap (λ r. answer.Served c r) result));
+            }
+
+        by_many : (k : ℕ) (rest : List Command) → rest ≡ take k (c ∷ members_in parts) → cs ≡ telling.ahead ++ rest
+            → a ∷ answers ≡ map as_served (answers_with M L rest) → Telling cs parts texts answers more
+        by_many zero rest first all are =
+            let none : a ∷ answers ≡ [] = are ∙ ap (λ (l : List Command). map as_served (answers_with M L l)) first in
+            absurd (cc)
+        by_many (suc k) rest first all are = on (take k (members_in parts))
+            (all ∙ ap (λ (l : List Command). telling.ahead ++ l) first) k refl
+            (are ∙ ap (λ (l : List Command). map as_served (answers_with M L l)) first)
+    telling_next (Collect who) parts t texts answers text more name given telling is_given same =
+        let given_is : given ≡ answer.Kept who (ask m.windows who) = cc in
+        let still = recalled_still watch b cells elements is (Collect who) who (λ n ahead c e. e) telling.many
+        telling.ahead (telling.shown ++ Collect who ∷ [])
+        telling.shown [] parts texts refl telling.parts_are.1.1 in
+        let there = after_all
+        ∙ ap (λ (l : List Command). memory_between b l)
+        (telling.all ∙ ap (λ (l : List Command). telling.ahead ++ l) telling.first) in
+        let result = ask_recalls m.windows who ∙ ap entry_of (ap (λ (n : Contents). recall n.windows who) there ∙ still)
+        ∙ sym (ask_recalls (memory_between b telling.ahead).windows who) in
+        record {
+          ahead = telling.ahead;
+          shown = telling.shown ++ Collect who ∷ [];
+          more = telling.more;
+          many = telling.many;
+          all = telling.all;
+          first = telling.first;
+          parts_are = telling.parts_are.1.1;
+          answers_are = telling.answers_are;
+          tells = tells_shown telling.ahead text more name (asks.Collect who) (answer.Kept who (ask m.windows who))
+              telling.tells telling.parts_are.0.0
+              (looked (memory_between b telling.ahead) (count_between b telling.ahead) (asks.Collect who)
+              (answer.Kept who (ask m.windows who))
+              (ap (λ r. answer.Kept who r) result) (λ any. refl) (λ watch any. refl))
+              (same ∙ ap (λ (g : Answer). text ++ (answer_text name g ++ told_with g t)) given_is
+              ∙ ap (λ (l : List ℕ). text
+              ++ (answer_text name (answer.Kept who (ask m.windows who))
+              ++ told_with (answer.Kept who (ask m.windows who)) l)) telling.parts_are.0.1);
+        }
+    telling_next (Entry who) parts t texts answers text more name given telling is_given same =
+        let given_is : given ≡ answer.Entry who (recall m.windows who) = cc in
+        let still = recalled_still watch b cells elements is (Entry who) who (λ n ahead c e. e) telling.many
+        telling.ahead (telling.shown ++ Entry who ∷ [])
+        telling.shown [] parts texts refl telling.parts_are.1.1 in
+        let there = after_all
+        ∙ ap (λ (l : List Command). memory_between b l)
+        (telling.all ∙ ap (λ (l : List Command). telling.ahead ++ l) telling.first) in
+        let result = ap (λ (n : Contents). recall n.windows who) there ∙ still in
+        record {
+          ahead = telling.ahead;
+          shown = telling.shown ++ Entry who ∷ [];
+          more = telling.more;
+          many = telling.many;
+          all = telling.all;
+          first = telling.first;
+          parts_are = telling.parts_are.1.1;
+          answers_are = telling.answers_are;
+          tells = tells_shown telling.ahead text more name (asks.Entry who) (answer.Entry who (recall m.windows who))
+              telling.tells telling.parts_are.0.0
+              (looked (memory_between b telling.ahead) (count_between b telling.ahead) (asks.Entry who)
+              (answer.Entry who (recall m.windows who))
+              (ap (λ r. answer.Entry who r) result) (λ any. refl) (λ watch any. refl))
+              (same ∙ ap (λ (g : Answer). text ++ (answer_text name g ++ told_with g t)) given_is
+              ∙ ap (λ (l : List ℕ). text
+              ++ (answer_text name (answer.Entry who (recall m.windows who))
+              ++ told_with (answer.Entry who (recall m.windows who)) l)) telling.parts_are.0.1);
+        }
+    telling_next (Known known) parts t texts answers text more name given telling is_given same =
+        let given_is : given ≡ known = cc in
+        record {
+          ahead = telling.ahead;
+          shown = telling.shown ++ Known known ∷ [];
+          more = telling.more;
+          many = telling.many;
+          all = telling.all;
+          first = telling.first;
+          parts_are = telling.parts_are.1.1;
+          answers_are = telling.answers_are;
+          tells = tells_shown telling.ahead text more name telling.parts_are.0.0.0 known telling.tells
+              telling.parts_are.0.0.1 telling.parts_are.0.0.2
+              (same ∙ ap (λ (g : Answer). text ++ (answer_text name g ++ told_with g t)) given_is
+              ∙ ap (λ (l : List ℕ). text ++ (answer_text name known ++ told_with known l)) telling.parts_are.0.1);
+        }
+
+  -- ---- all of them
+
+  no_more : (ahead more cs : List Command) (text : List ℕ) → cs ≡ ahead ++ more → more ≡ []
+      → SaysAll watch old ahead text → SaysAll watch old cs text
+  no_more ahead more cs text all none tells = subst (λ (l : List Command). SaysAll watch old l text)
+      (sym (all ∙ ap (λ (l : List Command). ahead ++ l) none ∙ append-nil ahead)) tells
+
+  -- no part is left
+  pub telling_done : (cs : List Command) (texts : List (List ℕ)) (answers : List Served) (text : List ℕ)
+      → Telling cs [] texts answers text → SaysAll watch old cs text
+  telling_done cs texts answers text telling = no_more telling.ahead telling.more cs text telling.all
+      (telling.first ∙ nothing telling.many) telling.tells
+    where
+      nothing : (k : ℕ) → take k (members_in []) ≡ []
+      nothing zero = refl
+      nothing (suc k) = refl
+
+  -- no answer is left
+  pub telling_cut : (m : Contents) (cs : List Command) (p : GroupLine) (parts : List GroupLine) (texts : List (List ℕ))
+      (answers : List Served) (text : List ℕ)
+      → Telling cs (p ∷ parts) texts answers text → line_answer m answers p ≡ None → SaysAll watch old cs text
+  telling_cut m cs (Member c) parts texts (a ∷ answers) text telling none = absurd (cc)
+  telling_cut m cs (Collect who) parts texts answers text telling none = absurd (cc)
+  telling_cut m cs (Entry who) parts texts answers text telling none = absurd (cc)
+  telling_cut m cs (Known given) parts texts answers text telling none = absurd (cc)
+  telling_cut m cs (Member c) parts texts [] text telling none = no_more telling.ahead telling.more cs text telling.all
+      (nobody telling.more telling.answers_are) telling.tells
+    where
+      nobody : (more : List Command)
+          → [] ≡ map as_served (answers_with (memory_between b telling.ahead) (places_between b telling.ahead) more)
+          → more ≡ []
+      nobody [] are = refl
+      nobody (d ∷ more) are = absurd (cc)
+
+  -- there is such a text, for the members alone
+  some_member : (ahead : List Command) (text told : List ℕ) (c : Command) → SaysAll watch old ahead text
+      → IsGroupLine watch b ahead (Member c) told
+      → SaysAll watch old (ahead ++ c ∷ [])
+      (text ++ (answer_text [] (answer.Served c (answer_with (memory_between b ahead) (places_between b ahead) c))
+      ++ told_with (answer.Served c (answer_with (memory_between b ahead) (places_between b ahead) c)) told))
+  some_member ahead text told c tells part = tells_member ahead text told _ [] c tells part refl
+
+  some_from : (k : ℕ) (ahead : List Command) (shown parts : List GroupLine) (texts : List (List ℕ)) (text : List ℕ)
+      → SaysAll watch old ahead text
+      → StandTogether watch b ahead shown parts texts → (all : List ℕ)
+      × SaysAll watch old (ahead ++ take k (members_in parts)) all
+  some_from zero ahead shown parts texts text tells are =
+      (text, subst (λ (l : List Command). SaysAll watch old l text) (sym (append-nil ahead)) tells)
+  some_from (suc k) ahead shown [] texts text tells are =
+      (text, subst (λ (l : List Command). SaysAll watch old l text) (sym (append-nil ahead)) tells)
+  some_from (suc k) ahead shown (p ∷ parts) [] text tells are = absurd are
+  some_from (suc k) ahead shown (Member c ∷ parts) (t ∷ texts) text tells are =
+      let rest = some_from k (ahead ++ c ∷ []) (shown ++ Member c ∷ []) parts texts _
+      (some_member ahead text t c tells are.0) are.1.1 in (
+        rest.0,
+        subst (λ (l : List Command). SaysAll watch old l rest.0)
+            (append_assoc ahead (c ∷ []) (take k (members_in parts))) rest.1,
+      )
+  some_from (suc k) ahead shown (Collect who ∷ parts) (t ∷ texts) text tells are = some_from (suc k) ahead
+      (shown ++ Collect who ∷ []) parts texts text tells are.1.1
+  some_from (suc k) ahead shown (Entry who ∷ parts) (t ∷ texts) text tells are = some_from (suc k) ahead
+      (shown ++ Entry who ∷ []) parts texts text tells are.1.1
+  some_from (suc k) ahead shown (Known given ∷ parts) (t ∷ texts) text tells are = some_from (suc k) ahead
+      (shown ++ Known given ∷ []) parts texts text tells are.1.1
+
+  pub some_text : (many : ℕ) (parts : List GroupLine) (texts : List (List ℕ)) (members : List Command)
+      → MayBeServed watch b parts texts members
+      → (all : List ℕ) × SaysAll watch old (take many members) all
+  some_text many parts texts members group =
+      let all = some_from many [] [] parts texts [] (λ start base at. told_none watch start b base at) group.parts_are
+      in
+      (all.0, subst (λ (l : List Command). SaysAll watch old (take many l) all.0) (sym group.members_are) all.1)
+
+  -- the next part, as the lists stand
+  pub telling_step : (all : List GroupLine) (all_texts : List (List ℕ)) (members cs : List Command)
+      (all_answers : List Served) (m : Contents)
+      → WasServed watch old all all_texts members cs all_answers m
+      → (p : GroupLine) (parts rest : List GroupLine) (t : List ℕ) (texts others : List (List ℕ))
+      (answers left : List Served) (text more name : List ℕ) (given : Answer)
+      → parts ≡ p ∷ rest → texts ≡ t ∷ others → left ≡ answers_behind p answers → line_answer m answers p ≡ Some given
+      → more ≡ text ++ (answer_text name given ++ told_with given t) → Telling cs parts texts answers text
+      → Telling cs rest others left more
+  telling_step all all_texts members cs all_answers m served p parts rest t texts others answers left text more name
+      given parts_are texts_are left_is given_is same telling =
+      subst (λ (l : List Served). Telling cs rest others l more) (sym left_is)
+      (telling_next (length old.memory.cells) (length old.memory.windows) served.is_memory m cs served.memory_is p rest
+      t others answers text more name given
+      (subst (λ (l : List GroupLine). Telling cs l (t ∷ others) answers text) parts_are
+      (subst (λ (l : List (List ℕ)). Telling cs parts l answers text) texts_are telling)) given_is same)
+
+  pub telling_ends : (m : Contents) (cs : List Command) (p : GroupLine) (parts rest : List GroupLine)
+      (texts : List (List ℕ)) (answers : List Served) (text : List ℕ)
+      → parts ≡ p ∷ rest → line_answer m answers p ≡ None → Telling cs parts texts answers text
+      → SaysAll watch old cs text
+  telling_ends m cs p parts rest texts answers text parts_are none telling =
+      telling_cut m cs p rest texts answers text
+      (subst (λ (l : List GroupLine). Telling cs l texts answers text) parts_are telling) none
+
+  pub telling_over : (cs : List Command) (parts : List GroupLine) (texts : List (List ℕ)) (answers : List Served)
+      (text : List ℕ) → length parts ≡ 0
+      → Telling cs parts texts answers text → SaysAll watch old cs text
+  telling_over cs [] texts answers text none telling = telling_done cs texts answers text telling
+  telling_over cs (p ∷ parts) texts answers text none telling = absurd (omega (arith, none))
+
+  -- there is a text for each part
+  pub telling_lost : (cs : List Command) (p : GroupLine) (parts rest : List GroupLine) (texts : List (List ℕ))
+      (answers : List Served) (text : List ℕ)
+      → parts ≡ p ∷ rest → length texts ≡ 0 → Telling cs parts texts answers text → SaysAll watch old cs text
+  telling_lost cs p parts rest (t ∷ texts) answers text parts_are none telling = absurd (omega (arith, none))
+  telling_lost cs p parts rest [] answers text parts_are none telling =
+      absurd ((subst (λ (l : List GroupLine). Telling cs l [] answers text) parts_are telling).parts_are)

@@ -1,0 +1,25 @@
+use Rattle.std.proofs.Common.{◌≡◌, ◌∙◌, ◌++◌, ap, sym, subst, true, length, string_bytes}
+use Rattle.im_types.specs.Contents.{Contents}
+use Rattle.im_types.specs.Memory.{IsMemory}
+use Rattle.im_types.specs.Act.{act}
+use Rattle.im_types.specs.Step.{asker}
+use Rattle.im_dialogue.specs.Looks.{is_first}
+use Rattle.im_dialogue.specs.Watching.{nows_text}
+use Rattle.im_dialogue.proofs.FitLemmas.{told_first}
+use Rattle.im_dialogue.proofs.grouping.add_answered.Goals as goal
+
+pub returns-in_ok-add_resumed : goal.returns-in_ok-add_resumed
+returns-in_ok-add_resumed c = λ known b same.
+    let m = c.args.memory.now.contents in
+    let is : IsMemory (length m.cells) (length m.windows) b.memory
+    = subst (λ (x : Contents). IsMemory (length m.cells) (length m.windows) x) (sym same) c.cells-cells.ensures.memory
+    in
+    let first : is_first b.memory c.args.ahead.now c.args.request.now ≡ true
+    = ap (λ (x : Contents). is_first x c.args.ahead.now c.args.request.now) same ∙ sym c.is_first.ensures
+    ∙ c.if-is_first.true in
+    told_first (length m.cells) (length m.windows) b is c.args.ahead.now c.args.request.now first
+    (string_bytes c.add_resumed.new.out)
+    (c.in_ok-add_resumed.ensures
+    ∙ ap (λ t. t ++ nows_text (act m.cells (asker c.args.request.now) c.args.request.now.op).resumed) c.requires.empty
+    ∙ ap (λ (x : Contents). nows_text (act x.cells (asker c.args.request.now) c.args.request.now.op).resumed)
+    (sym same))

@@ -1,0 +1,25 @@
+use Rattle.std.proofs.Common.{subst, string_bytes}
+use Rattle.im_dialogue.specs.declared.asking.Asked.{Asked}
+use Rattle.im_dialogue.specs.Together.{IsAsked, group_start}
+use Rattle.im_dialogue.proofs.FitLemmas.{known_fits}
+use Rattle.im_dialogue.proofs.grouping.part_of.Goals as goal
+
+pub returns-in-Collect : goal.returns-in-Collect
+returns-in-Collect g c = record {
+  is = (subst (λ (a : Asked). IsAsked a) c.in-Collect.is c.requires.asked, c.requires.empty);
+  leaves = tt;
+  room = c.requires.few;
+}
+
+pub returns-in-Entry : goal.returns-in-Entry
+returns-in-Entry g c = record {
+  is = (subst (λ (a : Asked). IsAsked a) c.in-Entry.is c.requires.asked, c.requires.empty);
+  leaves = tt;
+  room = c.requires.few;
+}
+
+pub returns-in_default : goal.returns-in_default
+returns-in_default g c = known_fits c.known.result c.args.setting.watch (group_start c.args.engine.now)
+    c.as_slice.result.now
+    c.args.group.now.members.items c.args.group.now.parts.items (string_bytes c.args.now.now) c.requires.empty
+    c.as_slice.ensures.value c.known.ensures

@@ -1,0 +1,24 @@
+use Rattle.std.proofs.Common.{◌∷◌, ◌++◌, [], List, ℕ, map, sym, subst, string_bytes}
+use Rattle.im_dialogue.specs.declared.group_line.GroupLine.{GroupLine}
+use Rattle.im_dialogue.specs.Together.{MayBeServed, group_start}
+use Rattle.im_dialogue.proofs.FitLemmas.{some_of}
+use Rattle.im_dialogue.proofs.PartLemmas.{group_push}
+use Rattle.im_dialogue.proofs.grouping.take_part.Goals as goal
+
+pub returns-in_ok-add_part-in-Some : goal.returns-in_ok-add_part-in-Some
+returns-in_ok-add_part-in-Some g c =
+    let watch = c.args.setting.watch in
+    let b = group_start c.args.engine.now in
+    let was = c.args.group.now in
+    let now = c.add_part.new.group in
+    let e = c.in_ok-add_part-in-Some.ensures in
+    let text = string_bytes c.part_of.new.now in
+    let fits = some_of _ _ c.in-Some.part c.in-Some.is c.in_ok-found.ensures in
+    let more = map string_bytes was.nows.items ++ text ∷ [] in
+    subst (λ (l : List GroupLine). MayBeServed watch b l (map string_bytes now.nows.items) now.members.items)
+    (sym e.parts)
+    (subst (λ (l : List (List ℕ)). MayBeServed watch b (was.parts.items ++ c.in-Some.part ∷ []) l now.members.items)
+    (sym e.nows)
+    (group_push watch b was.parts.items (map string_bytes was.nows.items) was.members.items now.members.items
+    c.in-Some.part
+    text c.requires.group fits e.members))

@@ -1,0 +1,10 @@
+use Rattle.std.proofs.Common.{map, string_bytes, drop}
+use Rattle.im_dialogue.specs.Together.{AreAsked, MayBeServed, group_start}
+use Rattle.im_dialogue.proofs.grouping.take_parts.Given as goal
+
+abbrev pub invariant-loop-line : goal.invariant-loop-line
+invariant-loop-line g l = record {
+  asked : AreAsked (drop l.line-index l.asked);
+  group : MayBeServed l.setting.watch (group_start l.engine) l.group.parts.items (map string_bytes l.group.nows.items)
+      l.group.members.items;
+}

@@ -1,0 +1,42 @@
+use Rattle.std.proofs.Common.{◌∙◌, sym, subst, ap}
+use Rattle.im_types.specs.Contents.{Contents}
+use Rattle.im_types.specs.Window.{bounds}
+use Rattle.im_groups.specs.Ahead.{moved_by}
+use Rattle.im_dialogue.specs.declared.asking.Asked.{Asked}
+use Rattle.im_dialogue.specs.declared.answers.Answer.TheVariants as answer
+use Rattle.im_dialogue.specs.Together.{IsKnown, group_start, count_between, memory_between}
+use Rattle.im_dialogue.proofs.FitLemmas.{about_shown, count_shown, room_shown, window_shown}
+use Rattle.im_dialogue.proofs.known.shown.Goals as goal
+
+pub returns-in-Window : goal.returns-in-Window
+returns-in-Window g c = λ ahead is.
+    let b = group_start c.args.engine.now in
+    let e = c.in-Window.element in
+    let given = answer.Window e c.window_behind.result in
+    let moved = λ (m : Contents). moved_by e c.args.put.now (bounds m.windows e) in
+    subst (λ (a : Asked). IsKnown (memory_between b ahead) (count_between b ahead) a given) (sym c.in-Window.is)
+    (window_shown b ahead c.args.put.now is e c.window_behind.result
+    (c.window_behind.ensures ∙ ap moved c.memory.ensures))
+
+pub returns-in-Room : goal.returns-in-Room
+returns-in-Room g c = λ ahead is.
+    let b = group_start c.args.engine.now in
+    let given = answer.Room c.room_behind.result in
+    subst (λ (a : Asked). IsKnown (memory_between b ahead) (count_between b ahead) a given) (sym c.in-Room.is)
+    (room_shown b ahead c.args.put.now is c.room_behind.result)
+
+pub returns-in-Count : goal.returns-in-Count
+returns-in-Count g c = λ ahead is.
+    let b = group_start c.args.engine.now in
+    let given = answer.Count c.count_behind.result in
+    subst (λ (a : Asked). IsKnown (memory_between b ahead) (count_between b ahead) a given) (sym c.in-Count.is)
+    (count_shown b ahead c.args.put.now is c.count_behind.result c.count_behind.ensures)
+
+pub returns-in-About : goal.returns-in-About
+returns-in-About g c = λ ahead is.
+    let b = group_start c.args.engine.now in
+    let about = c.about_behind.ensures.about in
+    let given = answer.About c.about_behind.result in
+    subst (λ (a : Asked). IsKnown (memory_between b ahead) (count_between b ahead) a given) (sym c.in-About.is)
+    (about_shown b ahead c.args.put.now is c.about_behind.ensures.memory c.args.slots about.0 c.about_behind.result
+    about.1)

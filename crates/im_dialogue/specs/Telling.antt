@@ -1,0 +1,43 @@
+-- What is said by the answers to a group. (Own.)
+use Rattle.std.specs.Prelude.{◌≡◌, ℕ, ◌+◌, Bool, List, [], ◌++◌, length, map, take}
+use Rattle.im_types.specs.declared.commands.Command.{Command}
+use Rattle.im_types.specs.declared.groups.Served.{Served}
+use Rattle.im_types.specs.Contents.{Contents}
+use Rattle.im_types.specs.Groups.{as_served}
+use Rattle.im_types.specs.Memory.{IsMemory}
+use Rattle.im_types.specs.Run.{after}
+use Rattle.im_groups.specs.Commands.{answers_with, commands_at}
+use Rattle.im_engine.specs.State.{EngineState}
+use Rattle.im_dialogue.specs.declared.group_line.GroupLine.{GroupLine}
+use Rattle.im_dialogue.specs.Talk.{AreAnswered, Exchange, put_of, texts_of}
+use Rattle.im_dialogue.specs.Together.{GroupStart, MayBeServed, group_start, count_between, memory_between}
+
+-- what was said comes to the memory and the count behind these members
+pub record Reaches {D : Type 0} (start : EngineState D) (b : GroupStart) (said : List Exchange) (ahead : List Command) :
+    Type 0 where
+  pub answered : AreAnswered start.memory start.count said
+  pub memory : memory_between b ahead ≡ after start.memory (put_of start.memory said)
+  pub count : count_between b ahead ≡ start.count + length (put_of start.memory said)
+
+-- lines with these members and this text were said on what was said before
+pub record SaidMore {D : Type 0} (watch : Bool) (start : EngineState D) (b : GroupStart) (base : List Exchange)
+    (ahead : List Command) (text : List ℕ) : Type 0 where
+  pub said : List Exchange
+  pub reach : Reaches start b said ahead
+  pub put : put_of start.memory said ≡ put_of start.memory base ++ commands_at b.memory b.places ahead
+  pub texts : texts_of watch start.memory said ≡ texts_of watch start.memory base ++ text
+
+-- whatever was said before the group, lines with these members and this text were said on it
+abbrev pub SaysAll : {D : Type 0} → Bool → EngineState D → List Command → List ℕ → Type 0
+SaysAll {D} watch old ahead text = (start : EngineState D) (base : List Exchange)
+    → Reaches start (group_start old) base [] → SaidMore watch start (group_start old) base ahead text
+
+-- of a group on this engine these members were served, with these answers, and it came to this memory
+pub record WasServed {D : Type 0} (watch : Bool) (old : EngineState D) (parts : List GroupLine) (texts : List (List ℕ))
+    (members served : List Command) (answers : List Served) (m : Contents) : Type 0 where
+  pub is_memory : IsMemory (length old.memory.cells) (length old.memory.windows) old.memory
+  pub group : MayBeServed watch (group_start old) parts texts members
+  pub many : ℕ
+  pub first : served ≡ take many members
+  pub answers_are : answers ≡ map as_served (answers_with old.memory (group_start old).places served)
+  pub memory_is : m ≡ memory_between (group_start old) served

@@ -1,0 +1,172 @@
+//! The answers to lines of a group that are known before its members act: an element's window, and counts.
+ghost use Rattle.std.specs.Prelude.{◌≡◌, ◌≤◌, ◌+◌, ◌-◌, [], Bool, List, ℕ, length, true, if◌then◌else◌, IfOk, IfSome};
+ghost use Rattle.im_types.specs.declared.TheConstants.{LAST, MAX_GROUP};
+ghost use Rattle.im_types.specs.Window.{bounds};
+ghost use Rattle.im_types.specs.Memory.{IsMemory};
+ghost use Rattle.im_groups.specs.Ahead.{bounds_behind, moved_by};
+ghost use Rattle.im_engine.specs.Commands.{after_commands, commands_put};
+ghost use Rattle.im_dialogue.specs.Talk.{about_of};
+ghost use Rattle.im_dialogue.specs.Together.{IsAsked, IsKnown, MayStandNext, count_between, group_start, memory_between};
+
+use crate::about::About;
+use crate::answers::Answer;
+use crate::asking::Asked;
+use crate::group_line::GroupLine;
+use arrayvec::ArrayVec;
+use im_disk::Disk;
+use im_engine::Engine;
+use im_groups::judge_members;
+use im_memory::Memory;
+use im_types::layout::Version;
+use im_types::{Command, LAST, Refusal};
+use std::cmp::min;
+
+// Returns how many more commands can be accepted.
+fn places_of<D: Disk>(engine: &Engine<D>) -> u64
+    ensures { result ≡ (group_start engine.now).places }
+{
+    min(engine.room() as u64, LAST.saturating_sub(engine.count()))
+}
+
+// Finds which of the members ahead will be put on the disk. Returns whether that is known of all of them.
+fn judge_all<D: Disk>(
+    engine: &Engine<D>,
+    ahead: &[Command],
+    put: &mut ArrayVec<Command, 16>,
+) -> bool
+    requires fits { length ahead.now ≤ MAX_GROUP }
+    requires empty { put.old.items ≡ [] }
+    ensures { result ≡ true → put.new.items ≡ commands_put engine.now ahead.now }
+{
+    judge_members(engine.memory(), places_of(engine), ahead, put) == ahead.len()
+}
+
+// Returns the bounds that are moved, or those that were.
+fn moved_if(moves: bool, moved: (u64, u64), bounds: (u64, u64)) -> (u64, u64)
+    ensures { result ≡ (if moves then moved else bounds) }
+{
+    if moves { moved } else { bounds }
+}
+
+// Returns the bounds of an element's window after an accepted command.
+fn bounds_behind(bounds: (u64, u64), element: u16, command: &Command) -> (u64, u64)
+    requires low { bounds.1 ≤ LAST + 17 }
+    ensures { result ≡ bounds_behind element command.now bounds }
+{
+    match command {
+        Command::Request(request) => {
+            moved_if(request.element == element, (bounds.0, bounds.1 + 1), bounds)
+        }
+        Command::Confirm {
+            element: other,
+            upto,
+        } => moved_if(*other == element, (*upto, bounds.1), bounds),
+    }
+}
+
+// Returns the bounds of an element's window in the memory. The next number is at most one past the last number of all.
+fn bounds_now(memory: &Memory, element: u16) -> Result<(u64, u64), Refusal>
+    ensures bounds { result ≡ bounds memory.now.contents.windows element }
+    ensures low { IfOk result (λ b. b.1 ≤ LAST + 1) }
+{
+    let _cells = memory.cells(); // So that it is known that each window is within its bounds.
+    memory.window(element)
+}
+
+// Returns the bounds of an element's window after these commands, each of which is accepted in its turn.
+fn window_behind(memory: &Memory, put: &[Command], element: u16) -> Result<(u64, u64), Refusal>
+    requires few { length put.now ≤ 16 }
+    ensures { result ≡ moved_by element put.now (bounds memory.now.contents.windows element) }
+{
+    let mut bounds = match bounds_now(memory, element) {
+        Ok(bounds) => bounds,
+        Err(refusal) => return Err(refusal),
+    };
+    for command in put {
+        bounds = bounds_behind(bounds, element, command);
+    }
+    Ok(bounds)
+}
+
+// Returns how much room there is after `put` more commands.
+fn room_behind<D: Disk>(engine: &Engine<D>, put: u32) -> u32
+    requires few { put ≤ LAST - engine.now.count }
+    ensures { (ahead : List Command) → put ≡ length (commands_put engine.now ahead)
+        → result ≡ (after_commands engine.now ahead).room }
+{
+    if engine.count() + put as u64 == LAST {
+        0
+    } else {
+        engine.room().saturating_sub(put)
+    }
+}
+
+// Returns how many commands are accepted after `put` more.
+fn count_behind<D: Disk>(engine: &Engine<D>, put: u32) -> u64
+    requires few { put ≤ LAST - engine.now.count }
+    ensures { result ≡ engine.now.count + put }
+{
+    engine.count() + put as u64
+}
+
+// Returns what an image is, and how far it has come after `put` more commands. `slots` is how many slots its journal has.
+fn about_behind<D: Disk>(engine: &Engine<D>, slots: u32, put: u32) -> About
+    requires few { put ≤ LAST - engine.now.count }
+    ensures about { (room : ℕ) × (result
+        ≡ about_of engine.now.memory slots (engine.now.count + put) room) }
+    ensures memory { let m = engine.now.memory in IsMemory (length m.cells) (length m.windows) m }
+{
+    let memory = engine.memory();
+    About {
+        version: Version::Two.number(),
+        cells: memory.cells(),
+        elements: memory.elements(),
+        slots,
+        count: count_behind(engine, put),
+        room: room_behind(engine, put),
+    }
+}
+
+// Returns the answer to a line behind these commands, which are put on the disk before it, if it asks for an element's
+// window or for counts.
+fn shown<D: Disk>(engine: &Engine<D>, slots: u32, put: &[Command], asked: Asked) -> Option<Answer>
+    requires few { length put.now ≤ MAX_GROUP }
+    requires within { length put.now ≤ LAST - engine.now.count }
+    ensures { IfSome result (λ answer. (ahead : List Command) → put.now ≡ commands_put engine.now ahead
+        → let b = group_start engine.now in IsKnown (memory_between b ahead) (count_between b ahead) asked answer) }
+{
+    let many = put.len() as u32;
+    match asked {
+        Asked::Window(element) => Some(Answer::Window(
+            element,
+            window_behind(engine.memory(), put, element),
+        )),
+        Asked::Room => Some(Answer::Room(room_behind(engine, many))),
+        Asked::Count => Some(Answer::Count(count_behind(engine, many))),
+        Asked::About => Some(Answer::About(about_behind(engine, slots, many))),
+        _ => None,
+    }
+}
+
+/// Returns what a line of a group is behind these members, if its answer is known before they act.
+pub(crate) fn known<D: Disk>(
+    engine: &Engine<D>,
+    slots: u32,
+    ahead: &[Command],
+    asked: Asked,
+) -> Option<GroupLine>
+    requires fits { length ahead.now ≤ MAX_GROUP }
+    requires asked { IsAsked asked }
+    ensures { IfSome result (λ part. (watch : Bool) (shown : List GroupLine)
+        → MayStandNext watch (group_start engine.now) ahead.now shown part []) }
+{
+    let mut put = ArrayVec::new();
+    if judge_all(engine, ahead, &mut put) {
+        match shown(engine, slots, put.as_slice(), asked) {
+            Some(answer) => Some(GroupLine::Known(answer)),
+            None => None,
+        }
+    } else {
+        None
+    }
+}
