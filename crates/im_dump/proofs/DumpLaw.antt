@@ -1,5 +1,5 @@
 -- A text is the dump of at most one memory. (Own.)
-use Rattle.std.proofs.Common.{◌≡◌, ◌∙◌, inl, inr, ℕ, zero, suc, ◌+◌, ◌<◌, ◌≤◌, ◌^◌, List, [], ◌∷◌, ◌++◌, length, refl}
+use Rattle.std.proofs.Common.{◌≡◌, ◌∙◌, inl, inr, ℕ, zero, suc, ◌+◌, ◌<◌, ◌≤◌, ◌^◌, List, ◌∷◌, ◌++◌, length, refl}
 use Rattle.std.proofs.Common.{ap, ap₂, sym, arith, append_assoc, Some, subst}
 use Rattle.std.specs.Prelude.{Option, None, codes, decimal, slice_get}
 use Rattle.std.proofs.lemmas.Bool.{cases_lt, eqb-false}

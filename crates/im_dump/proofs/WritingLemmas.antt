@@ -1,21 +1,16 @@
 -- Texts of a dump, one after another, and the lines of a window. (Own.)
-use Rattle.std.proofs.Common.{◌≡◌, inl, inr, ℕ, zero, suc, subst, ◌+◌, ◌-◌, ◌<◌, ◌≤◌, ◌^◌, List, [], ◌∷◌, ◌++◌}
+use Rattle.std.proofs.Common.{◌≡◌, inl, inr, ℕ, subst, ◌+◌, ◌-◌, ◌<◌, ◌≤◌, List, [], ◌∷◌, ◌++◌}
 use Rattle.std.proofs.Common.{length, ap, ap₂, sym, ◌∙◌, append_assoc, append-nil, arith, Bool, false, Some}
-use Rattle.std.specs.Prelude.{Option, None, ◌==◌, ◌&&◌, if◌then◌else◌, slice_get}
+use Rattle.std.specs.Prelude.{Option, ◌==◌, ◌&&◌, if◌then◌else◌, slice_get}
 use Rattle.im_types.specs.declared.operations.Kept.{Kept}
 use Rattle.im_types.specs.declared.operations.Waiter.{Waiter}
 use Rattle.std.specs.List.{AllByRecursion}
 use Rattle.std.proofs.lemmas.Bool.{cases_lt}
 use Rattle.std.proofs.lemmas.Option.{slice_get_within}
-use Rattle.im_types.specs.declared.cells.Cell.{Cell}
-use Rattle.im_types.specs.declared.cells.Cell.TheVariants.{Empty as IsEmpty, Waiting as IsWaiting, Full as IsFull}
-use Rattle.im_types.specs.declared.cells.Cell.TheVariants.{Clashed as IsClashed}
-use Rattle.im_types.specs.Presences.{presence_in, presence_of}
 use Rattle.im_types.specs.Records.{FitsPlace}
-use Rattle.im_types.specs.Contents.{CellState, Empty, Full, Clashed, Held, Contents, Window, held_at, kept_for}
-use Rattle.im_types.specs.Contents.{waiters_in, waiters_of}
+use Rattle.im_types.specs.Contents.{Held, Contents, Window, held_at, kept_for}
 use Rattle.im_records.specs.Entries.{FitEntries}
-use Rattle.im_dump.specs.Fitting.{FitCells, FitWindows, FitsHeld, FitsState, FitsWaiter, FitsWindowOf}
+use Rattle.im_dump.specs.Fitting.{FitWindows, FitsHeld, FitsWaiter, FitsWindowOf}
 use Rattle.im_types.specs.Layout.{Sizes}
 use Rattle.im_text.proofs.WindowLemmas.{kept_at}
 use Rattle.im_dump.specs.Dump.{waits_line, waits_lines, kept_entry, base_line, kept_lines, window_lines, dump_text}

@@ -6,15 +6,15 @@ use Rattle.im_types.specs.Contents.{Contents}
 use Rattle.im_types.specs.Layout.{Sizes, sizes_of}
 use Rattle.im_types.specs.Meaning.{Reached, Reads}
 use Rattle.im_dump.specs.Dump.{dump_text}
-use Rattle.im_dump.specs.Fitting.{FitsContents, FitsDump}
+use Rattle.im_dump.specs.Fitting.{FitsDump}
 use Rattle.im_dump.specs.declared.loading.Loaded.{Loaded}
 
--- the bytes of a file mean a memory, its dump was written, and each number of it has its own spelling
+-- the bytes of a file mean a memory, whose numbers have each its own spelling, and its dump was written
 pub record Dumps (file : List ℕ) (was now : Option (List ℕ)) : Type 0 where
   pub reached : Reached
   pub reads : Reads (layout_in file) file (Ok reached)
   pub added : Appends was now (dump_text (header_of file).sizes reached.count reached.contents)
-  pub fits : FitsContents reached.contents
+  pub fits : FitsDump (header_of file).sizes reached.count reached.contents
 
 -- the same, if the disk is honest
 pub record WasDumped (Honest : Type 0) (file : List ℕ) (was now : Option (List ℕ)) : Type 0 where
@@ -30,3 +30,11 @@ pub record IsSame (s : Sizes) (count : ℕ) (m : Contents) (l : Loaded) : Type 0
   pub sizes : sizes_of l.limits ≡ s
   pub counted : l.count ≡ count
   pub contents : l.memory.contents ≡ m
+
+-- what was loaded is what the bytes of a file mean: sizes, count and memory
+pub record MeansLoaded (file : List ℕ) (l : Loaded) : Type 0 where
+  pub sizes : sizes_of l.limits ≡ (header_of file).sizes
+  pub reached : Reached
+  pub reads : Reads (layout_in file) file (Ok reached)
+  pub counted : l.count ≡ reached.count
+  pub contents : l.memory.contents ≡ reached.contents

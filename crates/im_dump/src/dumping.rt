@@ -5,7 +5,8 @@ ghost use Rattle.im_types.specs.Layout.{sizes_of};
 ghost use Rattle.im_disk.specs.Runs.{ReadsAlone};
 ghost use Rattle.im_dump.specs.Dump.{dump_text};
 ghost use Rattle.im_dump.specs.Dumping.{WasDumped};
-ghost use Rattle.im_dump.specs.Fitting.{FitsContents};
+ghost use Rattle.im_dump.specs.Fitting.{FitsDump};
+ghost use Rattle.im_image.specs.Reading.{AreParts};
 
 use crate::writing::add_dump;
 use im_disk::Disk;
@@ -16,11 +17,14 @@ use std::io::Write;
 
 // Writes the dump of an image that was read.
 fn write_dump<W: Write>(alloc: Global, image: &Image, out: &mut W) -> Result<(), Reason>
+    requires { AreParts image.now }
     ensures text { OnOk result (Appends (W.contents out.old) (W.contents out.new)
         (dump_text (sizes_of image.now.header.limits) image.now.journal.count image.now.memory.contents)) }
-    ensures fits { OnOk result (FitsContents image.now.memory.contents) }
+    ensures fits { OnOk result (FitsDump (sizes_of image.now.header.limits) image.now.journal.count
+        image.now.memory.contents) }
 {
     let mut text = String::new(alloc);
+    let _cells = image.memory.cells();
     let count = image.journal.count();
     match add_dump(&mut text, image.header.limits, count, &image.memory) {
         Ok(()) => put_through(out, text.as_str()),

@@ -1,10 +1,11 @@
 //! What dumping and loading come to together.
-ghost use Rattle.std.specs.Prelude.{◌≡◌, ℕ, IfOk};
+ghost use Rattle.std.specs.Prelude.{◌≡◌, ℕ, List, [], Some, IfOk};
 ghost use Rattle.im_types.specs.Contents.{Contents};
 ghost use Rattle.im_types.specs.Layout.{Sizes, sizes_of};
 ghost use Rattle.im_types.specs.Memory.{IsMemory};
 ghost use Rattle.im_dump.specs.Dump.{dump_text};
-ghost use Rattle.im_dump.specs.Dumping.{IsSame};
+ghost use Rattle.im_dump.specs.Dumping.{Dumps, IsDumpOf, IsSame, MeansLoaded};
+ghost use Rattle.im_dump.specs.declared.loading.Loaded.{Loaded};
 ghost use Rattle.im_dump.specs.Fitting.{FitsDump};
 
 use crate::faults::DumpFault;
@@ -39,4 +40,12 @@ pub fn reload(
         }
         Err(_) => Err(DumpFault::NoMemory),
     }
+}
+
+/// What is loaded of the dump of an image is what the image means: its sizes, its count and its memory.
+pub fn what_was_dumped_is_loaded()
+    ensures { (file text : List ℕ) (l : Loaded) → Dumps file (Some []) (Some text) → IsDumpOf l text
+        → MeansLoaded file l }
+{
+    one_memory_has_a_dump();
 }

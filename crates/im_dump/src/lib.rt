@@ -17,6 +17,6 @@ mod writing;
 
 pub use dumping::dump;
 pub use faults::{DumpFault, TextLineFault, Wanted};
-pub use laws::{one_memory_has_a_dump, reload};
+pub use laws::{one_memory_has_a_dump, reload, what_was_dumped_is_loaded};
 pub use loading::{Loaded, read_dump};
 pub use writing::add_dump;
