@@ -1,5 +1,9 @@
 mod Blank
+mod Chained
 mod Cleared
+mod Copies
+mod Fitted
 mod Laid
 mod Opened
+mod OtherSizes
 mod Parts

@@ -6,9 +6,7 @@ use Rattle.im_types.specs.Pages.{Records}
 use Rattle.im_disk.specs.Moment.{Moment}
 use Rattle.im_disk.specs.Since.{LeavesNow, LeavesOnly}
 use Rattle.im_image.specs.Encoding.{IsAreaPage}
-use Rattle.im_types.specs.Layout.{sizes_of}
-use Rattle.im_image.specs.declared.reading.Image.{Image}
-use Rattle.im_migration.specs.Migration.{IsBlank, IsLaidDown, moved_header}
+use Rattle.im_migration.specs.Migration.{IsBlank}
 
 -- no gate of a header is in the range
 abbrev pub IsBeside : ℕ → ℕ → Type 0
@@ -37,7 +35,3 @@ pub record IsLaid (s : Sizes) (r : Records) (pages slots : ℕ) (file : List ℕ
 abbrev pub ClosesSlots : Sizes → ℕ → List ℕ → List ℕ → Type 0
 ClosesSlots s slots old new = (r : Records) → IsLaid s r (area_pages layout_in_use s) 0 old
     → IsLaid s r (area_pages layout_in_use s) slots new
-
--- the file means what was read of an image
-abbrev pub IsMoved : Image → List ℕ → Type 0
-IsMoved i file = IsLaidDown (moved_header (sizes_of i.header.limits) i.journal.count) i.memory.contents file

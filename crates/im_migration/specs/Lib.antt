@@ -1,2 +1,4 @@
 pub mod Migration
 pub mod Laying
+pub mod Resizing
+pub mod Copying

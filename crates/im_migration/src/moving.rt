@@ -6,27 +6,24 @@ ghost use Rattle.im_types.specs.Layout as layout;
 ghost use Rattle.im_types.specs.Layout.{layout_1, layout_in_use, sizes_of};
 ghost use Rattle.im_types.specs.Meaning.{Reads};
 ghost use Rattle.im_disk.specs.Moment.{Faults};
-ghost use Rattle.im_disk.specs.Since.{LeavesNow, LeavesWithin, OnlyReads};
-ghost use Rattle.im_disk.specs.Runs.{ObeysOrRefuses};
+ghost use Rattle.im_disk.specs.Since.{LeavesNow, OnlyReads};
 ghost use Rattle.im_image.specs.Headers.{seen, MayRefuseImage};
-ghost use Rattle.im_image.specs.Reading.{AreParts};
 ghost use Rattle.im_migration.specs.Migration.{FaultsOfTwo, HasCount, IsBlank, IsNoPlace, IsPlace, IsRefused};
 ghost use Rattle.im_migration.specs.Migration.{LeavesBlankOrSame};
 ghost use Rattle.im_migration.specs.Migration.{IsUnwritten, MayRefuseMigration, MeansSame, moved_header};
-ghost use Rattle.im_migration.specs.Laying.{IsMoved};
 
 use crate::follower::Follower;
-use crate::laying::lay_down;
-use crate::place::find_place;
+use crate::putting::put_image;
 use im_disk::Disk;
 use im_image::{Header, Image, VERSION, read_old};
 use im_types::layout::image_length;
 use im_types::{Limits, Refusal};
 use std::alloc::Global;
 
-// The header of a new image with this count of commands in its first area.
-fn header_for(limits: Limits, count: u64) -> Header
-    ensures { seen result ≡ moved_header (sizes_of limits) count }
+/// Returns the header of a new image with this count of commands in its first area.
+pub(crate) fn header_for(limits: Limits, count: u64) -> Header
+    ensures seen { seen result ≡ moved_header (sizes_of limits) count }
+    ensures limits { result.limits ≡ limits }
 {
     Header {
         version: VERSION,
@@ -34,30 +31,6 @@ fn header_for(limits: Limits, count: u64) -> Header
         generation: 1,
         count,
         limits,
-    }
-}
-
-// Puts an image that was read into a new file, and returns its count.
-fn put<N: Disk, F: Follower>(new: &mut N, image: &Image, follower: &F) -> Result<u64, Refusal>
-    requires { AreParts image.now }
-    ensures moved { OnOk result (N.honest new.new → LeavesNow (N.now new.new) (IsMoved image.now)) }
-    ensures count { IfOk result (λ n. n ≡ image.now.journal.count) }
-    ensures place { OnOk result (N.honest new.new
-        → IsPlace (sizes_of image.now.header.limits) (N.now new.old).bytes) }
-    ensures none { IfErr result (λ e. (e ≡ Device)
-        ⊎ (N.honest new.new → IsNoPlace e (sizes_of image.now.header.limits) (N.now new.old).bytes)) }
-    ensures unwritten { IfErr result (λ e. (e ≡ Device)
-        ⊎ (N.honest new.new → IsUnwritten N.now N.past new.old new.new)) }
-    ensures runs { ObeysOrRefuses N.Disk new.old new.new result
-        (λ e. (e ≡ WrongLength) ⊎ (e ≡ NotBlank) ⊎ (e ≡ Device))
-        (LeavesWithin N.now N.past new.old new.new (λ file. IsBlank file ⊎ IsMoved image.now file)) }
-{
-    let limits = image.header.limits;
-    find_place(new, limits)?;
-    let count = image.journal.count();
-    match lay_down(new, &header_for(limits, count), &image.memory, follower) {
-        Ok(()) => Ok(count),
-        Err(_) => Err(Refusal::Device),
     }
 }
 
@@ -102,10 +75,14 @@ pub fn migrate<O: Disk, N: Disk, F: Follower>(
         × MatchResult result (λ r. N.honest r.0 → N.honest new) (λ e. N.honest e.1 → N.honest new) }
 {
     match read_old(alloc, old) {
-        Ok(image) => match put(&mut new, &image, follower) {
-            Ok(count) => Ok((new, count)),
-            Err(refusal) => Err((refusal, new)),
-        },
+        Ok(image) => {
+            let count = image.journal.count();
+            let header = header_for(image.header.limits, count);
+            match put_image(&mut new, &header, &image.memory, follower) {
+                Ok(()) => Ok((new, count)),
+                Err(refusal) => Err((refusal, new)),
+            }
+        }
         Err(refusal) => Err((refusal, new)),
     }
 }

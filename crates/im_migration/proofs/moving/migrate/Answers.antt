@@ -1,38 +1,54 @@
-use Rattle.std.proofs.Common.{inl, inr, ⊎_elim, sym}
-use Rattle.im_migration.proofs.Parts.{has_count, leaves_same, means_same, refused_old, refused_place}
+use Rattle.std.proofs.Common.{inl, inr, ⊎_elim, sym, ap, subst}
+use Rattle.im_types.specs.Layout.{Sizes, sizes_of}
+use Rattle.im_image.specs.Headers.{seen}
+use Rattle.im_migration.specs.Migration.{IsPlace}
+use Rattle.im_migration.proofs.Parts.{has_count, leaves_same, means_same, refused_old, refused_place, same_sizes}
 use Rattle.im_migration.proofs.moving.migrate.Goals as goal
 
-pub returns-in-Ok-put-clause-leaves : goal.returns-in-Ok-put-clause-leaves
-returns-in-Ok-put-clause-leaves g c = λ h.
+pub returns-in-Ok-put_image-clause-leaves : goal.returns-in-Ok-put_image-clause-leaves
+returns-in-Ok-put_image-clause-leaves g c = λ h.
     leaves_same c.in-Ok.image (g.O.Disk.now c.args.old.now).bytes
     (g.O.Disk.honest c.read_old.new.disk) c.in-Ok.ensures.means c.in-Ok.ensures.header
-    (g.N.Disk.now c.args.new) (g.N.Disk.now c.put.new.new) (g.N.Disk.past c.args.new) (g.N.Disk.past c.put.new.new)
-    (c.put.ensures.runs.kept h)
+    (seen c.header_for-header.result) c.count-count.result c.header_for-header.ensures.seen c.count-count.ensures.count
+    (g.N.Disk.now c.args.new) (g.N.Disk.now c.put_image.new.new) (g.N.Disk.past c.args.new) (g.N.Disk.past c.put_image.new.new)
+    (c.put_image.ensures.runs.kept h)
 
-pub returns-in-Ok-put-clause-moved : goal.returns-in-Ok-put-clause-moved
-returns-in-Ok-put-clause-moved g c = λ honest here file left.
+pub returns-in-Ok-put_image-clause-moved : goal.returns-in-Ok-put_image-clause-moved
+returns-in-Ok-put_image-clause-moved g c = λ honest here file left.
     means_same c.in-Ok.image (g.O.Disk.now c.args.old.now).bytes
-    (g.O.Disk.honest c.read_old.new.disk) c.in-Ok.ensures.means c.in-Ok.ensures.header file
-    (c.in-Ok-put.ensures.moved here file left) honest
+    (g.O.Disk.honest c.read_old.new.disk) c.in-Ok.ensures.means c.in-Ok.ensures.header
+    (seen c.header_for-header.result) c.count-count.result c.header_for-header.ensures.seen c.count-count.ensures.count
+    file (c.in-Ok-put_image.ensures.laid here file left) honest
 
-pub returns-in-Ok-put-clause-count : goal.returns-in-Ok-put-clause-count
-returns-in-Ok-put-clause-count g c =
+pub returns-in-Ok-put_image-clause-count : goal.returns-in-Ok-put_image-clause-count
+returns-in-Ok-put_image-clause-count g c =
     has_count c.in-Ok.image (g.O.Disk.now c.args.old.now).bytes
-    (g.O.Disk.honest c.read_old.new.disk) c.in-Ok.ensures.means c.in-Ok.ensures.header c.in-Ok-put.count
-    (sym c.in-Ok-put.ensures.count)
+    (g.O.Disk.honest c.read_old.new.disk) c.in-Ok.ensures.means c.in-Ok.ensures.header c.count-count.result
+    (sym c.count-count.ensures.count)
+
+pub returns-in-Ok-put_image-clause-place : goal.returns-in-Ok-put_image-clause-place
+returns-in-Ok-put_image-clause-place g c = λ honest here.
+    subst (λ (s : Sizes). IsPlace s (g.N.Disk.now c.args.new).bytes)
+    (same_sizes c.in-Ok.image (g.O.Disk.now c.args.old.now).bytes
+    (g.O.Disk.honest c.read_old.new.disk) c.in-Ok.ensures.means c.in-Ok.ensures.header
+    (sizes_of c.header_for-header.result.limits) (ap sizes_of c.header_for-header.ensures.limits) honest)
+    (c.in-Ok-put_image.ensures.place here)
 
 pub returns-in-Ok-clause-leaves : goal.returns-in-Ok-clause-leaves
 returns-in-Ok-clause-leaves g c = λ h.
     leaves_same c.in-Ok.image (g.O.Disk.now c.args.old.now).bytes
     (g.O.Disk.honest c.read_old.new.disk) c.in-Ok.ensures.means c.in-Ok.ensures.header
-    (g.N.Disk.now c.args.new) (g.N.Disk.now c.put.new.new) (g.N.Disk.past c.args.new) (g.N.Disk.past c.put.new.new)
-    (c.put.ensures.runs.kept h)
+    (seen c.header_for-header.result) c.count-count.result c.header_for-header.ensures.seen c.count-count.ensures.count
+    (g.N.Disk.now c.args.new) (g.N.Disk.now c.put_image.new.new) (g.N.Disk.past c.args.new) (g.N.Disk.past c.put_image.new.new)
+    (c.put_image.ensures.runs.kept h)
 
 pub returns-in-Ok-clause-refused : goal.returns-in-Ok-clause-refused
 returns-in-Ok-clause-refused g c =
     refused_place c.in-Ok.image (g.O.Disk.now c.args.old.now).bytes
     (g.O.Disk.honest c.read_old.new.disk) c.in-Ok.ensures.means c.in-Ok.ensures.header
-    (g.N.Disk.honest c.put.new.new) (g.N.Disk.now c.args.new).bytes c.in-Err-put.refusal c.in-Err-put.ensures.none
+    (g.N.Disk.honest c.put_image.new.new) (g.N.Disk.now c.args.new).bytes c.in-Err-put_image.refusal
+    (sizes_of c.header_for-header.result.limits) (ap sizes_of c.header_for-header.ensures.limits)
+    c.in-Err-put_image.ensures.none
 
 pub returns-clause-refused : goal.returns-clause-refused
 returns-clause-refused g c =
@@ -41,7 +57,7 @@ returns-clause-refused g c =
 
 pub returns-in-Ok-clause-faults : goal.returns-in-Ok-clause-faults
 returns-in-Ok-clause-faults g c =
-    let f = c.in-Err-put.ensures.runs.faults in record {
+    let f = c.in-Err-put_image.ensures.runs.faults in record {
       one_of = ⊎_elim (λ wrong. inr (inr (inr (inl (inl wrong))))) (⊎_elim inl (λ device. inr (inr (inl device)))) f.0;
       failed = λ device. inr (f.1 device).0;
       passed = λ other. (c.in-Ok.ensures.reads.faults, f.2 other);

@@ -1,0 +1,10 @@
+use Rattle.std.proofs.Common.{◌≡◌, ◌-◌, take}
+use Rattle.im_migration.specs.Resizing.{window_at}
+use Rattle.im_migration.proofs.resizing.window_of.Given as goal
+
+abbrev pub invariant-loop-number : goal.invariant-loop-number
+invariant-loop-number l = l.window
+    ≡ record {
+      base = l.base;
+      kept = take (l.number - l.base) (window_at l.memory.contents.windows l.element).kept;
+    }

@@ -1,0 +1,46 @@
+//! Puts a memory into a new file that can become its image.
+ghost use Rattle.std.specs.Prelude.{◌≡◌, ◌⊎◌, ◌≤◌, IfErr, OnOk};
+ghost use Rattle.im_types.specs.declared.TheConstants.{LAST};
+ghost use Rattle.im_types.specs.declared.refusals.Refusal.TheVariants.{Device};
+ghost use Rattle.im_types.specs.Layout.{sizes_of};
+ghost use Rattle.im_disk.specs.Since.{LeavesNow, LeavesWithin};
+ghost use Rattle.im_disk.specs.Runs.{ObeysOrRefuses};
+ghost use Rattle.im_image.specs.Headers.{seen};
+ghost use Rattle.im_image.specs.Reading.{HasSizes};
+ghost use Rattle.im_migration.specs.Migration.{BlankOrLaid, IsLaidDown, IsNoPlace, IsPlace, MayRefusePlace};
+ghost use Rattle.im_migration.specs.Migration.{UnwrittenOrDevice, moved_header};
+
+use crate::follower::Follower;
+use crate::laying::lay_down;
+use crate::place::find_place;
+use im_disk::Disk;
+use im_image::Header;
+use im_memory::Memory;
+use im_types::Refusal;
+
+/// Puts a memory into a new file, as an image with this header. Returns `WrongLength` or `NotBlank`, with nothing
+/// written, if the file can't become the image, and `Device` if a call of the disk failed.
+pub(crate) fn put_image<N: Disk, F: Follower>(
+    new: &mut N,
+    header: &Header,
+    memory: &Memory,
+    follower: &F,
+) -> Result<(), Refusal>
+    requires sizes { HasSizes (sizes_of header.now.limits) memory.now.contents }
+    requires header { seen header.now ≡ moved_header (sizes_of header.now.limits) header.now.count }
+    requires last { header.now.count ≤ LAST }
+    ensures laid { OnOk result (N.honest new.new
+        → LeavesNow (N.now new.new) (IsLaidDown (seen header.now) memory.now.contents)) }
+    ensures place { OnOk result (N.honest new.new → IsPlace (sizes_of header.now.limits) (N.now new.old).bytes) }
+    ensures none { IfErr result (λ e. (e ≡ Device)
+        ⊎ (N.honest new.new → IsNoPlace e (sizes_of header.now.limits) (N.now new.old).bytes)) }
+    ensures unwritten { IfErr result (λ e. UnwrittenOrDevice N.Disk new.old new.new e) }
+    ensures runs { ObeysOrRefuses N.Disk new.old new.new result MayRefusePlace
+        (LeavesWithin N.now N.past new.old new.new (BlankOrLaid (seen header.now) memory.now.contents)) }
+{
+    find_place(new, header.limits)?;
+    match lay_down(new, header, memory, follower) {
+        Ok(()) => Ok(()),
+        Err(_) => Err(Refusal::Device),
+    }
+}
