@@ -130,9 +130,9 @@ told_quiet watch b ahead c text none quiet = λ outcome is.
     ap (λ (t : List ℕ). told_with (answer.Served c outcome) t) none ∙ told_nothing (answer.Served c outcome)
     ∙ sym (quiet_tells watch (memory_between b ahead) c outcome quiet)
 
-is_not : (x : Bool) → not x ≡ true → x ≡ false
-is_not true e = absurd (true_false (sym e))
-is_not false e = refl
+not_not : (x : Bool) → x ≡ not (not x)
+not_not true = refl
+not_not false = refl
 
 is_nothing : (o : Option KeptEntry) → is_none o ≡ true → o ≡ None
 is_nothing None e = refl
@@ -153,12 +153,12 @@ module _ (cells elements : ℕ) (b : GroupStart) (is : IsMemory cells elements b
       let both = and_both (is_none (kept_for b.memory.windows (asker r))) (not (list_any (asks_for (asker r)) ahead))
       firsts.0 in
       none_after cells elements b.memory b.places ahead (asker r) is
-      (is_not (list_any (asks_for (asker r)) ahead) both.1)
+      (not_not (list_any (asks_for (asker r)) ahead) ∙ ap not both.1)
       (is_nothing (kept_for b.memory.windows (asker r)) both.0)
 
   unreached : (a : ℕ) → address_of r.op ≡ a → list_any (may_reach a) ahead ≡ false
   unreached a same = ap (λ (x : ℕ). list_any (may_reach x) ahead) (sym same)
-      ∙ is_not (list_any (may_reach (address_of r.op)) ahead) firsts.1
+      ∙ not_not (list_any (may_reach (address_of r.op)) ahead) ∙ ap not firsts.1
 
   same_resumed : (op : Op) → r.op ≡ op
       → (act there.cells (asker r) op).resumed ≡ (act b.memory.cells (asker r) op).resumed

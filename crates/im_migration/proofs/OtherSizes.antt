@@ -32,12 +32,12 @@ use Rattle.im_migration.proofs.Fitted.{fitted-at, fitted-below, length-fitted}
 abbrev pub no_cell : Option Held
 no_cell = None
 
-new-is-window : IsWindow new_window
-new-is-window = record { from_one = omega arith; few = omega arith; to_last = omega arith }
-
 pub is-window : (windows : List Window) → ((e : ℕ) (w : Window) → slice_get windows e ≡ Some w → IsWindow w) → (e : ℕ)
     → IsWindow (window_at windows e)
-is-window [] each e = new-is-window
+is-window [] each e = new
+  where
+    new : IsWindow new_window
+    new = record { from_one = omega arith; few = omega arith; to_last = omega arith }
 is-window (w ∷ windows) each zero = each 0 w refl
 is-window (w ∷ windows) each (suc e) = is-window windows (λ i v there. each (suc i) v there) e
 
