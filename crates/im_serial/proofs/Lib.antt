@@ -1,1 +1,4 @@
+pub mod AskedLemmas
 pub mod ServingLemmas
+pub mod NotedLemmas
+pub mod ScriptedLemmas

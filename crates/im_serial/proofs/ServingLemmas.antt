@@ -1,6 +1,6 @@
 -- Commands put on a disk while a script is served. (Own.)
-use Rattle.std.proofs.Common.{◌≡◌, ◌∙◌, ◌-◌, inl, inr, ⊎_elim, ℕ, zero, suc, Bool, true, false, ◌&&◌, List, [], ◌∷◌, ◌++◌, length, refl, sym, ap, ap₂, subst, take, length-append, arith, if◌then◌else◌}
-use Rattle.std.specs.Prelude.{Option, Some, None, Result, Ok, Err, IsOk, MatchResult, map, nat_lt, ◌||◌, slice_get, ◌⊎◌}
+use Rattle.std.proofs.Common.{◌≡◌, ◌∙◌, ◌≤◌, ◌-◌, inl, inr, ⊎_elim, ℕ, zero, suc, Bool, true, false, ◌&&◌, List, [], ◌∷◌, ◌++◌, length, refl, sym, ap, ap₂, subst, take, length-append, arith, if◌then◌else◌}
+use Rattle.std.specs.Prelude.{Option, Some, None, Result, Ok, Err, MatchResult, map, nat_lt, ◌||◌, slice_get, ◌⊎◌}
 use Rattle.std.specs.Io.KnownBytes.{Appends}
 use Rattle.std.proofs.lemmas.List.{append-nil}
 use Rattle.im_types.specs.declared.commands.Command.{Command}
@@ -29,9 +29,11 @@ use Rattle.im_engine.specs.Run.{Answered, TurnAnswered, TurnTaken, is_put, put_b
 use Rattle.im_engine.proofs.Running.{far_on, leaves_on, now_on, now_start, far_turned, leaves_turned, now_turned, means_all, all_or_in_doubt, or_less, doubt_by, Failures, failures_more, failures_turned, fails_by_device}
 use Rattle.im_text.specs.declared.lines.Lines.{Lines}
 use Rattle.im_text.specs.declared.replies.Waited.{Waited}
-use Rattle.im_text.specs.Printing.{Begins, IsLast, Prints, PrintsMore, PrintsNows, PrintsOn, nows, replies, reply_line, told_line, waits, waits_by, waits_if, who_of}
-use Rattle.im_serial.specs.Serving.{HasPut, MeansAtLeast, GoesWith, HaltsWith, Goes, Halted, GoesOn, Halts, Server, at, Going, Ended, Serves, Ends, Told, Closed, Served}
-use Rattle.im_text.proofs.PrintingLemmas.{all-append, replies_more, waits_more, prints_begins, prints_none, take-all, take-prefix, true_false}
+use Rattle.im_text.specs.Printing.{Begins, IsLast, PrintsOn, nows, replies, reply_line, told_line, waits, waits_by, waits_if, who_of}
+use Rattle.im_serial.specs.Asked.{IsAsked, wanted_of}
+use Rattle.im_serial.specs.Noted.{AreLast}
+use Rattle.im_serial.specs.Serving.{HasPut, MeansAtLeast, GoesWith, HaltsWith, Goes, Halted, Server, at, Going, Ended, Serves, Ends, Told, Closed, Served}
+use Rattle.im_text.proofs.PrintingLemmas.{all-append, replies_more, waits_more, prints_none, take-all, take-prefix, true_false}
 use Rattle.im_text.proofs.WindowLemmas.{bounds_found, HasBounds, not_below}
 
 -- ---- accepted commands
@@ -62,7 +64,7 @@ past_end [] = refl
 past_end (x ∷ xs) = past_end xs
 
 -- a request with the next number is new, or refused
-next_is_new : (m : Contents) (r : Request) (base : ℕ) (o : Outcome) → bounds m.windows r.element ≡ Ok (base, r.number) → (step m (Asks r)).answer ≡ Ok o → is_accepted m (Asks r) ≡ true
+pub next_is_new : (m : Contents) (r : Request) (base : ℕ) (o : Outcome) → bounds m.windows r.element ≡ Ok (base, r.number) → (step m (Asks r)).answer ≡ Ok o → is_accepted m (Asks r) ≡ true
 next_is_new m r base o is answer =
     let found = bounds_found (slice_get m.windows r.element) base r.number is in
     let judged = judged_next m r found in
@@ -212,7 +214,7 @@ module _ {D : Type 0} (now : D → Moment) (past : D → List Moment) (failures 
       }
 
   -- an answer that is no refusal is the step's, and the engine works
-  answered : (mid new : EngineState D) (c : Command) (a : Result Outcome Refusal) (o : Outcome) → Answered mid c a new → mid.failed ≡ false → a ≡ Ok o → (new.failed ≡ false) × ((step mid.memory c).answer ≡ Ok o)
+  pub answered : (mid new : EngineState D) (c : Command) (a : Result Outcome Refusal) (o : Outcome) → Answered mid c a new → mid.failed ≡ false → a ≡ Ok o → (new.failed ≡ false) × ((step mid.memory c).answer ≡ Ok o)
   answered mid new c a o it works is = by_accepted (is_accepted mid.memory c) refl
     where
       by_room : is_accepted mid.memory c ≡ true → (room : ℕ) → mid.room ≡ room → (new.failed ≡ false) × ((step mid.memory c).answer ≡ Ok o)
@@ -272,7 +274,7 @@ module _ {D : Type 0} (now : D → Moment) (past : D → List Moment) (failures 
       }
 
   -- its line is told, and then it is ended
-  unnoted : (start engine : EngineState D) (put : List Command) (text : List ℕ) (names who : List Waiter) → GoesWith now past failures start engine put text (names ++ who) → HaltsWith now past failures start engine put text names
+  pub unnoted : (start engine : EngineState D) (put : List Command) (text : List ℕ) (names who : List Waiter) → GoesWith now past failures start engine put text (names ++ who) → HaltsWith now past failures start engine put text names
   unnoted start engine put text names who it = record {
     told = put;
     others = [];
@@ -287,7 +289,7 @@ module _ {D : Type 0} (now : D → Moment) (past : D → List Moment) (failures 
   -- ---- one turn
 
   -- a turn that is answered is done, or the disk failed
-  turned : (start mid new : EngineState D) (put : List Command) (text : List ℕ) (names : List Waiter) (a : Result TurnDone Refusal) (done : TurnDone) → GoesWith now past failures start mid put text names → TurnAnswered mid a new
+  pub turned : (start mid new : EngineState D) (put : List Command) (text : List ℕ) (names : List Waiter) (a : Result TurnDone Refusal) (done : TurnDone) → GoesWith now past failures start mid put text names → TurnAnswered mid a new
       → (mid.failed ≡ false → Leaves (now mid.disk) (now new.disk) (past mid.disk) (past new.disk) (MeansState mid))
       → (mid.failed ≡ false → LeavesNow (now new.disk) (MeansState mid)) → (new.failed ≡ false → LeavesNow (now new.disk) (MeansState new)) → Faults (λ e. Unit {0}) a (failures mid.disk) (failures new.disk)
       → a ≡ Ok done → GoesWith now past failures start new put text names
@@ -302,7 +304,7 @@ module _ {D : Type 0} (now : D → Moment) (past : D → List Moment) (failures 
       alive (inl took) = took.2.alive
       alive (inr fault) = let device = fault.0 in absurd (cc)
 
-  turn_halts : (start mid new : EngineState D) (put : List Command) (text : List ℕ) (names : List Waiter) (a : Result TurnDone Refusal) → GoesWith now past failures start mid put text names → TurnAnswered mid a new
+  pub turn_halts : (start mid new : EngineState D) (put : List Command) (text : List ℕ) (names : List Waiter) (a : Result TurnDone Refusal) → GoesWith now past failures start mid put text names → TurnAnswered mid a new
       → (mid.failed ≡ false → Leaves (now mid.disk) (now new.disk) (past mid.disk) (past new.disk) (MeansState mid))
       → (mid.failed ≡ false → LeavesNow (now new.disk) (MeansState mid)) → (new.failed ≡ false → LeavesNow (now new.disk) (MeansState new)) → Faults (λ e. Unit {0}) a (failures mid.disk) (failures new.disk)
       → HaltsWith now past failures start new put text names
@@ -318,11 +320,12 @@ module _ {D : Type 0} (now : D → Moment) (past : D → List Moment) (failures 
   }
 
   -- an opening leaves nothing new, and what it found was there
-  pub served : (old : D) (start : EngineState D) (new : D) (was is : Option (List ℕ)) (status : ℕ) → Leaves (now old) (now start.disk) (past old) (past start.disk) (Left (now old)) → LeavesNow (now start.disk) (MeansState start) → failures start.disk ≡ failures old
-      → Closed now past failures start new was is status → Served now past failures old new was is status
-  served old start new was is status opened means same it = record {
+  pub served : (text : List ℕ) (old : D) (start : EngineState D) (new : D) (was is : Option (List ℕ)) (status : ℕ) → Leaves (now old) (now start.disk) (past old) (past start.disk) (Left (now old)) → LeavesNow (now start.disk) (MeansState start) → failures start.disk ≡ failures old
+      → Closed now past failures text start new was is status → Served now past failures text old new was is status
+  served text old start new was is status opened means same it = record {
     start = start;
     put = it.put;
+    asked = it.asked;
     found = (
       (now start.disk).bytes,
       ⊎_elim (λ left. left) (λ left. left) (leaves_now (now old) (now start.disk) (past old) (past start.disk) (Left (now old)) opened (now start.disk).bytes (left_now (now start.disk))),
@@ -337,10 +340,11 @@ module _ {D : Type 0} (now : D → Moment) (past : D → List Moment) (failures 
   }
 
   -- the end, by what was put and told
-  closed_by : (start engine : EngineState D) (put : List Command) (text : List ℕ) (names : List Waiter) (status : ℕ) (was is : Option (List ℕ)) → HaltsWith now past failures start engine put text names → (status ≡ 0 → engine.failed ≡ false)
-      → (engine.failed ≡ false → LeavesNow (now engine.disk) (MeansState engine)) → Told now start put engine.disk was is status → Closed now past failures start engine.disk was is status
-  closed_by start engine put text names status was is it works means told = record {
+  pub closed_by : (script : List ℕ) (start engine : EngineState D) (put : List Command) (text : List ℕ) (names : List Waiter) (status : ℕ) (was is : Option (List ℕ)) → HaltsWith now past failures start engine put text names → (status ≡ 0 → engine.failed ≡ false)
+      → (engine.failed ≡ false → LeavesNow (now engine.disk) (MeansState engine)) → IsAsked start.memory (wanted_of script) put status → Told now start put engine.disk was is status → Closed now past failures script start engine.disk was is status
+  closed_by script start engine put text names status was is it works means asked told = record {
     put = put;
+    asked = asked;
     accepted = it.has.accepted;
     leaves = it.has.leaves;
     doubt = λ file left. doubt_by (engine.failed ≡ true) (Rises (failures start.disk) (failures engine.disk)) start put file it.has.rose (it.has.doubt file left);
@@ -349,101 +353,42 @@ module _ {D : Type 0} (now : D → Moment) (past : D → List Moment) (failures 
   }
 
   -- what was told, by the lines that were printed
-  told_by : (start engine : EngineState D) (put : List Command) (text : List ℕ) (names : List Waiter) (status : ℕ) (was is : Option (List ℕ)) (waited : List Waited) (many : ℕ) (last : List ℕ) → HaltsWith now past failures start engine put text names
-      → map who_of waited ≡ names → IsLast last → Begins was is ((text ++ nows waited many) ++ last)
-      → (status ≡ 0 → (names ≡ waits start.memory put) × Appends was is (replies start.memory put ++ nows waited (length waited))) → Told now start put engine.disk was is status
-  told_by start engine put text names status was is waited many last it same last_is begins whole = record {
+  pub told_by : (start engine : EngineState D) (put : List Command) (text : List ℕ) (names : List Waiter) (status : ℕ) (was is : Option (List ℕ)) (waited : List Waited) (many : ℕ) (last : List ℕ) (done doubt : List Command) → HaltsWith now past failures start engine put text names
+      → map who_of waited ≡ names → put ≡ done ++ doubt → length doubt ≤ 1 → AreLast start.memory done waited → IsLast last → Begins was is ((text ++ nows waited many) ++ last)
+      → (status ≡ 0 → (doubt ≡ []) × (names ≡ waits start.memory put) × Appends was is (replies start.memory put ++ nows waited (length waited))) → Told now start put engine.disk was is status
+  told_by start engine put text names status was is waited many last done doubt it same apart few entries last_is begins whole = record {
     told = it.told;
     others = it.others;
     split = it.split;
     kept = it.kept;
     waited = waited;
     waiting = (it.many, same ∙ it.waiting);
+    done = done;
+    doubt = doubt;
+    apart = apart;
+    few = few;
+    last_entries = entries;
     many = many;
     last = last;
     last_is = last_is;
     begins = subst (λ (t : List ℕ). Begins was is ((t ++ nows waited many) ++ last)) it.lines begins;
-    whole = λ zero. let w = whole zero in (same ∙ w.0, w.1);
+    whole = λ zero. let w = whole zero in (w.0, same ∙ w.1, w.2);
   }
 
-  -- ---- engines, one after another
+  -- ---- servers, one after another, whatever is asked
 
   module _ (honest : D → Type 0) where
-    pub goes_refl : (engine : EngineState D) → GoesOn now past failures honest engine engine
-    goes_refl engine = λ start text names goes. goes
-
-    pub goes_then : (old mid new : EngineState D) → GoesOn now past failures honest old mid → GoesOn now past failures honest mid new → GoesOn now past failures honest old new
-    goes_then old mid new first second = λ start text names goes. second start text names (first start text names goes)
-
-    pub goes_halt : (old mid new : EngineState D) → GoesOn now past failures honest old mid → Halts now past failures honest mid new → Halts now past failures honest old new
-    goes_halt old mid new first second = λ start text names goes. second start text names (first start text names goes)
-
-    pub then_goes : {T E : Type 0} (r : Result T E) (old mid new : EngineState D) → GoesOn now past failures honest old mid
-        → MatchResult r (λ x. GoesOn now past failures honest mid new) (λ e. Halts now past failures honest mid new) → MatchResult r (λ x. GoesOn now past failures honest old new) (λ e. Halts now past failures honest old new)
-    then_goes (Ok x) old mid new first later = goes_then old mid new first later
-    then_goes (Err e) old mid new first later = goes_halt old mid new first later
-
     halted : (start engine : EngineState D) (text : List ℕ) (names : List Waiter) → Goes now past failures honest start engine text names → Halted now past failures honest start engine text names
     halted start engine text names goes = λ h. let it = goes h in (it.0, (it.1.0, halts start engine it.1.0 text names it.1.1))
 
-    pub halts_here : (engine : EngineState D) → Halts now past failures honest engine engine
-    halts_here engine = λ start text names goes. halted start engine text names goes
-
-    -- an engine after one command
-    module _ (mid new : EngineState D) (c : Command) (a : Result Outcome Refusal) (it : Answered mid c a new) (was : honest new.disk → honest mid.disk)
-        (leaves : honest new.disk → mid.failed ≡ false → Leaves (now mid.disk) (now new.disk) (past mid.disk) (past new.disk) (MeansEither mid c))
-        (doubt : honest new.disk → mid.failed ≡ false → LeavesNow (now new.disk) (MeansEither mid c))
-        (means : honest new.disk → new.failed ≡ false → LeavesNow (now new.disk) (MeansState new)) (cause : Faults (λ e. Unit {0}) a (failures mid.disk) (failures new.disk)) where
-      pub serve_halts : Halts now past failures honest mid new
-      serve_halts = λ start text names goes. λ h.
-          let before = goes (was h) in
-          (before.0, (before.1.0 ++ put_by_command (after start.memory before.1.0) c a, served_halts start mid new before.1.0 text names c a before.1.1 it (leaves h) (doubt h) (means h) cause))
-
-    pub confirm_goes : (mid new : EngineState D) (element upto : ℕ) (a : Result Outcome Refusal) (o : Outcome) → Answered mid (Confirm element upto) a new → (honest new.disk → honest mid.disk)
-        → (honest new.disk → mid.failed ≡ false → Leaves (now mid.disk) (now new.disk) (past mid.disk) (past new.disk) (MeansEither mid (Confirm element upto)))
-        → (honest new.disk → mid.failed ≡ false → LeavesNow (now new.disk) (MeansEither mid (Confirm element upto)))
-        → (honest new.disk → new.failed ≡ false → LeavesNow (now new.disk) (MeansState new)) → Faults (λ e. Unit {0}) a (failures mid.disk) (failures new.disk)
-        → a ≡ Ok o → GoesOn now past failures honest mid new
-    confirm_goes mid new element upto a o it was leaves doubt means cause is = λ start text names goes. λ h.
-        let before = goes (was h) in
-        (before.0, (before.1.0 ++ put_by_command (after start.memory before.1.0) (Confirm element upto) a, confirmed start mid new before.1.0 text names element upto a o before.1.1 it (leaves h) (doubt h) (means h) cause is))
-
-    -- an engine after one turn
-    module _ (mid new : EngineState D) (a : Result TurnDone Refusal) (it : TurnAnswered mid a new) (was : honest new.disk → honest mid.disk)
-        (leaves : honest new.disk → mid.failed ≡ false → Leaves (now mid.disk) (now new.disk) (past mid.disk) (past new.disk) (MeansState mid))
-        (means : honest new.disk → mid.failed ≡ false → LeavesNow (now new.disk) (MeansState mid))
-        (works : honest new.disk → new.failed ≡ false → LeavesNow (now new.disk) (MeansState new)) (cause : Faults (λ e. Unit {0}) a (failures mid.disk) (failures new.disk)) where
-      pub turn_goes : (done : TurnDone) → a ≡ Ok done → GoesOn now past failures honest mid new
-      turn_goes done is = λ start text names goes. λ h.
-          let before = goes (was h) in
-          (before.0, (before.1.0, turned start mid new before.1.0 text names a done before.1.1 it (leaves h) (means h) (works h) cause is))
-
-      pub turn_ends : Halts now past failures honest mid new
-      turn_ends = λ start text names goes. λ h.
-          let before = goes (was h) in
-          (before.0, (before.1.0, turn_halts start mid new before.1.0 text names a before.1.1 it (leaves h) (means h) (works h) cause))
-
-    -- ---- servers, one after another
-
     pub serves_refl : (s : Server D) → Serves now past failures honest s s
     serves_refl s = λ start held going. going
-
-    pub serves_then : (old mid new : Server D) → Serves now past failures honest old mid → Serves now past failures honest mid new → Serves now past failures honest old new
-    serves_then old mid new first second = λ start held going. second start held (first start held going)
-
-    pub serves_end : (old mid new : Server D) → Serves now past failures honest old mid → Ends now past failures honest mid new → Ends now past failures honest old new
-    serves_end old mid new first second = λ start held going. second start held (first start held going)
 
     ended : (start : EngineState D) (held : Option (List ℕ)) (s : Server D) → Going now past failures honest start held s → Ended now past failures honest start held s
     ended start held s going = (going.0, (halted start s.engine going.0 (map who_of s.waited) going.1.0, going.1.1))
 
     pub end_here : (old new : Server D) → Serves now past failures honest old new → Ends now past failures honest old new
     end_here old new serves = λ start held going. ended start held new (serves start held going)
-
-    pub then_serves : {T E : Type 0} (r : Result T E) (old mid new : Server D) → Serves now past failures honest old mid
-        → MatchResult r (λ x. Serves now past failures honest mid new) (λ e. Ends now past failures honest mid new) → MatchResult r (λ x. Serves now past failures honest old new) (λ e. Ends now past failures honest old new)
-    then_serves (Ok x) old mid new first later = serves_then old mid new first later
-    then_serves (Err e) old mid new first later = serves_end old mid new first later
 
     -- whatever was answered, nothing was served
     pub rests : {T E : Type 0} (r : Result T E) (old new : Server D) → Serves now past failures honest old new → MatchResult r (λ x. Serves now past failures honest old new) (λ e. Ends now past failures honest old new)
@@ -455,14 +400,6 @@ module _ {D : Type 0} (now : D → Moment) (past : D → List Moment) (failures 
         → Serves now past failures honest old (at engine later after waited)
     serves_on old engine held later before after waited it prints = λ start from going. let next = it start from going in (next.0, (next.1.0, prints from next.0 next.1.1))
 
-    pub match_ends : {T E : Type 0} (r : Result T E) (old new : Server D) → MatchResult r (λ x. Serves now past failures honest old new) (λ e. Ends now past failures honest old new) → Ends now past failures honest old new
-    match_ends (Ok x) old new it = end_here old new it
-    match_ends (Err e) old new it = it
-
-    pub match_serves : {T E : Type 0} (r : Result T E) (old new : Server D) → MatchResult r (λ x. Serves now past failures honest old new) (λ e. Ends now past failures honest old new) → IsOk r → Serves now past failures honest old new
-    match_serves (Ok x) old new it ok = it
-    match_serves (Err e) old new it ok = absurd (true_false false ok refl)
-
     pub ended_as : (start : EngineState D) (from held : Option (List ℕ)) (engine same : EngineState D) (lines kept : Lines) (waited : List Waited) → same ≡ engine → kept ≡ lines
         → Ended now past failures honest start from (at engine held lines waited) → Ended now past failures honest start from (at same held kept waited)
     ended_as start from held engine same lines kept waited engines line it =
@@ -472,16 +409,6 @@ module _ {D : Type 0} (now : D → Moment) (past : D → List Moment) (failures 
         → Going now past failures honest start from (at engine held lines waited) → Going now past failures honest start from (at same held kept waited)
     going_as start from held engine same lines kept waited engines line it =
         subst (λ (e : EngineState D). Going now past failures honest start from (at e held kept waited)) (sym engines) (subst (λ (l : Lines). Going now past failures honest start from (at engine held l waited)) (sym line) it)
-
-    pub serves_as : (old : Server D) (held : Option (List ℕ)) (engine same : EngineState D) (lines kept : Lines) (waited : List Waited) → same ≡ engine → kept ≡ lines
-        → Serves now past failures honest old (at engine held lines waited) → Serves now past failures honest old (at same held kept waited)
-    serves_as old held engine same lines kept waited engines line it =
-        subst (λ (e : EngineState D). Serves now past failures honest old (at e held kept waited)) (sym engines) (subst (λ (l : Lines). Serves now past failures honest old (at engine held l waited)) (sym line) it)
-
-    pub ends_as : (old : Server D) (held : Option (List ℕ)) (engine same : EngineState D) (lines kept : Lines) (waited : List Waited) → same ≡ engine → kept ≡ lines
-        → Ends now past failures honest old (at engine held lines waited) → Ends now past failures honest old (at same held kept waited)
-    ends_as old held engine same lines kept waited engines line it =
-        subst (λ (e : EngineState D). Ends now past failures honest old (at e held kept waited)) (sym engines) (subst (λ (l : Lines). Ends now past failures honest old (at engine held l waited)) (sym line) it)
 
     -- nothing is served yet
     going_none : (start : EngineState D) (held : Option (List ℕ)) (lines : Lines) (waited : List Waited) → start.failed ≡ false → (honest start.disk → LeavesNow (now start.disk) (MeansState start)) → lines.pending.items ≡ [] → waited ≡ []
@@ -493,84 +420,3 @@ module _ {D : Type 0} (now : D → Moment) (past : D → List Moment) (failures 
     pub going_new : (start engine : EngineState D) (held : Option (List ℕ)) (before lines : Lines) (waited : List Waited) → start.failed ≡ false → (honest start.disk → LeavesNow (now start.disk) (MeansState start)) → before.pending.items ≡ [] → waited ≡ [] → engine ≡ start → lines ≡ before
         → Going now past failures honest start held (at engine held lines waited)
     going_new start engine held before lines waited works means pending none engines line = going_as start held held start engine before lines waited engines line (going_none start held before waited works means pending none)
-
-    -- the engine goes on, and nothing is printed
-    pub engine_goes : (old new : EngineState D) (held : Option (List ℕ)) (before after : Lines) (waited learned : List Waited) → GoesOn now past failures honest old new → after ≡ before → map who_of learned ≡ map who_of waited
-        → Serves now past failures honest (at old held before waited) (at new held after learned)
-    engine_goes old new held before after waited learned goes lines names = λ start from going.
-        (going.0, (subst (Goes now past failures honest start new going.0) (sym names) (goes start going.0 (map who_of waited) going.1.0), subst (λ (l : Lines). Prints from held l going.0) (sym lines) going.1.1))
-
-    pub engine_halts : (old new : EngineState D) (held : Option (List ℕ)) (before after : Lines) (waited learned : List Waited) → Halts now past failures honest old new → after ≡ before → map who_of learned ≡ map who_of waited
-        → Ends now past failures honest (at old held before waited) (at new held after learned)
-    engine_halts old new held before after waited learned halts lines names = λ start from going.
-        (going.0, (subst (Halted now past failures honest start new going.0) (sym names) (halts start going.0 (map who_of waited) going.1.0), subst (λ (l : Lines). Prints from held l going.0) (sym lines) going.1.1))
-
-    -- a request is served
-    module _ (mid new : EngineState D) (r : Request) (entry : Entry) (a : Result Outcome Refusal) (it : Answered mid (Asks r) a new) (was : honest new.disk → honest mid.disk)
-        (leaves : honest new.disk → mid.failed ≡ false → Leaves (now mid.disk) (now new.disk) (past mid.disk) (past new.disk) (MeansEither mid (Asks r)))
-        (doubt : honest new.disk → mid.failed ≡ false → LeavesNow (now new.disk) (MeansEither mid (Asks r)))
-        (means : honest new.disk → new.failed ≡ false → LeavesNow (now new.disk) (MeansState new)) (cause : Faults (λ e. Unit {0}) a (failures mid.disk) (failures new.disk))
-        (is : a ≡ Ok (Tells entry)) (next : mid.failed ≡ false → (base : ℕ) × (bounds mid.memory.windows r.element ≡ Ok (base, r.number))) where
-      told : (start : EngineState D) (text : List ℕ) (names : List Waiter) → Goes now past failures honest start mid text names → Goes now past failures honest start new (text ++ told_line r.element r.number entry) (names ++ waits_if (asker r) entry)
-      told start text names goes = λ h.
-          let before = goes (was h) in
-          (before.0, (before.1.0 ++ Asks r ∷ [], asked start mid new before.1.0 text names r entry a before.1.1 it (leaves h) (doubt h) (means h) cause is (next_is_new mid.memory r (next before.1.1.works).0 (Tells entry) (next before.1.1.works).1)))
-
-      -- its line is printed, and it is noted where it has to wait
-      pub ask_serves : (held later : Option (List ℕ)) (before after : Lines) (waited noted : List Waited) → PrintsMore held before later after (told_line r.element r.number entry) → map who_of noted ≡ map who_of waited ++ waits_if (asker r) entry
-          → Serves now past failures honest (at mid held before waited) (at new later after noted)
-      ask_serves held later before after waited noted prints names = λ start from going. (
-        going.0 ++ told_line r.element r.number entry,
-        (subst (Goes now past failures honest start new (going.0 ++ told_line r.element r.number entry)) (sym names) (told start going.0 (map who_of waited) going.1.0), prints from going.0 going.1.1),
-      )
-
-      -- it isn't noted
-      pub ask_unnoted : (held later : Option (List ℕ)) (before after : Lines) (waited noted : List Waited) → PrintsMore held before later after (told_line r.element r.number entry) → map who_of noted ≡ map who_of waited
-          → Ends now past failures honest (at mid held before waited) (at new later after noted)
-      ask_unnoted held later before after waited noted prints names = λ start from going.
-          let text = going.0 ++ told_line r.element r.number entry in (
-            text,
-            (subst (Halted now past failures honest start new text) (sym names) (λ h. let there = told start going.0 (map who_of waited) going.1.0 h in (there.0, (there.1.0, unnoted start new there.1.0 text (map who_of waited) (waits_if (asker r) entry) there.1.1))), prints from going.0 going.1.1),
-          )
-
-      -- nor is its line printed
-      pub ask_ends : (held later : Option (List ℕ)) (before after : Lines) (waited noted : List Waited) → PrintsOn held before later after → noted ≡ waited → Ends now past failures honest (at mid held before waited) (at new later after noted)
-      ask_ends held later before after waited noted prints same = λ start from going.
-          (going.0, (subst (λ (l : List Waited). Halted now past failures honest start new going.0 (map who_of l)) (sym same) (serve_halts mid new (Asks r) a it was leaves doubt means cause start going.0 (map who_of waited) going.1.0), prints from going.0 going.1.1))
-
-    -- ---- the end
-
-    pub closed : (start engine : EngineState D) (disk : D) (status : ℕ) (held mid is was : Option (List ℕ)) (before later : Lines) (final : Lines) (noted waited : List Waited)
-        → Ended now past failures honest start was (at engine held before noted) → (status ≡ 0 → Going now past failures honest start was (at engine held before noted))
-        → map who_of waited ≡ map who_of noted → PrintsNows held before mid later waited → (status ≡ 0 → PrintsMore held before mid later (nows waited (length waited)))
-        → ((from : Option (List ℕ)) (text : List ℕ) → Prints from mid later text → (last : List ℕ) × (IsLast last × Prints from is final (text ++ last)))
-        → (status ≡ 0 → (from : Option (List ℕ)) (text : List ℕ) → Prints from mid later text → Appends from is text)
-        → disk ≡ engine.disk → (status ≡ 0 → engine.failed ≡ false) → (honest engine.disk → engine.failed ≡ false → LeavesNow (now engine.disk) (MeansState engine)) → honest disk → honest start.disk × Closed now past failures start disk was is status
-    closed start engine disk status held mid is was before later final noted waited reached going same some all last whole at_end works means h =
-        let there : honest engine.disk = subst honest at_end h in
-        subst (λ (d : D). honest start.disk × Closed now past failures start d was is status) (sym at_end) (by_status there status refl)
-      where
-        by_status : honest engine.disk → (n : ℕ) → status ≡ n → honest start.disk × Closed now past failures start engine.disk was is status
-        by_status there zero zero_is =
-            let g = going zero_is in
-            let it = g.1.0 there in
-            let put = it.1.0 in
-            let on = halts start engine put g.0 (map who_of noted) it.1.1 in
-            let told = some.2 was g.0 g.1.1 in
-            let end = last was (g.0 ++ nows waited some.0) told in
-            let full = whole zero_is was (g.0 ++ nows waited (length waited)) (all zero_is was g.0 g.1.1) in (
-              it.0,
-              closed_by start engine put g.0 (map who_of noted) status was is on works (means there)
-                  (told_by start engine put g.0 (map who_of noted) status was is waited some.0 end.0 on same end.1.0 (prints_begins was is final ((g.0 ++ nows waited some.0) ++ end.0) end.1.1)
-                  (λ z. (it.1.1.waiting, subst (λ (t : List ℕ). Appends was is (t ++ nows waited (length waited))) it.1.1.lines full))),
-            )
-        by_status there (suc n) more =
-            let it = reached.1.0 there in
-            let put = it.1.0 in
-            let told = some.2 was reached.0 reached.1.1 in
-            let end = last was (reached.0 ++ nows waited some.0) told in (
-              it.0,
-              closed_by start engine put reached.0 (map who_of noted) status was is it.1.1 works (means there)
-                  (told_by start engine put reached.0 (map who_of noted) status was is waited some.0 end.0 it.1.1 same end.1.0 (prints_begins was is final ((reached.0 ++ nows waited some.0) ++ end.0) end.1.1)
-                  (λ z. absurd (omega arith))),
-            )

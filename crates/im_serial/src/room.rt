@@ -1,7 +1,7 @@
 //! Makes room for the next request: in the journal, and in its element's window.
-ghost use Rattle.std.specs.Prelude.{◌≡◌, ℕ, false, Ok, IfOk, MatchResult};
+ghost use Rattle.std.specs.Prelude.{◌≡◌, ◌≤◌, ℕ, false, Ok, IfOk};
 ghost use Rattle.im_types.specs.Window.{bounds};
-ghost use Rattle.im_serial.specs.Serving.{GoesOn, Halts};
+ghost use Rattle.im_serial.specs.Serving.{Drops, Keeps};
 
 use im_checkpoint::TurnDone;
 use im_disk::Disk;
@@ -23,9 +23,7 @@ fn count(progress: &mut Progress, done: TurnDone) {
 
 // Takes one turn of a checkpoint.
 fn take_turn<D: Disk>(engine: &mut Engine<D>, progress: &mut Progress) -> Result<TurnDone, Refusal>
-    ensures goes { MatchResult result
-        (λ _. GoesOn D.now D.past D.failures D.honest engine.old engine.new)
-        (λ _. Halts D.now D.past D.failures D.honest engine.old engine.new) }
+    ensures goes { Keeps D.Disk result engine.old engine.new }
 {
     match engine.turn() {
         Ok(done) => {
@@ -38,9 +36,7 @@ fn take_turn<D: Disk>(engine: &mut Engine<D>, progress: &mut Progress) -> Result
 
 /// Takes turns of a checkpoint while there is no room for a command and something is left to do.
 pub fn make_room<D: Disk>(engine: &mut Engine<D>, progress: &mut Progress) -> Result<(), Refusal>
-    ensures goes { MatchResult result
-        (λ _. GoesOn D.now D.past D.failures D.honest engine.old engine.new)
-        (λ _. Halts D.now D.past D.failures D.honest engine.old engine.new) }
+    ensures goes { Keeps D.Disk result engine.old engine.new }
 {
     for _turn in 0..MOST_TURNS {
         if engine.room() > 0 {
@@ -59,9 +55,7 @@ pub fn make_room<D: Disk>(engine: &mut Engine<D>, progress: &mut Progress) -> Re
 
 // Confirms an element's entries below a number.
 fn serve_confirm<D: Disk>(engine: &mut Engine<D>, element: u16, upto: u64) -> Result<(), Refusal>
-    ensures goes { MatchResult result
-        (λ _. GoesOn D.now D.past D.failures D.honest engine.old engine.new)
-        (λ _. Halts D.now D.past D.failures D.honest engine.old engine.new) }
+    ensures goes { Drops D.Disk element upto result engine.old engine.new }
 {
     match engine.serve(&Command::Confirm { element, upto }) {
         Ok(_) => Ok(()),
@@ -76,16 +70,16 @@ pub fn confirm<D: Disk>(
     element: u16,
     upto: u64,
 ) -> Result<(), Refusal>
-    ensures goes { MatchResult result
-        (λ _. GoesOn D.now D.past D.failures D.honest engine.old engine.new)
-        (λ _. Halts D.now D.past D.failures D.honest engine.old engine.new) }
+    ensures goes { Drops D.Disk element upto result engine.old engine.new }
 {
     make_room(engine, progress)?;
     serve_confirm(engine, element, upto)
 }
 
 /// Returns the first number, from `base` on and before `next`, whose entry still waits. Returns `next` if none does.
-pub fn first_waiting<D: Disk>(engine: &Engine<D>, element: u16, base: u64, next: u64) -> u64 {
+pub fn first_waiting<D: Disk>(engine: &Engine<D>, element: u16, base: u64, next: u64) -> u64
+    ensures { base ≤ next → base ≤ result }
+{
     for number in base..next {
         if engine.collect(element, number) == Ok(Entry::Waiting) {
             return number;

@@ -1,8 +1,8 @@
 //! A script's requests, served one after another.
-ghost use Rattle.std.specs.Prelude.{◌≡◌, ◌⊎◌, ◌≤◌, [], false, IsOk};
+ghost use Rattle.std.specs.Prelude.{◌≡◌, ◌≤◌, [], false, IsOk};
 ghost use Rattle.im_disk.specs.Since.{LeavesNow};
 ghost use Rattle.im_engine.specs.State.{MeansState};
-ghost use Rattle.im_serial.specs.Serving.{Closed, NotOpened, Served};
+ghost use Rattle.im_serial.specs.Serving.{Closed, SerialOn};
 
 use crate::server::{Desk, Server};
 use im_disk::Disk;
@@ -35,7 +35,12 @@ use std::io::Write;
 /// all of them, or after all but the last if a call of the disk failed. If the status is 0, it leaves the memory after
 /// all of them.
 ///
-/// Each command whose line was written is in every file that a crash leaves. What was written is at each return a
+/// The commands that were put are the script's first requests, in their order, each with its element's next number, and
+/// confirmations. Element 0 asks for the blocks of the setup, and a name stands for the base in its block's answer. If
+/// the status is 0, they are all the script's requests.
+///
+/// Each command whose line was written is in every file that a crash leaves. A request's line tells its answer, and a
+/// `now` line the entry that is kept for it at the end or that it had when it was confirmed. What was written is at each return a
 /// prefix of this text: the lines of such commands, then those of requests that had to wait, then that of the refusal.
 /// If the status is 0, it is all of it.
 pub fn serial_on<D: Disk, W: Write, N: Observer>(
@@ -47,8 +52,7 @@ pub fn serial_on<D: Disk, W: Write, N: Observer>(
 ) -> (u8, D)
     ensures status { result.0 ≤ 1 }
     ensures served { D.honest result.1
-        → NotOpened D.now D.past disk result.1 (W.contents out.old) (W.contents out.new) result.0
-        ⊎ Served D.now D.past D.failures disk result.1 (W.contents out.old) (W.contents out.new) result.0 }
+        → SerialOn D.Disk script.now disk result.1 (W.contents out.old) (W.contents out.new) result.0 }
     ensures honest { D.honest result.1 → D.honest disk }
 {
     let desk = match Desk::new(alloc) {
@@ -78,7 +82,7 @@ fn serve_on<D: Disk, W: Write, N: Observer>(
     requires pending { desk.lines.pending.items ≡ [] }
     ensures status { result.0 ≤ 1 }
     ensures closed { D.honest result.1
-        → Closed D.now D.past D.failures engine result.1 (W.contents out.old) (W.contents out.new) result.0 }
+        → Closed D.now D.past D.failures script.now engine result.1 (W.contents out.old) (W.contents out.new) result.0 }
     ensures honest { D.honest result.1 → D.honest engine.disk }
 {
     let mut server = Server::new(alloc, engine, desk);

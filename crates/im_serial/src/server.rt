@@ -1,16 +1,25 @@
 //! An engine that serves requests one after another, and prints their lines.
 ghost use Rattle.std.specs.Prelude.{◌≡◌, ◌≤◌, ◌++◌, ℕ, [], false, Ok};
-ghost use Rattle.std.specs.Prelude.{OnOk, IfOk, MatchResult, length, map};
+ghost use Rattle.std.specs.Prelude.{List, Some, OnOk, IfOk, MatchResult, length, map, slice_get};
+ghost use Rattle.im_types.specs.declared.commands.Command.{Command};
+ghost use Rattle.im_types.specs.declared.operations.Entry.TheVariants.{Waiting};
+ghost use Rattle.im_types.specs.declared.operations.Waiter.{Waiter};
+ghost use Rattle.im_types.specs.Contents.{Contents};
+ghost use Rattle.im_types.specs.Memory.{IsMemory};
+ghost use Rattle.im_types.specs.Run.{after};
 ghost use Rattle.im_types.specs.Window.{bounds};
-ghost use Rattle.im_text.specs.Printing.{PrintsMore, PrintsNows, PrintsOn, now_line, nows, told_line, waits_if};
+ghost use Rattle.im_text.specs.Printing.{PrintsMore, PrintsNows, PrintsOn, now_line, nows, told_line};
 ghost use Rattle.im_text.specs.Printing.{who_of};
-ghost use Rattle.im_serial.specs.Serving.{Ends, GoesOn, Halts, Serves, at};
+ghost use Rattle.im_serial.specs.declared.waits.Mark.TheVariants.{Here};
+ghost use Rattle.im_serial.specs.Noted.{AreKnown, AreLast, noted_if, mark_place};
+ghost use Rattle.im_serial.specs.Asked.{wanted_by, wanted_of};
+ghost use Rattle.im_serial.specs.Serving.{Ends, HasAsked, HasServed, Prepares, Serves, at, server_of};
 
 use crate::room::{confirm, first_waiting, make_room, next_number, reason_of};
 use crate::waits::{Places, learn, learn_all, note, tell_earlier, waited_at};
 use im_disk::Disk;
 use im_engine::Engine;
-use im_script::{Allocation, Reader, Said, Script, ScriptLine, split_line};
+use im_script::{Allocation, Reader, Said, Script, ScriptFault, ScriptLine, split_line};
 use im_text::{Lines, Observer, Progress, Reason, Waited, make_line, make_now};
 use im_types::{Command, Entry, Op, Outcome, Refusal, Reply, Request, WINDOW};
 use std::alloc::{AllocError, Global};
@@ -74,6 +83,8 @@ impl<D: Disk> Server<D> {
         ensures engine { result.engine ≡ engine }
         ensures lines { result.lines ≡ desk.lines }
         ensures waited { result.waited.items ≡ [] }
+        ensures bases { result.bases.items ≡ [] }
+        ensures memory { let m = engine.memory in IsMemory (length m.cells) (length m.windows) m }
     {
         let Desk {
             mut places,
@@ -115,11 +126,10 @@ impl<D: Disk> Server<D> {
 
     // If an element's window is full, confirms its entries before the first that still waits.
     fn make_place<N: Observer>(&mut self, element: u16, observer: &mut N) -> Result<(), Refusal>
-        ensures goes { MatchResult result
-            (λ _. GoesOn D.now D.past D.failures D.honest self.old.engine self.new.engine)
-            (λ _. Halts D.now D.past D.failures D.honest self.old.engine self.new.engine) }
+        ensures goes { Prepares D.Disk result self.old.engine self.old.waited.items self.old.places.marks.items
+            self.new.engine self.new.waited.items self.new.places.marks.items }
         ensures lines { self.new.lines ≡ self.old.lines }
-        ensures names { map who_of self.new.waited.items ≡ map who_of self.old.waited.items }
+        ensures bases { self.new.bases.items ≡ self.old.bases.items }
     {
         let (base, next) = match self.engine.window(element) {
             Ok(bounds) => bounds,
@@ -142,11 +152,10 @@ impl<D: Disk> Server<D> {
 
     // Makes a place in an element's window, and room in the journal, for its next request.
     fn prepare<N: Observer>(&mut self, element: u16, observer: &mut N) -> Result<(), Refusal>
-        ensures goes { MatchResult result
-            (λ _. GoesOn D.now D.past D.failures D.honest self.old.engine self.new.engine)
-            (λ _. Halts D.now D.past D.failures D.honest self.old.engine self.new.engine) }
+        ensures goes { Prepares D.Disk result self.old.engine self.old.waited.items self.old.places.marks.items
+            self.new.engine self.new.waited.items self.new.places.marks.items }
         ensures lines { self.new.lines ≡ self.old.lines }
-        ensures names { map who_of self.new.waited.items ≡ map who_of self.old.waited.items }
+        ensures bases { self.new.bases.items ≡ self.old.bases.items }
     {
         self.make_place(element, observer)?;
         make_room(&mut self.engine, &mut self.progress)
@@ -156,6 +165,8 @@ impl<D: Disk> Server<D> {
     fn print<W: Write>(&mut self, who: (u16, u64), entry: Entry, out: &mut W) -> Result<(), Reason>
         ensures engine { self.new.engine ≡ self.old.engine }
         ensures names { self.new.waited.items ≡ self.old.waited.items }
+        ensures marks { self.new.places.marks.items ≡ self.old.places.marks.items }
+        ensures bases { self.new.bases.items ≡ self.old.bases.items }
         ensures more { MatchResult result
             (λ _. PrintsMore (W.contents out.old) self.old.lines (W.contents out.new) self.new.lines
             (told_line who.0 who.1 entry))
@@ -172,13 +183,16 @@ impl<D: Disk> Server<D> {
     fn note(&mut self, who: (u16, u64), entry: Entry) -> Result<(), Reason>
         ensures engine { self.new.engine ≡ self.old.engine }
         ensures lines { self.new.lines ≡ self.old.lines }
-        ensures names { MatchResult result
-            (λ _. map who_of self.new.waited.items ≡ map who_of self.old.waited.items
-            ++ waits_if (record { element = who.0; number = who.1 }) entry)
-            (λ _. map who_of self.new.waited.items ≡ map who_of self.old.waited.items) }
+        ensures bases { self.new.bases.items ≡ self.old.bases.items }
+        ensures pushed { let who : Waiter = record { element = who.0; number = who.1 } in MatchResult result
+            (λ _. self.new.waited.items ≡ self.old.waited.items ++ noted_if who entry)
+            (λ _. self.new.waited.items ≡ self.old.waited.items) }
+        ensures mark { let at = mark_place (record { element = who.0; number = who.1 }) in OnOk result (entry ≡ Waiting
+            → slice_get self.new.places.marks.items at ≡ Some (Here (length self.old.waited.items))) }
+        ensures others { let at = mark_place (record { element = who.0; number = who.1 }) in (i : ℕ) → (i ≡ at → ⊥)
+            → slice_get self.new.places.marks.items i ≡ slice_get self.old.places.marks.items i }
     {
-        let (element, number) = who;
-        match note(&mut self.waited, &mut self.places, element, number, entry) {
+        match note(&mut self.waited, &mut self.places, who, entry) {
             Ok(()) => Ok(()),
             Err(_) => Err(Reason::Memory),
         }
@@ -188,13 +202,10 @@ impl<D: Disk> Server<D> {
     fn ask<W: Write>(&mut self, request: Request, out: &mut W) -> Result<Entry, Reason>
         requires next { self.old.engine.failed ≡ false → (base : ℕ)
             × (bounds self.old.engine.memory.windows request.element ≡ Ok (base, request.number)) }
-        ensures serves { MatchResult result
-            (λ _. Serves D.now D.past D.failures D.honest
-            (at self.old.engine (W.contents out.old) self.old.lines self.old.waited.items)
-            (at self.new.engine (W.contents out.new) self.new.lines self.new.waited.items))
-            (λ _. Ends D.now D.past D.failures D.honest
-            (at self.old.engine (W.contents out.old) self.old.lines self.old.waited.items)
-            (at self.new.engine (W.contents out.new) self.new.lines self.new.waited.items)) }
+        ensures serves { HasAsked D.Disk request.element request.op result
+            (server_of self.old.engine (W.contents out.old) self.old.lines self.old.waited.items self.old.places.marks.items)
+            (server_of self.new.engine (W.contents out.new) self.new.lines self.new.waited.items self.new.places.marks.items) }
+        ensures bases { self.new.bases.items ≡ self.old.bases.items }
     {
         let who = (request.element, request.number);
         match self.engine.serve(&Command::Request(request)) {
@@ -212,13 +223,10 @@ impl<D: Disk> Server<D> {
 
     // Serves an element's next request, for which there is room, and prints what is kept for it.
     fn ask_next<W: Write>(&mut self, element: u16, op: Op, out: &mut W) -> Result<Entry, Reason>
-        ensures serves { MatchResult result
-            (λ _. Serves D.now D.past D.failures D.honest
-            (at self.old.engine (W.contents out.old) self.old.lines self.old.waited.items)
-            (at self.new.engine (W.contents out.new) self.new.lines self.new.waited.items))
-            (λ _. Ends D.now D.past D.failures D.honest
-            (at self.old.engine (W.contents out.old) self.old.lines self.old.waited.items)
-            (at self.new.engine (W.contents out.new) self.new.lines self.new.waited.items)) }
+        ensures serves { HasAsked D.Disk element op result
+            (server_of self.old.engine (W.contents out.old) self.old.lines self.old.waited.items self.old.places.marks.items)
+            (server_of self.new.engine (W.contents out.new) self.new.lines self.new.waited.items self.new.places.marks.items) }
+        ensures bases { self.new.bases.items ≡ self.old.bases.items }
     {
         match next_number(&self.engine, element) {
             Ok(number) => self.ask(
@@ -241,13 +249,10 @@ impl<D: Disk> Server<D> {
         out: &mut W,
         observer: &mut N,
     ) -> Result<Entry, Reason>
-        ensures serves { MatchResult result
-            (λ _. Serves D.now D.past D.failures D.honest
-            (at self.old.engine (W.contents out.old) self.old.lines self.old.waited.items)
-            (at self.new.engine (W.contents out.new) self.new.lines self.new.waited.items))
-            (λ _. Ends D.now D.past D.failures D.honest
-            (at self.old.engine (W.contents out.old) self.old.lines self.old.waited.items)
-            (at self.new.engine (W.contents out.new) self.new.lines self.new.waited.items)) }
+        ensures serves { HasAsked D.Disk element op result
+            (server_of self.old.engine (W.contents out.old) self.old.lines self.old.waited.items self.old.places.marks.items)
+            (server_of self.new.engine (W.contents out.new) self.new.lines self.new.waited.items self.new.places.marks.items) }
+        ensures bases { self.new.bases.items ≡ self.old.bases.items }
     {
         match self.prepare(element, observer) {
             Ok(()) => {
@@ -255,6 +260,30 @@ impl<D: Disk> Server<D> {
                 self.ask_next(element, op, out)
             }
             Err(refusal) => Err(Reason::Request(element, refusal)),
+        }
+    }
+
+    // Makes a block of the setup, prints its answer, and keeps its base.
+    fn name_block<W: Write, N: Observer>(
+        &mut self,
+        block: Allocation,
+        out: &mut W,
+        observer: &mut N,
+    ) -> Result<(), Reason>
+        ensures served { HasServed D.Disk (wanted_by (Said.Block block)) self.old.bases.items self.new.bases.items result
+            (server_of self.old.engine (W.contents out.old) self.old.lines self.old.waited.items self.old.places.marks.items)
+            (server_of self.new.engine (W.contents out.new) self.new.lines self.new.waited.items self.new.places.marks.items) }
+    {
+        let entry = match self.request(0, Op::Alloc(block.kind, block.length), out, observer) {
+            Ok(entry) => entry,
+            Err(reason) => return Err(reason),
+        };
+        let Entry::Answered(Reply::Base(base)) = entry else {
+            return Err(Reason::Block(self.bases.len().saturating_add(1)));
+        };
+        match self.bases.push(base) {
+            Ok(()) => Ok(()),
+            Err(_) => Err(Reason::Memory),
         }
     }
 
@@ -278,17 +307,7 @@ impl<D: Disk> Server<D> {
             (at self.old.engine (W.contents out.old) self.old.lines self.old.waited.items)
             (at self.new.engine (W.contents out.new) self.new.lines self.new.waited.items)) }
     {
-        let entry = match self.request(0, Op::Alloc(block.kind, block.length), out, observer) {
-            Ok(entry) => entry,
-            Err(reason) => return Err(reason),
-        };
-        let Entry::Answered(Reply::Base(base)) = entry else {
-            return Err(Reason::Block(self.bases.len().saturating_add(1)));
-        };
-        if self.bases.push(base).is_err() {
-            return Err(Reason::Memory);
-        }
-        Ok(())
+        self.name_block(block, out, observer)
     }
 
     // Serves a request of a part.
@@ -298,13 +317,9 @@ impl<D: Disk> Server<D> {
         out: &mut W,
         observer: &mut N,
     ) -> Result<(), Reason>
-        ensures serves { MatchResult result
-            (λ _. Serves D.now D.past D.failures D.honest
-            (at self.old.engine (W.contents out.old) self.old.lines self.old.waited.items)
-            (at self.new.engine (W.contents out.new) self.new.lines self.new.waited.items))
-            (λ _. Ends D.now D.past D.failures D.honest
-            (at self.old.engine (W.contents out.old) self.old.lines self.old.waited.items)
-            (at self.new.engine (W.contents out.new) self.new.lines self.new.waited.items)) }
+        ensures served { HasServed D.Disk (wanted_by (Said.Asks line)) self.old.bases.items self.new.bases.items result
+            (server_of self.old.engine (W.contents out.old) self.old.lines self.old.waited.items self.old.places.marks.items)
+            (server_of self.new.engine (W.contents out.new) self.new.lines self.new.waited.items self.new.places.marks.items) }
     {
         let Some(op) = line.action.op(self.bases.as_slice()) else {
             return Err(Reason::Place(line.element));
@@ -322,26 +337,23 @@ impl<D: Disk> Server<D> {
         out: &mut W,
         observer: &mut N,
     ) -> Result<(), Reason>
-        ensures serves { MatchResult result
-            (λ _. Serves D.now D.past D.failures D.honest
-            (at self.old.engine (W.contents out.old) self.old.lines self.old.waited.items)
-            (at self.new.engine (W.contents out.new) self.new.lines self.new.waited.items))
-            (λ _. Ends D.now D.past D.failures D.honest
-            (at self.old.engine (W.contents out.old) self.old.lines self.old.waited.items)
-            (at self.new.engine (W.contents out.new) self.new.lines self.new.waited.items)) }
+        ensures served { HasServed D.Disk (wanted_by said) self.old.bases.items self.new.bases.items result
+            (server_of self.old.engine (W.contents out.old) self.old.lines self.old.waited.items self.old.places.marks.items)
+            (server_of self.new.engine (W.contents out.new) self.new.lines self.new.waited.items self.new.places.marks.items) }
     {
         match said {
-            Said::Nothing | Said::Begins(_) => Ok(()),
-            Said::Block(block) => self.make_block(block, out, observer),
+            Said::Nothing => Ok(()),
+            Said::Begins(_element) => Ok(()),
+            Said::Block(block) => self.name_block(block, out, observer),
             Said::Asks(line) => self.serve_line(line, out, observer),
         }
     }
 
     // Writes what is kept back, if each line is wanted as soon as it is true.
     fn show<W: Write, N: Observer>(&mut self, out: &mut W, observer: &N) -> Result<(), Reason>
-        ensures serves { Serves D.now D.past D.failures D.honest
-            (at self.old.engine (W.contents out.old) self.old.lines self.old.waited.items)
-            (at self.new.engine (W.contents out.new) self.new.lines self.new.waited.items) }
+        ensures served { HasServed D.Disk [] self.old.bases.items self.new.bases.items result
+            (server_of self.old.engine (W.contents out.old) self.old.lines self.old.waited.items self.old.places.marks.items)
+            (server_of self.new.engine (W.contents out.new) self.new.lines self.new.waited.items self.new.places.marks.items) }
     {
         if observer.wants_each_line() {
             self.lines.flush(out)
@@ -357,13 +369,9 @@ impl<D: Disk> Server<D> {
         out: &mut W,
         observer: &mut N,
     ) -> Result<(), Reason>
-        ensures serves { MatchResult result
-            (λ _. Serves D.now D.past D.failures D.honest
-            (at self.old.engine (W.contents out.old) self.old.lines self.old.waited.items)
-            (at self.new.engine (W.contents out.new) self.new.lines self.new.waited.items))
-            (λ _. Ends D.now D.past D.failures D.honest
-            (at self.old.engine (W.contents out.old) self.old.lines self.old.waited.items)
-            (at self.new.engine (W.contents out.new) self.new.lines self.new.waited.items)) }
+        ensures served { HasServed D.Disk (wanted_by said) self.old.bases.items self.new.bases.items result
+            (server_of self.old.engine (W.contents out.old) self.old.lines self.old.waited.items self.old.places.marks.items)
+            (server_of self.new.engine (W.contents out.new) self.new.lines self.new.waited.items self.new.places.marks.items) }
     {
         match self.serve_said(said, out, observer) {
             Ok(()) => self.show(out, observer),
@@ -379,19 +387,16 @@ impl<D: Disk> Server<D> {
         out: &mut W,
         observer: &mut N,
     ) -> Result<(), Reason>
-        ensures serves { MatchResult result
-            (λ _. Serves D.now D.past D.failures D.honest
-            (at self.old.engine (W.contents out.old) self.old.lines self.old.waited.items)
-            (at self.new.engine (W.contents out.new) self.new.lines self.new.waited.items))
-            (λ _. Ends D.now D.past D.failures D.honest
-            (at self.old.engine (W.contents out.old) self.old.lines self.old.waited.items)
-            (at self.new.engine (W.contents out.new) self.new.lines self.new.waited.items)) }
+        ensures served { HasServed D.Disk (wanted_of script.now) self.old.bases.items self.new.bases.items result
+            (server_of self.old.engine (W.contents out.old) self.old.lines self.old.waited.items self.old.places.marks.items)
+            (server_of self.new.engine (W.contents out.new) self.new.lines self.new.waited.items self.new.places.marks.items) }
     {
         let mut reader = Reader::new(alloc);
         let mut rest = Some(script.text());
         for number in 1..usize::MAX {
-            let Some(text) = rest else {
-                return Ok(());
+            let text = match rest {
+                Some(text) => text,
+                None => return Ok(()),
             };
             let (line, behind) = split_line(text);
             rest = behind;
@@ -404,7 +409,7 @@ impl<D: Disk> Server<D> {
                 Err(reason) => return Err(reason),
             }
         }
-        Ok(())
+        Err(Reason::Script(ScriptFault::TooLarge)) // No script has so many lines.
     }
 
     // Learns what is kept at the end for the requests that had to wait, and tells the observer about those that waited
@@ -413,6 +418,8 @@ impl<D: Disk> Server<D> {
         ensures engine { self.new.engine ≡ self.old.engine }
         ensures lines { self.new.lines ≡ self.old.lines }
         ensures names { map who_of self.new.waited.items ≡ map who_of self.old.waited.items }
+        ensures last { (m : Contents) (put : List Command) → self.old.engine.memory ≡ after m put
+            → AreKnown m put self.old.waited.items → AreLast m put self.new.waited.items }
     {
         learn_all(self.waited.as_mut_slice(), self.engine.memory());
         tell_earlier(&mut self.places, self.engine.memory(), observer);

@@ -1,12 +1,20 @@
 //! The requests that had to wait, and what is kept for them.
-ghost use Rattle.std.specs.Prelude.{◌≡◌, ◌++◌, map, slice_get, MatchResult};
-ghost use Rattle.im_text.specs.Printing.{waits_if, who_of};
+ghost use Rattle.std.specs.Prelude.{◌≡◌, ◌≤◌, ◌+◌, ◌++◌, ℕ, List, Some, true, length, map, slice_get, OnOk, MatchResult};
+ghost use Rattle.im_types.specs.declared.commands.Command.{Command};
+ghost use Rattle.im_types.specs.declared.operations.Entry.TheVariants.{Waiting};
+ghost use Rattle.im_types.specs.declared.operations.Waiter.{Waiter};
+ghost use Rattle.im_types.specs.Contents.{Contents};
+ghost use Rattle.im_types.specs.Memory.{IsMemory};
+ghost use Rattle.im_types.specs.Run.{after};
+ghost use Rattle.im_text.specs.Printing.{who_of};
+ghost use Rattle.im_serial.specs.declared.waits.Mark.TheVariants.{Here};
+ghost use Rattle.im_serial.specs.Noted.{AreKnown, AreLast, IsLearnt, Learns, entered, noted_if, mark_place, noted_by};
+ghost use Rattle.im_serial.specs.Noted.{with_entry};
 
 use im_memory::Memory;
 use im_text::{Observer, Waited};
 use im_types::{Entry, MAX_ELEMENTS, WINDOW};
 use std::alloc::{AllocError, Global};
-use std::mem;
 
 /// Who waits at a place of a window.
 #[derive(Clone, Copy, Debug, PartialEq, Eq)]
@@ -26,7 +34,9 @@ pub struct Places {
 }
 
 // The index of a number's mark. Two numbers of one window have different marks.
-fn index_of(element: u16, number: u64) -> usize {
+fn index_of(element: u16, number: u64) -> usize
+    ensures { result ≡ mark_place (record { element = element; number = number }) }
+{
     element as usize * WINDOW as usize + (number % WINDOW) as usize
 }
 
@@ -40,18 +50,36 @@ impl Places {
         Ok(Places { marks })
     }
 
-    /// Sets the mark of a number.
-    pub fn set(&mut self, element: u16, number: u64, mark: Mark) {
-        if let Some(place) = self.marks.get_mut(index_of(element, number)) {
-            *place = mark;
+    /// Sets the mark of a number. Returns whether its element has marks.
+    pub fn set(&mut self, element: u16, number: u64, mark: Mark) -> bool
+        ensures set { let at = mark_place (record { element = element; number = number }) in
+            result ≡ true → slice_get self.new.marks.items at ≡ Some mark }
+        ensures others { let at = mark_place (record { element = element; number = number }) in
+            (i : ℕ) → (i ≡ at → ⊥) → slice_get self.new.marks.items i ≡ slice_get self.old.marks.items i }
+    {
+        let at = index_of(element, number);
+        if at < self.marks.len() {
+            self.marks[at] = mark;
+            true
+        } else {
+            false
         }
     }
 
     /// Returns the mark of a number, and removes it.
-    pub fn take(&mut self, element: u16, number: u64) -> Mark {
-        match self.marks.get_mut(index_of(element, number)) {
-            Some(place) => mem::replace(place, Mark::Nobody),
-            None => Mark::Nobody,
+    pub fn take(&mut self, element: u16, number: u64) -> Mark
+        ensures mark { let at = mark_place (record { element = element; number = number }) in
+            (there : Mark) → slice_get self.old.marks.items at ≡ Some there → result ≡ there }
+        ensures others { let at = mark_place (record { element = element; number = number }) in
+            (i : ℕ) → (i ≡ at → ⊥) → slice_get self.new.marks.items i ≡ slice_get self.old.marks.items i }
+    {
+        let at = index_of(element, number);
+        if at < self.marks.len() {
+            let mark = self.marks[at];
+            self.marks[at] = Mark::Nobody;
+            mark
+        } else {
+            Mark::Nobody
         }
     }
 
@@ -59,13 +87,15 @@ impl Places {
     fn mark_element(&mut self, memory: &Memory, element: u16, base: u64, next: u64) {
         for number in base..next {
             if memory.collect(element, number) == Ok(Entry::Waiting) {
-                self.set(element, number, Mark::Earlier);
+                let _has_marks = self.set(element, number, Mark::Earlier);
             }
         }
     }
 
     /// Marks all requests that wait in a memory.
-    pub fn mark_earlier(&mut self, memory: &Memory) {
+    pub fn mark_earlier(&mut self, memory: &Memory)
+        ensures { let m = memory.now.contents in IsMemory (length m.cells) (length m.windows) m }
+    {
         for element in 0..memory.elements() {
             if let Ok((base, next)) = memory.window(element) {
                 self.mark_element(memory, element, base, next);
@@ -74,21 +104,29 @@ impl Places {
     }
 }
 
-// Keeps another entry for a request that waited.
-fn set_entry(waited: &mut [Waited], at: usize, entry: Entry)
-    ensures { map who_of waited.new ≡ map who_of waited.old }
+// Returns a request with this entry in the place of its own, if it is the one that is meant.
+fn with_entry(waited: Waited, who: (u16, u64), entry: Entry) -> Waited
+    ensures { result ≡ with_entry (record { element = who.0; number = who.1 }) entry waited }
+{
+    if waited.element == who.0 && waited.number == who.1 {
+        Waited {
+            element: waited.element,
+            number: waited.number,
+            entry,
+        }
+    } else {
+        waited
+    }
+}
+
+// Keeps another entry for a request that waited, if it is the one at this index.
+fn set_entry(waited: &mut [Waited], at: usize, who: (u16, u64), entry: Entry)
+    ensures names { map who_of waited.new ≡ map who_of waited.old }
+    ensures sets { let who : Waiter = record { element = who.0; number = who.1 } in
+        (i : ℕ) → slice_get waited.new i ≡ entered at who entry i (slice_get waited.old i) }
 {
     if at < waited.len() {
-        let Waited {
-            element,
-            number,
-            ..
-        } = waited[at];
-        waited[at] = Waited {
-            element,
-            number,
-            entry,
-        };
+        waited[at] = with_entry(waited[at], who, entry);
     }
 }
 
@@ -96,17 +134,39 @@ fn set_entry(waited: &mut [Waited], at: usize, entry: Entry)
 fn settle<N: Observer>(
     waited: &mut [Waited],
     mark: Mark,
-    element: u16,
-    number: u64,
+    who: (u16, u64),
     entry: Entry,
     observer: &mut N,
 )
-    ensures { map who_of waited.new ≡ map who_of waited.old }
+    ensures names { map who_of waited.new ≡ map who_of waited.old }
+    ensures sets { let who : Waiter = record { element = who.0; number = who.1 } in
+        (i : ℕ) → slice_get waited.new i ≡ noted_by mark who entry i (slice_get waited.old i) }
 {
     match mark {
         Mark::Nobody => {}
-        Mark::Earlier => observer.answered(element, number, entry),
-        Mark::Here(at) => set_entry(waited, at, entry),
+        Mark::Earlier => observer.answered(who.0, who.1, entry),
+        Mark::Here(at) => set_entry(waited, at, who, entry),
+    }
+}
+
+// Learns the answer under a number, before it is confirmed.
+fn learn_one<N: Observer>(
+    waited: &mut [Waited],
+    places: &mut Places,
+    memory: &Memory,
+    who: (u16, u64),
+    observer: &mut N,
+)
+    ensures names { map who_of waited.new ≡ map who_of waited.old }
+    ensures learnt { Learns memory.now.contents who.0 who.1 (who.1 + 1) places.old.marks.items waited.old
+        places.new.marks.items waited.new }
+{
+    match memory.kept(who.0, who.1) {
+        Some(kept) => {
+            let mark = places.take(who.0, who.1);
+            settle(waited, mark, who, kept.entry, observer);
+        }
+        None => {}
     }
 }
 
@@ -119,30 +179,39 @@ pub fn learn<N: Observer>(
     numbers: (u64, u64),
     observer: &mut N,
 )
-    ensures { map who_of waited.new ≡ map who_of waited.old }
+    ensures names { map who_of waited.new ≡ map who_of waited.old }
+    ensures learnt { numbers.0 ≤ numbers.1 → Learns memory.now.contents element numbers.0 numbers.1
+        places.old.marks.items waited.old places.new.marks.items waited.new }
 {
     let (base, upto) = numbers;
     for number in base..upto {
-        if let Some(kept) = memory.kept(element, number) {
-            let mark = places.take(element, number);
-            settle(waited, mark, element, number, kept.entry, observer);
-        }
+        learn_one(waited, places, memory, (element, number), observer);
+    }
+}
+
+// Learns what is kept at the end for the request at this index.
+fn learn_last(waited: &mut [Waited], at: usize, memory: &Memory)
+    ensures names { map who_of waited.new ≡ map who_of waited.old }
+    ensures learnt { (m : Contents) (put : List Command) → memory.now.contents ≡ after m put
+        → IsLearnt m put at waited.old → IsLearnt m put (at + 1) waited.new }
+{
+    match waited_at(waited, at) {
+        Some(last) => match memory.kept(last.element, last.number) {
+            Some(kept) => set_entry(waited, at, (last.element, last.number), kept.entry),
+            None => {}
+        },
+        None => {}
     }
 }
 
 /// Learns what is kept at the end for all requests that had to wait.
 pub fn learn_all(waited: &mut [Waited], memory: &Memory)
-    ensures { map who_of waited.new ≡ map who_of waited.old }
+    ensures names { map who_of waited.new ≡ map who_of waited.old }
+    ensures last { (m : Contents) (put : List Command) → memory.now.contents ≡ after m put
+        → AreKnown m put waited.old → AreLast m put waited.new }
 {
     for at in 0..waited.len() {
-        let Waited {
-            element,
-            number,
-            ..
-        } = waited[at];
-        if let Some(kept) = memory.kept(element, number) {
-            set_entry(waited, at, kept.entry);
-        }
+        learn_last(waited, at, memory);
     }
 }
 
@@ -178,22 +247,26 @@ pub fn tell_earlier<N: Observer>(places: &mut Places, memory: &Memory, observer:
 pub fn note(
     waited: &mut Vec<Waited>,
     places: &mut Places,
-    element: u16,
-    number: u64,
+    who: (u16, u64),
     entry: Entry,
 ) -> Result<(), AllocError>
-    ensures names { MatchResult result
-        (λ _. map who_of waited.new.items ≡ map who_of waited.old.items
-        ++ waits_if (record { element = element; number = number }) entry)
-        (λ _. map who_of waited.new.items ≡ map who_of waited.old.items) }
+    ensures pushed { MatchResult result
+        (λ _. waited.new.items ≡ waited.old.items ++ noted_if (record { element = who.0; number = who.1 }) entry)
+        (λ _. waited.new.items ≡ waited.old.items) }
+    ensures mark { let at = mark_place (record { element = who.0; number = who.1 }) in
+        OnOk result (entry ≡ Waiting → slice_get places.new.marks.items at ≡ Some (Here (length waited.old.items))) }
+    ensures others { let at = mark_place (record { element = who.0; number = who.1 }) in
+        (i : ℕ) → (i ≡ at → ⊥) → slice_get places.new.marks.items i ≡ slice_get places.old.marks.items i }
 {
     match entry {
         Entry::Answered(_) => Ok(()),
         Entry::Waiting => {
-            places.set(element, number, Mark::Here(waited.len()));
+            if !places.set(who.0, who.1, Mark::Here(waited.len())) {
+                return Err(AllocError); // No image has such an element.
+            }
             let last = Waited {
-                element,
-                number,
+                element: who.0,
+                number: who.1,
                 entry,
             };
             match waited.push(last) {

@@ -5,5 +5,6 @@ returns-in-Ok-open_image-clause-served g c = λ honest. record {
   old = c.in-Ok-open_image.disk;
   was = c.in-Ok-open_image.ensures.now;
   none = c.in-Ok-open_image.ensures.past;
+  text = _;
   served = c.serial_on.ensures.served honest;
 }

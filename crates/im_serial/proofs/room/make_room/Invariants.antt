@@ -2,4 +2,4 @@ use Rattle.im_serial.specs.Serving.{GoesOn}
 use Rattle.im_serial.proofs.room.make_room.Given as goal
 
 abbrev pub invariant-loop-turn : goal.invariant-loop-turn
-invariant-loop-turn g l = GoesOn g.D.Disk.now g.D.Disk.past g.D.Disk.failures g.D.Disk.honest l.fn.engine l.engine
+invariant-loop-turn g l = GoesOn g.D.Disk l.fn.engine l.engine

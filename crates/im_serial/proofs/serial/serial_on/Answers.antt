@@ -7,4 +7,4 @@ returns-in-Ok-open-clause-served g c = λ honest.
     let was = c.serve_on.ensures.honest honest in
     let engine = c.in-Ok-open.engine in
     let e = c.in-Ok-open.ensures in
-    inr (served g.D.Disk.now g.D.Disk.past g.D.Disk.failures c.args.disk engine c.serve_on.result.1 _ _ c.serve_on.result.0 (e.leaves was) (e.means was) e.faults (c.serve_on.ensures.closed honest))
+    inr (served g.D.Disk.now g.D.Disk.past g.D.Disk.failures c.args.script.now c.args.disk engine c.serve_on.result.1 _ _ c.serve_on.result.0 (e.leaves was) (e.means was) e.faults (c.serve_on.ensures.closed honest))

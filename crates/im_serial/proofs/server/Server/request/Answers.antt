@@ -1,15 +1,32 @@
-use Rattle.im_serial.proofs.ServingLemmas.{then_serves, engine_goes, engine_halts}
+use Rattle.std.proofs.Common.{◌∷◌, subst, sym}
+use Rattle.im_text.specs.declared.lines.Lines.{Lines}
+use Rattle.im_text.specs.Printing.{Prints}
+use Rattle.im_serial.specs.Asked.{standing}
+use Rattle.im_serial.proofs.ScriptedLemmas.{asked_then, prepared_goes}
 use Rattle.im_serial.proofs.server.Server.request.Goals as goal
 
-pub returns-in-Ok : goal.returns-in-Ok
-returns-in-Ok g c = record {
-  serves = then_serves g.D.Disk.now g.D.Disk.past g.D.Disk.failures g.D.Disk.honest c.ask_next.result _ _ _
-      (engine_goes g.D.Disk.now g.D.Disk.past g.D.Disk.failures g.D.Disk.honest c.args.self.now.engine c.prepare.new.self.engine (g.W.Write.contents c.args.out.now) c.args.self.now.lines c.prepare.new.self.lines
-      c.args.self.now.waited.items c.prepare.new.self.waited.items c.in-Ok.ensures.goes c.prepare.ensures.lines c.prepare.ensures.names) c.ask_next.ensures.serves;
-}
+pub returns-in-Ok-clause-serves : goal.returns-in-Ok-clause-serves
+returns-in-Ok-clause-serves g c =
+    let old = c.args.self.now in
+    let mid = c.prepare.new.self in
+    asked_then g.D.Disk c.ask_next.result c.args.element c.args.op _ _ _
+    (prepared_goes g.D.Disk old.engine mid.engine old.waited.items mid.waited.items old.places.marks.items
+    mid.places.marks.items (g.W.Write.contents c.args.out.now) old.lines mid.lines c.in-Ok.ensures.goes
+    c.prepare.ensures.lines)
+    c.ask_next.ensures.serves
 
-pub returns-in-Err : goal.returns-in-Err
-returns-in-Err g c = record {
-  serves = engine_halts g.D.Disk.now g.D.Disk.past g.D.Disk.failures g.D.Disk.honest c.args.self.now.engine c.prepare.new.self.engine (g.W.Write.contents c.args.out.now) c.args.self.now.lines c.prepare.new.self.lines
-      c.args.self.now.waited.items c.prepare.new.self.waited.items c.in-Err.ensures.goes c.prepare.ensures.lines c.prepare.ensures.names;
-}
+pub returns-in-Err-clause-serves : goal.returns-in-Err-clause-serves
+returns-in-Err-clause-serves g c =
+    let old = c.args.self.now in
+    let mid = c.prepare.new.self in
+    record {
+      serves = tt;
+      ends = λ w before is asks start from script rest going. (
+        going.0,
+        (
+          c.in-Err.ensures.goes start (standing script before (w ∷ rest)) going.0 going.1.0,
+          subst (λ (l : Lines). Prints from (g.W.Write.contents c.args.out.now) l going.0) (sym c.prepare.ensures.lines)
+              going.1.1,
+        ),
+      );
+    }

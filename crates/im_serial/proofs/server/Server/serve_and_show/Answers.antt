@@ -1,9 +1,5 @@
-use Rattle.im_serial.proofs.ServingLemmas.{rests, serves_then}
+use Rattle.im_serial.proofs.ScriptedLemmas.{served_then}
 use Rattle.im_serial.proofs.server.Server.serve_and_show.Goals as goal
 
 pub returns-in-Ok : goal.returns-in-Ok
-returns-in-Ok g c = record {
-  serves = rests g.D.Disk.now g.D.Disk.past g.D.Disk.failures g.D.Disk.honest c.show.result _ _
-      (serves_then g.D.Disk.now g.D.Disk.past g.D.Disk.failures g.D.Disk.honest _ _ _
-      c.in-Ok.ensures.serves c.show.ensures.serves);
-}
+returns-in-Ok g c = record { served = served_then g.D.Disk c.show.result _ _ _ _ _ _ _ c.in-Ok.ensures.served.serves c.show.ensures.served }

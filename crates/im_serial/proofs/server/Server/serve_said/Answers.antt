@@ -1,5 +1,10 @@
-use Rattle.im_serial.proofs.ServingLemmas.{serves_refl}
+use Rattle.std.proofs.Common.{ap}
+use Rattle.im_serial.specs.Asked.{wanted_by}
+use Rattle.im_serial.proofs.ScriptedLemmas.{quiet}
 use Rattle.im_serial.proofs.server.Server.serve_said.Goals as goal
 
 pub returns-in-Nothing : goal.returns-in-Nothing
-returns-in-Nothing g c = record { serves = serves_refl g.D.Disk.now g.D.Disk.past g.D.Disk.failures g.D.Disk.honest _ }
+returns-in-Nothing g c = record { served = quiet g.D.Disk _ (wanted_by c.args.said) _ _ (ap wanted_by c.in-Nothing.is) }
+
+pub returns-in-Begins : goal.returns-in-Begins
+returns-in-Begins g c = record { served = quiet g.D.Disk _ (wanted_by c.args.said) _ _ (ap wanted_by c.in-Begins.is) }

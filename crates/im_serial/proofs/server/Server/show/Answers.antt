@@ -1,8 +1,11 @@
-use Rattle.im_serial.proofs.ServingLemmas.{serves_on}
+use Rattle.std.proofs.Common.{[]}
+use Rattle.im_serial.proofs.ScriptedLemmas.{has_served, passes_refl, prints_on}
 use Rattle.im_serial.proofs.server.Server.show.Goals as goal
 
 pub returns-then-wants_each_line : goal.returns-then-wants_each_line
 returns-then-wants_each_line g c = record {
-  serves = serves_on g.D.Disk.now g.D.Disk.past g.D.Disk.failures g.D.Disk.honest _ _ _ _ _ _ _
-      (λ start held going. going) c.flush.ensures.on;
+  served = has_served g.D.Disk c.flush.result _ _ _ _ _ (prints_on g.D.Disk _ _ _ _ _ _ _ _ c.flush.ensures.on);
 }
+
+pub returns-else-wants_each_line : goal.returns-else-wants_each_line
+returns-else-wants_each_line g c = record { served = has_served g.D.Disk _ _ _ _ _ _ (passes_refl g.D.Disk [] _ _) }

@@ -1,0 +1,116 @@
+-- A script's requests, one after another. (Own.)
+use Rattle.std.proofs.Common.{◌≡◌, ◌∙◌, inl, inr, ℕ, Bool, true, false, List, [], ◌∷◌, ◌++◌, refl, sym, ap, subst}
+use Rattle.std.proofs.Common.{append_assoc, append-nil}
+use Rattle.std.specs.Prelude.{Option, Some, None, Ok, if◌then◌else◌, slice_get}
+use Rattle.std.specs.Option.{option_map, option_and_then, option_map_or}
+use Rattle.im_types.specs.declared.commands.Command.{Command}
+use Rattle.im_types.specs.declared.commands.Command.TheVariants.{Request as Asks, Confirm}
+use Rattle.im_types.specs.declared.commands.Request.{Request}
+use Rattle.im_types.specs.declared.operations.Op.{Op}
+use Rattle.im_types.specs.Contents.{Contents, Window}
+use Rattle.im_types.specs.Window.{bounds, bounds_of, next_number}
+use Rattle.im_types.specs.Step.{step}
+use Rattle.im_types.specs.Run.{after}
+use Rattle.im_laws.proofs.RunLemmas.{after-append}
+use Rattle.im_script.specs.declared.script.Said.{Said}
+use Rattle.im_script.specs.Places.{op_of}
+use Rattle.im_script.specs.Script.{Draft, counted}
+use Rattle.im_text.proofs.WindowLemmas.{bounds_found}
+use Rattle.im_serial.specs.Asked.{Wanted, Leads, LeadsIf, Standing, HasReached, bases_by, number_next, request_in}
+use Rattle.im_serial.specs.Asked.{standing, wanted_by, wanted_in}
+
+-- ---- one request
+
+number_is : (found : Option Window) (base next : ℕ) → bounds_of found ≡ Ok (base, next) → option_map next_number found
+    ≡ Some next
+number_is found base next is =
+    let it = bounds_found found base next is in
+    ap (option_map next_number) it.found_is ∙ ap Some (sym it.next_is)
+
+-- a request with its element's next number is the one that its line asks for
+pub request_is : (m : Contents) (bases : List ℕ) (w : Wanted) (r : Request) (base : ℕ) → w.element ≡ r.element → op_of
+    bases w.action ≡ Some r.op → bounds m.windows r.element ≡ Ok (base, r.number) → request_in m bases w ≡ Some r
+request_is m bases w r base element op found =
+    ap (option_and_then (λ (number : ℕ). option_map (λ (op : Op). record {
+      element = w.element;
+      number = number;
+      op =
+          op;
+    }) (op_of bases w.action)))
+    (ap (number_next m) element ∙ number_is (slice_get m.windows r.element) base r.number found)
+    ∙ ap (option_map (λ (op : Op). record { element = w.element; number = r.number; op = op })) op
+    ∙ ap (λ (e : ℕ). Some (record { element = e; number = r.number; op = r.op })) element
+
+-- ---- where the script stands
+
+-- a confirmation more
+pub stands_confirmed : (m : Contents) (s : Standing) (put : List Command) (element upto : ℕ) → HasReached m s put →
+    HasReached m s (put ++ Confirm element upto ∷ [])
+stands_confirmed m s put element upto it = λ more last leads.
+    subst (λ (l : List Command). LeadsIf m s.script l last) (sym (append_assoc put (Confirm element upto ∷ []) more))
+    (it (Confirm element upto ∷ more) last (subst (λ (n : Contents). Leads n s.bases s.left more last) (after-append m
+    put (Confirm element upto ∷ [])) leads))
+
+-- a request more
+pub stands_asked : (m : Contents) (script : Option (List Wanted)) (bases added : List ℕ) (w : Wanted) (left : List
+    Wanted) (put : List Command) (r : Request) → HasReached m (standing script bases (w ∷ left)) put
+    → request_in (after m put) bases w ≡ Some r → bases_by w (step (after m put) (Asks r)).answer ≡ Some added →
+    HasReached m (standing script (bases ++ added) left) (put ++ Asks r ∷ [])
+stands_asked m script bases added w left put r it is made = λ more last leads.
+    subst (λ (l : List Command). LeadsIf m script l last) (sym (append_assoc put (Asks r ∷ []) more))
+    (it (Asks r ∷ more) last (
+      is,
+      inl (
+        added,
+        (
+          made,
+          subst (λ (n : Contents). Leads n (bases ++ added) left more last)
+              (after-append m put (Asks r ∷ [])) leads,
+        ),
+      ),
+    ))
+
+-- nothing more comes
+pub stands_here : (m : Contents) (s : Standing) (put : List Command) → HasReached m s put → LeadsIf m s.script put
+    s.left
+stands_here m s put it = subst (λ (l : List Command). LeadsIf m s.script l s.left) (append-nil put) (it [] s.left refl)
+
+-- a request more, and then nothing
+pub stands_last : (m : Contents) (script : Option (List Wanted)) (bases : List ℕ) (w : Wanted) (left : List Wanted)
+    (put : List Command) (r : Request) → HasReached m (standing script bases (w ∷ left)) put
+    → request_in (after m put) bases w ≡ Some r → (last : List Wanted) × LeadsIf m script (put ++ Asks r ∷ []) last
+stands_last m script bases w left put r it is = by_made (bases_by w (step (after m put) (Asks r)).answer) refl
+  where
+    by_made : (made : Option (List ℕ)) → bases_by w (step (after m put) (Asks r)).answer ≡ made → (last : List Wanted)
+        × LeadsIf m script (put ++ Asks r ∷ []) last
+    by_made (Some added) e = (
+      left,
+      stands_here m (standing script (bases ++ added) left) (put ++ Asks r ∷ [])
+          (stands_asked m script bases added w left put r it is e),
+    )
+    by_made None e = (w ∷ left, it (Asks r ∷ []) (w ∷ left) (is, inr (e, (refl, refl))))
+
+-- nothing of a script was put
+pub stands_first : (m : Contents) (script : List Wanted) → HasReached m (standing (Some script) [] script) []
+stands_first m script = λ more last leads. leads
+
+-- nothing is said of it
+pub stands_anywhere : (m : Contents) (bases : List ℕ) (left : List Wanted) (put : List Command) → HasReached m
+    (standing None bases left) put
+stands_anywhere m bases left put = λ more last leads. tt
+
+-- what may have been put was put, or not
+pub put_or_not : (P : List Command → Type 0) (c : Command) (b : Bool) → P [] → P (c ∷ []) → P (if b then c ∷ [] else
+    [])
+put_or_not P c true none one = one
+put_or_not P c false none one = none
+
+-- ---- lines
+
+-- a line that says this, and those behind it
+pub wanted_line : (d next : Draft) (said : Said) (line : List ℕ) (lines : List (List ℕ)) → counted d line ≡ Some (
+  next,
+  said,
+) → wanted_in d (line ∷ lines) ≡ wanted_by said ++ wanted_in next lines
+wanted_line d next said line lines is = ap (λ (o : Option (Draft × Said)). option_map_or (λ r. wanted_by r.1 ++
+    wanted_in r.0 lines) o []) is

@@ -1,0 +1,12 @@
+use Rattle.std.proofs.Common.{◌∙◌, ap, length, map, subst, sym}
+use Rattle.im_text.specs.Printing.{who_of}
+use Rattle.im_serial.specs.Noted.{AreKnown, AreLast}
+use Rattle.im_serial.proofs.NotedLemmas.{written_back}
+use Rattle.im_serial.proofs.server.Server.learn_all.Goals as goal
+
+pub returns-clause-last : goal.returns-clause-last
+returns-clause-last g c = λ m put same known.
+    let was = c.args.self.now in
+    let value = c.as_mut_slice.ensures.value in
+    let back = written_back was.waited.len c.learn_all.new.waited was.waited.items (c.learn_all.ensures.names ∙ ap (map who_of) value) (ap length (sym value) ∙ c.as_mut_slice.ensures.len) in
+    subst (AreLast m put) (sym back) (c.learn_all.ensures.last m put (c.memory.ensures ∙ same) (subst (AreKnown m put) (sym value) known))

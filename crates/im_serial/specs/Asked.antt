@@ -1,0 +1,111 @@
+-- Which requests a script asks for, and which of them were put on a disk. (Own.)
+use Rattle.std.specs.Prelude.{◌≡◌, ◌⊎◌, ℕ, Bool, true, false, List, [], ◌∷◌, ◌++◌, Option, None, Some, Result, Ok}
+use Rattle.std.specs.Prelude.{slice_get, if◌then◌else◌}
+use Rattle.std.specs.Option.{option_map, option_map_or, option_and_then}
+use Rattle.im_types.specs.declared.commands.Command.{Command}
+use Rattle.im_types.specs.declared.commands.Command.TheVariants.{Request as Asks, Confirm}
+use Rattle.im_types.specs.declared.commands.Request.{Request}
+use Rattle.im_types.specs.declared.commands.Outcome.{Outcome}
+use Rattle.im_types.specs.declared.commands.Outcome.TheVariants.{Entry as Tells}
+use Rattle.im_types.specs.declared.operations.Entry.TheVariants.{Answered}
+use Rattle.im_types.specs.declared.operations.Reply.TheVariants.{Base}
+use Rattle.im_types.specs.declared.refusals.Refusal.{Refusal}
+use Rattle.im_types.specs.Contents.{Contents}
+use Rattle.im_types.specs.Window.{next_number}
+use Rattle.im_types.specs.Step.{step}
+use Rattle.im_types.specs.Run.{after}
+use Rattle.im_script.specs.declared.places.Action.{Action}
+use Rattle.im_script.specs.declared.places.Action.TheVariants.{Alloc}
+use Rattle.im_script.specs.declared.script.Said.{Said}
+use Rattle.im_script.specs.declared.script.Said.TheVariants.{Nothing, Block, Begins, Asks as Line}
+use Rattle.im_script.specs.Places.{op_of}
+use Rattle.im_script.specs.Script.{Draft, counted, lines_of, new_draft}
+
+-- ---- what a script asks for
+
+-- a request of a script: who asks, what for, and whether it makes a block of the setup, which has a name
+pub record Wanted : Type 0 where
+  pub element : ℕ
+  pub action : Action
+  pub named : Bool
+
+-- what a line asks for; element 0 asks for the blocks of the setup
+abbrev pub wanted_by : Said → List Wanted
+wanted_by Nothing = []
+wanted_by (Block b) = record { element = 0; action = Alloc b.kind b.length; named = true } ∷ []
+wanted_by (Begins k) = []
+wanted_by (Line l) = record { element = l.element; action = l.action; named = false } ∷ []
+
+-- what these lines ask for, in their order, up to the first one that isn't in the grammar
+abbrev pub wanted_in : Draft → List (List ℕ) → List Wanted
+wanted_in d [] = []
+wanted_in d (line ∷ lines) = option_map_or (λ r. wanted_by r.1 ++ wanted_in r.0 lines) (counted d line) []
+
+-- what a script asks for
+abbrev pub wanted_of : List ℕ → List Wanted
+wanted_of text = wanted_in new_draft (lines_of text)
+
+-- ---- which commands these requests are
+
+-- the number of an element's next request
+abbrev pub number_next : Contents → ℕ → Option ℕ
+number_next m element = option_map next_number (slice_get m.windows element)
+
+-- the request in this memory: it has its element's next number, and the bases stand for the names
+abbrev pub request_in : Contents → List ℕ → Wanted → Option Request
+request_in m bases w = option_and_then (λ number. option_map (λ op. record {
+  element = w.element;
+  number = number;
+  op =
+      op;
+}) (op_of bases w.action)) (number_next m w.element)
+
+-- the base in an answer
+abbrev pub base_told : Result Outcome Refusal → Option (List ℕ)
+base_told (Ok (Tells (Answered (Base base)))) = Some (base ∷ [])
+base_told answer = None
+
+-- the bases that an answer adds: one for a block with a name. Without it the script can't go on.
+abbrev pub bases_by : Wanted → Result Outcome Refusal → Option (List ℕ)
+bases_by w answer = if w.named then base_told answer else Some []
+
+-- These commands are, confirmations aside, the first of these requests, in their order, and the others are left. If a
+-- block with a name isn't made, its request is left too, and nothing comes after it.
+abbrev pub Leads : Contents → List ℕ → List Wanted → List Command → List Wanted → Type 0
+Leads m bases wanted [] left = wanted ≡ left
+Leads m bases wanted (Confirm element upto ∷ put) left = Leads (step m (Confirm element upto)).contents bases wanted
+    put left
+Leads m bases [] (Asks r ∷ put) left = ⊥
+Leads m bases (w ∷ wanted) (Asks r ∷ put) left = (request_in m bases w ≡ Some r)
+    × (((more : List ℕ) × ((bases_by w (step m (Asks r)).answer ≡ Some more) × Leads (step m (Asks r)).contents (bases
+    ++ more) wanted put left))
+    ⊎ ((bases_by w (step m (Asks r)).answer ≡ None) × ((put ≡ []) × (left ≡ w ∷ wanted))))
+
+-- The commands that were put are, confirmations aside, the first requests of this script, in their order. If the status
+-- is 0, they are all of them.
+pub record IsAsked (m : Contents) (script : List Wanted) (put : List Command) (status : ℕ) : Type 0 where
+  pub left : List Wanted
+  pub leads : Leads m [] script put left
+  pub all : status ≡ 0 → left ≡ []
+
+-- ---- where a script stands
+
+-- the script, if there is one; the bases of the blocks that have names so far; and the requests that are left
+pub record Standing : Type 0 where
+  pub script : Option (List Wanted)
+  pub bases : List ℕ
+  pub left : List Wanted
+
+-- a standing of these
+abbrev pub standing : Option (List Wanted) → List ℕ → List Wanted → Standing
+standing script bases left = record { script = script; bases = bases; left = left }
+
+-- the commands are the first requests of the script, if there is one, and these are left
+abbrev pub LeadsIf : Contents → Option (List Wanted) → List Command → List Wanted → Type 0
+LeadsIf m None put left = Unit {0}
+LeadsIf m (Some script) put left = Leads m [] script put left
+
+-- after these commands the script stands there: what comes of the rest comes of all
+abbrev pub HasReached : Contents → Standing → List Command → Type 0
+HasReached m s put = (more : List Command) (last : List Wanted) → Leads (after m put) s.bases s.left more last →
+    LeadsIf m s.script (put ++ more) last
