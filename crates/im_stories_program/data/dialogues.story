@@ -93,8 +93,8 @@ count = 8
 disk 450560 = 450560 bytes
 format 4096 16 256 = formatted
 script 0.1 alloc i 2 / 1.1 store 0 5 / 2.1 fetch 0 / 3.1 reset 0 / 4.1 fetch 0 / 5.1 reset 0 / = 6 lines
--- The store is none of the group where it is watched: four calls, four, and the other four together seven.
-talk watched = 0, 15 calls
+-- Where it is watched, the store is no member behind the alloc that makes its cell: four calls, and eight for the others.
+talk watched = 0, 12 calls
 printed = 6 lines
 printed 0 = 0.1 base 0
 printed 1 = 1.1 stored
