@@ -22,7 +22,7 @@ use Rattle.im_engine.specs.State.{EngineState, MeansEither, IsFirstFault, with_c
 use Rattle.im_engine.specs.Run.{Answered}
 use Rattle.im_engine.specs.declared.run.Event.{Event}
 use Rattle.im_engine.specs.declared.run.Answer.{Answer}
-use Rattle.im_promise.specs.Again.{IsSaidAgain, IsUnused, HasNotActed, count_after, AskedOverACrash}
+use Rattle.im_promise.specs.Again.{IsAnswerOf, IsSaidAgain, IsUnused, HasNotActed, count_after, AskedOverACrash}
 use Rattle.im_promise.specs.Recovery.{Recovers}
 use Rattle.im_promise.proofs.Recovering.{NoFault}
 use Rattle.im_promise.proofs.Answering.{none_or_some}
@@ -51,6 +51,15 @@ by_is_false true n = absurd (cc)
 by_is_false false n = refl
 
 -- ---- sent for the first time
+
+pub answer_of : {D : Type 0} (old new : EngineState D) (r : Request) (answer : Result Outcome Refusal)
+    → Answered old (Asks r) answer new → IsAnswerOf old r answer
+answer_of old new r answer is = record {
+  dead = λ f. (is.dead f).0;
+  unaccepted = λ f no. (is.unaccepted f no).0;
+  full = λ f yes none. (is.full f yes none).0;
+  put = λ f yes room. ⊎_elim (λ done. inl done.0) (λ lost. inr lost.0) (is.put f yes room);
+}
 
 pub bool_cases : (b : Bool) → (b ≡ true) ⊎ (b ≡ false)
 bool_cases true = inl refl

@@ -1,5 +1,5 @@
 -- The answer to a request that is sent again. (Own.)
-use Rattle.std.specs.Prelude.{◌≡◌, ◌⊎◌, ◌+◌, ◌≤◌, ℕ, List, ◌∷◌, ◌++◌, true, Result, Ok, Err, if◌then◌else◌}
+use Rattle.std.specs.Prelude.{◌≡◌, ◌⊎◌, ◌+◌, ◌≤◌, ◌<◌, ℕ, List, ◌∷◌, ◌++◌, true, false, Result, Ok, Err, if◌then◌else◌}
 use Rattle.im_types.specs.declared.operations.Entry.{Entry}
 use Rattle.im_types.specs.declared.commands.Request.{Request}
 use Rattle.im_types.specs.declared.commands.Command.{Command}
@@ -7,7 +7,7 @@ use Rattle.im_types.specs.declared.commands.Command.TheVariants.{Request as Asks
 use Rattle.im_types.specs.declared.commands.Outcome.{Outcome}
 use Rattle.im_types.specs.declared.commands.Outcome.TheVariants.{Entry as Tells}
 use Rattle.im_types.specs.declared.refusals.Refusal.{Refusal}
-use Rattle.im_types.specs.declared.refusals.Refusal.TheVariants.{Forgotten}
+use Rattle.im_types.specs.declared.refusals.Refusal.TheVariants.{Device, Failed, Forgotten, JournalFull}
 use Rattle.im_types.specs.Contents.{Contents}
 use Rattle.im_types.specs.Window.{bounds}
 use Rattle.im_types.specs.Step.{step, asker, is_accepted}
@@ -23,6 +23,15 @@ use Rattle.im_promise.specs.Recovery.{Recovers}
 -- the answer is the entry told before, or the answer that has come since, or `Forgotten` if the request was confirmed
 abbrev pub IsSaidAgain : Contents → Request → Entry → Result Outcome Refusal → Type 0
 IsSaidAgain m r before said = (IsForgotten m.windows (asker r) × (said ≡ Err Forgotten)) ⊎ ((entry : Entry) × IsSameOrAnswer before entry × (said ≡ Ok (Tells entry)))
+
+-- an engine's answer to a request: the memory's, but for a failed engine, a full journal, and a failed call of the disk
+pub record IsAnswerOf {D : Type 0} (old : EngineState D) (r : Request) (answer : Result Outcome Refusal) : Type 0 where
+  pub dead : old.failed ≡ true → answer ≡ Err Failed
+  pub unaccepted : old.failed ≡ false → is_accepted old.memory (Asks r) ≡ false
+      → answer ≡ (step old.memory (Asks r)).answer
+  pub full : old.failed ≡ false → is_accepted old.memory (Asks r) ≡ true → old.room ≡ 0 → answer ≡ Err JournalFull
+  pub put : old.failed ≡ false → is_accepted old.memory (Asks r) ≡ true → 0 < old.room
+      → (answer ≡ (step old.memory (Asks r)).answer) ⊎ (answer ≡ Err Device)
 
 -- the memory has used no number of this element from this number on
 pub record IsUnused (m : Contents) (r : Request) : Type 0 where

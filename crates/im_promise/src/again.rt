@@ -8,7 +8,7 @@ ghost use Rattle.im_types.specs.Contents.{Contents};
 ghost use Rattle.im_types.specs.Agreement.{WaitingAgrees};
 ghost use Rattle.im_types.specs.Run.{after};
 ghost use Rattle.im_laws.specs.Requests.{IsAnswered, after_request};
-ghost use Rattle.im_promise.specs.Again.{IsSaidAgain, IsUnused, HasNotActed, AskedOverACrash};
+ghost use Rattle.im_promise.specs.Again.{IsAnswerOf, IsSaidAgain, IsUnused, HasNotActed, AskedOverACrash};
 
 use crate::recovery::{Recovered, open_crashed, recover};
 use im_disk::{Crash, Disk, FuseDisk, MemDisk};
@@ -88,6 +88,7 @@ pub fn ask_over_a_crash(
     events: &[Event],
     crash: Crash,
 ) -> (Result<Outcome, Refusal>, Result<Asked, Refusal>)
+    ensures first { IsAnswerOf engine request result.0 }
     ensures again { IfOk result.1 (λ r. engine.failed ≡ false → (entry : Entry) → result.0 ≡ Ok (Tells entry)
         → AskedOverACrash engine request events.now r.answers.items entry r.again r.engine) }
     ensures refused { IfErr result.1 (λ e. engine.failed ≡ false → (entry : Entry) → result.0 ≡ Ok (Tells entry)
@@ -128,6 +129,7 @@ pub fn send_over_a_crash(
     request: Request,
     crash: Crash,
 ) -> (Result<Outcome, Refusal>, Result<Asked, Refusal>)
+    ensures first { IsAnswerOf engine request result.0 }
     ensures once { IfOk result.1 (λ r. engine.failed ≡ false → (entry : Entry) → r.again ≡ Ok (Tells entry)
         → r.engine.memory ≡ after_request engine.memory request) }
     ensures refused { IfErr result.1 (λ e. engine.failed ≡ false → (e ≡ NoMemory) ⊎ (e ≡ Device)) }

@@ -7,7 +7,7 @@ use Rattle.im_types.specs.Run.{after}
 use Rattle.im_laws.specs.Requests.{after_request}
 use Rattle.im_laws.specs.Entries.{IsToldAgainOrForgotten}
 use Rattle.im_engine.specs.Run.{acknowledged}
-use Rattle.im_promise.proofs.Sent.{said, by_is_false, is_false_by, acted, asked}
+use Rattle.im_promise.proofs.Sent.{answer_of, said, by_is_false, is_false_by, acted, asked}
 use Rattle.im_promise.proofs.again.ask_over_a_crash.Goals as goal
 
 pub returns-in-Ok-clause-again : goal.returns-in-Ok-clause-again
@@ -35,3 +35,13 @@ returns-in-Err-clause-refused c = λ f entry told.
     let first = acted old c.serve-first.new.self r entry c.serve-first.result f c.serve-first.ensures.answered told
     (λ un. (c.accepted_where_changed.ensures.unaccepted old.memory (Asks r)).0 (is_false_by _ un)) in
     c.in-Err.ensures.refused first.works
+
+pub returns-in-Ok-clause-first : goal.returns-in-Ok-clause-first
+returns-in-Ok-clause-first c =
+    let new = c.serve-first.new.self in
+    answer_of c.args.engine new c.args.request c.serve-first.result c.serve-first.ensures.answered
+
+pub returns-in-Err-clause-first : goal.returns-in-Err-clause-first
+returns-in-Err-clause-first c =
+    let new = c.serve-first.new.self in
+    answer_of c.args.engine new c.args.request c.serve-first.result c.serve-first.ensures.answered

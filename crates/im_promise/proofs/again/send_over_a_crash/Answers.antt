@@ -5,7 +5,7 @@ use Rattle.im_disk.specs.Since.{LeavesNow}
 use Rattle.im_disk.specs.Recording.{Recording}
 use Rattle.im_disk.specs.Fuse.{Fused}
 use Rattle.im_engine.specs.State.{EngineState, MeansEither, with_command}
-use Rattle.im_promise.proofs.Sent.{by_is_false, is_false_by, sent_once, no_fault_of_one}
+use Rattle.im_promise.proofs.Sent.{answer_of, by_is_false, is_false_by, sent_once, no_fault_of_one}
 use Rattle.im_promise.proofs.Recovering.{still_means}
 use Rattle.im_promise.proofs.again.send_over_a_crash.Goals as goal
 
@@ -38,3 +38,13 @@ returns-in-Err-clause-refused c = λ f.
     subst (λ (d : Recording). LeavesNow d.moment (MeansEither old (Asks r))) (sym inner) (c.serve-first.ensures.doubt tt f) in
     ⊎_elim (λ want. inl want) (λ more. ⊎_elim (λ device. inr device)
     (λ fault. absurd (no_fault_of_one old r c.in-Err.refusal fault.0 c.files_mean_one_thing.ensures.fault (doubt fault.0 fault.1) fault.2)) more) c.in-Err.ensures.refused
+
+pub returns-in-Ok-clause-first : goal.returns-in-Ok-clause-first
+returns-in-Ok-clause-first c =
+    let new = c.serve-first.new.self in
+    answer_of c.args.engine new c.args.request c.serve-first.result c.serve-first.ensures.answered
+
+pub returns-in-Err-clause-first : goal.returns-in-Err-clause-first
+returns-in-Err-clause-first c =
+    let new = c.serve-first.new.self in
+    answer_of c.args.engine new c.args.request c.serve-first.result c.serve-first.ensures.answered
