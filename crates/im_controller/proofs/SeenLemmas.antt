@@ -6,7 +6,6 @@ use Rattle.std.proofs.Common.{append-nil, arith}
 use mathlib.Core.List.{IsPrefix}
 use Rattle.im_types.specs.declared.operations.Entry.{Entry}
 use Rattle.im_types.specs.declared.commands.Command.{Command}
-use Rattle.im_types.specs.declared.commands.Command.TheVariants.{Request as Asks}
 use Rattle.im_types.specs.declared.commands.Request.{Request}
 use Rattle.im_types.specs.declared.commands.Outcome.{Outcome}
 use Rattle.im_types.specs.declared.commands.Call.TheVariants.{Command as Commands, Collect}
@@ -47,22 +46,21 @@ has-history history shown command (Ok outcome) = refl
 has-history history shown command (Err refusal) = tt
 
 -- what is seen then, if no more was seen than there were lines before it
-pub claimed-follows : (seen history now : List Line) (shown : List Change) (before : ℕ) (r : Request)
-    (command : Command)
+pub claimed-follows : (seen history now : List Line) (shown : List Change) (before : ℕ) (r command : Command)
     (a : Result Outcome Refusal) (receipt : Result ReceiptState Refusal) → AreInOrder seen history
     → length seen ≤ before
-    → IsBefore before (lines_of (Commands (Asks r)) a) history → receipt ≡ receipt_for history shown command a
+    → IsBefore before (lines_of (Commands r) a) history → receipt ≡ receipt_for history shown command a
     → now ≡ history
     → SeesAnswer seen r (Some receipt) now
 claimed-follows seen history now shown before r command a receipt order less behind is same =
-    let last = lines_of (Commands (Asks r)) a in
+    let last = lines_of (Commands r) a in
     let start = behind.0 in
     let begins = prefix-before seen start last history order behind.2 (omega (arith, less, behind.1)) in
     let answers : plain receipt ≡ a = ap plain is ∙ plain-receipt history shown command a in (
       (
         begins.0,
         same ∙ behind.2 ∙ ap (λ ls. ls ++ last) (sym begins.1)
-            ∙ ap (λ b. (seen ++ begins.0) ++ lines_of (Commands (Asks r)) b) (sym answers),
+            ∙ ap (λ b. (seen ++ begins.0) ++ lines_of (Commands r) b) (sym answers),
       ),
       subst (λ b. HasHistory now b) (sym is)
           (subst (λ ls. HasHistory ls (receipt_for history shown command a)) (sym same)
