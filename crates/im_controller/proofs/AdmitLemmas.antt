@@ -7,6 +7,7 @@ use Rattle.std.proofs.lemmas.Bool.Decides.{nat_tests}
 use Rattle.std.proofs.Math.Seq.{drop-cons}
 use Rattle.std.proofs.lemmas.List.{drop_all}
 use Rattle.im_types.specs.declared.commands.Command.{Command}
+use Rattle.im_types.specs.declared.commands.Command.TheVariants.{Request as Asks, Confirm}
 use Rattle.im_types.specs.declared.commands.Request.{Request}
 use Rattle.im_types.specs.declared.commands.Outcome.{Outcome}
 use Rattle.im_types.specs.declared.commands.Call.TheVariants.{Command as Commands}
@@ -98,11 +99,13 @@ none-pass test fail (r ∷ rs) = pick-cons test r rs ∙ ap (λ b. (if b then r 
 
 -- without a plan all are picked
 pass-all : (asked : Bool) (r : Command) → is_picked None asked true r ≡ true
-pass-all true r = refl
+pass-all true (Asks r) = refl
+pass-all true (Confirm element upto) = refl
 pass-all false r = refl
 
 pass-none : (asked : Bool) (r : Command) → is_picked None asked false r ≡ false
-pass-none true r = refl
+pass-none true (Asks r) = refl
+pass-none true (Confirm element upto) = refl
 pass-none false r = refl
 
 module _ {D : Type 0} (s : SharedState D) (rs : List Command) where

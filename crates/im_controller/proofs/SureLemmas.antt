@@ -2,7 +2,7 @@
 use Rattle.std.proofs.Common.{◌≡◌, ◌≢◌, ⊎_elim, ℕ, suc, zero, ◌+◌, ◌<◌, ◌≤◌, Bool, true, false, List, [], ◌∷◌, ◌++◌, refl}
 use Rattle.std.proofs.Common.{sym, ap, ◌∙◌, subst, Option, None, Some, Result, Ok, Err, length, slice_get, take, arith}
 use Rattle.std.proofs.Common.{if◌then◌else◌}
-use Rattle.std.specs.Prelude.{◌&&◌, ◌==◌, nat_lt}
+use Rattle.std.specs.Prelude.{◌&&◌, ◌==◌, nat_lt, slice_index_or}
 use Rattle.std.specs.List.{list_any}
 use Rattle.std.proofs.lemmas.List.{take_all}
 use Rattle.im_types.specs.declared.operations.Kept.{Kept}
@@ -15,7 +15,7 @@ use Rattle.im_types.specs.declared.commands.Command.TheVariants.{Request as Asks
 use Rattle.im_types.specs.declared.changes.Change.{Change}
 use Rattle.im_types.specs.declared.changes.Change.TheVariants.{Same}
 use Rattle.im_types.specs.declared.refusals.Refusal.{Refusal}
-use Rattle.im_types.specs.Contents.{Window, Contents, kept_for}
+use Rattle.im_types.specs.Contents.{Window, Contents, kept_for, new_window}
 use Rattle.im_types.specs.Window.{is_waiting, bounds, confirm_window}
 use Rattle.im_types.specs.Step.{step, is_accepted, moves_base}
 use Rattle.im_types.specs.Agreement.{WaitingAgrees}
@@ -49,8 +49,8 @@ confirmed_window m element upto w (Err refusal) is e = absurd (true_false (sym e
 
 confirmable : (m : Contents) (element upto : ℕ) → is_accepted m (Confirm element upto) ≡ true
     → IsConfirmable m.windows element upto
-confirmable m element upto e = confirmed_window m element upto _ (confirm_window upto (slice_get m.windows element))
-    refl e
+confirmable m element upto e = confirmed_window m element upto (slice_index_or m.windows element new_window)
+    (confirm_window upto (slice_get m.windows element)) refl e
 
 -- it is sure that each entry is answered which it drops
 drops-sure : (m : Contents) (ahead : List Command) (element upto base next number : ℕ)
@@ -78,7 +78,7 @@ known-behind m put (Confirm element upto) sure d =
 sure-at : (m : Contents) (cs : List Command) (i : ℕ) (c : Command) → AreSure m cs → slice_get cs i ≡ Some c
     → IsSure m c
 sure-at m [] i c all at = absurd (cc)
-sure-at m (d ∷ cs) zero c all at = subst (IsSure m) (same at) all.0
+sure-at m (d ∷ cs) zero c all at = subst (λ (x : Command). IsSure m x) (same at) all.0
   where
     same : Some d ≡ Some c → d ≡ c
     same e = cc
@@ -142,7 +142,7 @@ module _ (m : Contents) (c : Command) (agrees : WaitingAgrees m) (is : is_accept
       let t = accepted-moves_base m element upto e in
       sym (confirm-in m (c ∷ []) element upto t.base t.next one_accepted agrees
       (ap (moved_by element (c ∷ [])) t.before
-      ∙ ap (λ (b : ℕ × ℕ). Ok b) (behind-other c element t.base t.next apart)) t.rises t.reached
+      ∙ (λ i. Ok (behind-other c element t.base t.next apart i))) t.rises t.reached
       (λ number from below. drops-sure m (c ∷ []) element upto t.base t.next number e t.before t.reached from below))
 
   accepted-stays : (q : Command) → element_of q ≢ element_of c → IsSure m q
