@@ -72,7 +72,7 @@ invariant_of-shared g c =
     c.serve_members.new.served.items c.as_slice-3.result.now c.spread.new.answers.items c.memory-memory.result.now.contents c.places_with-places.result c.memory-memory.ensures c.places_with-places.ensures
     c.as_slice.ensures.value c.choose.ensures.roomless c.choose.ensures.lent c.serve_members.ensures.answered c.as_slice-2.ensures.value c.as_slice-3.ensures.value c.spread.ensures in
     let fits = group-fits c.shared.inside.engine c.serve_members.new.engine c.room-room.result c.args.members.now.items c.choose.new.roomy.items c.choose.new.lent.items c.serve_members.new.served.items c.spread.new.answers.items it in
-    let pane = group-pane c.shared.inside.engine c.serve_members.new.engine c.room-room.result c.args.members.now.items c.choose.new.roomy.items c.choose.new.lent.items c.serve_members.new.served.items c.spread.new.answers.items it (subst WaitingAgrees c.memory-memory.ensures c.cells-_cells.ensures.memory.agrees) c.requires.cut c.requires.apart (subst (λ (s : SharedState g.row.D.Denot). AreSureBehind s.engine.memory c.args.members.now.items) (sym c.shared.view_is) c.requires.sure)
+    let pane = group-pane c.shared.inside.engine c.serve_members.new.engine c.room-room.result c.args.members.now.items c.choose.new.roomy.items c.choose.new.lent.items c.serve_members.new.served.items c.spread.new.answers.items it (subst WaitingAgrees c.memory-memory.ensures c.cells-cells.ensures.memory.agrees) c.requires.cut c.requires.apart (subst (λ (s : SharedState g.row.D.Denot). AreSureBehind s.engine.memory c.args.members.now.items) (sym c.shared.view_is) c.requires.sure)
     g.K.Name.memory c.memory-memory.result.now.contents c.shared.inside.log c.shared.inside.pane c.choose.new.pane c.show_put-told.new.pane c.places_with-places.result c.failed.result
     c.memory-memory.ensures c.places_with-places.ensures c.shared.invariant.0 c.shared.invariant.1 c.shared.invariant.3 c.choose.ensures.ahead c.failed.ensures.failed c.show_put-told.ensures.shown c.show_put-told.ensures.hidden in
     let log = c.keep_all.ensures.log
@@ -85,7 +85,7 @@ invariant_of-shared g c =
     (ap (λ m. memory_after_all m rs (map answer_in xs)) c.shared.invariant.0 ∙ fits.ends) in
     let e = c.shared.inside.engine in let f = c.serve_members.new.engine in let m = g.K.Name.memory in let trace = c.shared.inside.log.trace in
     let lent = c.choose.new.lent.items in let ss = c.serve_members.new.served.items in
-    let same = lines-same e f c.room-room.result rs c.choose.new.roomy.items lent ss xs it (subst WaitingAgrees c.memory-memory.ensures c.cells-_cells.ensures.memory.agrees) c.requires.cut c.requires.apart (subst (λ (s : SharedState g.row.D.Denot). AreSureBehind s.engine.memory c.args.members.now.items) (sym c.shared.view_is) c.requires.sure) in
+    let same = lines-same e f c.room-room.result rs c.choose.new.roomy.items lent ss xs it (subst WaitingAgrees c.memory-memory.ensures c.cells-cells.ensures.memory.agrees) c.requires.cut c.requires.apart (subst (λ (s : SharedState g.row.D.Denot). AreSureBehind s.engine.memory c.args.members.now.items) (sym c.shared.view_is) c.requires.sure) in
     let lines = ap (λ (l : LogState). l.trace) log ∙ all-trace c.shared.inside.log rs (map answer_in xs)
     ∙ ap (λ ls. trace ++ ls) same in (
       ends,
@@ -118,7 +118,7 @@ returns-clause-lends g c =
     let it = group-is c.shared.inside.engine c.serve_members.new.engine c.room-room.result c.args.members.now.items c.as_slice.result.now c.choose.new.roomy.items c.as_slice-2.result.now c.choose.new.lent.items
     c.serve_members.new.served.items c.as_slice-3.result.now c.spread.new.answers.items c.memory-memory.result.now.contents c.places_with-places.result c.memory-memory.ensures c.places_with-places.ensures
     c.as_slice.ensures.value c.choose.ensures.roomless c.choose.ensures.lent c.serve_members.ensures.answered c.as_slice-2.ensures.value c.as_slice-3.ensures.value c.spread.ensures in
-    let pane = group-pane c.shared.inside.engine c.serve_members.new.engine c.room-room.result c.args.members.now.items c.choose.new.roomy.items c.choose.new.lent.items c.serve_members.new.served.items c.spread.new.answers.items it (subst WaitingAgrees c.memory-memory.ensures c.cells-_cells.ensures.memory.agrees) c.requires.cut c.requires.apart (subst (λ (s : SharedState g.row.D.Denot). AreSureBehind s.engine.memory c.args.members.now.items) (sym c.shared.view_is) c.requires.sure)
+    let pane = group-pane c.shared.inside.engine c.serve_members.new.engine c.room-room.result c.args.members.now.items c.choose.new.roomy.items c.choose.new.lent.items c.serve_members.new.served.items c.spread.new.answers.items it (subst WaitingAgrees c.memory-memory.ensures c.cells-cells.ensures.memory.agrees) c.requires.cut c.requires.apart (subst (λ (s : SharedState g.row.D.Denot). AreSureBehind s.engine.memory c.args.members.now.items) (sym c.shared.view_is) c.requires.sure)
     g.K.Name.memory c.memory-memory.result.now.contents c.shared.inside.log c.shared.inside.pane c.choose.new.pane c.show_put-told.new.pane c.places_with-places.result c.failed.result
     c.memory-memory.ensures c.places_with-places.ensures c.shared.invariant.0 c.shared.invariant.1 c.shared.invariant.3 c.choose.ensures.ahead c.failed.ensures.failed c.show_put-told.ensures.shown c.show_put-told.ensures.hidden in
     let log = c.keep_all.ensures.log
