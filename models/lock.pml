@@ -42,7 +42,7 @@
 #define SPEND fresh++
 #endif
 
-mtype = { Nothing, Store, Fetch };                       /* What is asked. */
+mtype = { Nothing, Store, Fetch, Confirm };              /* What is asked. */
 mtype = { Told, Deferred, JournalFull, Failed };         /* What is answered; Failed stands for Device too. */
 mtype = { Go, Wait, Stalled, Done };                     /* What else a call comes to. */
 mtype = { Active, Waits, Retired };                      /* Server, but for one with no port. */
@@ -256,7 +256,7 @@ inline make_room() {
   did = false
 }
 /* of im_controller::lend_group 9604e848a54d
-   of im_engine::Engine::serve_group f5b8499eb94a: the fault may fall before each member, which begins a group then. */
+   of im_engine::Engine::serve_commands SUM: the fault may fall before each member, which begins a group then. */
 inline serve_member(m) {
   may_fail();
   if :: failed -> unclaimed[m] = Failed
@@ -264,6 +264,7 @@ inline serve_member(m) {
      :: !failed && ROOM > 0 && asked[m] == Store ->
         SPEND; stored[m] = true; unclaimed[m] = Told;
         if :: entry[(m + N - 1) % N] == Deferred -> entry[(m + N - 1) % N] = Told :: else fi
+     :: !failed && ROOM > 0 && asked[m] == Confirm -> SPEND; unclaimed[m] = Told
      :: else -> SPEND; entry[m] = (stored[(m + 1) % N] -> Told : Deferred); unclaimed[m] = entry[m]
   fi;
   asked[m] = Nothing
@@ -294,7 +295,7 @@ inline who_is_answered() {
   i = 0
 }
 /* of im_controller::Port::submit 4b6a23256070
-   of im_controller::Controller::ask 6a11fccc4065
+   of im_controller::Controller::serve d3095a419a96
    of im_controller::Inbox::ask cf302d929a91
    of im_controller::Controller::serve_all 0e2dcfbcaae4 */
 inline submit(e, op) {
@@ -303,7 +304,7 @@ inline submit(e, op) {
         wait_turn(e);
         atomic { hold(e); who_sleeps(); who_is_answered() };
         pass_on(answered);
-        wake(AFTER_A_GROUP)
+        wake((op == Confirm -> AFTER_A_CONFIRMATION : AFTER_A_GROUP))
      :: else -> break od
 }
 /* of im_controller::Port::help 0e90bbc25526
@@ -320,20 +321,9 @@ inline help(e) {
   pass_on(answered);
   wake(AFTER_A_TURN)
 }
-/* of im_controller::Port::confirm b671db8ebc5b
-   of im_controller::Controller::serve d3095a419a96
-   of im_controller::lend 363dc7535b36 */
+/* of im_controller::Port::confirm b671db8ebc5b */
 inline confirm(e) {
-  wait_turn(e);
-  atomic {
-    make_room(); may_fail();
-    if :: failed -> got = Failed
-       :: !failed && ROOM == 0 -> got = JournalFull
-       :: else -> SPEND; got = Told fi;
-    who_sleeps()
-  };
-  pass_on(answered);
-  wake(AFTER_A_CONFIRMATION)
+  submit(e, Confirm)
 }
 /* of im_controller::Port::collect f2ef03b29c5d
    of im_controller::find 22f41e2bec52

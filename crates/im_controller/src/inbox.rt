@@ -138,6 +138,17 @@ fn is_sure_behind(memory: &Memory, command: &Command, members: &[Command]) -> bo
     members.is_empty() || is_sure(memory, command)
 }
 
+// Returns whether a command may be the next one of a group after these.
+fn is_next(memory: &Memory, command: &Command, members: &[Command]) -> bool
+    ensures joins { result ≡ true → MayJoin command.now members.now }
+    ensures sure { result ≡ true → IsSureBehind memory.now.contents command.now members.now }
+{
+    if !may_join(command, members) {
+        return false;
+    }
+    is_sure_behind(memory, command, members)
+}
+
 impl Inbox {
     // Makes places for the given number of elements, none of which asks.
     pub(crate) fn new(alloc: Global, elements: u16) -> Result<Inbox, AllocError> {
@@ -207,8 +218,7 @@ impl Inbox {
         let Some(command) = self.take(element) else {
             return true;
         };
-        let ahead = members.as_slice();
-        if !may_join(&command, ahead) || !is_sure_behind(memory, &command, ahead) {
+        if !is_next(memory, &command, members.as_slice()) {
             self.ask(&command);
             return false;
         }
