@@ -22,7 +22,7 @@ others_push e (q ∷ rs) r others is = (others.0, others_push e rs r others.1 is
 apart_push : (rs : List Command) (r : Command) → AreApart rs → AreBelow (element_of r) rs → AreApart (rs ++ r ∷ [])
 apart_push [] r apart below = (tt, tt)
 apart_push (q ∷ rs) r apart below = (
-  others_push q.element rs r apart.0
+  others_push (element_of q) rs r apart.0
       (λ same. absurd (omega (arith, below.0, same))),
   apart_push rs r apart.1 below.1,
 )

@@ -16,7 +16,7 @@ pub receipt_of-requires : goal.receipt_of-requires
 receipt_of-requires g c =
     let m = g.K.Name.memory in let trace = c.self.inside.trace.items in
     let proof = subst (λ (w : UnclaimedState). IsProofIn m trace (Some w)) (sym c.found.view_is)
-    (all-get (IsProofIn m trace) c.self.inside.places.items (element_of c.args.command.now)
+    (all-get (IsProofIn m trace) c.self.inside.places.items c.element_of.result
     (Some c.in_ok-found.found) c.self.invariant.0.proofs c.in_ok-found.ensures.takes.0) in
     let all = subst (λ (l : LogState). IsToldOf m l.trace c.args.told) (sym c.self.view_is) c.requires.told in
     rw c.begun-history.ensures (record { proof = proof.0; told = told-earlier m _ trace c.args.told proof.1 all })
@@ -28,7 +28,7 @@ invariant_of-self-2 g c =
     ∙ ap (λ (w : UnclaimedState). counts_after marks c.self.inside.books
     (unclaimed_lines (Some w))) c.found.view_is in
     rw (c.in_ok-found.ensures.takes.2, counted) (
-      log-claims g.K.Name.memory marks _ c.self.inside.books c.self.invariant.0 (element_of c.args.command.now) c.in_ok-found.found c.in_ok-found.ensures.takes.0,
+      log-claims g.K.Name.memory marks _ c.self.inside.books c.self.invariant.0 c.element_of.result c.in_ok-found.found c.in_ok-found.ensures.takes.0,
       c.self.invariant.1,
       c.self.invariant.2,
     )
@@ -37,7 +37,7 @@ pub returns-clause-proof : goal.returns-clause-proof
 returns-clause-proof g c =
     let m = g.K.Name.memory in let trace = c.self.inside.trace.items in
     let proof = subst (λ (w : UnclaimedState). IsProofIn m trace (Some w)) (sym c.found.view_is)
-    (all-get (IsProofIn m trace) c.self.inside.places.items (element_of c.args.command.now)
+    (all-get (IsProofIn m trace) c.self.inside.places.items c.element_of.result
     (Some c.in_ok-found.found) c.self.invariant.0.proofs c.in_ok-found.ensures.takes.0) in
     subst (λ (l : LogState). IsOfTrace m l.trace c.receipt_of.result) c.self.view_is
     (subst (λ (a : Result ReceiptState Refusal). IsOfTrace m trace a)
@@ -48,7 +48,7 @@ pub begun-history-requires-clause-known : goal.begun-history-requires-clause-kno
 begun-history-requires-clause-known g c =
     let m = g.K.Name.memory in let trace = c.self.inside.trace.items in
     let proof = subst (λ (w : UnclaimedState). IsProofIn m trace (Some w)) (sym c.found.view_is)
-    (all-get (IsProofIn m trace) c.self.inside.places.items (element_of c.args.command.now)
+    (all-get (IsProofIn m trace) c.self.inside.places.items c.element_of.result
     (Some c.in_ok-found.found) c.self.invariant.0.proofs c.in_ok-found.ensures.takes.0) in
     subst (λ (ls : List Line). IsPrefix c.found.inside.history.value.items ls) (sym c.self.invariant.2) proof.1
 
@@ -56,7 +56,7 @@ pub begun-requires-clause-known : goal.begun-requires-clause-known
 begun-requires-clause-known g c =
     let m = g.K.Name.memory in let trace = c.self.inside.trace.items in
     let proof = subst (λ (w : UnclaimedState). IsProofIn m trace (Some w)) (sym c.found.view_is)
-    (all-get (IsProofIn m trace) c.self.inside.places.items (element_of c.args.command.now)
+    (all-get (IsProofIn m trace) c.self.inside.places.items c.element_of.result
     (Some c.in_ok-found.found) c.self.invariant.0.proofs c.in_ok-found.ensures.takes.0) in
     subst (λ (ls : List Line). IsPrefix ls c.self.inside.chain) (sym c.found.invariant.1)
     (subst (λ (ls : List Line). IsPrefix c.found.inside.history.value.items ls) (sym c.self.invariant.2) proof.1)
@@ -66,7 +66,7 @@ returns-clause-order g c =
     let m = g.K.Name.memory in let trace = c.self.inside.trace.items in
     let history = c.found.inside.history.value.items in let a = c.found.inside.answer in
     let proof = subst (λ (w : UnclaimedState). IsProofIn m trace (Some w)) (sym c.found.view_is)
-    (all-get (IsProofIn m trace) c.self.inside.places.items (element_of c.args.command.now)
+    (all-get (IsProofIn m trace) c.self.inside.places.items c.element_of.result
     (Some c.in_ok-found.found) c.self.invariant.0.proofs c.in_ok-found.ensures.takes.0) in
     let asked = ap (λ (w : UnclaimedState). w.command) c.found.view_is ∙ c.in_ok-found.ensures.takes.1 in
     let order = subst (λ (ls : List Line). AreInOrder c.args.seen.now ls) c.begun-history.ensures c.order.ensures.order in
