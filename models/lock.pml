@@ -256,7 +256,7 @@ inline make_room() {
   did = false
 }
 /* of im_controller::lend_group 9604e848a54d
-   of im_engine::Engine::serve_commands SUM: the fault may fall before each member, which begins a group then. */
+   of im_engine::Engine::serve_commands 0a87599efcb2: the fault may fall before each member, which begins a group then. */
 inline serve_member(m) {
   may_fail();
   if :: failed -> unclaimed[m] = Failed
@@ -269,11 +269,11 @@ inline serve_member(m) {
   fi;
   asked[m] = Nothing
 }
-/* of im_controller::hold 794147ae1493
-   of im_controller::serve_asked 0a69fd091337
-   of im_controller::Inbox::next_group a8192a4a8c3b
-   of im_controller::Inbox::gather 4744c952cbf6
-   of im_controller::Log::claim 926f044364f6 */
+/* of im_controller::hold 35c3d7c5c91d
+   of im_controller::serve_asked 9d0732c5dba0
+   of im_controller::Inbox::next_group e08c6e94a090
+   of im_controller::Inbox::gather a3fa78f93397
+   of im_controller::Log::claim 66c75ff3e422 */
 inline hold(e) {
   if :: unclaimed[e] != Nothing -> skip
      :: else ->
@@ -294,10 +294,10 @@ inline who_is_answered() {
   do :: i < N -> if :: unclaimed[i] != Nothing -> answered = answered | (1 << i) :: else fi; i++ :: else -> break od;
   i = 0
 }
-/* of im_controller::Port::submit 4b6a23256070
-   of im_controller::Controller::serve d3095a419a96
-   of im_controller::Inbox::ask cf302d929a91
-   of im_controller::Controller::serve_all 0e2dcfbcaae4 */
+/* of im_controller::Port::submit 17ace1e7fabb
+   of im_controller::Controller::serve 78bd7c75275c
+   of im_controller::Inbox::ask 23fb3d79a544
+   of im_controller::Controller::serve_all a8a7d26820b6 */
 inline submit(e, op) {
   d_step { asked[e] = op; got = Nothing };
   do :: got == Nothing ->
@@ -321,7 +321,7 @@ inline help(e) {
   pass_on(answered);
   wake(AFTER_A_TURN)
 }
-/* of im_controller::Port::confirm b671db8ebc5b */
+/* of im_controller::Port::confirm b90c345e38e2 */
 inline confirm(e) {
   submit(e, Confirm)
 }
