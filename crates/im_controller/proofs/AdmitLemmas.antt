@@ -1,7 +1,7 @@
 -- Members of a group that a plan has: they are still a group, and the others leave no line.
-use Rattle.std.proofs.Common.{◌≡◌, ℕ, zero, suc, ◌+◌, ◌-◌, ◌<◌, ◌≤◌, Bool, true, false, List, [], ◌∷◌, ◌++◌, refl}
+use Rattle.std.proofs.Common.{◌≡◌, ◌≢◌, ℕ, zero, suc, ◌+◌, ◌-◌, ◌<◌, ◌≤◌, Bool, true, false, List, [], ◌∷◌, ◌++◌, refl}
 use Rattle.std.proofs.Common.{sym, ap, ◌∙◌, subst, Option, None, Some, Result, Err, length, length-append, map, drop}
-use Rattle.std.proofs.Common.{get_or, append-nil, append_assoc, arith, if◌then◌else◌}
+use Rattle.std.proofs.Common.{get_or, slice_get, append-nil, append_assoc, arith, if◌then◌else◌}
 use Rattle.std.specs.Prelude.{nat_lt}
 use Rattle.std.proofs.lemmas.Bool.Decides.{nat_tests}
 use Rattle.std.proofs.Math.Seq.{drop-cons}
@@ -20,9 +20,10 @@ use Rattle.im_laws.proofs.Tests.{true_false}
 use Rattle.im_engine.specs.State.{EngineState}
 use Rattle.im_engine.specs.Commands.{each_refused}
 use Rattle.im_controller.specs.Lines.{leaves_line, lines_of}
-use Rattle.im_controller.specs.Log.{element_of, UnclaimedState, LogState, with_unclaimed}
+use Rattle.im_controller.specs.Log.{sender_of, UnclaimedState, LogState, with_unclaimed}
 use Rattle.im_controller.specs.State.{SharedState}
-use Rattle.im_controller.specs.Groups.{AreOthers, AreApart, AreSureBehind, those, IsCut, AreFreeFor, AreAnswersTo, answer_in, with_all_unclaimed}
+use Rattle.im_controller.specs.Groups.{AreOfOthers, AreOneOfEach, AreSureBehind, those, IsCut, AreFreeFor, AreAnswersTo}
+use Rattle.im_controller.specs.Groups.{answer_in, with_all_unclaimed}
 use Rattle.im_controller.specs.Groups.{lines_left, MembersAnswered}
 use Rattle.im_controller.specs.Planned.{has_command, IsOnPlan, AreOnPlan, StartsBy, KeepsTo}
 use Rattle.im_controller.specs.Admitted.{is_asked, is_picked, picked, admitted, refused_off, with_off, with_refused_off}
@@ -30,7 +31,7 @@ use Rattle.im_types.specs.Trace.{end_of}
 use Rattle.im_controller.proofs.GroupLemmas.{alike_fits, alike_none}
 use Rattle.im_controller.proofs.PutLemmas.{lines_all, all-trace, refused-lines}
 use Rattle.im_controller.proofs.Keeping.{free_after}
-use Rattle.im_controller.proofs.Choosing.{those-others, those-apart, those-cut, those-sure}
+use Rattle.im_controller.proofs.Choosing.{those-all, those-apart, those-cut, those-sure}
 use Rattle.im_controller.proofs.PlannedLemmas.{keeps-line, on-command}
 
 -- ---- those that are picked
@@ -79,12 +80,13 @@ those-few (b ∷ bs) [] = omega arith
 those-few (true ∷ bs) (r ∷ rs) = omega (arith, those-few bs rs)
 those-few (false ∷ bs) (r ∷ rs) = omega (arith, those-few bs rs)
 
-pub those-free : (places : List (Option UnclaimedState)) (bs : List Bool) (rs : List Command) → AreFreeFor places rs
+those-free : (places : List (Option UnclaimedState)) (bs : List Bool) (rs : List Command) → AreFreeFor places rs
     → AreFreeFor places (those bs rs)
-those-free places [] rs free = tt
-those-free places (b ∷ bs) [] free = tt
-those-free places (true ∷ bs) (r ∷ rs) free = (free.0, those-free places bs rs free.1)
-those-free places (false ∷ bs) (r ∷ rs) free = those-free places bs rs free.1
+those-free places = those-all (λ (c : Command). slice_get places (sender_of c) ≡ Some None)
+
+those-others : (element : ℕ) (bs : List Bool) (rs : List Command) → AreOfOthers element rs
+    → AreOfOthers element (those bs rs)
+those-others element = those-all (λ (c : Command). element ≢ sender_of c)
 
 -- where all pass a test, or none
 all-pass : (test : Command → Bool) → ((r : Command) → test r ≡ true) → (rs : List Command) → picked test rs ≡ rs
@@ -141,11 +143,11 @@ off-shared {D = D} s t same l plan rs is =
 pub record OffFits (m : Contents) (l : LogState) (rs : List Command) : Type 0 where
   pub whole : length (each_refused OffPlan rs) ≡ length rs
   pub are_so : AreAnswersTo (end_of m l.trace) rs (map answer_in (each_refused OffPlan rs))
-  pub apart : AreApart rs
+  pub apart : AreOneOfEach rs
   pub free : AreFreeFor l.places rs
   pub none : lines_left (map answer_in (each_refused OffPlan rs)) ≡ 0
 
-pub off-fits : (m : Contents) (l : LogState) (test : Command → Bool) (rs : List Command) → AreApart rs
+pub off-fits : (m : Contents) (l : LogState) (test : Command → Bool) (rs : List Command) → AreOneOfEach rs
     → AreFreeFor l.places rs → OffFits m l (picked test rs)
 off-fits m l test rs apart free =
     let off = picked test rs in let fits = alike_fits OffPlan refl (end_of m l.trace) off in record {
@@ -165,32 +167,32 @@ all-limit l (r ∷ rs) (x ∷ xs) = all-limit (with_unclaimed l r x) rs xs
 -- each of these is of another element than each of those
 abbrev ArePartedFrom : List Command → List Command → Type 0
 ArePartedFrom [] qs = Unit {0}
-ArePartedFrom (r ∷ rs) qs = AreOthers (element_of r) qs × ArePartedFrom rs qs
+ArePartedFrom (r ∷ rs) qs = AreOfOthers (sender_of r) qs × ArePartedFrom rs qs
 
 parted-free : (l : LogState) (rs qs : List Command) (xs : List (Result Outcome Refusal)) → ArePartedFrom rs qs
     → AreFreeFor l.places qs → AreFreeFor (with_all_unclaimed l rs xs).places qs
 parted-free l [] qs xs parted free = free
 parted-free l (r ∷ rs) qs [] parted free = free
 parted-free l (r ∷ rs) qs (x ∷ xs) parted free = parted-free (with_unclaimed l r x) rs qs xs parted.1
-    (free_after l.places (element_of r) _ qs parted.0 free)
+    (free_after l.places (sender_of r) _ qs parted.0 free)
 
-parted-cons : (r : Command) (rs qs : List Command) → AreOthers (element_of r) rs → ArePartedFrom rs qs
+parted-cons : (r : Command) (rs qs : List Command) → AreOfOthers (sender_of r) rs → ArePartedFrom rs qs
     → ArePartedFrom rs (r ∷ qs)
 parted-cons r [] qs others parted = tt
 parted-cons r (q ∷ rs) qs others parted = (((λ e. others.0 (sym e)), parted.0), parted-cons r rs qs others.1 parted.1)
 
 -- those that pass one of two tests
 module _ (f g : Command → Bool) (other : (r : Command) → f r ≡ true → g r ≡ false) where
-  parted : (rs : List Command) → AreApart rs → ArePartedFrom (picked f rs) (picked g rs)
+  parted : (rs : List Command) → AreOneOfEach rs → ArePartedFrom (picked f rs) (picked g rs)
   parted [] apart = tt
   parted (r ∷ rs) apart = by_test (parted rs apart.1) (f r) (g r) refl refl
     where
       by_test : ArePartedFrom (picked f rs) (picked g rs) → (x y : Bool) → f r ≡ x → g r ≡ y
           → ArePartedFrom (those (x ∷ map f rs) (r ∷ rs)) (those (y ∷ map g rs) (r ∷ rs))
       by_test rest true true here there = absurd (true_false (sym there ∙ other r here))
-      by_test rest true false here there = (those-others (element_of r) (map g rs) rs apart.0, rest)
+      by_test rest true false here there = (those-others (sender_of r) (map g rs) rs apart.0, rest)
       by_test rest false true here there = parted-cons r (picked f rs) (picked g rs)
-          (those-others (element_of r) (map f rs) rs apart.0) rest
+          (those-others (sender_of r) (map f rs) rs apart.0) rest
       by_test rest false false here there = rest
 
 one-test : (b : Bool) → (if b then false else true) ≡ true → (if b then true else false) ≡ false
@@ -236,7 +238,8 @@ module _ {D : Type 0} (s : SharedState D) where
   admit-cut None rs cut = cut
   admit-cut (Some plan) rs cut = those-cut (map (is_picked (Some plan) (is_asked s) true) rs) rs cut
 
-  pub admit-apart : (plan : Option (List Request)) (rs : List Command) → AreApart rs → AreApart (admitted plan s rs)
+  pub admit-apart : (plan : Option (List Request)) (rs : List Command) → AreOneOfEach rs
+      → AreOneOfEach (admitted plan s rs)
   admit-apart None rs apart = apart
   admit-apart (Some plan) rs apart = those-apart (map (is_picked (Some plan) (is_asked s) true) rs) rs apart
 
@@ -246,7 +249,7 @@ module _ {D : Type 0} (s : SharedState D) where
   admit-sure (Some plan) rs sure =
       those-sure s.engine.memory (map (is_picked (Some plan) (is_asked s) true) rs) rs sure
 
-  pub admit-free : (plan : Option (List Request)) (rs : List Command) → AreApart rs → AreFreeFor s.log.places rs
+  pub admit-free : (plan : Option (List Request)) (rs : List Command) → AreOneOfEach rs → AreFreeFor s.log.places rs
       → AreFreeFor (with_refused_off plan s rs).log.places (admitted plan s rs)
   admit-free None rs apart free = free
   admit-free (Some plan) rs apart free =
@@ -265,7 +268,8 @@ module _ {D : Type 0} (s : SharedState D) where
 
   admit-limit : (plan : Option (List Request)) (rs : List Command) → (with_refused_off plan s rs).log.limit
       ≡ s.log.limit
-  admit-limit plan rs = let off = refused_off plan s rs in all-limit s.log off (map answer_in (each_refused OffPlan off))
+  admit-limit plan rs =
+      let off = refused_off plan s rs in all-limit s.log off (map answer_in (each_refused OffPlan off))
 
   pub admit-room : (plan : Option (List Request)) (rs : List Command)
       → (length s.log.trace < s.log.limit → length s.log.trace + length rs ≤ s.log.limit)

@@ -1,7 +1,9 @@
 -- The members that are lent: those that were looked at, and what the others add.
-use Rattle.std.proofs.Common.{◌≡◌, ℕ, suc, ◌+◌, ◌<◌, ◌≤◌, Bool, true, false, List, [], ◌∷◌, ◌++◌, refl, sym, ap, ◌∙◌}
+use Rattle.std.proofs.Common.{◌≡◌, ℕ, suc, ◌+◌, ◌<◌, ◌≢◌, ◌≤◌, Bool, true, false, List, [], ◌∷◌, ◌++◌, refl, sym}
+use Rattle.std.proofs.Common.{ap, ◌∙◌}
 use Rattle.std.proofs.Common.{subst, length, length-append, length-drop, map, drop, get_or, append_assoc, append-nil}
 use Rattle.std.proofs.Common.{arith}
+use Rattle.std.specs.List.{AllByRecursion}
 use Rattle.std.proofs.Math.Seq.{drop-cons}
 use Rattle.std.proofs.lemmas.List.{drop_all}
 use Rattle.im_types.specs.declared.commands.Command.{Command}
@@ -12,8 +14,8 @@ use Rattle.im_laws.proofs.Tests.{true_false}
 use Rattle.im_groups.specs.Commands.{places_behind}
 use Rattle.im_glass.specs.Panes.{PaneView}
 use Rattle.im_controller.specs.Groups.{those, AreRoomless, changes_put_all, next_answer, answers_left, spread}
-use Rattle.im_controller.specs.Log.{element_of}
-use Rattle.im_controller.specs.Groups.{AreOthers, AreApart, AreSure, AreSureBehind, answer_in, MayFollow, IsCut}
+use Rattle.im_controller.specs.Log.{sender_of}
+use Rattle.im_controller.specs.Groups.{AreOneOfEach, AreSureBehind, IsSure, answer_in, are_joined, IsCut}
 use Rattle.im_controller.specs.Groups.{lines_left}
 use Rattle.im_controller.proofs.SureLemmas.{sure-behind}
 use Rattle.im_controller.specs.Lines.{lines_of}
@@ -49,43 +51,37 @@ module _ (m : Contents) (left0 : ℕ) (rs0 : List Command) (p0 : PaneView) (left
 
 -- ---- those that are lent
 
-pub those-others : (element : ℕ) (bs : List Bool) (rs : List Command) → AreOthers element rs
-    → AreOthers element (those bs rs)
-those-others element [] rs others = tt
-those-others element (b ∷ bs) [] others = tt
-those-others element (true ∷ bs) (r ∷ rs) others = (others.0, those-others element bs rs others.1)
-those-others element (false ∷ bs) (r ∷ rs) others = those-others element bs rs others.1
+module _ (P : Command → Type 0) where
+  pub those-all : (bs : List Bool) (rs : List Command) → AllByRecursion P rs → AllByRecursion P (those bs rs)
+  those-all [] rs all = tt
+  those-all (b ∷ bs) [] all = tt
+  those-all (true ∷ bs) (r ∷ rs) all = (all.0, those-all bs rs all.1)
+  those-all (false ∷ bs) (r ∷ rs) all = those-all bs rs all.1
 
-pub those-apart : (bs : List Bool) (rs : List Command) → AreApart rs → AreApart (those bs rs)
+pub those-apart : (bs : List Bool) (rs : List Command) → AreOneOfEach rs → AreOneOfEach (those bs rs)
 those-apart [] rs apart = tt
 those-apart (b ∷ bs) [] apart = tt
-those-apart (true ∷ bs) (r ∷ rs) apart = (those-others (element_of r) bs rs apart.0, those-apart bs rs apart.1)
+those-apart (true ∷ bs) (r ∷ rs) apart = (
+  those-all (λ (c : Command). sender_of r ≢ sender_of c) bs rs apart.0,
+  those-apart bs rs apart.1,
+)
 those-apart (false ∷ bs) (r ∷ rs) apart = those-apart bs rs apart.1
-
-those-follow : (r : Command) (bs : List Bool) (rs : List Command) → MayFollow r rs → MayFollow r (those bs rs)
-those-follow r [] rs follow = tt
-those-follow r (b ∷ bs) [] follow = tt
-those-follow r (true ∷ bs) (q ∷ rs) follow = (follow.0, those-follow r bs rs follow.1)
-those-follow r (false ∷ bs) (q ∷ rs) follow = those-follow r bs rs follow.1
 
 pub those-cut : (bs : List Bool) (rs : List Command) → IsCut rs → IsCut (those bs rs)
 those-cut [] rs cut = tt
 those-cut (b ∷ bs) [] cut = tt
-those-cut (true ∷ bs) (r ∷ rs) cut = (those-follow r bs rs cut.0, those-cut bs rs cut.1)
+those-cut (true ∷ bs) (r ∷ rs) cut = (
+  those-all (λ (c : Command). are_joined r c ≡ true) bs rs cut.0,
+  those-cut bs rs cut.1,
+)
 those-cut (false ∷ bs) (r ∷ rs) cut = those-cut bs rs cut.1
-
-pub those-are_sure : (m : Contents) (bs : List Bool) (rs : List Command) → AreSure m rs → AreSure m (those bs rs)
-those-are_sure m [] rs sure = tt
-those-are_sure m (b ∷ bs) [] sure = tt
-those-are_sure m (true ∷ bs) (r ∷ rs) sure = (sure.0, those-are_sure m bs rs sure.1)
-those-are_sure m (false ∷ bs) (r ∷ rs) sure = those-are_sure m bs rs sure.1
 
 pub those-sure : (m : Contents) (bs : List Bool) (rs : List Command) → AreSureBehind m rs
     → AreSureBehind m (those bs rs)
 those-sure m [] rs sure = tt
 those-sure m (b ∷ bs) [] sure = tt
-those-sure m (true ∷ bs) (r ∷ rs) sure = those-are_sure m bs rs sure
-those-sure m (false ∷ bs) (r ∷ rs) sure = sure-behind m (those bs rs) (those-are_sure m bs rs sure)
+those-sure m (true ∷ bs) (r ∷ rs) sure = those-all (IsSure m) bs rs sure
+those-sure m (false ∷ bs) (r ∷ rs) sure = sure-behind m (those bs rs) (those-all (IsSure m) bs rs sure)
 
 -- ---- the answers to all, by those to the ones that are lent
 

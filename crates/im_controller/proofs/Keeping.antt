@@ -12,8 +12,9 @@ use Rattle.im_types.specs.declared.refusals.Refusal.{Refusal}
 use Rattle.im_types.specs.Contents.{Contents}
 use Rattle.im_types.specs.Trace.{end_of}
 use Rattle.im_controller.specs.Lines.{leaves_line, lines_of}
-use Rattle.im_controller.specs.Log.{element_of, UnclaimedState, LogState, with_unclaimed}
-use Rattle.im_controller.specs.Groups.{AreOthers, AreApart, AreFreeFor, with_all_unclaimed, AreAnswersTo, memory_after_all, lines_left}
+use Rattle.im_controller.specs.Log.{sender_of, UnclaimedState, LogState, with_unclaimed}
+use Rattle.im_controller.specs.Groups.{AreOfOthers, AreOneOfEach, AreFreeFor, with_all_unclaimed, AreAnswersTo}
+use Rattle.im_controller.specs.Groups.{memory_after_all, lines_left}
 use Rattle.im_controller.proofs.LogLemmas.{lines_by, end-lines}
 
 get-set_other : {X : Type 0} (xs : List X) (i j : ℕ) (x y : X) → i ≢ j → slice_get xs j ≡ Some y
@@ -25,10 +26,10 @@ get-set_other xs i j x y apart there =
 
 -- other places stay free
 pub free_after : (places : List (Option UnclaimedState)) (e : ℕ) (w : Option UnclaimedState) (rs : List Command)
-    → AreOthers e rs → AreFreeFor places rs → AreFreeFor (slice_set places e w) rs
+    → AreOfOthers e rs → AreFreeFor places rs → AreFreeFor (slice_set places e w) rs
 free_after places e w [] others free = tt
 free_after places e w (r ∷ rs) others free =
-    (get-set_other places e (element_of r) w None others.0 free.0, free_after places e w rs others.1 free.1)
+    (get-set_other places e (sender_of r) w None others.0 free.0, free_after places e w rs others.1 free.1)
 
 left_by : (b : Bool) (r : Command) (x : Result Outcome Refusal) → length (lines_by b (Commands r) x)
     ≡ (if b then 1 else 0)
@@ -45,7 +46,7 @@ pub record Keeps (m : Contents) (l0 : LogState) (rs0 : List Command) (xs0 : List
   pub log_is : with_all_unclaimed l rs xs ≡ with_all_unclaimed l0 rs0 xs0
   pub end_is : memory_after_all (end_of m l.trace) rs xs ≡ memory_after_all (end_of m l0.trace) rs0 xs0
   pub are_so : AreAnswersTo (end_of m l.trace) rs xs
-  pub apart : AreApart rs
+  pub apart : AreOneOfEach rs
   pub free : AreFreeFor l.places rs
   pub room : length l.trace + lines_left xs ≤ l.limit
 
@@ -60,7 +61,7 @@ module _ (m : Contents) (l0 : LogState) (rs0 : List Command) (xs0 : List (Result
         end_is = ap (λ s. memory_after_all s rs xs) now ∙ k.end_is;
         are_so = subst (λ (s : Contents). AreAnswersTo s rs xs) (sym now) k.are_so.1;
         apart = k.apart.1;
-        free = free_after l.places (element_of r) _ rs k.apart.0 k.free.1;
+        free = free_after l.places (sender_of r) _ rs k.apart.0 k.free.1;
         room = omega (arith, k.room, length-append l.trace (lines_of (Commands r) x), left_is r x);
       }
 

@@ -48,7 +48,8 @@ use Rattle.im_controller.proofs.PutLemmas.{lines_all, one-end, refused-lines}
 
 -- ---- what leaves the memory: a turn and a sweep
 
--- an engine that had failed stays as it was, and any other one has the same memory and count, and has failed where a call of the disk did
+-- an engine that had failed stays as it was, and any other one has the same memory and count, and has failed where a
+-- call of the disk did
 pub record IsQuiet {D : Type 0} (failures : D → ℕ) (e f : EngineState D) : Type 0 where
   pub dead : e.failed ≡ true → f ≡ e
   pub stays : (f.memory ≡ e.memory) × (f.count ≡ e.count)
@@ -403,7 +404,8 @@ module _ {D : Type 0} (now : D → Moment) (past : D → List Moment) (failures 
         lines_done : ss ≡ answers_in_turn e rs → accepted_in e.memory (lines_all rs (map answer_in ss)) ≡ puts
         lines_done is =
             ap (λ xs. accepted_in e.memory (lines_all rs (map answer_in xs))) is
-            ∙ ap (λ xs. accepted_in e.memory (lines_all rs xs)) (answers_served (answers_with e.memory (places e.count e.room) rs))
+            ∙ ap (λ xs. accepted_in e.memory (lines_all rs xs))
+            (answers_served (answers_with e.memory (places e.count e.room) rs))
             ∙ all_put e.memory (places e.count e.room) rs
 
         group_goes : (f.failed ≡ false → (f.memory ≡ (after_commands e rs).memory)

@@ -14,11 +14,13 @@ use Rattle.im_engine.specs.Commands.{each_refused, CommandsAnswered}
 use Rattle.im_glass.specs.Panes.{PaneView}
 use Rattle.im_controller.specs.Log.{LogState}
 use Rattle.im_controller.specs.State.{SharedState}
-use Rattle.im_controller.specs.Groups.{AreApart, AreSureBehind, IsCut, answer_in, with_all_unclaimed, lines_left, MembersAnswered, places_with}
+use Rattle.im_controller.specs.Groups.{AreOneOfEach, AreSureBehind, IsCut, answer_in, with_all_unclaimed, lines_left}
+use Rattle.im_controller.specs.Groups.{MembersAnswered, places_with}
 use Rattle.im_controller.specs.Groups.{those, AreRoomless, changes_put_all, spread, LendsGroup}
 use Rattle.im_controller.proofs.GroupLemmas.{Fits, members-fit, members-room}
 use Rattle.im_controller.proofs.PutLemmas.{lines_all, all-trace, GroupShows, members-shown}
-use Rattle.im_controller.proofs.Choosing.{those-sure, those-apart, those-cut, spread-fits, spread-lines, spread-left, all-lent}
+use Rattle.im_controller.proofs.Choosing.{those-sure, those-apart, those-cut, spread-fits, spread-lines, spread-left}
+use Rattle.im_controller.proofs.Choosing.{all-lent}
 use Rattle.im_controller.proofs.ShownLemmas.{pane-shows, shown-grows}
 
 -- what was chosen and served
@@ -53,12 +55,12 @@ module _ {D : Type 0} (e f : EngineState D) (room : ℕ) (members : List Command
       (λ some. omega (arith, group-fits.few, enough (omega (arith, some.0, is))))
       (members-room e f lent ss room it.answered)
 
-  module _ (agrees : WaitingAgrees e.memory) (cut : IsCut members) (apart : AreApart members)
+  module _ (agrees : WaitingAgrees e.memory) (cut : IsCut members) (apart : AreOneOfEach members)
       (sure : AreSureBehind e.memory members) where
     shows-lent : GroupShows e.memory (lines_all lent (map answer_in ss))
         (changes_put_all e.memory (places_with e room) lent) f.failed
     shows-lent = members-shown e f lent ss agrees (subst IsCut (sym it.lent_is) (those-cut roomy members cut))
-        (subst AreApart (sym it.lent_is) (those-apart roomy members apart))
+        (subst AreOneOfEach (sym it.lent_is) (those-apart roomy members apart))
         (subst (λ (rs : List Command). AreSureBehind e.memory rs) (sym it.lent_is)
         (those-sure e.memory roomy members sure)) room it.answered
 

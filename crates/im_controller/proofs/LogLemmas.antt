@@ -21,7 +21,7 @@ use Rattle.im_types.specs.Trace.{told, answer_to, contents_after, IsLegal, end_o
 use Rattle.im_laws.proofs.TraceLemmas.{end_of-append, IsLegal-push}
 use Rattle.im_controller.specs.Lines.{Counts, EndsIn, EndsInAll, leaves_line, line_of, lines_of, memory_after}
 use Rattle.im_controller.specs.Lines.{counts_after}
-use Rattle.im_controller.specs.Log.{element_of, UnclaimedState, LogState, IsProof, IsProofIn, unclaimed_lines, with_line}
+use Rattle.im_controller.specs.Log.{sender_of, UnclaimedState, LogState, IsProof, IsProofIn, unclaimed_lines, with_line}
 use Rattle.im_controller.specs.Log.{with_unclaimed, without_unclaimed, AreFree, AreClaimed, IsLog, IsOfTrace}
 use Rattle.im_controller.specs.Log.{receipt_for}
 
@@ -125,7 +125,7 @@ module _ (m : Contents) (marks : Line → Bool) (l : LogState) (books : Counts) 
       }
 
   -- an answer that waits for its port
-  pub log-keeps : (r : Command) (answer : Result Outcome Refusal) → slice_get l.places (element_of r) ≡ Some None
+  pub log-keeps : (r : Command) (answer : Result Outcome Refusal) → slice_get l.places (sender_of r) ≡ Some None
       → (leaves_line answer ≡ true → length l.trace < l.limit)
       → (leaves_line answer ≡ true → answer ≡ answer_to (end_of m l.trace) (Commands r))
       → IsLog m marks (with_unclaimed l r answer) books
@@ -146,17 +146,17 @@ module _ (m : Contents) (marks : Line → Bool) (l : LogState) (books : Counts) 
           arith,
           is.lines,
           sum_kept
-              (λ p. length (unclaimed_lines p)) refl l.places (element_of r) w free,
+              (λ p. length (unclaimed_lines p)) refl l.places (sender_of r) w free,
           length-append l.trace more,
         );
         marked = omega (
           arith,
           is.marked,
           sum_kept
-              (λ p. count_by marks (unclaimed_lines p)) refl l.places (element_of r) w free,
+              (λ p. count_by marks (unclaimed_lines p)) refl l.places (sender_of r) w free,
           count-append marks l.trace more,
         );
-        proofs = all-set (IsProofIn m (l.trace ++ more)) l.places (element_of r) (Some w)
+        proofs = all-set (IsProofIn m (l.trace ++ more)) l.places (sender_of r) (Some w)
             (proofs-more m l.trace more l.places is.proofs)
             (proof_at m l.trace call answer legal, ([], append-nil (l.trace ++ more)), (l.trace, refl, refl));
       }

@@ -1,5 +1,5 @@
 -- What the members of a group change is known before it: it is what their lines show.
-use Rattle.std.proofs.Common.{◌≡◌, ⊎_elim, ℕ, zero, suc, ◌+◌, ◌-◌, ◌<◌, ◌&&◌, ◌==◌, Bool, true, false, List, []}
+use Rattle.std.proofs.Common.{◌≡◌, ⊎_elim, ℕ, zero, suc, ◌-◌, ◌&&◌, ◌==◌, Bool, true, false, List, []}
 use Rattle.std.proofs.Common.{◌∷◌, ◌++◌, refl, sym, ap, ◌∙◌, subst, Result, Err, length, map, append_assoc}
 use Rattle.std.proofs.Common.{append-nil, arith, if◌then◌else◌}
 use Rattle.std.specs.Prelude.{IsOk, nat_lt}
@@ -24,7 +24,8 @@ use Rattle.im_engine.specs.State.{EngineState}
 use Rattle.im_engine.specs.Commands.{commands_put, each_refused, answers_in_turn, CommandsAnswered}
 use Rattle.im_controller.specs.Lines.{leaves_line, line_of, lines_of}
 use Rattle.im_controller.specs.Log.{LogState, with_unclaimed}
-use Rattle.im_controller.specs.Groups.{AreApart, IsCut, AreSureBehind, answer_in, with_all_unclaimed, MembersAnswered}
+use Rattle.im_controller.specs.Groups.{AreOneOfEach, IsCut, AreSureBehind, answer_in, with_all_unclaimed}
+use Rattle.im_controller.specs.Groups.{MembersAnswered}
 use Rattle.im_controller.specs.Groups.{places_with, changes_put_all}
 use Rattle.im_controller.specs.Lends.{is_taken, changes_put}
 use Rattle.im_controller.proofs.LendLemmas.{ok-leaves}
@@ -89,7 +90,7 @@ pub one-end : (m : Contents) (left : ℕ) (r : Command) → end_of m (lines_of (
 one-end m left r = end-lines m [] (Commands r) (answer_with m left r) ∙ sym (member-after m left r)
 
 -- what the members' lines show is what they change by the memory before all of them
-group-lines : (m n : Contents) (left : ℕ) (rs : List Command) → WaitingAgrees m → IsCut rs → AreApart rs
+group-lines : (m n : Contents) (left : ℕ) (rs : List Command) → WaitingAgrees m → IsCut rs → AreOneOfEach rs
     → AreSureBehind n rs → AreLike m n rs
     → changes_of m (lines_all rs (answers_with m left rs)) ≡ changes_put_all n left rs
 group-lines m n left [] agrees cut apart sure like = refl
@@ -131,7 +132,7 @@ pub record GroupShows (m : Contents) (lines : List Line) (changes : List Change)
   pub dead : failed ≡ true → changes_of m lines ≡ []
 
 module _ {D : Type 0} (e f : EngineState D) (rs : List Command) (ss : List Served) (agrees : WaitingAgrees e.memory)
-    (cut : IsCut rs) (apart : AreApart rs) (sure : AreSureBehind e.memory rs) where
+    (cut : IsCut rs) (apart : AreOneOfEach rs) (sure : AreSureBehind e.memory rs) where
   abbrev Shows : ℕ → Type 0
   Shows room = GroupShows e.memory (lines_all rs (map answer_in ss))
       (changes_put_all e.memory (places_with e room) rs) f.failed
@@ -155,7 +156,8 @@ module _ {D : Type 0} (e f : EngineState D) (rs : List Command) (ss : List Serve
       ap (λ (b : Bool). if b then 0 else if room == 0 then 0 else places e.count e.room) alive
       ∙ ap (λ (b : Bool). if b then 0 else places e.count e.room) not
 
-  done-shown : (room n : ℕ) → e.failed ≡ false → room ≡ suc n → ss ≡ answers_in_turn e rs → f.failed ≡ false → Shows room
+  done-shown : (room n : ℕ) → e.failed ≡ false → room ≡ suc n → ss ≡ answers_in_turn e rs → f.failed ≡ false
+      → Shows room
   done-shown room n alive some is lives = record {
     alive = λ _.
         ap (λ k. changes_put_all e.memory k rs) (places-some room n alive some)

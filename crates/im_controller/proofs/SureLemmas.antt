@@ -1,11 +1,11 @@
 -- Commands that are judged the same after commands of other elements.
-use Rattle.std.proofs.Common.{◌≡◌, ◌≢◌, ⊎_elim, ℕ, suc, zero, ◌+◌, ◌<◌, ◌≤◌, Bool, true, false, List, [], ◌∷◌, ◌++◌, refl}
+use Rattle.std.proofs.Common.{◌≡◌, ◌≢◌, ⊎_elim, ℕ, suc, zero, ◌+◌, ◌<◌, ◌≤◌, Bool, true, false, List, [], ◌∷◌}
+use Rattle.std.proofs.Common.{refl}
 use Rattle.std.proofs.Common.{sym, ap, ◌∙◌, subst, Option, None, Some, Result, Ok, Err, length, slice_get, take, arith}
 use Rattle.std.proofs.Common.{if◌then◌else◌}
 use Rattle.std.specs.Prelude.{◌&&◌, ◌==◌, nat_lt, slice_index_or}
 use Rattle.std.specs.List.{list_any}
 use Rattle.std.proofs.lemmas.List.{take_all}
-use Rattle.im_types.specs.declared.operations.Kept.{Kept}
 use Rattle.im_types.specs.declared.operations.Waiter.{Waiter}
 use Rattle.im_types.specs.declared.operations.Op.{Op}
 use Rattle.im_types.specs.declared.operations.Op.TheVariants.{Alloc, Release, Reset, Fetch, Store, Take, Put}
@@ -13,16 +13,15 @@ use Rattle.im_types.specs.declared.commands.Request.{Request}
 use Rattle.im_types.specs.declared.commands.Command.{Command}
 use Rattle.im_types.specs.declared.commands.Command.TheVariants.{Request as Asks, Confirm}
 use Rattle.im_types.specs.declared.changes.Change.{Change}
-use Rattle.im_types.specs.declared.changes.Change.TheVariants.{Same}
 use Rattle.im_types.specs.declared.refusals.Refusal.{Refusal}
-use Rattle.im_types.specs.Contents.{Window, Contents, kept_for, new_window}
-use Rattle.im_types.specs.Window.{is_waiting, bounds, confirm_window}
+use Rattle.im_types.specs.Contents.{Window, Contents, new_window}
+use Rattle.im_types.specs.Window.{bounds, confirm_window}
 use Rattle.im_types.specs.Step.{step, is_accepted, moves_base}
 use Rattle.im_types.specs.Agreement.{WaitingAgrees}
 use Rattle.im_types.specs.Changes.{change_by, change_of, changes_at}
 use Rattle.im_laws.specs.Windows.{IsConfirmable, IsNextRequest}
 use Rattle.im_laws.proofs.Tests.{true_false, true_or_false, test-self, eq_by_test}
-use Rattle.im_laws.proofs.GroupLemmas.{same_test, accepted-other}
+use Rattle.im_laws.proofs.GroupLemmas.{same_test}
 use Rattle.im_laws.proofs.AcceptLemmas.{same_bounds, confirm-confirms, accepted-takes_next, accepted-moves_base}
 use Rattle.im_laws.proofs.AcceptLemmas.{unaccepted-leaves}
 use Rattle.im_laws.proofs.JudgeLemmas.{next-accepted, accepted-next, bounds-kept, confirms-confirmable, confirm-cells}
@@ -30,12 +29,13 @@ use Rattle.im_laws.proofs.ForgetLemmas.{after-no_less}
 use Rattle.im_laws.proofs.RunAgrees.{step-agrees}
 use Rattle.im_fulls.specs.Groups.{MayPrecede}
 use Rattle.im_fulls.proofs.GroupLemmas.{group-changes}
-use Rattle.im_groups.specs.Ahead.{AreAccepted, IsUnsure, DropsUnsure, ServesPrefix, bounds_behind, moved_by, is_sure}
+use Rattle.im_groups.specs.Ahead.{AreAccepted, IsUnsure, ServesPrefix, bounds_behind, moved_by, is_sure}
 use Rattle.im_groups.specs.Ahead.{asks_at_once, is_answered_or}
 use Rattle.im_groups.specs.Commands.{contents_with}
 use Rattle.im_groups.proofs.AheadLemmas.{confirm-in}
-use Rattle.im_controller.specs.Log.{element_of}
-use Rattle.im_controller.specs.Groups.{is_social, stored_at, are_apart_at, are_together, are_joined, AreOthers, MayFollow}
+use Rattle.im_controller.specs.Log.{sender_of}
+use Rattle.im_controller.specs.Groups.{is_social, stored_at, are_apart_at, are_together, are_joined, AreOfOthers}
+use Rattle.im_controller.specs.Groups.{MayFollow}
 use Rattle.im_controller.specs.Groups.{IsSure, AreSure, AreSureBehind}
 
 -- ---- a confirmation that the memory accepts
@@ -109,34 +109,23 @@ all-served m put cs many sure it =
 other_test : (a b : ℕ) → b ≢ a → (a == b) ≡ false
 other_test a b apart = ⊎_elim (λ e. absurd (apart (sym (eq_by_test a b e)))) (λ e. e) (true_or_false (a == b))
 
-bounds-other : (m : Contents) (c : Command) (e : ℕ) → e ≢ element_of c → is_accepted m c ≡ true
+bounds-other : (m : Contents) (c : Command) (e : ℕ) → e ≢ sender_of c → is_accepted m c ≡ true
     → bounds (step m c).contents.windows e ≡ bounds m.windows e
 bounds-other m (Asks r) e apart is = (accepted-takes_next m r is).others e apart
 bounds-other m (Confirm element upto) e apart is = (accepted-moves_base m element upto is).others e apart
 
-behind-other : (c : Command) (e base next : ℕ) → e ≢ element_of c → bounds_behind e c (base, next) ≡ (base, next)
+behind-other : (c : Command) (e base next : ℕ) → e ≢ sender_of c → bounds_behind e c (base, next) ≡ (base, next)
 behind-other (Asks r) e base next apart = ap (λ (b : Bool). if b then (base, next + 1) else (base, next))
     (other_test r.element e apart)
 behind-other (Confirm element upto) e base next apart = ap (λ (b : Bool). if b then (upto, next) else (base, next))
     (other_test element e apart)
-
--- a request is judged by the bounds of its window
-request-there : (m n : Contents) (q : Request) → bounds n.windows q.element ≡ bounds m.windows q.element
-    → is_accepted n (Asks q) ≡ is_accepted m (Asks q)
-request-there m n q same = same_test (is_accepted n (Asks q)) (is_accepted m (Asks q))
-    (λ e. next-accepted m q (there m n (sym same) (accepted-next n q e)))
-    (λ e. next-accepted n q (there n m same (accepted-next m q e)))
-  where
-    there : (x y : Contents) → bounds x.windows q.element ≡ bounds y.windows q.element → IsNextRequest y.windows q
-        → IsNextRequest x.windows q
-    there x y same it = record { base = it.base; are = same ∙ it.are; room = it.room; to_last = it.to_last }
 
 -- where the command is accepted
 module _ (m : Contents) (c : Command) (agrees : WaitingAgrees m) (is : is_accepted m c ≡ true) where
   one_accepted : AreAccepted m (c ∷ [])
   one_accepted = ap (λ (b : Bool). if b then Some (step m c).contents else None) is
 
-  confirm-stays : (element upto : ℕ) → element ≢ element_of c → is_accepted m (Confirm element upto) ≡ true
+  confirm-stays : (element upto : ℕ) → element ≢ sender_of c → is_accepted m (Confirm element upto) ≡ true
       → is_accepted (step m c).contents (Confirm element upto) ≡ true
   confirm-stays element upto apart e =
       let t = accepted-moves_base m element upto e in
@@ -145,13 +134,26 @@ module _ (m : Contents) (c : Command) (agrees : WaitingAgrees m) (is : is_accept
       ∙ (λ i. Ok (behind-other c element t.base t.next apart i))) t.rises t.reached
       (λ number from below. drops-sure m (c ∷ []) element upto t.base t.next number e t.before t.reached from below))
 
-  accepted-stays : (q : Command) → element_of q ≢ element_of c → IsSure m q
+  request-stays : (q : Request) → q.element ≢ sender_of c
+      → is_accepted (step m c).contents (Asks q) ≡ is_accepted m (Asks q)
+  request-stays q apart = same_test (is_accepted (step m c).contents (Asks q)) (is_accepted m (Asks q))
+      (λ e. next-accepted m q (there m (step m c).contents (sym same) (accepted-next (step m c).contents q e)))
+      (λ e. next-accepted (step m c).contents q (there (step m c).contents m same (accepted-next m q e)))
+    where
+      same : bounds (step m c).contents.windows q.element ≡ bounds m.windows q.element
+      same = bounds-other m c q.element apart is
+
+      there : (x y : Contents) → bounds x.windows q.element ≡ bounds y.windows q.element → IsNextRequest y.windows q
+          → IsNextRequest x.windows q
+      there x y here it = record { base = it.base; are = here ∙ it.are; room = it.room; to_last = it.to_last }
+
+  accepted-stays : (q : Command) → sender_of q ≢ sender_of c → IsSure m q
       → is_accepted (step m c).contents q ≡ is_accepted m q
-  accepted-stays (Asks q) apart sure = request-there m (step m c).contents q (bounds-other m c q.element apart is)
+  accepted-stays (Asks q) apart sure = request-stays q apart
   accepted-stays (Confirm element upto) apart sure = confirm-stays element upto apart sure ∙ sym sure
 
 -- whether it is accepted or not
-accepted-kept : (m : Contents) (c q : Command) → WaitingAgrees m → element_of q ≢ element_of c → IsSure m q
+accepted-kept : (m : Contents) (c q : Command) → WaitingAgrees m → sender_of q ≢ sender_of c → IsSure m q
     → is_accepted (step m c).contents q ≡ is_accepted m q
 accepted-kept m c q agrees apart sure = ⊎_elim
     (λ is. accepted-stays m c agrees is q apart sure)
@@ -197,7 +199,7 @@ changes_by m n q accepts changes =
     ap (λ (b : Bool). if b then change_by n q ∷ [] else []) accepts
     ∙ ap (λ (x : Change). if is_accepted m q then x ∷ [] else []) changes
 
-changes-kept : (m : Contents) (c q : Command) → WaitingAgrees m → element_of q ≢ element_of c
+changes-kept : (m : Contents) (c q : Command) → WaitingAgrees m → sender_of q ≢ sender_of c
     → are_joined c q ≡ true → IsSure m q → changes_at (step m c).contents q ≡ changes_at m q
 changes-kept m (Asks e) (Asks q) agrees apart joined sure = group-changes m (e ∷ []) q
     ((apart, together-precedes e.op q.op joined), tt)
@@ -229,7 +231,7 @@ sure-like m n (Asks r) like sure = tt
 sure-like m n (Confirm element upto) like sure = like.accepts ∙ sure
 
 pub like-after : (m n : Contents) (left : ℕ) (c : Command) (rs : List Command) → WaitingAgrees m
-    → AreOthers (element_of c) rs → MayFollow c rs → AreSure n rs → AreLike m n rs
+    → AreOfOthers (sender_of c) rs → MayFollow c rs → AreSure n rs → AreLike m n rs
     → AreLike (contents_with m left c) n rs
 like-after m n left c [] agrees others follow sure like = tt
 like-after m n left c (q ∷ rs) agrees others follow sure like = (
@@ -237,7 +239,7 @@ like-after m n left c (q ∷ rs) agrees others follow sure like = (
   like-after m n left c rs agrees others.1 follow.1 sure.1 like.1,
 )
   where
-    apart : element_of q ≢ element_of c
+    apart : sender_of q ≢ sender_of c
     apart e = others.0 (sym e)
 
     by_place : (b : Bool) → IsLike (if b then (step m c).contents else m) n q

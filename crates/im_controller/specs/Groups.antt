@@ -1,5 +1,7 @@
 -- Groups of commands under the lock: how they are taken out of the inbox, and what lending a group does. (Own.)
-use Rattle.std.specs.Prelude.{◌≡◌, ◌≢◌, ◌⊎◌, ℕ, ◌+◌, ◌-◌, ◌<◌, ◌≤◌, ◌==◌, List, [], ◌∷◌, ◌++◌, Bool, true, false, Option}
+use Rattle.std.specs.Prelude.{◌≡◌, ◌≢◌, ◌⊎◌, ℕ, ◌+◌, ◌-◌, ◌<◌, ◌≤◌, ◌==◌, List, [], ◌∷◌, ◌++◌, Bool, true, false}
+use Rattle.std.specs.List.{AllByRecursion}
+use Rattle.std.specs.Prelude.{Option}
 use Rattle.std.specs.Prelude.{None, Some, Result, Ok, Err, length, map, slice_get, if◌then◌else◌}
 use Rattle.im_types.specs.declared.operations.Op.{Op}
 use Rattle.im_types.specs.declared.operations.Op.TheVariants.{Alloc, Release, Reset, Fetch, Store, Take, Put}
@@ -20,21 +22,20 @@ use Rattle.im_groups.specs.Commands.{places, places_behind}
 use Rattle.im_engine.specs.State.{EngineState}
 use Rattle.im_engine.specs.Commands.{CommandsAnswered, each_refused}
 use Rattle.im_controller.specs.Lines.{Counts, leaves_line, lines_of, memory_after, counts_after}
-use Rattle.im_controller.specs.Log.{ReceiptState, UnclaimedState, LogState, element_of, plain, IsOf, with_unclaimed}
+use Rattle.im_controller.specs.Log.{ReceiptState, UnclaimedState, LogState, sender_of, plain, IsOf, with_unclaimed}
 use Rattle.im_controller.specs.State.{SharedState}
 use Rattle.im_controller.specs.Lends.{is_taken, changes_put}
 
 -- ---- which commands may be one group
 
 -- none of the commands is of this element
-abbrev pub AreOthers : ℕ → List Command → Type 0
-AreOthers element [] = Unit {0}
-AreOthers element (c ∷ cs) = (element ≢ element_of c) × AreOthers element cs
+abbrev pub AreOfOthers : ℕ → List Command → Type 0
+AreOfOthers element cs = AllByRecursion (λ (c : Command). element ≢ sender_of c) cs
 
 -- each element has at most one of the commands
-abbrev pub AreApart : List Command → Type 0
-AreApart [] = Unit {0}
-AreApart (c ∷ cs) = AreOthers (element_of c) cs × AreApart cs
+abbrev pub AreOneOfEach : List Command → Type 0
+AreOneOfEach [] = Unit {0}
+AreOneOfEach (c ∷ cs) = AreOfOthers (sender_of c) cs × AreOneOfEach cs
 
 -- whether an operation is served with others: one that makes, gives back or empties a block isn't
 abbrev pub is_social : Op → Bool
@@ -79,8 +80,7 @@ MayJoin command (c ∷ cs) = (are_joined c command ≡ true) × MayJoin command 
 
 -- these commands may stand in a group after this one
 abbrev pub MayFollow : Command → List Command → Type 0
-MayFollow command [] = Unit {0}
-MayFollow command (c ∷ cs) = (are_joined command c ≡ true) × MayFollow command cs
+MayFollow command cs = AllByRecursion (λ (c : Command). are_joined command c ≡ true) cs
 
 -- the commands may be one group: a request that makes, gives back or empties a block is the only request, and no two
 -- store at one address
@@ -96,8 +96,7 @@ IsSure m (Confirm element upto) = is_accepted m (Confirm element upto) ≡ true
 
 -- each of these is so
 abbrev pub AreSure : Contents → List Command → Type 0
-AreSure m [] = Unit {0}
-AreSure m (c ∷ cs) = IsSure m c × AreSure m cs
+AreSure m cs = AllByRecursion (IsSure m) cs
 
 -- each of these but the first is so; the first one is judged by the memory before it in any case
 abbrev pub AreSureBehind : Contents → List Command → Type 0
@@ -110,17 +109,15 @@ IsSureBehind m command cs = (cs ≡ []) ⊎ IsSure m command
 
 -- each of the commands is of an element below this one
 abbrev pub AreBelow : ℕ → List Command → Type 0
-AreBelow element [] = Unit {0}
-AreBelow element (c ∷ cs) = (element_of c < element) × AreBelow element cs
+AreBelow element cs = AllByRecursion (λ (c : Command). sender_of c < element) cs
 
 -- the place of each command's element is free
 abbrev pub AreFreeFor : List (Option UnclaimedState) → List Command → Type 0
-AreFreeFor places [] = Unit {0}
-AreFreeFor places (c ∷ cs) = (slice_get places (element_of c) ≡ Some None) × AreFreeFor places cs
+AreFreeFor places cs = AllByRecursion (λ (c : Command). slice_get places (sender_of c) ≡ Some None) cs
 
 -- a group of commands of elements below this one; their answers have free places
 pub record Gathers (places : List (Option UnclaimedState)) (m : Contents) (element : ℕ) (cs : List Command) : Type 0 where
-  pub apart : AreApart cs
+  pub apart : AreOneOfEach cs
   pub free : AreFreeFor places cs
   pub below : AreBelow element cs
   pub cut : IsCut cs

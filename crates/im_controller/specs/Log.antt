@@ -33,9 +33,9 @@ pub record FoundState : Type 0 where
   pub told : List Change
 
 -- the element of a command
-abbrev pub element_of : Command → ℕ
-element_of (Asks r) = r.element
-element_of (Confirm element upto) = element
+abbrev pub sender_of : Command → ℕ
+sender_of (Asks r) = r.element
+sender_of (Confirm element upto) = element
 
 -- the answer to a command that its port hasn't taken yet, how many lines there were before it, and the trace right after it
 pub record UnclaimedState : Type 0 where
@@ -82,7 +82,7 @@ with_line l call answer = record l { trace = l.trace ++ lines_of call answer }
 abbrev pub with_unclaimed : LogState → Command → Result Outcome Refusal → LogState
 with_unclaimed l command answer =
     let trace = l.trace ++ lines_of (Commands command) answer in
-    record { trace = trace; limit = l.limit; places = slice_set l.places (element_of command) (Some (record { command = command; answer = answer; before = length l.trace; history = trace })) }
+    record { trace = trace; limit = l.limit; places = slice_set l.places (sender_of command) (Some (record { command = command; answer = answer; before = length l.trace; history = trace })) }
 
 -- the log with an element's place free
 abbrev pub without_unclaimed : LogState → ℕ → LogState

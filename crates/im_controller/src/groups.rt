@@ -6,7 +6,7 @@ ghost use Rattle.im_engine.specs.State.{MeansState};
 ghost use Rattle.im_engine.specs.Groups.{calls_for_group, GroupFaults};
 ghost use Rattle.im_engine.specs.Commands.{commands_put, each_refused, CommandsAnswered, MeansCommands, ServesCommands};
 ghost use Rattle.im_controller.specs.Groups.{answer_in, with_all_unclaimed, AreAnswersTo, memory_after_all, lines_left};
-ghost use Rattle.im_controller.specs.Groups.{AreApart, AreFreeFor, AreSureBehind, IsCut};
+ghost use Rattle.im_controller.specs.Groups.{AreOneOfEach, AreFreeFor, AreSureBehind, IsCut};
 ghost use Rattle.im_controller.specs.Groups.{MembersAnswered, LendsGroup, Holds};
 ghost use Rattle.im_controller.specs.Groups.{those, spread, next_answer, answers_left};
 ghost use Rattle.im_controller.specs.Log.{SeesAnswer};
@@ -45,7 +45,7 @@ fn answer_in(served: Served) -> Result<Outcome, Refusal>
 fn keep_all<K: Name>(log: &mut Log<K>, members: &[Command], served: &[Served])
     requires whole { length served.now ≡ length members.now }
     requires are_so { AreAnswersTo (end_of K.memory log.old.trace) members.now (map answer_in served.now) }
-    requires apart { AreApart members.now }
+    requires apart { AreOneOfEach members.now }
     requires free { AreFreeFor log.old.places members.now }
     requires room { length log.old.trace + lines_left (map answer_in served.now) ≤ log.old.limit }
     ensures log { log.new ≡ with_all_unclaimed log.old members.now (map answer_in served.now) }
@@ -159,7 +159,7 @@ fn lend_members<D: Disk, K: Name, R: Wait>(
     members: &ArrayVec<Command, 16>,
 ) -> ArrayVec<bool, 16>
     requires cut { IsCut members.now.items }
-    requires apart { AreApart members.now.items }
+    requires apart { AreOneOfEach members.now.items }
     requires sure { AreSureBehind shared.old.engine.memory members.now.items }
     requires free { AreFreeFor shared.old.log.places members.now.items }
     requires room { length shared.old.log.trace < shared.old.log.limit
@@ -266,7 +266,7 @@ fn admit<D: Disk, K: Name>(
 )
     requires fits { length members.now ≤ 16 }
     requires empty { lent.old.items ≡ [] }
-    requires apart { AreApart members.now }
+    requires apart { AreOneOfEach members.now }
     requires free { AreFreeFor shared.old.log.places members.now }
     ensures lent { lent.new.items ≡ admitted K.plan shared.old members.now }
     ensures shared { shared.new ≡ with_refused_off K.plan shared.old members.now }
@@ -301,7 +301,7 @@ pub(crate) fn lend_group<D: Disk, K: Name, R: Wait>(
     members: &ArrayVec<Command, 16>,
 ) -> ArrayVec<bool, 16>
     requires cut { IsCut members.now.items }
-    requires apart { AreApart members.now.items }
+    requires apart { AreOneOfEach members.now.items }
     requires sure { AreSureBehind shared.old.engine.memory members.now.items }
     requires free { AreFreeFor shared.old.log.places members.now.items }
     requires room { length shared.old.log.trace < shared.old.log.limit

@@ -1,9 +1,10 @@
 //! Commands that ask to be served. Each element has a place, under a lock of its own for all places.
 ghost use Rattle.std.specs.Prelude.{◌≡◌, ◌≤◌, ◌<◌, ◌+◌, true, length, IfSome};
 ghost use Rattle.im_types.specs.Step.{is_accepted};
-ghost use Rattle.im_controller.specs.Log.{element_of};
+ghost use Rattle.im_controller.specs.Log.{sender_of};
 ghost use Rattle.im_controller.specs.Groups.{is_social, stored_at, are_apart_at, are_together, are_joined, MayJoin};
-ghost use Rattle.im_controller.specs.Groups.{IsSure, IsSureBehind, AreSureBehind, AreApart, AreFreeFor, IsCut, Gathers};
+ghost use Rattle.im_controller.specs.Groups.{IsSure, IsSureBehind, AreSureBehind, AreOneOfEach, AreFreeFor, IsCut};
+ghost use Rattle.im_controller.specs.Groups.{Gathers};
 
 use crate::log::{Log, element_of};
 use crate::name::Name;
@@ -185,7 +186,7 @@ impl Inbox {
 
     // Takes out what an element asks.
     fn take(&mut self, element: u16) -> Option<Command>
-        ensures { IfSome result (λ c. element_of c ≡ element) }
+        ensures { IfSome result (λ c. sender_of c ≡ element) }
     {
         match self.places.get_mut(element as usize)?.take()? {
             Asked::Request { number, op } => Some(Command::Request(Request {
@@ -235,7 +236,7 @@ impl Inbox {
         from: u16,
         most: usize,
     ) -> NextGroup
-        ensures apart { AreApart result.members.items }
+        ensures apart { AreOneOfEach result.members.items }
         ensures free { AreFreeFor log.now.places result.members.items }
         ensures cut { IsCut result.members.items }
         ensures sure { AreSureBehind memory.now.contents result.members.items }

@@ -1,13 +1,15 @@
 //! The trace, the books that count its lines, and the answers that wait for their ports.
 ghost use Rattle.std.specs.Prelude.{◌≡◌, ◌<◌, ◌≤◌, ◌+◌, ◌-◌, ◌++◌, true, false, Some, None, Ok, length, vec_len};
-ghost use Rattle.std.specs.Prelude.{vec_capacity, slice_get, slice_set, sum_by, count_by, IfOk, IfSome, MatchOption, if◌then◌else◌};
+ghost use Rattle.std.specs.Prelude.{vec_capacity, slice_get, slice_set, sum_by, count_by, IfOk, IfSome, MatchOption};
+ghost use Rattle.std.specs.Prelude.{if◌then◌else◌};
 ghost use mathlib.Core.List.{IsPrefix};
 ghost use Rattle.im_types.specs.declared.commands.Call.TheVariants.{Command as Commands, Collect};
 ghost use Rattle.im_types.specs.declared.commands.Outcome.TheVariants.{Entry as Tells};
 ghost use Rattle.im_types.specs.Trace.{answer_to, end_of, IsLegal};
 ghost use Rattle.im_controller.specs.Lines.{leaves_line, lines_of, memory_after, counts_after};
 ghost use Rattle.im_controller.specs.Lines.{EndsIn, EndsInAll, line_of};
-ghost use Rattle.im_controller.specs.Log.{element_of, with_line, with_unclaimed, Takes, Claims, IsProof, IsToldOf, AreFree};
+ghost use Rattle.im_controller.specs.Log.{sender_of, with_line, with_unclaimed, Takes, Claims, IsProof, IsToldOf};
+ghost use Rattle.im_controller.specs.Log.{AreFree};
 ghost use Rattle.im_controller.specs.Log.{receipt_for, unclaimed_lines, IsOfTrace, SeesAnswer, AreClaimed};
 
 use crate::books::{Books, Tally};
@@ -76,7 +78,7 @@ impl<K: Name> Model for Log<K> {
 
 // Returns the element of a command.
 pub(crate) fn element_of(command: &Command) -> u16
-    ensures { result ≡ element_of command.now }
+    ensures { result ≡ sender_of command.now }
 {
     match command {
         Command::Request(request) => request.element,
@@ -208,7 +210,7 @@ impl<K: Name> Log<K> {
     // Keeps the answer to a command for its port, and leaves its line. The line is counted when the port takes the
     // answer.
     pub(crate) fn keep(&mut self, command: &Command, answer: Result<Outcome, Refusal>)
-        requires free { slice_get self.old.places (element_of command.now) ≡ Some None }
+        requires free { slice_get self.old.places (sender_of command.now) ≡ Some None }
         requires room { leaves_line answer ≡ true → length self.old.trace < self.old.limit }
         requires is_so { leaves_line answer ≡ true
             → answer ≡ answer_to (end_of K.memory self.old.trace) (Commands command.now) }
@@ -246,7 +248,7 @@ impl<K: Name> Log<K> {
         command: &Command,
     ) -> Option<Result<Receipt<K>, Refusal>>
         requires told { IsToldOf K.memory self.old.trace told }
-        ensures claims { Claims K.marks self.old tally.old (element_of command.now) command.now result self.new tally.new }
+        ensures claims { Claims K.marks self.old tally.old (sender_of command.now) command.now result self.new tally.new }
         ensures proof { IfSome result (IsOfTrace K.memory self.old.trace) }
         ensures trace { self.new.trace ≡ self.old.trace }
         ensures order { SeesAnswer seen.old command.now result seen.new }
@@ -319,8 +321,8 @@ fn receipt_of<K: Name>(
 
 // Puts an answer into its element's place.
 fn put_in(places: &mut Vec<Option<Unclaimed>>, answer: Unclaimed)
-    requires { slice_get places.old.items (element_of answer.command) ≡ Some None }
-    ensures { places.new.items ≡ slice_set places.old.items (element_of answer.command) (Some answer) }
+    requires { slice_get places.old.items (sender_of answer.command) ≡ Some None }
+    ensures { places.new.items ≡ slice_set places.old.items (sender_of answer.command) (Some answer) }
 {
     let element = element_of(&answer.command) as usize;
     places[element] = Some(answer);

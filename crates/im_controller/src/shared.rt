@@ -11,7 +11,8 @@ ghost use Rattle.im_disk.specs.Since.{LeavesWithin, LeavesNow, CallsAtMost, Call
 ghost use Rattle.im_engine.specs.Run.{calls_for};
 ghost use Rattle.im_engine.specs.State.{MeansState, MeansEither};
 ghost use Rattle.im_controller.specs.Lines.{EndsIn, line_of};
-ghost use Rattle.im_controller.specs.Lends.{Lends, Looks, LendsTurn, IsTurnFault, BeginsWait, told_turn, standing_in, with_server_at};
+ghost use Rattle.im_controller.specs.Lends.{Lends, Looks, LendsTurn, IsTurnFault, BeginsWait, told_turn, standing_in};
+ghost use Rattle.im_controller.specs.Lends.{with_server_at};
 ghost use Rattle.im_controller.specs.Lends.{MakesPort};
 ghost use Rattle.im_controller.specs.Planned.{TellsOf, TellsFound};
 ghost use Rattle.im_controller.specs.Waits.{Awaits, SeesEntry, SeesFound, IsTold, IsFoundAt, IsFoundOf, entry_of};

@@ -66,7 +66,8 @@ returns-clause-shared g c =
     ∙ ap (λ a. picked (is_picked g.K.Name.plan a false) rs) c.is_asked-asked.ensures.asked
     ∙ refused-is c.args.shared.now rs g.K.Name.plan in
     let log = off-log c.shared.inside.log c.keep_all.new.log _ c.as_slice-2.result.now c.as_slice-3.result.now c.keep_all.ensures.log (c.as_slice-2.ensures.value ∙ off)
-    (c.as_slice-3.ensures.value ∙ c.refuse_alike.ensures ∙ ap (each_refused OffPlan) (c.as_slice.ensures.value ∙ off)) in
+    (c.as_slice-3.ensures.value ∙ c.refuse_alike.ensures ∙ ap (each_refused OffPlan)
+    (c.as_slice.ensures.value ∙ off)) in
     let s : SharedState g.row.D.Denot = record { engine = c.shared.inside.engine; log = c.shared.inside.log; servers = c.shared.inside.servers; shown = c.shared.inside.pane.shown } in
     off-shared s c.args.shared.now c.shared.view_is c.keep_all.new.log g.K.Name.plan rs log
 

@@ -27,7 +27,8 @@ pub returns-clause-lends : goal.returns-clause-lends
 returns-clause-lends g c =
     let res = c.lend_members.result.items in let s' = c.lend_members.new.shared in
     admitted-same (λ (u : SharedState g.row.D.Denot)
-    (qs : List Command). LendsGroup u qs res s') c.args.shared.now c.args.members.now.items c.as_slice.result.now c.as_slice.ensures.value
+    (qs : List Command). LendsGroup u qs res s') c.args.shared.now c.args.members.now.items
+    c.as_slice.result.now c.as_slice.ensures.value
     g.K.Name.plan c.admit.new.shared c.admit.new.lent.items c.admit.ensures.shared c.admit.ensures.lent c.lend_members.ensures.lends
 
 pub returns-clause-few : goal.returns-clause-few

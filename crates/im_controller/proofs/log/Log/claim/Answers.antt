@@ -3,7 +3,7 @@ use mathlib.Core.List.{IsPrefix}
 use Rattle.im_types.specs.declared.commands.Line.{Line}
 use Rattle.im_types.specs.declared.refusals.Refusal.{Refusal}
 use Rattle.im_controller.specs.Lines.{counts_after, lines_of, AreInOrder}
-use Rattle.im_controller.specs.Log.{element_of, UnclaimedState, LogState, IsProofIn, IsToldOf, IsOfTrace, ReceiptState}
+use Rattle.im_controller.specs.Log.{UnclaimedState, LogState, IsProofIn, IsToldOf, IsOfTrace, ReceiptState}
 use Rattle.im_controller.specs.Log.{unclaimed_lines, receipt_for, IsBefore}
 use Rattle.im_types.specs.declared.commands.Command.{Command}
 use Rattle.im_types.specs.declared.commands.Call.TheVariants.{Command as Commands}

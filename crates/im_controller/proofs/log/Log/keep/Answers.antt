@@ -2,7 +2,7 @@ use Rattle.std.proofs.Common.{◌≡◌, ◌<◌, ◌++◌, true, Some, None, su
 use Rattle.im_types.specs.declared.commands.Call.TheVariants.{Command as Commands}
 use Rattle.im_types.specs.Trace.{answer_to, end_of}
 use Rattle.im_controller.specs.Lines.{leaves_line, lines_of, memory_after}
-use Rattle.im_controller.specs.Log.{element_of, LogState}
+use Rattle.im_controller.specs.Log.{sender_of, LogState}
 use Rattle.im_controller.proofs.LogLemmas.{log-keeps, end-lines}
 use Rattle.im_controller.proofs.log.Log.keep.Goals as goal
 
@@ -12,7 +12,7 @@ invariant_of-self g c =
     let so = subst (λ (l : LogState). leaves_line answer ≡ true → answer
     ≡ answer_to (end_of m l.trace) (Commands r)) v c.requires.is_so in
     let room = subst (λ (l : LogState). leaves_line answer ≡ true → length l.trace < l.limit) v c.requires.room in
-    let free = subst (λ (l : LogState). slice_get l.places (element_of r) ≡ Some None) v c.requires.free in
+    let free = subst (λ (l : LogState). slice_get l.places (sender_of r) ≡ Some None) v c.requires.free in
     rw (c.put_in.ensures, c.of.ensures, c.len-before.ensures, c.self.inside.trace.ok.0, c.push_line.ensures.items) (
       log-keeps m g.K.Name.marks _ c.self.inside.books c.self.invariant.0 r answer free room so,
       omega (arith, c.self.invariant.1, c.push_line.ensures.capacity),
