@@ -1,7 +1,7 @@
 //! Prepares a memory for a new image, in other sizes if they are asked for.
 ghost use Rattle.std.specs.Prelude.{◌≡◌, ◌⊎◌, ◌≤◌, ◌<◌, IfOk, IfErr, MatchResult};
 ghost use Rattle.im_types.specs.declared.TheConstants.{LAST};
-ghost use Rattle.im_types.specs.declared.refusals.Refusal.TheVariants.{BadLimits, NoMemory};
+ghost use Rattle.im_types.specs.declared.refusals.Refusal.TheVariants.{BadLimits, Device, NoMemory};
 ghost use Rattle.im_types.specs.Layout.{sizes_of};
 ghost use Rattle.im_image.specs.Headers.{seen};
 ghost use Rattle.im_disk.specs.Since.{LeavesNow};

@@ -1,13 +1,12 @@
 //! Moves an image of the first layout version to a new file.
-ghost use Rattle.std.specs.Prelude.{◌≡◌, ◌⊎◌, ◌≤◌, [], codes, length, replicate, IfOk, IfErr, OnOk, OnErr, string_bytes};
+ghost use Rattle.std.specs.Prelude.{◌≡◌, ◌≤◌, codes, IfOk, IfErr, OnOk, OnErr, string_bytes};
 ghost use Rattle.std.specs.Io.KnownBytes.{Appends, Keeps};
 ghost use Rattle.im_types.specs.declared.refusals.Refusal.TheVariants.{Device};
-ghost use Rattle.im_types.specs.Layout.{layout_1, layout_in_use, image_length};
-ghost use Rattle.im_disk.specs.Since.{LeavesNow, LeavesWithin, OnlyReads};
+ghost use Rattle.im_types.specs.Layout.{layout_1};
+ghost use Rattle.im_disk.specs.Since.{LeavesNow};
 ghost use Rattle.im_disk.specs.Runs.{ReadsAlone};
 ghost use Rattle.im_image.specs.Headers.{MayRefuseImage};
-ghost use Rattle.im_migration.specs.Migration.{LeavesBlankOrSame, HasCount, MeansSame};
-ghost use Rattle.im_text.specs.Printing.{Begins, IsLast};
+ghost use Rattle.im_migration.specs.Migration.{LeavesBlankOrSame, MeansSame};
 ghost use Rattle.im_program.specs.Moving.{BeginsNew, BeginsOld, MigratedFrom, TellsCount, counted_line};
 
 use crate::descriptors::Descriptors;

@@ -658,9 +658,9 @@ fn work_alone<
 /// If standard input is a terminal, a person is asked before an image replaces a file that isn't empty.
 ///
 /// Refusals: `Device` for a file that isn't to be replaced; `BadLimits` for a number out of its range, and then no file
-/// is made; and the errors of [`format_file`], [`serve_file`], [`talk_file`], [`inspect_file`], [`dump_file`] and [`load_file`]. If a disk is
-/// returned, the status and the output are those of the function that was called. Else the status is 1, except for the
-/// demonstration.
+/// is made; and the errors of [`format_file`], [`serve_file`], [`talk_file`], [`inspect_file`], [`dump_file`] and
+/// [`load_file`]. If a disk is returned, the status and the output are those of the function that was called. Else the
+/// status is 1, except for the demonstration.
 ///
 /// `start` stands for what the image holds when it is opened. It is used up, and no code reads it.
 pub fn act_alone<
