@@ -73,7 +73,7 @@ which says why: of a text, the line, the word, and what is expected there.";
 // Adds the options for sizes to a command.
 fn with_sizes<'a>(alloc: Global, command: Command<'a>) -> Result<Command<'a>, AllocError>
     requires { (out-Command command).has_globals ≡ false }
-    ensures app { IfOk result (λ c. app_of c ≡ sized_app (app_of command)) }
+    ensures app { IfOk result (λ c. app_of c ≡ sized_app (app_of command.entry)) }
     ensures local { IfOk result (λ c. (out-Command c).has_globals ≡ false) }
 {
     let cells = number_option(

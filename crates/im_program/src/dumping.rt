@@ -1,5 +1,5 @@
 //! Prints the dump of an image.
-ghost use Rattle.std.specs.Prelude.{◌≡◌, ◌≤◌, IfOk, IfErr, OnErr};
+ghost use Rattle.std.specs.Prelude.{◌≡◌, ◌≤◌, [], IfOk, IfErr, OnErr};
 ghost use Rattle.std.specs.Io.KnownBytes.{Keeps};
 ghost use Rattle.im_types.specs.declared.refusals.Refusal.TheVariants.{Device};
 ghost use Rattle.im_disk.specs.Since.{ReadsOnly};

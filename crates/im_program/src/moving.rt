@@ -141,7 +141,10 @@ fn new_file<R: Files<File = File> + AllocGlobal, S: Start>(
 {
     match fs::metadata(rt, path) {
         Err(error) if error.kind() == ErrorKind::NotFound => {
-            make_image(rt, path, len, false, start)
+            match make_image(rt, path, len, false, start) {
+                Ok(made) => Ok(made),
+                Err(fault) => Err(fault),
+            }
         }
         _ => match open_image(rt, path, start) {
             Ok(disk) => Ok((disk, false)),

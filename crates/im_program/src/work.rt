@@ -1,5 +1,5 @@
 //! The work that the program does.
-ghost use Rattle.std.specs.Prelude.{◌≡◌, ◌⊎◌, ◌↔◌, ◌≤◌, ℕ, List, [], IsOk, IfOk, IfErr, IsSome, OnErr, IfSome, IfNone};
+ghost use Rattle.std.specs.Prelude.{◌≡◌, ◌⊎◌, ◌↔◌, ◌≤◌, ℕ, List, [], IsOk, IfOk, IfErr, OnErr, IfSome, IfNone};
 ghost use Rattle.std.specs.Io.KnownBytes.{Keeps};
 ghost use Rattle.im_types.specs.declared.refusals.Refusal.TheVariants.{BadScript, Device, NoMemory, WrongLength};
 ghost use Rattle.im_types.specs.Layout.{sizes_of};
@@ -11,8 +11,7 @@ ghost use Rattle.im_text.specs.Printing.{Begins, IsLast};
 ghost use Rattle.im_serial.specs.Serving.{ServedFrom};
 ghost use Rattle.im_dialogue.specs.Dialogue.{NotOpened, Talked, TalkedFrom};
 ghost use Rattle.im_run.specs.Running.{RanFrom};
-ghost use Rattle.im_program.specs.Words.{demonstration, task_of, task_of_job};
-ghost use Rattle.im_program.specs.Moving.{CopiedFrom, MigratedFrom};
+ghost use Rattle.im_program.specs.Words.{copy, demonstration, migrate, task_of, task_of_job};
 ghost use Rattle.im_program.specs.Working.{DoneOn, HasMoved, IsOfTwo};
 
 use crate::console::{Console, Watch};
@@ -779,9 +778,8 @@ fn act_on_two<R: Files<File = File> + AllocGlobal + Eprint, S: Start, T: Start, 
     starts: (S, T),
 ) -> (u8, Option<FileDisk<S>>, Option<FileDisk<T>>)
     ensures status { result.0 ≤ 1 }
-    ensures moved { IfSome result.1 (λ to. IfSome result.2 (λ from.
-        MigratedFrom S.Start T.Start (W.contents out.old) (W.contents out.new) result.0 from to)) }
-    ensures both { IfSome result.1 (λ _. IsSome result.2) }
+    ensures moved { IfSome result.1 (λ to. HasMoved S.Start T.Start (migrate paths.now.old.now paths.now.new.now)
+        (W.contents out.old) (W.contents out.new) result.0 result.2 to) }
     ensures none { IfNone result.1 (result.0 ≡ 1) }
 {
     match migrate_file(rt, paths, out, console, starts) {
@@ -806,15 +804,15 @@ fn act_copying<R: Files<File = File> + AllocGlobal + Eprint, S: Start, T: Start,
     starts: (S, T),
 ) -> (u8, Option<FileDisk<S>>, Option<FileDisk<T>>)
     ensures status { result.0 ≤ 1 }
-    ensures copied { IfSome result.1 (λ to. IfSome result.2 (λ from.
-        CopiedFrom S.Start T.Start copying.now.asked (W.contents out.old) (W.contents out.new) result.0 from to)) }
-    ensures both { IfSome result.1 (λ _. IsSome result.2) }
+    ensures copied { IfSome result.1 (λ to. HasMoved S.Start T.Start
+        (copy copying.now.old.now copying.now.new.now copying.now.asked)
+        (W.contents out.old) (W.contents out.new) result.0 result.2 to) }
     ensures none { IfNone result.1 (result.0 ≡ 1) }
 {
     match copy_file(rt, copying, out, console, starts) {
-        Ok((status, to, from)) => {
-            settle_two(rt, copying.new, &to, &from, console);
-            (status, Some(to), Some(from))
+        Ok((status, made, from)) => {
+            settle_two(rt, copying.new, &made, &from, console);
+            (status, Some(made), Some(from))
         }
         Err(refusal) => {
             console.settle(None, Noting::Unneeded);
