@@ -105,7 +105,8 @@ pub(crate) fn copy_command<'a>(alloc: Global) -> Result<Command<'a>, AllocError>
     let old = file_command(alloc, "copy", "OLD", "The image", COPY, COPY_EXAMPLES)?;
     let new = path_argument(alloc, "NEW", "The new file");
     let both = old.arg(new)?;
-    with_sizes(alloc, both)
+    let sized = with_sizes(alloc, both)?;
+    Ok(sized)
 }
 
 /// The subcommand `dump`.
@@ -131,7 +132,8 @@ pub(crate) fn load_command<'a>(alloc: Global) -> Result<Command<'a>, AllocError>
     )?;
     let new = path_argument(alloc, "NEW", "The new file");
     let both = text.arg(new)?;
-    with_sizes(alloc, both)
+    let sized = with_sizes(alloc, both)?;
+    Ok(sized)
 }
 
 // The number of a text that was given. Returns `None` if it is not the decimal number of a u32.

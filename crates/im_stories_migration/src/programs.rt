@@ -6,8 +6,8 @@ use crate::writers::{Notes, Paper};
 use anyhow::{Result, anyhow};
 use im_disk::{MemDisk, Unknown};
 use im_program::{
-    Console, Copying, Order, Paths, Terminals, Work, act_alone, copy_file, migrate_file, read_words,
-    refuse,
+    Console, Copying, Order, Paths, Terminals, Work, act_alone, copy_file, migrate_file,
+    read_words, refuse,
 };
 use std::fs;
 

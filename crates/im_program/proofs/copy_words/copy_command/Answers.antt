@@ -5,5 +5,5 @@ use Rattle.im_program.proofs.copy_words.copy_command.Goals as goal
 
 pub returns-clause-app : goal.returns-clause-app
 returns-clause-app c =
-    c.with_sizes.ensures.app ∙ ap sized_app (c.in_ok-both.ensures.shape c.path_argument-new.ensures.local
+    c.in_ok-sized.ensures.app ∙ ap sized_app (c.in_ok-both.ensures.shape c.path_argument-new.ensures.local
     ∙ ap₂ with_rule c.in_ok-old.ensures.app c.path_argument-new.ensures.rule)
