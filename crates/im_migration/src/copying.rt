@@ -10,11 +10,9 @@ ghost use Rattle.im_migration.specs.Copying.{MayBeSource, MayRefuseCopy, MayRefu
 
 use crate::asked::Asked;
 use crate::follower::Follower;
-use crate::misfits::Misfit;
-use crate::moving::header_for;
+use crate::preparing::{limits_asked, resized_to};
 use crate::putting::put_image;
 use crate::resized::Resized;
-use crate::resizing::{misfit_of, resize};
 use im_disk::Disk;
 use im_image::{Image, read_to_open};
 use im_types::layout::image_length;
@@ -28,17 +26,7 @@ fn limits_for<F: Follower>(image: &Image, asked: Asked, follower: &F) -> Result<
     ensures none { IfErr result (λ e. (e ≡ BadLimits)
         × HasNoCopy (sizes_asked asked (sizes_of image.now.header.limits)) image.now.memory.contents) }
 {
-    let Some(limits) = asked.limits(image.header.limits) else {
-        follower.misfits(Misfit::Range(asked));
-        return Err(Refusal::BadLimits);
-    };
-    match misfit_of(&image.memory, limits) {
-        None => Ok(limits),
-        Some(misfit) => {
-            follower.misfits(misfit);
-            Err(Refusal::BadLimits)
-        }
-    }
+    limits_asked(&image.memory, image.header.limits, asked, follower)
 }
 
 // The memory of an image in these sizes, with the header of its copy. The only refusal is `NoMemory`.
@@ -50,11 +38,7 @@ fn resize_image(alloc: Global, image: &Image, limits: Limits) -> Result<Resized,
     ensures memory { IfOk result (λ r. IsResized (sizes_of limits) image.now.memory.contents r.memory.contents) }
     ensures only { IfErr result (λ e. e ≡ NoMemory) }
 {
-    let header = header_for(limits, image.journal.count());
-    match resize(alloc, &image.memory, limits) {
-        Ok(memory) => Ok(Resized { header, memory }),
-        Err(refusal) => Err(refusal),
-    }
+    resized_to(alloc, &image.memory, image.journal.count(), limits)
 }
 
 // Reads the memory of an image, and gives it the sizes that are asked for.

@@ -5,7 +5,7 @@ use im_memory::Memory;
 
 /// The header and the memory of a new image.
 #[derive(Drop)]
-pub(crate) struct Resized {
+pub struct Resized {
     /// The header of the new image.
     pub header: Header,
     /// The memory, in the sizes of the header.

@@ -1,2 +1,3 @@
 pub mod Crosses
+pub mod Loads
 pub mod MovedLemmas

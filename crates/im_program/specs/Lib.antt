@@ -1,3 +1,4 @@
 pub mod Words
 pub mod Working
 pub mod Moving
+pub mod Loading

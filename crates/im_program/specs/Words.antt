@@ -7,9 +7,10 @@ use Rattle.clap.specs.declared.builder.action.ArgAction.TheVariants.{SetTrue}
 use Rattle.clap.specs.declared.builder.value_parser.ValueParser.TheVariants.{Unsigned}
 use Rattle.clap.specs.Words.{App, Row, Rule, Text, first_of, new_app, new_rule, subcommand_of, with_rule, with_subcommand}
 use Rattle.im_program.specs.declared.words.Work.{Work}
-use Rattle.im_program.specs.declared.words.Work.TheVariants.{Alone, Run, Migrate}
+use Rattle.im_program.specs.declared.words.Work.TheVariants.{Alone, Run, Migrate, Copy}
 use Rattle.im_program.specs.declared.words.Job.{Job}
-use Rattle.im_program.specs.declared.words.Job.TheVariants.{Demonstration, Format, Serial, Serve, Inspect}
+use Rattle.im_program.specs.declared.words.Job.TheVariants.{Demonstration, Format, Serial, Serve, Inspect, Dump, Load}
+use Rattle.im_migration.specs.declared.asked.Asked.{Asked}
 use Rattle.im_script.specs.Grammar.{number_up_to}
 
 -- ---- what the parser knows of the command line
@@ -58,6 +59,23 @@ inspect_app = file_app (codes "inspect") (codes "IMAGE")
 abbrev pub migrate_app : App
 migrate_app = with_rule (file_app (codes "migrate") (codes "OLD")) (path_rule (codes "NEW"))
 
+-- a subcommand with the options for sizes
+abbrev pub sized_app : App → App
+sized_app app = with_rule (with_rule (with_rule app (option_rule (codes "cells"))) (option_rule (codes "elements")))
+    (option_rule (codes "slots"))
+
+-- copy OLD NEW [--cells N] [--elements N] [--slots N] [--statuses] [--wait SECONDS]
+abbrev pub copy_app : App
+copy_app = sized_app (with_rule (file_app (codes "copy") (codes "OLD")) (path_rule (codes "NEW")))
+
+-- dump IMAGE [--statuses] [--wait SECONDS]
+abbrev pub dump_app : App
+dump_app = file_app (codes "dump") (codes "IMAGE")
+
+-- load TEXT NEW [--cells N] [--elements N] [--slots N] [--statuses] [--wait SECONDS]
+abbrev pub load_app : App
+load_app = sized_app (with_rule (file_app (codes "load") (codes "TEXT")) (path_rule (codes "NEW")))
+
 -- a command with `--version`
 abbrev pub with_version : App → App
 with_version app = record app { top = record app.top { has_version = true } }
@@ -66,9 +84,15 @@ with_version app = record app { top = record app.top { has_version = true } }
 abbrev pub top_app : App
 top_app = with_version (new_app (codes "imem"))
 
+-- imem, alone or with one of its first six subcommands
+abbrev pub earlier_app : App
+earlier_app = with_subcommand (with_subcommand (with_subcommand (with_subcommand (with_subcommand
+    (with_subcommand top_app format_app.top) (script_app (codes "serial")).top) run_app.top) serve_app.top)
+    inspect_app.top) migrate_app.top
+
 -- imem, alone or with one of its subcommands
 abbrev pub imem_app : App
-imem_app = with_subcommand (with_subcommand (with_subcommand (with_subcommand (with_subcommand (with_subcommand top_app format_app.top) (script_app (codes "serial")).top) run_app.top) serve_app.top) inspect_app.top) migrate_app.top
+imem_app = with_subcommand (with_subcommand (with_subcommand earlier_app copy_app.top) dump_app.top) load_app.top
 
 -- ---- what is asked for
 
@@ -81,6 +105,9 @@ pub data Task : Type 0 where
   serve : (image : List ℕ) (watch : Bool) → Task
   inspect : (image : List ℕ) → Task
   migrate : (old new : List ℕ) → Task
+  copy : (old new : List ℕ) (asked : Asked) → Task
+  dump : (image : List ℕ) → Task
+  load : (text new : List ℕ) (asked : Asked) → Task
 
 -- the task that a Job is
 abbrev pub task_of_job : Job → Task
@@ -89,16 +116,33 @@ task_of_job (Format image cells elements slots is_new) = format image.now cells 
 task_of_job (Serial image script) = serial image.now script.now
 task_of_job (Serve image watch) = serve image.now watch
 task_of_job (Inspect image) = inspect image.now
+task_of_job (Dump image) = dump image.now
+task_of_job (Load text new asked) = load text.now new.now asked
 
 -- the task that a Work is
 abbrev pub task_of : Work → Task
 task_of (Alone job) = task_of_job job
 task_of (Run image script planned) = run image.now script.now planned
 task_of (Migrate old new) = migrate old.now new.now
+task_of (Copy old new asked) = copy old.now new.now asked
 
 -- an option's number, in decimal digits below 2^32, or `fallback` if the option isn't given
 abbrev pub number_in : List Row → Text → ℕ → Option ℕ
 number_in rows id fallback = option_map_or (number_up_to 4294967295) (first_of id rows) (Some fallback)
+
+-- the number that a text gives, in decimal digits below 2^32
+abbrev pub given_number : Text → Option (Option ℕ)
+given_number text = option_map Some (number_up_to 4294967295 text)
+
+-- an option's number, if it is given, in decimal digits below 2^32
+abbrev pub given_in : List Row → Text → Option (Option ℕ)
+given_in rows id = option_map_or given_number (first_of id rows) (Some None)
+
+-- the sizes that are given, if each is in decimal digits below 2^32
+abbrev pub sizes_given : List Row → Option Asked
+sizes_given rows = option_and_then (λ cells. option_and_then (λ elements.
+    option_map (λ slots. record { cells = cells; elements = elements; slots = slots })
+    (given_in rows (codes "slots"))) (given_in rows (codes "elements"))) (given_in rows (codes "cells"))
 
 -- a path's text
 abbrev pub path_in : List Row → Text → Text
@@ -134,10 +178,30 @@ inspect_task rows = inspect (path_in rows (codes "IMAGE"))
 abbrev pub migrate_task : List Row → Task
 migrate_task rows = migrate (path_in rows (codes "OLD")) (path_in rows (codes "NEW"))
 
+-- the task of copy, by its two paths, if each size that is given is in decimal digits below 2^32
+abbrev pub copy_task : List Row → Option Task
+copy_task rows =
+    option_map (λ asked. copy (path_in rows (codes "OLD")) (path_in rows (codes "NEW")) asked) (sizes_given rows)
+
+-- the task of dump, by its path
+abbrev pub dump_task : List Row → Task
+dump_task rows = dump (path_in rows (codes "IMAGE"))
+
+-- the task of load, by its two paths, if each size that is given is in decimal digits below 2^32
+abbrev pub load_task : List Row → Option Task
+load_task rows =
+    option_map (λ asked. load (path_in rows (codes "TEXT")) (path_in rows (codes "NEW")) asked) (sizes_given rows)
+
 -- the subcommand that was found, with its arguments
 abbrev pub task_in : Option (Text × List Row) → Option Task
 task_in None = Some demonstration
-task_in (Some met) = if bytes_eq met.0 (codes "format") then format_task met.1 else if bytes_eq met.0 (codes "serial") then Some (serial_task met.1) else if bytes_eq met.0 (codes "run") then Some (run_task met.1) else if bytes_eq met.0 (codes "serve") then Some (serve_task met.1) else if bytes_eq met.0 (codes "migrate") then Some (migrate_task met.1) else Some (inspect_task met.1)
+task_in (Some met) =
+    if bytes_eq met.0 (codes "format") then format_task met.1 else if bytes_eq met.0 (codes "serial")
+    then Some (serial_task met.1) else if bytes_eq met.0 (codes "run") then Some (run_task met.1)
+    else if bytes_eq met.0 (codes "serve") then Some (serve_task met.1) else if bytes_eq met.0 (codes "migrate")
+    then Some (migrate_task met.1) else if bytes_eq met.0 (codes "copy") then copy_task met.1
+    else if bytes_eq met.0 (codes "dump") then Some (dump_task met.1) else if bytes_eq met.0 (codes "load")
+    then load_task met.1 else Some (inspect_task met.1)
 
 -- whether the exit status of the subcommand that was found tells refusals apart
 abbrev pub has_statuses : Option (Text × List Row) → Bool

@@ -1,5 +1,5 @@
 -- The result of each kind of work. (Own.)
-use Rattle.std.specs.Prelude.{◌≡◌, ℕ, List, [], Option}
+use Rattle.std.specs.Prelude.{◌≡◌, ℕ, List, [], Option, None, Some}
 use Rattle.im_types.specs.Sizes.{AreLimits}
 use Rattle.im_disk.specs.Moment.{Moment}
 use Rattle.im_disk.specs.Since.{LeavesNow, ReadsOnly}
@@ -8,11 +8,16 @@ use Rattle.im_report.specs.Inspecting.{Tells}
 use Rattle.im_serial.specs.Serving.{ServedFrom}
 use Rattle.im_dialogue.specs.Dialogue.{TalkedFrom}
 use Rattle.im_run.specs.Running.{RanFrom}
-use Rattle.im_program.specs.Words.{Task, demonstration, format, serial, run, serve, inspect, migrate}
+use Rattle.im_disk.specs.declared.file.FileDisk.{FileDisk}
+use Rattle.im_disk.specs.declared.start.Start.{Ghosts}
+use Rattle.im_dump.specs.Dumping.{Dumps}
+use Rattle.im_program.specs.Loading.{LoadedFrom}
+use Rattle.im_program.specs.Moving.{CopiedFrom, MigratedFrom}
+use Rattle.im_program.specs.Words.{Task, demonstration, format, serial, run, serve, inspect, migrate, copy, dump, load}
 
 -- A task was done on this disk, with this status. The disk's file held the first moment when it was opened. The writer
--- held the first bytes before, and holds the others now. The demonstration opens no file. The result of a migration is
--- stated elsewhere, because it opens two files.
+-- held the first bytes before, and holds the others now. The demonstration opens no file. The result of a migration or
+-- a copy is stated below, because they open two files.
 abbrev pub DoneOn : {D : Type 0} → (D → Moment) → (D → List Moment) → (D → ℕ) → Moment → Task → Option (List ℕ) → Option (List ℕ) → ℕ → D → Type 0
 DoneOn now past failures first demonstration was is status disk = ⊥
 DoneOn now past failures first (format image cells elements slots is_new) was is status disk =
@@ -22,13 +27,39 @@ DoneOn now past failures first (run image script planned) was is status disk = R
 DoneOn now past failures first (serve image watch) was is status disk = TalkedFrom watch now past first disk was is status
 DoneOn now past failures first (inspect image) was is status disk = (status ≡ 0 → Tells first.bytes was is) × ReadsOnly first (now disk) [] (past disk)
 DoneOn now past failures first (migrate old new) was is status disk = Unit {0}
+DoneOn now past failures first (copy old new asked) was is status disk = Unit {0}
+DoneOn now past failures first (dump image) was is status disk = (status ≡ 0 → Dumps first.bytes was is) × ReadsOnly first (now disk) [] (past disk)
+DoneOn now past failures first (load text new asked) was is status disk = LoadedFrom now past first asked disk was is status
 
--- the task is a migration
-abbrev pub IsMigration : Task → Type 0
-IsMigration demonstration = ⊥
-IsMigration (format image cells elements slots is_new) = ⊥
-IsMigration (serial image script) = ⊥
-IsMigration (run image script planned) = ⊥
-IsMigration (serve image watch) = ⊥
-IsMigration (inspect image) = ⊥
-IsMigration (migrate old new) = Unit {0}
+-- the task opens two files
+abbrev pub IsOfTwo : Task → Type 0
+IsOfTwo demonstration = ⊥
+IsOfTwo (format image cells elements slots is_new) = ⊥
+IsOfTwo (serial image script) = ⊥
+IsOfTwo (run image script planned) = ⊥
+IsOfTwo (serve image watch) = ⊥
+IsOfTwo (inspect image) = ⊥
+IsOfTwo (migrate old new) = Unit {0}
+IsOfTwo (copy old new asked) = Unit {0}
+IsOfTwo (dump image) = ⊥
+IsOfTwo (load text new asked) = ⊥
+
+module _ {S T : Type 0} (start : Ghosts S) (other : Ghosts T) where
+  -- a task that opens two files was done with these disks, as DoneOn says it of one
+  abbrev pub MovedBy : Task → Option (List ℕ) → Option (List ℕ) → ℕ → FileDisk T other → FileDisk S start → Type 0
+  MovedBy demonstration was is status old new = ⊥
+  MovedBy (format image cells elements slots is_new) was is status old new = ⊥
+  MovedBy (serial image script) was is status old new = ⊥
+  MovedBy (run image script planned) was is status old new = ⊥
+  MovedBy (serve image watch) was is status old new = ⊥
+  MovedBy (inspect image) was is status old new = ⊥
+  MovedBy (migrate from to) was is status old new = MigratedFrom start other was is status old new
+  MovedBy (copy from to asked) was is status old new = CopiedFrom start other asked was is status old new
+  MovedBy (dump image) was is status old new = ⊥
+  MovedBy (load text to asked) was is status old new = ⊥
+
+  -- the same, if the old file's disk is returned too
+  abbrev pub HasMoved : Task → Option (List ℕ) → Option (List ℕ) → ℕ → Option (FileDisk T other) → FileDisk S start
+      → Type 0
+  HasMoved task was is status None new = ⊥
+  HasMoved task was is status (Some old) new = MovedBy task was is status old new

@@ -1,11 +1,12 @@
 //! What the program prints for a person on standard error.
 
 use crate::descriptors::Descriptors;
+use crate::loading::{LoadFault, LoadObserver};
 use crate::opening::call_of;
 use crate::words::{Job, Work};
 use im_disk::Failure;
 use im_files::Noting;
-use im_migration::Follower;
+use im_migration::{Follower, Misfit};
 use im_serving::{Standing, Watcher};
 use im_text::{Observer, PathFault, Progress, Reason, Waited, Warning, make_now};
 use im_types::{Entry, Refusal};
@@ -18,7 +19,7 @@ use std::path::Path;
 // The number of requests served between two lines of progress.
 const STRIDE: u64 = 4_096;
 
-// The number of pages and slots that a migration writes between two lines of progress.
+// The number of pages and slots of a new file that are written between two lines of progress.
 const WRITES: u64 = 1_024;
 
 // The number of checkpoint turns between two lines about how a run stands.
@@ -60,7 +61,8 @@ pub struct Console<'a, R> {
     alloc: Global,
     held: &'a Descriptors,
     image: &'a str,
-    // The second file: a script, or the new file of a migration.
+    // The second file: a script, or the new file of a migration, a copy or a load. The first one is then the old file
+    // or the text.
     script: &'a str,
     terminals: Terminals,
     // The last refusal, and whether its line waits until the disk says which call failed.
@@ -78,14 +80,15 @@ impl<'a, R: Eprint + AllocGlobal> Console<'a, R> {
     ) -> Console<'a, R> {
         let (image, script) = match *work {
             Work::Alone(Job::Demonstration) => ("", ""),
-            Work::Alone(Job::Format { image, .. }) | Work::Alone(Job::Inspect { image }) => {
-                (image, "")
-            }
+            Work::Alone(Job::Format { image, .. })
+            | Work::Alone(Job::Inspect { image })
+            | Work::Alone(Job::Dump { image }) => (image, ""),
             Work::Alone(Job::Serial { image, script }) | Work::Run { image, script, .. } => {
                 (image, script)
             }
             Work::Alone(Job::Serve { image, .. }) => (image, "-"),
-            Work::Migrate { old, new } => (old, new),
+            Work::Migrate { old, new } | Work::Copy { old, new, .. } => (old, new),
+            Work::Alone(Job::Load { text, new, .. }) => (text, new),
         };
         Console {
             rt,
@@ -125,11 +128,7 @@ impl<'a, R: Eprint + AllocGlobal> Console<'a, R> {
     // The file that the reason is about.
     fn path(&self, reason: Reason) -> &'a str {
         if reason.is_of_second() {
-            if self.script == "-" {
-                "standard input"
-            } else {
-                self.script
-            }
+            input_or(self.script)
         } else {
             self.image
         }
@@ -186,7 +185,7 @@ impl<'a, R: Eprint + AllocGlobal> Console<'a, R> {
         self.tell_note(self.image, noting);
     }
 
-    /// The same as `settle`, for the new file of a migration.
+    /// The same as `settle`, for the new file of a migration, a copy or a load.
     pub(crate) fn settle_new(&mut self, failure: Option<Failure>, noting: Noting) {
         if let Some(failure) = failure {
             self.tell_failed(Reason::NewCall(call_of(failure)), noting);
@@ -215,6 +214,11 @@ impl<'a, R: Eprint + AllocGlobal> Console<'a, R> {
             }
         };
     }
+}
+
+// What a person calls the file at a path that may stand for standard input.
+fn input_or(path: &str) -> &str {
+    if path == "-" { "standard input" } else { path }
 }
 
 // The folder that contains the path.
@@ -288,6 +292,21 @@ impl<R: Eprint + AllocGlobal> Follower for Console<'_, R> {
                 "imem: {path}: {written} of {all} pages and slots written"
             );
         }
+    }
+
+    fn misfits(&self, misfit: Misfit) {
+        let path = Shown(input_or(self.image));
+        let _printed = eprintln!(self.rt; "imem: {path}: {misfit}");
+    }
+}
+
+impl<R: Eprint + AllocGlobal> LoadObserver for Console<'_, R> {
+    fn unloaded(&mut self, fault: LoadFault) {
+        let path = Shown(input_or(self.image));
+        let _printed = match fault {
+            LoadFault::NoInput => eprintln!(self.rt; "imem: {fault}"),
+            _ => eprintln!(self.rt; "imem: {path}: {fault}"),
+        };
     }
 }
 

@@ -1,9 +1,13 @@
 //! Reads the command line of the program and does the work that it asks for. The program makes images, serves scripts
-//! and dialogues, moves images to the layout in use, and reports what an image means.
+//! and dialogues, moves images to the layout in use, copies, dumps and loads them, and reports what an image means.
 #![tactic(auto)]
 
 mod console;
+mod copy_words;
+mod copying;
 mod descriptors;
+mod dumping;
+mod loading;
 mod moving;
 mod opening;
 mod overwriting;
@@ -12,8 +16,11 @@ mod words;
 mod work;
 
 pub use console::{Console, Terminals};
+pub use copying::{Copying, copy_file};
 pub use descriptors::Descriptors;
-pub use moving::{migrate_file, migrate_on};
+pub use dumping::dump_file;
+pub use loading::{LoadFault, LoadObserver, Loading, load_file};
+pub use moving::{Paths, migrate_file, migrate_on};
 pub use statuses::status_for;
 pub use words::{
     DEFAULT_CELLS, DEFAULT_ELEMENTS, DEFAULT_SLOTS, Job, Order, WordFault, Work, read_words,

@@ -1,13 +1,13 @@
 //! Moves an image of the first layout version to a new file.
-ghost use Rattle.std.specs.Prelude.{◌≡◌, ◌⊎◌, ◌≤◌, [], length, replicate, IfOk, IfErr, OnOk, OnErr, string_bytes};
+ghost use Rattle.std.specs.Prelude.{◌≡◌, ◌≤◌, codes, IfOk, IfErr, OnOk, OnErr, string_bytes};
 ghost use Rattle.std.specs.Io.KnownBytes.{Appends, Keeps};
 ghost use Rattle.im_types.specs.declared.refusals.Refusal.TheVariants.{Device};
-ghost use Rattle.im_types.specs.Layout.{layout_in_use, image_length};
-ghost use Rattle.im_disk.specs.Since.{LeavesNow, LeavesWithin, OnlyReads};
+ghost use Rattle.im_types.specs.Layout.{layout_1};
+ghost use Rattle.im_disk.specs.Since.{LeavesNow};
+ghost use Rattle.im_disk.specs.Runs.{ReadsAlone};
 ghost use Rattle.im_image.specs.Headers.{MayRefuseImage};
-ghost use Rattle.im_migration.specs.Migration.{BlankOrSame, HasCount, MeansSame};
-ghost use Rattle.im_text.specs.Printing.{Begins, IsLast};
-ghost use Rattle.im_program.specs.Moving.{MigratedFrom, TellsCount, migrated_line};
+ghost use Rattle.im_migration.specs.Migration.{LeavesBlankOrSame, MeansSame};
+ghost use Rattle.im_program.specs.Moving.{BeginsNew, BeginsOld, MigratedFrom, TellsCount, counted_line};
 
 use crate::descriptors::Descriptors;
 use crate::opening::{is_one_file, reason_of};
@@ -23,20 +23,36 @@ use std::fs::{self, File};
 use std::io::{ErrorKind, Write};
 use std::rt::Files;
 
-// The line that reports the number of commands of the moved image.
-fn make_migrated(alloc: Global, count: u64) -> Result<String, AllocError>
-    ensures { IfOk result (λ text. string_bytes text ≡ migrated_line count) }
+/// The paths of an old file and a new one, and what takes the numbers of the standard streams while they are opened.
+#[derive(Clone, Copy)]
+pub struct Paths<'a> {
+    /// What takes the numbers of the standard streams.
+    pub held: &'a Descriptors,
+    /// The path of the old file.
+    pub old: &'a str,
+    /// The path of the new file.
+    pub new: &'a str,
+}
+
+// A line of a word and a number of commands.
+fn make_counted(alloc: Global, word: &str, count: u64) -> Result<String, AllocError>
+    ensures { IfOk result (λ text. string_bytes text ≡ counted_line word.now count) }
 {
     let mut line = String::new(alloc);
-    writeln!(line, "migrated {count}")?;
+    writeln!(line, "{word} {count}")?;
     Ok(line)
 }
 
-// Prints that line.
-fn print_migrated<W: Write>(alloc: Global, count: u64, out: &mut W) -> Result<(), Reason>
-    ensures { OnOk result (Appends (W.contents out.old) (W.contents out.new) (migrated_line count)) }
+/// Prints the line that reports the number of commands of a new image.
+pub(crate) fn print_counted<W: Write>(
+    alloc: Global,
+    word: &str,
+    count: u64,
+    out: &mut W,
+) -> Result<(), Reason>
+    ensures { OnOk result (Appends (W.contents out.old) (W.contents out.new) (counted_line word.now count)) }
 {
-    match make_migrated(alloc, count) {
+    match make_counted(alloc, word, count) {
         Ok(line) => put_through(out, line.as_str()),
         Err(_) => Err(Reason::Memory),
     }
@@ -58,18 +74,17 @@ pub fn migrate_on<O: Disk, N: Disk, W: Write, V: Observer + Follower>(
     observer: &mut V,
 ) -> (u8, N)
     ensures status { result.0 ≤ 1 }
-    ensures leaves { N.honest result.1
-        → LeavesWithin N.now N.past new result.1 (BlankOrSame (O.honest old.new) (O.now old.old).bytes) }
+    ensures leaves { LeavesBlankOrSame N.Disk new result.1 (O.honest old.new) (O.now old.old).bytes }
     ensures moved { result.0 ≡ 0 → O.honest old.new → N.honest result.1
         → LeavesNow (N.now result.1) (MeansSame (O.now old.old).bytes) }
     ensures told { result.0 ≡ 0 → O.honest old.new
-        → TellsCount (O.now old.old).bytes (W.contents out.old) (W.contents out.new) }
-    ensures reads { O.honest old.new → OnlyReads O.now O.past old.old old.new }
-    ensures honest { (O.honest old.new → O.honest old.old) × (N.honest result.1 → N.honest new) }
+        → TellsCount layout_1 (codes "migrated") (O.now old.old).bytes (W.contents out.old) (W.contents out.new) }
+    ensures reads { ReadsAlone O.Disk old.old old.new }
+    ensures honest { N.honest result.1 → N.honest new }
 {
     match migrate(alloc, old, new, observer) {
         Ok((new, count)) => {
-            let told = print_migrated(alloc, count, out);
+            let told = print_counted(alloc, "migrated", count, out);
             (end(alloc, told, out, observer), new)
         }
         Err((refusal, new)) => (end(alloc, Err(Reason::New(refusal)), out, observer), new),
@@ -78,8 +93,7 @@ pub fn migrate_on<O: Disk, N: Disk, W: Write, V: Observer + Follower>(
 
 // Whether an image is of the version in use, by its header in force.
 fn is_current<O: Disk>(old: &mut O) -> bool
-    ensures reads { O.honest old.new → OnlyReads O.now O.past old.old old.new }
-    ensures honest { O.honest old.new → O.honest old.old }
+    ensures reads { ReadsAlone O.Disk old.old old.new }
 {
     match read_header(old) {
         Ok(header) => !header.is_old(),
@@ -89,8 +103,7 @@ fn is_current<O: Disk>(old: &mut O) -> bool
 
 // Why an image can't be moved.
 fn old_reason<O: Disk>(alloc: Global, old: &mut O, refusal: Refusal) -> Reason
-    ensures reads { O.honest old.new → OnlyReads O.now O.past old.old old.new }
-    ensures honest { O.honest old.new → O.honest old.old }
+    ensures reads { ReadsAlone O.Disk old.old old.new }
 {
     if is_current(old) {
         return Reason::Current;
@@ -104,8 +117,7 @@ fn length_of<O: Disk, V: Observer>(
     old: &mut O,
     observer: &mut V,
 ) -> Result<usize, Refusal>
-    ensures reads { OnOk result (O.honest old.new → OnlyReads O.now O.past old.old old.new) }
-    ensures honest { OnOk result (O.honest old.new → O.honest old.old) }
+    ensures reads { OnOk result (ReadsAlone O.Disk old.old old.new) }
     ensures refused { IfErr result (λ e. MayRefuseImage e) }
 {
     match length_for(alloc, old) {
@@ -117,26 +129,72 @@ fn length_of<O: Disk, V: Observer>(
     }
 }
 
-// Opens the new file as it is. If there is no file at the path, makes one of `len` zero bytes. An existing file that
-// can't be opened is never replaced: its bytes would be lost.
+// Opens the new file as it is. If there is no file at the path, makes one of `len` zero bytes. Returns also whether
+// nothing was at the path. An existing file that can't be opened is never replaced: its bytes would be lost.
 fn new_file<R: Files<File = File> + AllocGlobal, S: Start>(
     rt: &R,
     path: &str,
     len: usize,
     start: S,
-) -> Result<FileDisk<S>, FileFault>
-    ensures now { IfOk result (λ disk. (⟦<FileDisk<S> as Disk>⟧.now disk ≡ S.first)
-        ⊎ (⟦<FileDisk<S> as Disk>⟧.now disk ≡ record { bytes = replicate len 0; ranges = [] })) }
-    ensures past { IfOk result (λ disk. ⟦<FileDisk<S> as Disk>⟧.past disk ≡ []) }
+) -> Result<(FileDisk<S>, bool), FileFault>
+    ensures found { IfOk result (λ r. BeginsNew S.Start len r.0) }
 {
     match fs::metadata(rt, path) {
         Err(error) if error.kind() == ErrorKind::NotFound => {
             match make_image(rt, path, len, false, start) {
-                Ok((disk, _)) => Ok(disk),
+                Ok(made) => Ok(made),
                 Err(fault) => Err(fault),
             }
         }
-        _ => open_image(rt, path, start),
+        _ => match open_image(rt, path, start) {
+            Ok(disk) => Ok((disk, false)),
+            Err(fault) => Err(fault),
+        },
+    }
+}
+
+/// Opens the new file, or makes one of `len` zero bytes. Returns also whether it was made. If there is none, the
+/// observer is told why.
+pub(crate) fn place_at<R: Files<File = File> + AllocGlobal, S: Start, V: Observer>(
+    rt: &R,
+    path: &str,
+    len: usize,
+    observer: &mut V,
+    start: S,
+) -> Result<(FileDisk<S>, bool), Refusal>
+    ensures found { IfOk result (λ r. BeginsNew S.Start len r.0) }
+    ensures refused { IfErr result (λ e. e ≡ Device) }
+{
+    match new_file(rt, path, len, start) {
+        Ok(placed) => Ok(placed),
+        Err(fault) => {
+            observer.refused(Reason::NewFile(reason_of(rt, path, fault)));
+            Err(Refusal::from(fault))
+        }
+    }
+}
+
+/// Opens the old file, only for reading. If that fails, or both paths name one file, the observer is told why.
+pub(crate) fn source_at<R: Files<File = File> + AllocGlobal, T: Start, V: Observer>(
+    rt: &R,
+    old: &str,
+    new: &str,
+    observer: &mut V,
+    other: T,
+) -> Result<FileDisk<T>, Refusal>
+    ensures found { IfOk result (λ from. BeginsOld T.Start from) }
+    ensures refused { IfErr result (λ e. e ≡ Device) }
+{
+    if is_one_file(rt, old, new) {
+        observer.refused(Reason::NewFile(PathFault::Same));
+        return Err(Refusal::Device);
+    }
+    match open_image_to_read(rt, old, other) {
+        Ok((disk, is_unsynced)) => {
+            warn(is_unsynced, observer);
+            Ok(disk)
+        }
+        Err(fault) => Err(refusal_of(rt, old, fault, observer)),
     }
 }
 
@@ -167,43 +225,29 @@ pub fn migrate_file<
     V: Observer + Follower,
 >(
     rt: &R,
-    _held: &Descriptors,
-    old: &str,
-    new: &str,
+    paths: &Paths,
     out: &mut W,
     observer: &mut V,
-    start: S,
-    other: T,
+    starts: (S, T),
 ) -> Result<(u8, FileDisk<S>, FileDisk<T>), Refusal>
     ensures status { IfOk result (λ r. r.0 ≤ 1) }
-    ensures moved { IfOk result (λ r. ⟦<FileDisk<S> as Disk>⟧.honest r.1 →
-        MigratedFrom ⟦<FileDisk<T> as Disk>⟧.honest ⟦<FileDisk<T> as Disk>⟧.now ⟦<FileDisk<T> as Disk>⟧.past
-        ⟦<FileDisk<S> as Disk>⟧.now ⟦<FileDisk<S> as Disk>⟧.past
-        T.first S.first (W.contents out.old) (W.contents out.new) r.0 r.2 r.1) }
+    ensures moved { IfOk result (λ r.
+        MigratedFrom S.Start T.Start (W.contents out.old) (W.contents out.new) r.0 r.2 r.1) }
     ensures refused { IfErr result (λ refusal. MayRefuseImage refusal) }
     ensures same { OnErr result (Keeps (W.contents out.old) (W.contents out.new)) }
 {
-    if is_one_file(rt, old, new) {
-        observer.refused(Reason::NewFile(PathFault::Same));
-        return Err(Refusal::Device);
-    }
-    let mut from = match open_image_to_read(rt, old, other) {
-        Ok((disk, is_unsynced)) => {
-            warn(is_unsynced, observer);
-            disk
-        }
-        Err(fault) => return Err(refusal_of(rt, old, fault, observer)),
+    let (start, other) = starts;
+    let mut from = match source_at(rt, paths.old, paths.new, observer, other) {
+        Ok(from) => from,
+        Err(refusal) => return Err(refusal),
     };
     let length = match length_of(rt.alloc(), &mut from, observer) {
         Ok(length) => length,
         Err(refusal) => return Err(refusal),
     };
-    let to = match new_file(rt, new, length, start) {
-        Ok(disk) => disk,
-        Err(fault) => {
-            observer.refused(Reason::NewFile(reason_of(rt, new, fault)));
-            return Err(Refusal::from(fault));
-        }
+    let to = match place_at(rt, paths.new, length, observer, start) {
+        Ok((to, _)) => to,
+        Err(refusal) => return Err(refusal),
     };
     let (status, to) = migrate_on(rt.alloc(), &mut from, to, out, observer);
     Ok((status, to, from))

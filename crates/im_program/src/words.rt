@@ -9,9 +9,13 @@ ghost use Rattle.im_program.specs.Words.{is_given, migrate_app, migrate_task, nu
 ghost use Rattle.im_program.specs.Words.{serial_task, serve_app, serve_task, task_in, task_of, top_app};
 ghost use Rattle.im_program.specs.Words.{asks_wait, behind_plus, seconds_of, wait_in, wait_rule};
 
+use crate::copy_words::{
+    copy_command, copy_work, dump_command, dump_work, load_command, load_work,
+};
 use clap::builder::ValueParser;
 use clap::error::ErrorKind;
 use clap::{Arg, ArgAction, ArgMatches, Command, Error};
+use im_migration::Asked;
 use im_script::read_u32;
 use std::alloc::{AllocError, Global};
 
@@ -47,6 +51,15 @@ pub enum Work<'a> {
         old: &'a str,
         /// The path of the new file.
         new: &'a str,
+    },
+    /// Copy an image to a new file.
+    Copy {
+        /// The path of the image.
+        old: &'a str,
+        /// The path of the new file.
+        new: &'a str,
+        /// The sizes of the copy, as given.
+        asked: Asked,
     },
 }
 
@@ -86,6 +99,20 @@ pub enum Job<'a> {
     Inspect {
         /// The image's path.
         image: &'a str,
+    },
+    /// Print the dump of an image.
+    Dump {
+        /// The image's path.
+        image: &'a str,
+    },
+    /// Make an image of the text of a dump.
+    Load {
+        /// The text's path.
+        text: &'a str,
+        /// The image's path.
+        new: &'a str,
+        /// The sizes of the image, as given.
+        asked: Asked,
     },
 }
 
@@ -273,7 +300,7 @@ of the version in use, 12 WrongLength if NEW has another length, 22 NotBlank if 
 2 a bad command line. A refusal also has a line on standard error, which says why.";
 
 /// An option that takes a number.
-fn number_option<'a>(alloc: Global, id: &'a str, help: &'a str) -> Arg<'a>
+pub(crate) fn number_option<'a>(alloc: Global, id: &'a str, help: &'a str) -> Arg<'a>
     ensures rule { rule_of result ≡ option_rule id.entry.now }
     ensures local { result.global ≡ false }
 {
@@ -292,7 +319,7 @@ fn flag_option<'a>(alloc: Global, id: &'a str, help: &'a str) -> Arg<'a>
 }
 
 /// A required path.
-fn path_argument<'a>(alloc: Global, id: &'a str, help: &'a str) -> Arg<'a>
+pub(crate) fn path_argument<'a>(alloc: Global, id: &'a str, help: &'a str) -> Arg<'a>
     ensures rule { rule_of result ≡ path_rule id.entry.now }
     ensures local { result.global ≡ false }
 {
@@ -324,7 +351,7 @@ fn wait_option<'a>(alloc: Global) -> Arg<'a>
 }
 
 /// A subcommand that takes a path, with the options that each subcommand takes.
-fn file_command<'a>(
+pub(crate) fn file_command<'a>(
     alloc: Global,
     name: &'a str,
     path: &'a str,
@@ -498,13 +525,19 @@ fn imem_command<'a>(alloc: Global) -> Result<Command<'a>, AllocError>
     let serve = serve_command(alloc)?;
     let inspect = inspect_command(alloc)?;
     let migrate = migrate_command(alloc)?;
+    let copy = copy_command(alloc)?;
+    let dump = dump_command(alloc)?;
+    let load = load_command(alloc)?;
     let one = empty.subcommand(format)?;
     let two = one.subcommand(serial)?;
     let three = two.subcommand(run)?;
     let four = three.subcommand(serve)?;
     let five = four.subcommand(inspect)?;
     let six = five.subcommand(migrate)?;
-    Ok(six)
+    let seven = six.subcommand(copy)?;
+    let eight = seven.subcommand(dump)?;
+    let nine = eight.subcommand(load)?;
+    Ok(nine)
 }
 
 /// Returns the number of an option, or `fallback` if the option is not given. Returns `None` if its text is not the
@@ -519,7 +552,7 @@ fn number_or(found: &ArgMatches, id: &str, fallback: u32) -> Option<u32>
 }
 
 /// Returns the text of a path. The command requires the path, so it is given.
-fn path_of<'a>(found: &ArgMatches<'a>, id: &str) -> &'a str
+pub(crate) fn path_of<'a>(found: &ArgMatches<'a>, id: &str) -> &'a str
     ensures { result.now ≡ path_in (rows_of (found_of found.now)) id.now }
 {
     match found.get_str(id) {
@@ -626,6 +659,12 @@ fn work_of<'a>(matches: &ArgMatches<'a>) -> Option<Work<'a>>
                 Some(serve_work(found))
             } else if name == "migrate" {
                 Some(migrate_work(found))
+            } else if name == "copy" {
+                copy_work(found)
+            } else if name == "dump" {
+                Some(dump_work(found))
+            } else if name == "load" {
+                load_work(found)
             } else {
                 Some(inspect_work(found))
             }
@@ -702,7 +741,7 @@ fn fault(error: Error) -> WordFault
     }
 }
 
-/// Returns the first option of `format` whose text is not the decimal number of a u32, with its text.
+/// Returns the first option for a size whose text is not the decimal number of a u32, with its text.
 fn bad_option<'a>(found: &ArgMatches<'a>) -> Option<(&'static str, &'a str)> {
     for id in ["cells", "elements", "slots"] {
         let Some(text) = found.get_str(id) else {
@@ -715,16 +754,27 @@ fn bad_option<'a>(found: &ArgMatches<'a>) -> Option<(&'static str, &'a str)> {
     None
 }
 
-/// The error for a text that is no number, with the usage of `format`.
+/// The subcommand of this name, which takes sizes, as its usage shows it.
+fn sized_command<'a>(alloc: Global, name: &str) -> Result<Command<'a>, AllocError> {
+    if name == "copy" {
+        copy_command(alloc)?.bin_name("imem copy")
+    } else if name == "load" {
+        load_command(alloc)?.bin_name("imem load")
+    } else {
+        format_command(alloc)?.bin_name("imem format")
+    }
+}
+
+/// The error for a text that is no number, with the usage of the subcommand.
 fn bad_number(alloc: Global, matches: &ArgMatches<'_>) -> Result<Error, AllocError> {
-    let (id, text) = match matches.subcommand() {
-        Some((_, found)) => bad_option(found).unwrap_or(("cells", "")),
-        None => ("cells", ""),
+    let (name, (id, text)) = match matches.subcommand() {
+        Some((name, found)) => (name, bad_option(found).unwrap_or(("cells", ""))),
+        None => ("format", ("cells", "")),
     };
     let message = format!(in alloc;
         "invalid value {text:?} for '--{id} <N>': a decimal number below 4294967296 is expected"
     )?;
-    let mut command = format_command(alloc)?.bin_name("imem format")?;
+    let mut command = sized_command(alloc, name)?;
     command.error(ErrorKind::ValueValidation, message.as_str())
 }
 

@@ -11,13 +11,15 @@ ghost use Rattle.im_text.specs.Printing.{Begins, IsLast};
 ghost use Rattle.im_serial.specs.Serving.{ServedFrom};
 ghost use Rattle.im_dialogue.specs.Dialogue.{NotOpened, Talked, TalkedFrom};
 ghost use Rattle.im_run.specs.Running.{RanFrom};
-ghost use Rattle.im_program.specs.Words.{demonstration, task_of, task_of_job};
-ghost use Rattle.im_program.specs.Moving.{HasMoved};
-ghost use Rattle.im_program.specs.Working.{DoneOn, IsMigration};
+ghost use Rattle.im_program.specs.Words.{copy, demonstration, migrate, task_of, task_of_job};
+ghost use Rattle.im_program.specs.Working.{DoneOn, HasMoved, IsOfTwo};
 
 use crate::console::{Console, Watch};
+use crate::copying::{Copying, copy_file};
 use crate::descriptors::Descriptors;
-use crate::moving::migrate_file;
+use crate::dumping::dump_file;
+use crate::loading::{LoadObserver, Loading, load_file};
+use crate::moving::{Paths, migrate_file};
 use crate::opening::{format_reason, reason_of};
 use crate::overwriting::may_be_made;
 use crate::words::{DEFAULT_CELLS, DEFAULT_ELEMENTS, DEFAULT_SLOTS, Job, Work};
@@ -30,6 +32,7 @@ use im_files::{
 };
 use im_image::image_length;
 use im_listening::Ear;
+use im_migration::Follower;
 use im_report::inspect_on;
 use im_run::{STALLED, run_on};
 use im_script::{Script, ScriptFault, TextFault, read_script, read_script_with_glances, read_text};
@@ -128,9 +131,9 @@ pub fn format_file<R: Files<File = File> + AllocGlobal, S: Start, N: Observer>(
     }
 }
 
-// Removes a file that was made and holds no image or a torn one. A file that existed before stays. If a sync of it
-// failed, a note is left.
-fn give_up<R: Files<File = File> + AllocGlobal, S: Start>(
+/// Removes a file that was made and holds no image or a torn one. A file that existed before stays. If a sync of it
+/// failed, a note is left.
+pub(crate) fn give_up<R: Files<File = File> + AllocGlobal, S: Start>(
     rt: &R,
     image: &str,
     disk: FileDisk<S>,
@@ -152,8 +155,8 @@ fn told<N: Observer>(refusal: Refusal, observer: &mut N) -> Refusal
     refusal
 }
 
-// The text of a script: that of the file, or of the input if the path is `-`.
-fn text_of<R: Files<File = File> + AllocGlobal, I: Read>(
+/// Returns the text of a file, or of the input if the path is `-`.
+pub(crate) fn text_of<R: Files<File = File> + AllocGlobal, I: Read>(
     rt: &R,
     script: &str,
     input: &mut I,
@@ -482,7 +485,13 @@ fn format_image<R: Files<File = File> + AllocGlobal, S: Start, N: Observer>(
 }
 
 /// Does the job. Returns the status, and the disk of the file if one was opened.
-fn do_job<R: Files<File = File> + AllocGlobal, S: Start, I: BufRead + Ear, W: Write, N: Observer>(
+fn do_job<
+    R: Files<File = File> + AllocGlobal,
+    S: Start,
+    I: BufRead + Ear,
+    W: Write,
+    N: Observer + Follower + LoadObserver,
+>(
     rt: &R,
     held: &Descriptors,
     job: &Job,
@@ -530,6 +539,22 @@ fn do_job<R: Files<File = File> + AllocGlobal, S: Start, I: BufRead + Ear, W: Wr
             Ok((status, disk)) => Ok((status, Some(disk))),
             Err(refusal) => Err(refusal),
         },
+        Job::Dump { image } => match dump_file(rt, held, image, out, observer, start) {
+            Ok((status, disk)) => Ok((status, Some(disk))),
+            Err(refusal) => Err(refusal),
+        },
+        Job::Load { text, new, asked } => {
+            let loading = Loading {
+                held,
+                text,
+                new,
+                asked,
+            };
+            match load_file(rt, &loading, input, out, observer, start) {
+                Ok((status, disk)) => Ok((status, Some(disk))),
+                Err(refusal) => Err(refusal),
+            }
+        }
     }
 }
 
@@ -537,8 +562,9 @@ fn do_job<R: Files<File = File> + AllocGlobal, S: Start, I: BufRead + Ear, W: Wr
 fn image_of<'a>(job: &Job<'a>) -> &'a str {
     match *job {
         Job::Demonstration => "",
-        Job::Format { image, .. } | Job::Inspect { image } => image,
+        Job::Format { image, .. } | Job::Inspect { image } | Job::Dump { image } => image,
         Job::Serial { image, .. } | Job::Serve { image, .. } => image,
+        Job::Load { new, .. } => new,
     }
 }
 
@@ -556,6 +582,22 @@ fn may_do<R: Files<File = File> + AllocGlobal + Eprint, I: BufRead>(
             ..
         } => may_be_made(rt, image, input, console),
         _ => true,
+    }
+}
+
+// Prints which call on the image's disk failed, if a disk was opened. Leaves a note if a sync failed. A file that is
+// loaded is a new one.
+fn settle_job<R: Files<File = File> + AllocGlobal + Eprint, S: Start>(
+    rt: &R,
+    job: &Job,
+    disk: &Option<FileDisk<S>>,
+    console: &mut Console<'_, R>,
+) {
+    if let (Job::Load { new, .. }, Some(disk)) = (job, disk) {
+        console.settle_new(disk.failure(), note_failed_sync(rt, new, disk));
+        console.settle(None, Noting::Unneeded);
+    } else {
+        settle(rt, image_of(job), disk, console);
     }
 }
 
@@ -578,7 +620,7 @@ fn work_alone<
     S: Start,
     I: BufRead + Ear,
     W: Write,
-    N: Observer,
+    N: Observer + Follower + LoadObserver,
 >(
     rt: &R,
     held: &Descriptors,
@@ -615,9 +657,9 @@ fn work_alone<
 /// If standard input is a terminal, a person is asked before an image replaces a file that isn't empty.
 ///
 /// Refusals: `Device` for a file that isn't to be replaced; `BadLimits` for a number out of its range, and then no file
-/// is made; and the errors of [`format_file`], [`serve_file`], [`talk_file`] and [`inspect_file`]. If a disk is
-/// returned, the status and the output are those of the function that was called. Else the status is 1, except for the
-/// demonstration.
+/// is made; and the errors of [`format_file`], [`serve_file`], [`talk_file`], [`inspect_file`], [`dump_file`] and
+/// [`load_file`]. If a disk is returned, the status and the output are those of the function that was called. Else the
+/// status is 1, except for the demonstration.
 ///
 /// `start` stands for what the image holds when it is opened. It is used up, and no code reads it.
 pub fn act_alone<
@@ -645,7 +687,7 @@ pub fn act_alone<
         return (refuse(rt.alloc(), Refusal::Device, out), None);
     }
     let (status, disk) = work_alone(rt, held, job, input, out, console, start);
-    settle(rt, image_of(job), &disk, console);
+    settle_job(rt, job, &disk, console);
     (status, disk)
 }
 
@@ -714,29 +756,35 @@ fn act_at_once<
     (status, disk)
 }
 
+// Prints which call on the two files failed. Leaves a note if a sync of the new one failed.
+fn settle_two<R: Files<File = File> + AllocGlobal + Eprint, S: Start, T: Start>(
+    rt: &R,
+    new: &str,
+    to: &FileDisk<S>,
+    from: &FileDisk<T>,
+    console: &mut Console<'_, R>,
+) {
+    console.settle_new(to.failure(), note_failed_sync(rt, new, to));
+    console.settle(from.failure(), Noting::Unneeded);
+}
+
 /// Moves an image to a new file. Returns the status, and the disks of the new file and of the old one if both were
 /// opened.
 fn act_on_two<R: Files<File = File> + AllocGlobal + Eprint, S: Start, T: Start, W: Write>(
     rt: &R,
-    held: &Descriptors,
-    old: &str,
-    new: &str,
+    paths: &Paths,
     out: &mut W,
     console: &mut Console<'_, R>,
-    start: S,
-    other: T,
+    starts: (S, T),
 ) -> (u8, Option<FileDisk<S>>, Option<FileDisk<T>>)
     ensures status { result.0 ≤ 1 }
-    ensures moved { IfSome result.1 (λ disk. ⟦<FileDisk<S> as Disk>⟧.honest disk →
-        HasMoved ⟦<FileDisk<T> as Disk>⟧.honest ⟦<FileDisk<T> as Disk>⟧.now ⟦<FileDisk<T> as Disk>⟧.past
-        ⟦<FileDisk<S> as Disk>⟧.now ⟦<FileDisk<S> as Disk>⟧.past
-        T.first S.first (W.contents out.old) (W.contents out.new) result.0 result.2 disk) }
+    ensures moved { IfSome result.1 (λ to. HasMoved S.Start T.Start (migrate paths.now.old.now paths.now.new.now)
+        (W.contents out.old) (W.contents out.new) result.0 result.2 to) }
     ensures none { IfNone result.1 (result.0 ≡ 1) }
 {
-    match migrate_file(rt, held, old, new, out, console, start, other) {
+    match migrate_file(rt, paths, out, console, starts) {
         Ok((status, to, from)) => {
-            console.settle_new(to.failure(), note_failed_sync(rt, new, &to));
-            console.settle(from.failure(), Noting::Unneeded);
+            settle_two(rt, paths.new, &to, &from, console);
             (status, Some(to), Some(from))
         }
         Err(refusal) => {
@@ -746,15 +794,42 @@ fn act_on_two<R: Files<File = File> + AllocGlobal + Eprint, S: Start, T: Start, 
     }
 }
 
+/// Copies an image to a new file. Returns the status, and the disks of the new file and of the old one if the image was
+/// copied.
+fn act_copying<R: Files<File = File> + AllocGlobal + Eprint, S: Start, T: Start, W: Write>(
+    rt: &R,
+    copying: &Copying,
+    out: &mut W,
+    console: &mut Console<'_, R>,
+    starts: (S, T),
+) -> (u8, Option<FileDisk<S>>, Option<FileDisk<T>>)
+    ensures status { result.0 ≤ 1 }
+    ensures copied { IfSome result.1 (λ to. HasMoved S.Start T.Start
+        (copy copying.now.old.now copying.now.new.now copying.now.asked)
+        (W.contents out.old) (W.contents out.new) result.0 result.2 to) }
+    ensures none { IfNone result.1 (result.0 ≡ 1) }
+{
+    match copy_file(rt, copying, out, console, starts) {
+        Ok((status, made, from)) => {
+            settle_two(rt, copying.new, &made, &from, console);
+            (status, Some(made), Some(from))
+        }
+        Err(refusal) => {
+            console.settle(None, Noting::Unneeded);
+            (refuse(rt.alloc(), refusal, out), None, None)
+        }
+    }
+}
+
 /// Does the work and returns the status that the program ends with. It is that of [`act_alone`], of [`run_file`] for a
-/// run (3 if its elements wait for each other), or of [`migrate_file`] for a migration. These three functions also say
-/// what is printed and refused.
+/// run (3 if its elements wait for each other), of [`migrate_file`] for a migration, or of [`copy_file`] for a copy.
+/// These functions also say what is printed and refused.
 ///
-/// Also returns the disk of the image, if its file was made or opened. For a migration, returns the disk of the new
-/// file and that of the old one, if both were opened.
+/// Also returns the disk of the image, if its file was made or opened. For a migration or a copy, returns the disk of
+/// the new file and that of the old one, if both were opened.
 ///
-/// `start` stands for what the image, or the new file of a migration, holds when it is opened. `other` stands for what
-/// the old file holds. They are used up, and no code reads them.
+/// `start` stands for what the image, or the new file of a migration or a copy, holds when it is opened. `other` stands
+/// for what the old file holds. They are used up, and no code reads them.
 pub fn act<
     R: Files<File = File> + AllocGlobal + Eprint + Threads + Wait + Sync,
     S: Start + Send,
@@ -775,11 +850,9 @@ pub fn act<
     ensures done { IfSome result.1 (λ disk. ⟦<FileDisk<S> as Disk>⟧.honest disk →
         DoneOn ⟦<FileDisk<S> as Disk>⟧.now ⟦<FileDisk<S> as Disk>⟧.past ⟦<FileDisk<S> as Disk>⟧.failures S.first
         (task_of work.now) (W.contents out.old) (W.contents out.new) result.0 disk) }
-    ensures moved { IfSome result.1 (λ disk. IsMigration (task_of work.now) → ⟦<FileDisk<S> as Disk>⟧.honest disk →
-        HasMoved ⟦<FileDisk<T> as Disk>⟧.honest ⟦<FileDisk<T> as Disk>⟧.now ⟦<FileDisk<T> as Disk>⟧.past
-        ⟦<FileDisk<S> as Disk>⟧.now ⟦<FileDisk<S> as Disk>⟧.past
-        T.first S.first (W.contents out.old) (W.contents out.new) result.0 result.2 disk) }
-    ensures other { IfSome result.2 (λ _. IsMigration (task_of work.now)) }
+    ensures moved { IfSome result.1 (λ disk. IsOfTwo (task_of work.now) → HasMoved S.Start T.Start
+        (task_of work.now) (W.contents out.old) (W.contents out.new) result.0 result.2 disk) }
+    ensures other { IfSome result.2 (λ _. IsOfTwo (task_of work.now)) }
     ensures none { IfNone result.1 ((task_of work.now ≡ demonstration) ⊎ (result.0 ≡ 1)) }
 {
     match work {
@@ -797,7 +870,20 @@ pub fn act<
             );
             (status, disk, None)
         }
-        Work::Migrate { old, new } => act_on_two(rt, held, old, new, out, console, start, other),
+        Work::Migrate { old, new } => {
+            let paths = Paths { held, old, new };
+            act_on_two(rt, &paths, out, console, (start, other))
+        }
+        Work::Copy { old, new, asked } => {
+            let asked = *asked;
+            let copying = Copying {
+                held,
+                old,
+                new,
+                asked,
+            };
+            act_copying(rt, &copying, out, console, (start, other))
+        }
     }
 }
 

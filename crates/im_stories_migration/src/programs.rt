@@ -5,7 +5,10 @@ use crate::disks::disk_of;
 use crate::writers::{Notes, Paper};
 use anyhow::{Result, anyhow};
 use im_disk::{MemDisk, Unknown};
-use im_program::{Console, Order, Terminals, Work, act_alone, migrate_file, read_words, refuse};
+use im_program::{
+    Console, Copying, Order, Paths, Terminals, Work, act_alone, copy_file, migrate_file,
+    read_words, refuse,
+};
 use std::fs;
 
 // Nobody watches, and nobody is asked.
@@ -47,9 +50,29 @@ fn act(desk: &mut Desk, words: &[&str]) -> Result<u8> {
                 ..
             },
         ) => {
-            match migrate_file(
-                rt, desk.held, old, new, &mut out, &mut notes, Unknown, Unknown,
-            ) {
+            let paths = Paths {
+                held: desk.held,
+                old,
+                new,
+            };
+            match migrate_file(rt, &paths, &mut out, &mut notes, (Unknown, Unknown)) {
+                Ok((status, _, _)) => status,
+                Err(refusal) => refuse(alloc, refusal, &mut out),
+            }
+        }
+        Ok(
+            Order {
+                work: Work::Copy { old, new, asked },
+                ..
+            },
+        ) => {
+            let copying = Copying {
+                held: desk.held,
+                old,
+                new,
+                asked,
+            };
+            match copy_file(rt, &copying, &mut out, &mut notes, (Unknown, Unknown)) {
                 Ok((status, _, _)) => status,
                 Err(refusal) => refuse(alloc, refusal, &mut out),
             }

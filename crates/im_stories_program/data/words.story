@@ -25,6 +25,14 @@ imem serve a.img --watch = talk on a.img, watched
 imem serve --watch a.img = talk on a.img, watched
 imem inspect a.img = tell of a.img
 imem migrate a.img b.img = move a.img on to b.img
+-- A size that isn't given is that of before.
+imem copy a.img b.img = copy a.img to b.img
+imem copy a.img b.img --cells 8192 --slots=0032 --statuses = copy a.img to b.img, 8192 cells, 32 slots, by statuses
+imem copy --elements 65536 a.img b.img = copy a.img to b.img, 65536 elements
+imem dump a.img = dump a.img
+imem dump --statuses a.img = dump a.img, by statuses
+imem load a.dump b.img = load a.dump into b.img
+imem load - b.img --slots 16 --cells 0 --elements 3 = load - into b.img, 0 cells, 3 elements, 16 slots
 -- Each subcommand may wait, for whole seconds up to a day.
 imem format --wait 1 a.img --cells 5 = make a.img of 5 cells, 16 elements, 256 slots, waiting 1 s
 imem serial a.img s --wait=86400 --statuses = serve s on a.img, by statuses, waiting 86400 s
@@ -32,6 +40,9 @@ imem run --wait 007 a.img s --planned = run s on a.img, planned, waiting 7 s
 imem serve a.img --wait +5 --watch = talk on a.img, watched, waiting 5 s
 imem inspect a.img --wait 0 = tell of a.img
 imem migrate a.img b.img --wait 60 = move a.img on to b.img, waiting 60 s
+imem copy a.img b.img --wait 3 = copy a.img to b.img, waiting 3 s
+imem dump a.img --wait=1 = dump a.img, waiting 1 s
+imem load --wait 2 a.dump b.img = load a.dump into b.img, waiting 2 s
 
 # Bad words are refused with status 2, and what is said names them
 imem mend = status 2
@@ -78,6 +89,19 @@ imem migrate a.img b.img c.img = status 2
 says 'c.img' = yes
 imem migrate a.img b.img --cells 5 = status 2
 says --cells = yes
+imem copy a.img = status 2
+says NEW = yes
+imem copy a.img b.img c.img = status 2
+says 'c.img' = yes
+imem copy a.img b.img --new = status 2
+says --new = yes
+imem dump = status 2
+says IMAGE = yes
+imem dump a.img b.img = status 2
+imem dump a.img --cells 5 = status 2
+imem load a.dump = status 2
+says NEW = yes
+imem load a.dump b.img --count 5 = status 2
 
 # A time to wait is a number of whole seconds, at most a day
 imem serve a.img --wait 86401 = status 2
@@ -112,6 +136,14 @@ says 4294967296 = yes
 imem format a.img --cells "" = status 2
 says 4294967296 = yes
 
+# The usage is that of the subcommand whose size is no number
+imem copy a.img b.img --cells 4294967296 = status 2
+says "4294967296" for '--cells <N>' = yes
+says Usage: imem copy [OPTIONS] <OLD> <NEW> = yes
+imem load a.dump b.img --elements 1 --slots +16 = status 2
+says "+16" for '--slots <N>' = yes
+says Usage: imem load [OPTIONS] <TEXT> <NEW> = yes
+
 # Help says what each subcommand does, with an example
 imem --help = status 0
 says imem run a.img fetch.script = yes
@@ -144,6 +176,15 @@ imem migrate --help = status 0
 says imem migrate old.img new.img = yes
 says 14 BadHeader = yes
 says Exit status: 0 the image is moved; = yes
+imem copy --help = status 0
+says imem copy a.img larger.img --cells 65536 = yes
+says 17 BadLimits = yes
+imem dump --help = status 0
+says imem dump a.img > a.dump = yes
+says entry E.N OPERATION -> ANSWER = yes
+imem load --help = status 0
+says imem load a.dump b.img = yes
+says 18 BadScript = yes
 
 # The version is told with the layout that is written
 imem --version = status 0

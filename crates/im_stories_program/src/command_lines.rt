@@ -2,6 +2,7 @@
 
 use crate::spelling::{add_text, add_word};
 use anyhow::{Result, anyhow};
+use im_migration::Asked;
 use im_program::{Job, Order, WordFault, Work, read_words};
 use std::alloc::{AllocError, Global};
 
@@ -9,6 +10,19 @@ use std::alloc::{AllocError, Global};
 #[derive(Drop)]
 pub struct CommandLine {
     fault: String,
+}
+
+fn add_size(said: &mut String, size: Option<u32>, name: &str) -> Result<(), AllocError> {
+    match size {
+        Some(number) => write!(said, ", {number} {name}"),
+        None => Ok(()),
+    }
+}
+
+fn add_sizes(said: &mut String, asked: Asked) -> Result<(), AllocError> {
+    add_size(said, asked.cells, "cells")?;
+    add_size(said, asked.elements, "elements")?;
+    add_size(said, asked.slots, "slots")
 }
 
 fn add_job(said: &mut String, job: &Job) -> Result<(), AllocError> {
@@ -33,6 +47,11 @@ fn add_job(said: &mut String, job: &Job) -> Result<(), AllocError> {
             write!(said, "talk on {image}, {how}")
         }
         Job::Inspect { image } => write!(said, "tell of {image}"),
+        Job::Dump { image } => write!(said, "dump {image}"),
+        Job::Load { text, new, asked } => {
+            write!(said, "load {text} into {new}")?;
+            add_sizes(said, asked)
+        }
     }
 }
 
@@ -48,6 +67,10 @@ fn add_work(said: &mut String, work: &Work) -> Result<(), AllocError> {
             write!(said, "run {script} on {image}{how}")
         }
         Work::Migrate { old, new } => write!(said, "move {old} on to {new}"),
+        Work::Copy { old, new, asked } => {
+            write!(said, "copy {old} to {new}")?;
+            add_sizes(said, *asked)
+        }
     }
 }
 

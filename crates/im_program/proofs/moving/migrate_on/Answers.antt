@@ -1,14 +1,19 @@
+use Rattle.std.proofs.Common.{codes}
 use Rattle.std.specs.Io.KnownBytes.{Appends, Keeps}
+use Rattle.im_types.specs.Layout.{layout_1}
 use Rattle.im_report.proofs.InspectingLemmas.{done_at_zero}
-use Rattle.im_program.specs.Moving.{migrated_line}
+use Rattle.im_program.specs.Moving.{counted_line}
 use Rattle.im_program.proofs.MovedLemmas.{told_count}
 use Rattle.im_program.proofs.moving.migrate_on.Goals as goal
 
 pub returns-in-Ok-clause-told : goal.returns-in-Ok-clause-told
 returns-in-Ok-clause-told g c = λ done honest.
     let was = g.W.Write.contents c.args.out.now in
-    let mid = g.W.Write.contents c.print_migrated-told.new.out in
+    let mid = g.W.Write.contents c.print_counted-told.new.out in
     let is = g.W.Write.contents c.end.new.out in
-    let added = done_at_zero c.print_migrated-told.result c.end.result (Appends was mid (migrated_line c.in-Ok.count)) c.end.ensures.refused done c.print_migrated-told.ensures in
-    let keeps = done_at_zero c.print_migrated-told.result c.end.result (Keeps mid is) c.end.ensures.refused done c.end.ensures.same in
-    told_count (g.O.Disk.now c.args.old.now).bytes was mid is c.in-Ok.count (c.in-Ok.ensures.count honest) added keeps
+    let added = done_at_zero c.print_counted-told.result c.end.result (Appends was mid (counted_line (codes "migrated")
+    c.in-Ok.count)) c.end.ensures.refused done c.print_counted-told.ensures in
+    let keeps = done_at_zero c.print_counted-told.result c.end.result (Keeps mid is) c.end.ensures.refused done
+    c.end.ensures.same in
+    told_count layout_1 (codes "migrated") (g.O.Disk.now c.args.old.now).bytes was mid is c.in-Ok.count
+    (c.in-Ok.ensures.count honest) added keeps

@@ -7,3 +7,6 @@ returns-in-Ok-format_image-clause-done g c = λ honest.
 
 pub returns-in-Ok-talk_file-clause-done : goal.returns-in-Ok-talk_file-clause-done
 returns-in-Ok-talk_file-clause-done g c = λ honest. rw c.in-Serve.is (c.in-Ok-talk_file.ensures.talked honest)
+
+pub returns-in-Ok-load_file-clause-done : goal.returns-in-Ok-load_file-clause-done
+returns-in-Ok-load_file-clause-done g c = λ honest. rw c.in-Load.is (c.in-Ok-load_file.ensures.loaded honest)

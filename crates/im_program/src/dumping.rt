@@ -1,0 +1,71 @@
+//! Prints the dump of an image.
+ghost use Rattle.std.specs.Prelude.{◌≡◌, ◌≤◌, [], IfOk, IfErr, OnErr};
+ghost use Rattle.std.specs.Io.KnownBytes.{Keeps};
+ghost use Rattle.im_types.specs.declared.refusals.Refusal.TheVariants.{Device};
+ghost use Rattle.im_disk.specs.Since.{ReadsOnly};
+ghost use Rattle.im_disk.specs.Runs.{ReadsAlone};
+ghost use Rattle.im_dump.specs.Dumping.{Dumps};
+
+use crate::descriptors::Descriptors;
+use crate::work::{refusal_of, warn};
+use im_disk::{Disk, FileDisk, Start};
+use im_dump::dump;
+use im_files::open_image_to_read;
+use im_text::{Observer, end};
+use im_types::Refusal;
+use std::alloc::Global;
+use std::fs::File;
+use std::io::Write;
+use std::rt::Files;
+
+// Prints the dump of the image on a disk. Returns the status. If something is refused, the observer is told why.
+fn dump_on<D: Disk, W: Write, V: Observer>(
+    alloc: Global,
+    disk: &mut D,
+    out: &mut W,
+    observer: &mut V,
+) -> u8
+    ensures status { result ≤ 1 }
+    ensures told { D.honest disk.new → result ≡ 0
+        → Dumps (D.now disk.old).bytes (W.contents out.old) (W.contents out.new) }
+    ensures reads { ReadsAlone D.Disk disk.old disk.new }
+{
+    let told = dump(alloc, disk, out);
+    end(alloc, told, out, observer)
+}
+
+/// Prints the dump of the image of a file. Returns the status and the image's disk. The status is 0, or 1 if something
+/// was refused; then the last line is `refused N NAME`. The reason of a refusal is that of [`dump`].
+///
+/// The clauses hold for whatever the image held when it was opened (`S`), as long as the file was honest. With status 0
+/// the dump of those bytes is written to `out`. A crash leaves nothing that the file couldn't leave when it was opened.
+///
+/// Returns `Device`, with nothing printed and the image as it was, if the image can't be opened: it isn't a regular
+/// file, an opening that writes has its lock, or a call of the system fails. The observer is told why.
+///
+/// No clause says that an image is ever opened, because nothing is known about the contents of a folder.
+pub fn dump_file<R: Files<File = File> + AllocGlobal, S: Start, W: Write, V: Observer>(
+    rt: &R,
+    _held: &Descriptors,
+    image: &str,
+    out: &mut W,
+    observer: &mut V,
+    start: S,
+) -> Result<(u8, FileDisk<S>), Refusal>
+    ensures status { IfOk result (λ r. r.0 ≤ 1) }
+    ensures told { IfOk result (λ r. ⟦<FileDisk<S> as Disk>⟧.honest r.1 → r.0 ≡ 0 →
+        Dumps S.first.bytes (W.contents out.old) (W.contents out.new)) }
+    ensures reads { IfOk result (λ r. ⟦<FileDisk<S> as Disk>⟧.honest r.1 →
+        ReadsOnly S.first (⟦<FileDisk<S> as Disk>⟧.now r.1) [] (⟦<FileDisk<S> as Disk>⟧.past r.1)) }
+    ensures refused { IfErr result (λ refusal. refusal ≡ Device) }
+    ensures same { OnErr result (Keeps (W.contents out.old) (W.contents out.new)) }
+{
+    match open_image_to_read(rt, image, start) {
+        Ok((mut disk, is_unsynced)) => {
+            warn(is_unsynced, observer);
+            let status = dump_on(rt.alloc(), &mut disk, out, observer);
+            Ok((status, disk))
+        }
+        Err(fault) => Err(refusal_of(rt, image, fault, observer)),
+    }
+}
