@@ -8,6 +8,7 @@ use Rattle.im_report.specs.Inspecting.{Tells}
 use Rattle.im_serial.specs.Serving.{ServedFrom}
 use Rattle.im_dialogue.specs.Dialogue.{TalkedFrom}
 use Rattle.im_run.specs.Running.{RanFrom}
+use Rattle.im_run.specs.Tracing.{TraceState}
 use Rattle.im_program.specs.Words.{Task, demonstration, format, serial, run, serve, inspect, migrate}
 
 -- A task was done on this disk, with this status. The disk's file held the first moment when it was opened. The writer
@@ -18,7 +19,7 @@ DoneOn now past failures first demonstration was is status disk = ⊥
 DoneOn now past failures first (format image cells elements slots is_new) was is status disk =
     (status ≡ 0) × AreLimits cells elements slots × LeavesNow (now disk) (λ file. file ≡ new_image 0xA5 (record { cells = cells; elements = elements; slots = slots }))
 DoneOn now past failures first (serial image script) was is status disk = ServedFrom now past failures first disk was is status
-DoneOn now past failures first (run image script planned) was is status disk = RanFrom now past failures first disk was is status
+DoneOn now past failures first (run image script planned trace) was is status disk = (calls : TraceState) × RanFrom now past failures first disk was is calls status
 DoneOn now past failures first (serve image watch) was is status disk = TalkedFrom watch now past first disk was is status
 DoneOn now past failures first (inspect image) was is status disk = (status ≡ 0 → Tells first.bytes was is) × ReadsOnly first (now disk) [] (past disk)
 DoneOn now past failures first (migrate old new) was is status disk = Unit {0}
@@ -28,7 +29,7 @@ abbrev pub IsMigration : Task → Type 0
 IsMigration demonstration = ⊥
 IsMigration (format image cells elements slots is_new) = ⊥
 IsMigration (serial image script) = ⊥
-IsMigration (run image script planned) = ⊥
+IsMigration (run image script planned trace) = ⊥
 IsMigration (serve image watch) = ⊥
 IsMigration (inspect image) = ⊥
 IsMigration (migrate old new) = Unit {0}

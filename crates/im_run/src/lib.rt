@@ -8,5 +8,7 @@ mod planned;
 mod run;
 mod served;
 mod telling;
+mod tracing;
 
 pub use run::{STALLED, run_on};
+pub use tracing::{Trace, write_trace};

@@ -1,14 +1,14 @@
 //! What each element asks for in a script.
-ghost use Rattle.std.specs.Prelude.{MatchResult};
+ghost use Rattle.std.specs.Prelude.{◌≤◌, ◌+◌, MatchResult, vec_len, vec_capacity};
 ghost use Rattle.im_serial.specs.Serving.{Ends, Serves, at};
 
 use im_disk::Disk;
 use im_memory::Memory;
-use im_script::{Heard, Place, Reader, Said, Script, ScriptLine, split_line};
+use im_script::{Allocation, Heard, Place, Reader, Said, Script, ScriptLine, split_line};
 use im_serial::Server;
 use im_serving::Intent;
 use im_text::{Observer, Reason};
-use im_types::MAX_ELEMENTS;
+use im_types::{Call, Command, Line, MAX_ELEMENTS, Outcome, Refusal, Request};
 use std::alloc::{AllocError, Global};
 use std::io::Write;
 
@@ -71,10 +71,76 @@ fn add_glance(
     }
 }
 
+// Returns the line of a confirmation of element 0.
+fn confirmed_line(upto: u64) -> Line {
+    Line {
+        call: Call::Command(Command::Confirm { element: 0, upto }),
+        answer: Ok(Outcome::Confirmed),
+    }
+}
+
+// Returns the line of a request of element 0, with what the memory keeps for it.
+fn kept_line(memory: &Memory, number: u64) -> Option<Line> {
+    let kept = memory.kept(0, number)?;
+    let request = Request {
+        element: 0,
+        number,
+        op: kept.op,
+    };
+    Some(Line {
+        call: Call::Command(Command::Request(request)),
+        answer: Ok(Outcome::Entry(kept.entry)),
+    })
+}
+
+// Notes what was served for a block of the setup, given the window of element 0 before: entries may have been
+// confirmed, and then a request may have been served.
+fn note_block(setup: &mut Vec<Line>, memory: &Memory, window: Result<(u64, u64), Refusal>)
+    requires room { vec_len setup.old + 2 ≤ vec_capacity setup.old }
+{
+    let (Ok((base, next)), Ok((first, last))) = (window, memory.window(0)) else {
+        return;
+    };
+    if base < first {
+        setup.push_reserved(confirmed_line(first));
+    }
+    if next < last {
+        if let Some(line) = kept_line(memory, next) {
+            setup.push_reserved(line);
+        }
+    }
+}
+
+// Makes a block of the setup, and notes what was served for it.
+fn make_block<D: Disk, W: Write, N: Observer>(
+    server: &mut Server<D>,
+    setup: &mut Vec<Line>,
+    block: Allocation,
+    out: &mut W,
+    observer: &mut N,
+) -> Result<(), Reason>
+    ensures serves { MatchResult result
+        (λ _. Serves D.now D.past D.failures D.honest
+        (at server.old.engine (W.contents out.old) server.old.lines server.old.waited.items)
+        (at server.new.engine (W.contents out.new) server.new.lines server.new.waited.items))
+        (λ _. Ends D.now D.past D.failures D.honest
+        (at server.old.engine (W.contents out.old) server.old.lines server.old.waited.items)
+        (at server.new.engine (W.contents out.new) server.new.lines server.new.waited.items)) }
+{
+    if setup.reserve(2).is_err() {
+        return Err(Reason::Memory);
+    }
+    let window = server.engine.memory().window(0);
+    let made = server.make_block(block, out, observer);
+    note_block(setup, server.engine.memory(), window);
+    made
+}
+
 // Does what a line says.
 fn take_heard<D: Disk, W: Write, N: Observer>(
     server: &mut Server<D>,
     orders: &mut [Order],
+    setup: &mut Vec<Line>,
     heard: Heard,
     out: &mut W,
     observer: &mut N,
@@ -89,7 +155,7 @@ fn take_heard<D: Disk, W: Write, N: Observer>(
 {
     match heard {
         Heard::Says(Said::Nothing | Said::Begins(_)) => Ok(()),
-        Heard::Says(Said::Block(block)) => server.make_block(block, out, observer),
+        Heard::Says(Said::Block(block)) => make_block(server, setup, block, out, observer),
         Heard::Says(Said::Asks(line)) => add_line(orders, server.bases.as_slice(), line),
         Heard::Glances(element, place) => {
             add_glance(orders, server.bases.as_slice(), element, place)
@@ -102,6 +168,7 @@ fn take_lines<D: Disk, W: Write, N: Observer>(
     alloc: Global,
     server: &mut Server<D>,
     orders: &mut [Order],
+    setup: &mut Vec<Line>,
     script: &Script<'_>,
     out: &mut W,
     observer: &mut N,
@@ -126,7 +193,7 @@ fn take_lines<D: Disk, W: Write, N: Observer>(
             Ok(heard) => heard,
             Err(fault) => return Err(Reason::Script(fault)), // There was no memory for it.
         };
-        match take_heard(server, orders, heard, out, observer) {
+        match take_heard(server, orders, setup, heard, out, observer) {
             Ok(()) => {}
             Err(reason) => return Err(reason),
         }
@@ -139,6 +206,7 @@ fn set_up<D: Disk, W: Write, N: Observer>(
     alloc: Global,
     server: &mut Server<D>,
     orders: &mut [Order],
+    setup: &mut Vec<Line>,
     script: &Script<'_>,
     out: &mut W,
     observer: &mut N,
@@ -151,7 +219,7 @@ fn set_up<D: Disk, W: Write, N: Observer>(
         (at server.old.engine (W.contents out.old) server.old.lines server.old.waited.items)
         (at server.new.engine (W.contents out.new) server.new.lines server.new.waited.items)) }
 {
-    match take_lines(alloc, server, orders, script, out, observer) {
+    match take_lines(alloc, server, orders, setup, script, out, observer) {
         Ok(()) => server.lines.flush(out),
         Err(reason) => Err(reason),
     }
@@ -181,14 +249,15 @@ fn number_orders(alloc: Global, memory: &Memory, orders: Vec<Order>) -> Result<V
     Ok(numbered)
 }
 
-/// Serves the setup of a script, and prints its lines at once. Returns what each element asks for, from the least
-/// element. Nothing after the setup is served.
+/// Serves the setup of a script, prints its lines at once, and notes its calls in `setup`. Returns what each element
+/// asks for, from the least element. Nothing after the setup is served.
 ///
 /// It is refused with what serving a block is refused with, with `Place` if a request's place lies past the last
 /// address, and with `Memory`.
 pub fn read_orders<D: Disk, W: Write, N: Observer>(
     alloc: Global,
     server: &mut Server<D>,
+    setup: &mut Vec<Line>,
     script: &Script<'_>,
     out: &mut W,
     observer: &mut N,
@@ -204,7 +273,15 @@ pub fn read_orders<D: Disk, W: Write, N: Observer>(
     let Ok(mut orders) = no_orders(alloc) else {
         return Err(Reason::Memory);
     };
-    match set_up(alloc, server, orders.as_mut_slice(), script, out, observer) {
+    match set_up(
+        alloc,
+        server,
+        orders.as_mut_slice(),
+        setup,
+        script,
+        out,
+        observer,
+    ) {
         Ok(()) => number_orders(alloc, server.engine.memory(), orders),
         Err(reason) => Err(reason),
     }

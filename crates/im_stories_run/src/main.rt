@@ -221,7 +221,7 @@ fn run_as<G: Gate + Sync, R: Threads + Wait + Sync>(
         return Err(anyhow!("this is no script"));
     };
     let mut out = Paper::new(alloc);
-    let (status, disk) = run_on(
+    let (status, disk, _trace) = run_on(
         rt,
         alloc,
         disk,
@@ -300,7 +300,7 @@ fn tell_fault<R: Threads + Wait + Sync>(rt: &R, alloc: Global, said: &mut String
     let mut out = Paper::new(alloc);
     let mut told = Told { reason: None };
     let disk = FuseDisk::new(new_image(alloc)?, opening, Mode::Stop);
-    let (status, _disk) = run_on(
+    let (status, _disk, _trace) = run_on(
         rt, alloc, disk, &script, &Open, &Unwatched, &mut out, &mut told, false,
     );
     let is_told = match told.reason {
