@@ -11,7 +11,7 @@ use Rattle.im_types.specs.declared.commands.Line.{Line}
 use Rattle.im_types.specs.declared.refusals.Refusal.{Refusal}
 use Rattle.im_types.specs.Refusals.{number_of}
 use Rattle.im_types.specs.Contents.{Contents}
-use Rattle.im_types.specs.Trace.{IsLegal, end_of}
+use Rattle.im_types.specs.Trace.{IsLegal}
 use Rattle.im_types.specs.Run.{after}
 use Rattle.im_controller.specs.Kept.{accepted_in}
 use Rattle.im_text.specs.declared.lines.Lines.{Lines}
@@ -44,8 +44,12 @@ trace_line None = []
 trace_line (Some line) = call_text line.call ++ codes " -> " ++ answer_text line.answer ++ line_feed
 
 -- the first of these lines
-abbrev pub lines_text : List Line → ℕ → List ℕ
-lines_text lines many = texts_below (λ i. trace_line (slice_get lines i)) many
+abbrev pub first_lines : List Line → ℕ → List ℕ
+first_lines lines many = texts_below (λ i. trace_line (slice_get lines i)) many
+
+-- all of these lines
+abbrev pub lines_text : List Line → List ℕ
+lines_text lines = first_lines lines (length lines)
 
 -- a run's calls, each with its answer: those of the setup, and those of the elements' servers
 pub record TraceState : Type 0 where
@@ -54,8 +58,15 @@ pub record TraceState : Type 0 where
 
 -- all lines
 abbrev pub trace_text : TraceState → List ℕ
-trace_text t = lines_text t.setup (length t.setup) ++ lines_text t.served (length t.served)
+trace_text t = lines_text t.setup ++ lines_text t.served
 
--- some of these lines were printed, from the first on
-abbrev pub PrintsSome : Option (List ℕ) → Lines → Option (List ℕ) → Lines → List Line → Type 0
-PrintsSome was before is after lines = (many : ℕ) × (many ≤ length lines) × PrintsMore was before is after (lines_text lines many)
+-- What is known of the calls of a run, given the memory at its start, the commands of its setup, and all that were
+-- acknowledged. Those of the servers are legal from the memory after the setup. Their accepted commands are those that
+-- were acknowledged behind the setup's; there are none if the setup was ended.
+pub record IsTraced (start : Contents) (setup told : List Command) (calls : TraceState) : Type 0 where
+  pub legal : IsLegal (after start setup) calls.served
+  pub accepted : (calls.served ≡ []) ⊎ (told ≡ setup ++ accepted_in (after start setup) calls.served)
+
+-- a beginning of this text was printed
+abbrev pub PrintsBeginning : Option (List ℕ) → Lines → Option (List ℕ) → Lines → List ℕ → Type 0
+PrintsBeginning was before is after text = (part : List ℕ) × ((rest : List ℕ) × ((text ≡ part ++ rest) × PrintsMore was before is after part))

@@ -1,5 +1,5 @@
 //! What each element asks for in a script.
-ghost use Rattle.std.specs.Prelude.{◌≤◌, ◌+◌, MatchResult, vec_len, vec_capacity};
+ghost use Rattle.std.specs.Prelude.{◌≡◌, ◌≤◌, ◌<◌, ◌+◌, MatchResult, vec_len, vec_capacity};
 ghost use Rattle.im_serial.specs.Serving.{Ends, Serves, at};
 
 use im_disk::Disk;
@@ -23,6 +23,13 @@ pub struct Order {
     pub next: u64,
     /// Its operations and glances.
     pub intents: Vec<Intent>,
+}
+
+// What was read of a script: what each element asks for, and the calls of its setup.
+#[derive(Drop)]
+struct Reading {
+    orders: Vec<Order>,
+    setup: Vec<Line>,
 }
 
 // Makes an order for each element that a script can name. It asks for nothing yet.
@@ -93,21 +100,34 @@ fn kept_line(memory: &Memory, number: u64) -> Option<Line> {
     })
 }
 
-// Notes what was served for a block of the setup, given the window of element 0 before: entries may have been
-// confirmed, and then a request may have been served.
-fn note_block(setup: &mut Vec<Line>, memory: &Memory, window: Result<(u64, u64), Refusal>)
-    requires room { vec_len setup.old + 2 ≤ vec_capacity setup.old }
+// Notes a confirmation, if element 0's window begins later than before.
+fn note_confirmed(setup: &mut Vec<Line>, base: u64, first: u64)
+    requires room { vec_len setup.old < vec_capacity setup.old }
+    ensures few { vec_len setup.new ≤ vec_len setup.old + 1 }
+    ensures capacity { vec_capacity setup.new ≡ vec_capacity setup.old }
 {
-    let (Ok((base, next)), Ok((first, last))) = (window, memory.window(0)) else {
-        return;
-    };
     if base < first {
         setup.push_reserved(confirmed_line(first));
     }
-    if next < last {
-        if let Some(line) = kept_line(memory, next) {
-            setup.push_reserved(line);
-        }
+}
+
+// Notes element 0's request with a number, if the memory took it.
+fn note_request(setup: &mut Vec<Line>, memory: &Memory, number: u64)
+    requires room { vec_len setup.old < vec_capacity setup.old }
+{
+    if let Some(line) = kept_line(memory, number) {
+        setup.push_reserved(line);
+    }
+}
+
+// Notes what was served for a block of the setup, given element 0's window before: entries may have been confirmed, and
+// then a request may have been served.
+fn note_block(setup: &mut Vec<Line>, memory: &Memory, window: Result<(u64, u64), Refusal>)
+    requires room { vec_len setup.old + 2 ≤ vec_capacity setup.old }
+{
+    if let (Ok((base, next)), Ok((first, _))) = (window, memory.window(0)) {
+        note_confirmed(setup, base, first);
+        note_request(setup, memory, next);
     }
 }
 
@@ -139,8 +159,7 @@ fn make_block<D: Disk, W: Write, N: Observer>(
 // Does what a line says.
 fn take_heard<D: Disk, W: Write, N: Observer>(
     server: &mut Server<D>,
-    orders: &mut [Order],
-    setup: &mut Vec<Line>,
+    reading: &mut Reading,
     heard: Heard,
     out: &mut W,
     observer: &mut N,
@@ -155,9 +174,14 @@ fn take_heard<D: Disk, W: Write, N: Observer>(
 {
     match heard {
         Heard::Says(Said::Nothing | Said::Begins(_)) => Ok(()),
-        Heard::Says(Said::Block(block)) => make_block(server, setup, block, out, observer),
-        Heard::Says(Said::Asks(line)) => add_line(orders, server.bases.as_slice(), line),
+        Heard::Says(Said::Block(block)) => {
+            make_block(server, &mut reading.setup, block, out, observer)
+        }
+        Heard::Says(Said::Asks(line)) => {
+            add_line(reading.orders.as_mut_slice(), server.bases.as_slice(), line)
+        }
         Heard::Glances(element, place) => {
+            let orders = reading.orders.as_mut_slice();
             add_glance(orders, server.bases.as_slice(), element, place)
         }
     }
@@ -167,8 +191,7 @@ fn take_heard<D: Disk, W: Write, N: Observer>(
 fn take_lines<D: Disk, W: Write, N: Observer>(
     alloc: Global,
     server: &mut Server<D>,
-    orders: &mut [Order],
-    setup: &mut Vec<Line>,
+    reading: &mut Reading,
     script: &Script<'_>,
     out: &mut W,
     observer: &mut N,
@@ -193,7 +216,7 @@ fn take_lines<D: Disk, W: Write, N: Observer>(
             Ok(heard) => heard,
             Err(fault) => return Err(Reason::Script(fault)), // There was no memory for it.
         };
-        match take_heard(server, orders, setup, heard, out, observer) {
+        match take_heard(server, reading, heard, out, observer) {
             Ok(()) => {}
             Err(reason) => return Err(reason),
         }
@@ -205,8 +228,7 @@ fn take_lines<D: Disk, W: Write, N: Observer>(
 fn set_up<D: Disk, W: Write, N: Observer>(
     alloc: Global,
     server: &mut Server<D>,
-    orders: &mut [Order],
-    setup: &mut Vec<Line>,
+    reading: &mut Reading,
     script: &Script<'_>,
     out: &mut W,
     observer: &mut N,
@@ -219,7 +241,7 @@ fn set_up<D: Disk, W: Write, N: Observer>(
         (at server.old.engine (W.contents out.old) server.old.lines server.old.waited.items)
         (at server.new.engine (W.contents out.new) server.new.lines server.new.waited.items)) }
 {
-    match take_lines(alloc, server, orders, setup, script, out, observer) {
+    match take_lines(alloc, server, reading, script, out, observer) {
         Ok(()) => server.lines.flush(out),
         Err(reason) => Err(reason),
     }
@@ -249,20 +271,19 @@ fn number_orders(alloc: Global, memory: &Memory, orders: Vec<Order>) -> Result<V
     Ok(numbered)
 }
 
-/// Serves the setup of a script, prints its lines at once, and notes its calls in `setup`. Returns what each element
-/// asks for, from the least element. Nothing after the setup is served.
+/// Serves the setup of a script, and prints its lines at once. Returns what each element asks for, from the least
+/// element, and the setup's calls with their answers. Nothing after the setup is served.
 ///
 /// It is refused with what serving a block is refused with, with `Place` if a request's place lies past the last
-/// address, and with `Memory`.
+/// address, and with `Memory`. The setup's calls until then are returned.
 pub fn read_orders<D: Disk, W: Write, N: Observer>(
     alloc: Global,
     server: &mut Server<D>,
-    setup: &mut Vec<Line>,
     script: &Script<'_>,
     out: &mut W,
     observer: &mut N,
-) -> Result<Vec<Order>, Reason>
-    ensures serves { MatchResult result
+) -> (Result<Vec<Order>, Reason>, Vec<Line>)
+    ensures serves { MatchResult result.0
         (λ _. Serves D.now D.past D.failures D.honest
         (at server.old.engine (W.contents out.old) server.old.lines server.old.waited.items)
         (at server.new.engine (W.contents out.new) server.new.lines server.new.waited.items))
@@ -270,19 +291,19 @@ pub fn read_orders<D: Disk, W: Write, N: Observer>(
         (at server.old.engine (W.contents out.old) server.old.lines server.old.waited.items)
         (at server.new.engine (W.contents out.new) server.new.lines server.new.waited.items)) }
 {
-    let Ok(mut orders) = no_orders(alloc) else {
-        return Err(Reason::Memory);
+    let setup = Vec::new(alloc);
+    let Ok(orders) = no_orders(alloc) else {
+        return (Err(Reason::Memory), setup);
     };
-    match set_up(
-        alloc,
-        server,
-        orders.as_mut_slice(),
-        setup,
-        script,
-        out,
-        observer,
-    ) {
-        Ok(()) => number_orders(alloc, server.engine.memory(), orders),
-        Err(reason) => Err(reason),
+    let mut reading = Reading { orders, setup };
+    match set_up(alloc, server, &mut reading, script, out, observer) {
+        Ok(()) => {
+            let Reading { orders, setup } = reading;
+            (number_orders(alloc, server.engine.memory(), orders), setup)
+        }
+        Err(reason) => {
+            let Reading { orders: _, setup } = reading;
+            (Err(reason), setup)
+        }
     }
 }

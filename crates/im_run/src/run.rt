@@ -209,8 +209,9 @@ fn serve_on<
             (status, disk, trace)
         }
         Err((reason, engine)) => {
+            let trace = Vec::new(alloc);
             let (status, disk) = close(alloc, engine, none, Err(reason), paper, out, observer);
-            (status, disk, Vec::new(alloc))
+            (status, disk, trace)
         }
     }
 }
@@ -240,14 +241,13 @@ fn run_engine<
     requires pending { desk.lines.pending.items ≡ [] }
     ensures status { (result.0 ≤ 1) ⊎ (result.0 ≡ STALLED) }
     ensures run { D.honest result.1
-        → RunOn D.now D.past D.failures engine result.1 (W.contents out.old) (W.contents out.new) result.2.served
+        → RunOn D.now D.past D.failures engine result.1 (W.contents out.old) (W.contents out.new) result.2
         result.0 }
     ensures honest { D.honest result.1 → D.honest engine.disk }
 {
     let none = Vec::new(alloc);
-    let mut setup = Vec::new(alloc);
     let mut server = Server::new(alloc, engine, desk);
-    let read = read_orders(alloc, &mut server, &mut setup, script, out, observer);
+    let (read, setup) = read_orders(alloc, &mut server, script, out, observer);
     let (engine, paper) = server.leave();
     match read {
         Ok(orders) => {
@@ -257,8 +257,8 @@ fn run_engine<
             (status, disk, Trace { setup, served })
         }
         Err(reason) => {
-            let (status, disk) = close(alloc, engine, none, Err(reason), paper, out, observer);
             let served = Vec::new(alloc);
+            let (status, disk) = close(alloc, engine, none, Err(reason), paper, out, observer);
             (status, disk, Trace { setup, served })
         }
     }
@@ -331,7 +331,7 @@ pub fn run_on<
         → Ran D.now result.1 (W.contents out.old) (W.contents out.new) result.0 }
     ensures run { D.honest result.1
         → NotOpened D.now D.past disk result.1 (W.contents out.old) (W.contents out.new) result.0
-        ⊎ RanOn D.now D.past D.failures disk result.1 (W.contents out.old) (W.contents out.new) result.2.served
+        ⊎ RanOn D.now D.past D.failures disk result.1 (W.contents out.old) (W.contents out.new) result.2
         result.0 }
     ensures honest { D.honest result.1 → D.honest disk }
 {

@@ -3,7 +3,7 @@ ghost use Rattle.std.specs.Prelude.{◌≡◌, false};
 ghost use Rattle.im_types.specs.Trace.{IsLegal, end_of};
 ghost use Rattle.im_types.specs.declared.commands.Line.{Line};
 ghost use Rattle.im_controller.specs.Kept.{begun_in};
-ghost use Rattle.im_run.specs.Running.{Follows, ServedOn};
+ghost use Rattle.im_run.specs.Running.{ServedOn};
 
 use crate::orders::Order;
 use im_controller::{Controller, Finished, Name, Opening, Port, Traced, finish};
@@ -181,8 +181,8 @@ fn make_parts<D: Disk, K: Name, R: Wait>(
     parts
 }
 
-/// Serves what each element asks for, all at once, through a controller over an engine, and gives the engine back. The
-/// thread that keeps checkpoints tells the watcher how things stand.
+/// Serves what each element asks for, all at once, through a controller over an engine, and gives the engine and the
+/// trace back. The thread that keeps checkpoints tells the watcher how things stand.
 ///
 /// An element that doesn't exist is refused with `NoElement`, and one for which memory or a thread is missing with
 /// `NoMemory`. Nothing of it is served then. The requests of the others continue.
@@ -208,6 +208,8 @@ pub fn serve_orders<
     requires plan { opening.plan ≡ K.plan }
     requires begun { begun_in D.now D.past D.failures opening.engine ≡ K.begun }
     requires honest { D.honest opening.engine.disk → K.honest }
+    ensures legal { IsLegal K.memory result.trace.items }
+    ensures end { end_of K.memory result.trace.items ≡ result.engine.memory }
     ensures kept { D.honest result.engine.disk → K.begun.failed ≡ false
         → ServedOn D.now D.past D.failures K.begun K.memory result.trace.items result.engine }
     ensures honest { D.honest result.engine.disk → K.honest }

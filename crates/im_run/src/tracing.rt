@@ -1,8 +1,9 @@
 //! The trace of a run: its calls in the order that was kept, each with its answer.
-ghost use Rattle.std.specs.Prelude.{◌≡◌, ◌++◌, ◌≤◌, ℕ, OnOk, MatchResult, length, slice_get, string_bytes};
+ghost use Rattle.std.specs.Prelude.{◌≡◌, ◌++◌, [], OnOk, MatchResult, Some, slice_get, string_bytes};
 ghost use Rattle.std.specs.Io.KnownBytes.{Appends};
 ghost use Rattle.im_text.specs.Printing.{Begins, PrintsMore, PrintsOn};
-ghost use Rattle.im_run.specs.Tracing.{PrintsSome, answer_text, call_text, lines_text, trace_line, trace_text};
+ghost use Rattle.im_run.specs.Tracing.{PrintsBeginning, answer_text, call_text, lines_text, refusal_text, request_text};
+ghost use Rattle.im_run.specs.Tracing.{trace_line, trace_text};
 
 use im_controller::Traced;
 use im_text::{Lines, Reason, add_entry, add_op};
@@ -144,8 +145,8 @@ fn print_setup<W: Write>(
     out: &mut W,
 ) -> Result<(), Reason>
     ensures all { OnOk result (PrintsMore (W.contents out.old) lines.old (W.contents out.new) lines.new
-        (lines_text setup.now (length setup.now))) }
-    ensures some { PrintsSome (W.contents out.old) lines.old (W.contents out.new) lines.new setup.now }
+        (lines_text setup.now)) }
+    ensures some { PrintsBeginning (W.contents out.old) lines.old (W.contents out.new) lines.new (lines_text setup.now) }
 {
     for at in 0..setup.len() {
         match print_call(setup_at(setup, at), text, lines, out) {
@@ -164,8 +165,8 @@ fn print_served<W: Write>(
     out: &mut W,
 ) -> Result<(), Reason>
     ensures all { OnOk result (PrintsMore (W.contents out.old) lines.old (W.contents out.new) lines.new
-        (lines_text served.now (length served.now))) }
-    ensures some { PrintsSome (W.contents out.old) lines.old (W.contents out.new) lines.new served.now }
+        (lines_text served.now)) }
+    ensures some { PrintsBeginning (W.contents out.old) lines.old (W.contents out.new) lines.new (lines_text served.now) }
 {
     for at in 0..served.len() {
         match print_call(served_at(served, at), text, lines, out) {
@@ -182,7 +183,11 @@ fn print_trace<W: Write>(
     text: &mut String,
     lines: &mut Lines,
     out: &mut W,
-) -> Result<(), Reason> {
+) -> Result<(), Reason>
+    ensures all { OnOk result (PrintsMore (W.contents out.old) lines.old (W.contents out.new) lines.new
+        (trace_text trace.now)) }
+    ensures some { PrintsBeginning (W.contents out.old) lines.old (W.contents out.new) lines.new (trace_text trace.now) }
+{
     match print_setup(trace.setup.as_slice(), text, lines, out) {
         Ok(()) => print_served(trace.served.as_slice(), text, lines, out),
         Err(reason) => Err(reason),
