@@ -120,7 +120,9 @@ serial_task rows = serial (path_in rows (codes "IMAGE")) (path_in rows (codes "S
 
 -- the task of run, by its two paths, whether it is planned, and the path of its trace
 abbrev pub run_task : List Row → Task
-run_task rows = run (path_in rows (codes "IMAGE")) (path_in rows (codes "SCRIPT")) (is_given rows (codes "planned")) (first_of (codes "trace") rows)
+run_task rows =
+    run (path_in rows (codes "IMAGE")) (path_in rows (codes "SCRIPT")) (is_given rows (codes "planned"))
+    (first_of (codes "trace") rows)
 
 -- the task of serve, by its path and whether it is watched
 abbrev pub serve_task : List Row → Task

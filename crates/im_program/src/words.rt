@@ -1,7 +1,8 @@
 //! Reads the words of the command line.
 ghost use Rattle.std.specs.Prelude.{IfSome, ◌≡◌, [], true, false, Some, IfOk, IfErr, IsOk, IsSome, codes};
 ghost use Rattle.std.specs.Option.{option_map};
-ghost use Rattle.clap.specs.Words.{app_of, fault_of, first_of, found_of, kind_of, rows_of, rule_of, subcommand_rows_of, takes};
+ghost use Rattle.clap.specs.Words.{app_of, fault_of, first_of, found_of, kind_of, rows_of, rule_of};
+ghost use Rattle.clap.specs.Words.{subcommand_rows_of, takes};
 ghost use Rattle.clap.specs.declared.builder.command.Command.TheViews.{out-Command};
 ghost use Rattle.im_script.specs.Grammar.{texts};
 ghost use Rattle.im_program.specs.Words.{asked, asks_statuses, file_app, flag_rule, format_app, format_task, has_statuses, imem_app, inspect_app, inspect_task};
@@ -281,20 +282,20 @@ Exit status: 0 the image is moved; 1 refused, with 'refused N NAME' as the last 
 of the version in use, 12 WrongLength if NEW has another length, 22 NotBlank if NEW is an image already;
 2 a bad command line. A refusal also has a line on standard error, which says why.";
 
+/// An option with a value, which the help names.
+fn value_option<'a>(alloc: Global, id: &'a str, value: &'a str, help: &'a str) -> Arg<'a>
+    ensures rule { rule_of result ≡ option_rule id.entry.now }
+    ensures local { result.global ≡ false }
+{
+    Arg::new(alloc, id).long(id).value_name(value).help(help)
+}
+
 /// An option that takes a number.
 fn number_option<'a>(alloc: Global, id: &'a str, help: &'a str) -> Arg<'a>
     ensures rule { rule_of result ≡ option_rule id.entry.now }
     ensures local { result.global ≡ false }
 {
-    Arg::new(alloc, id).long(id).value_name("N").help(help)
-}
-
-/// An option that takes a path.
-fn path_option<'a>(alloc: Global, id: &'a str, help: &'a str) -> Arg<'a>
-    ensures rule { rule_of result ≡ option_rule id.entry.now }
-    ensures local { result.global ≡ false }
-{
-    Arg::new(alloc, id).long(id).value_name("FILE").help(help)
+    value_option(alloc, id, "N", help)
 }
 
 /// A flag: an option without a value.
@@ -449,9 +450,10 @@ fn run_command<'a>(alloc: Global) -> Result<Command<'a>, AllocError>
         "planned",
         "Serve the script as a plan: fetches, stores and glances, at most one store to a cell",
     );
-    let trace = path_option(
+    let trace = value_option(
         alloc,
         "trace",
+        "FILE",
         "Write each call and its answer to a new file, in the order of the lock",
     );
     let one = script.arg(planned)?;

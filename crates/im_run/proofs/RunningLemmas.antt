@@ -1,6 +1,6 @@
 -- What a run puts on a disk, and what it prints. (Own.)
 use Rattle.std.proofs.Common.{◌≡◌, ◌∙◌, ◌-◌, ◌+◌, ◌≤◌, inl, inr, ⊎_elim, ℕ, zero, suc, Bool, true, false, List, [], ◌++◌, length, refl, sym, ap, subst, take, drop, length-append, append_assoc, arith}
-use Rattle.std.specs.Prelude.{Option, Some, ◌⊎◌, slice_get}
+use Rattle.std.specs.Prelude.{Option, Some, ◌⊎◌, MatchResult, Result, Ok, Err, slice_get}
 use Rattle.std.specs.Io.KnownBytes.{Appends}
 use Rattle.std.proofs.lemmas.List.{append-nil, take_all, take-append-le, take-append-drop, length-take-le}
 use Rattle.im_types.specs.declared.commands.Command.{Command}
@@ -29,6 +29,16 @@ use Rattle.im_run.specs.declared.run.TheConstants.{STALLED}
 use Rattle.im_run.specs.declared.served.Did.{Did}
 use Rattle.im_run.specs.Tracing.{TraceState}
 use Rattle.im_run.specs.Running.{BeginsFinals, Closes, EndedOn, PrintsFinals, Puts, Ran, RanOn, RunOn, ServedOn, Settles, final_line, finals}
+
+-- ---- what holds of a result
+
+pub match_ok : {T E : Type 0} (P Q : Type 0) (r : Result T E) (x : T) → r ≡ Ok x → MatchResult r (λ _. P) (λ _. Q) → P
+match_ok P Q (Ok y) x is holds = holds
+match_ok P Q (Err e) x is holds = absurd (cc)
+
+pub match_err : {T E : Type 0} (P Q : Type 0) (r : Result T E) (e : E) → r ≡ Err e → MatchResult r (λ _. P) (λ _. Q) → Q
+match_err P Q (Ok y) e is holds = absurd (cc)
+match_err P Q (Err d) e is holds = holds
 
 -- ---- beginnings of lists
 
@@ -128,7 +138,8 @@ module _ {D : Type 0} (now : D → Moment) (past : D → List Moment) (failures 
         (true_or_false engine.failed)
 
   -- and then by the elements' servers
-  module _ (start mid engine : EngineState D) (setup : List Command) (it : HasPut now past failures start mid setup) (alive : mid.failed ≡ false) (trace : List Line) (on : ServedOn now past failures (begun_in now past failures mid) mid.memory trace engine) where
+  module _ (start mid engine : EngineState D) (setup : List Command) (it : HasPut now past failures start mid setup) (alive : mid.failed ≡ false) (trace : List Line)
+      (on : ServedOn now past failures (begun_in now past failures mid) mid.memory trace engine) where
     abbrev served : List Command
     served = accepted_in mid.memory trace
 
@@ -186,12 +197,17 @@ module _ {D : Type 0} (now : D → Moment) (past : D → List Moment) (failures 
     }
 
 -- no servers began
-pub none_served : {D : Type 0} (now : D → Moment) (past : D → List Moment) (failures : D → ℕ) (begun engine : EngineState D) (trace : List Line) → trace ≡ [] → engine ≡ begun → engine.failed ≡ false
-    → LeavesNow (now engine.disk) (MeansState engine) → ServedOn now past failures (begun_in now past failures begun) begun.memory trace engine
+pub none_served : {D : Type 0} (now : D → Moment) (past : D → List Moment) (failures : D → ℕ) (begun engine : EngineState D) (trace : List Line)
+    → trace ≡ [] → engine ≡ begun → engine.failed ≡ false → LeavesNow (now engine.disk) (MeansState engine)
+    → ServedOn now past failures (begun_in now past failures begun) begun.memory trace engine
 none_served {D} now past failures begun engine trace none same alive means =
+    let here = begun_in now past failures engine in
     subst (λ (b : EngineState D). ServedOn now past failures (begun_in now past failures b) b.memory trace engine) same
-    (subst (λ (t : List Line). ServedOn now past failures (begun_in now past failures engine) engine.memory t engine) (sym none)
-    (record { legal = tt; ends = refl; kept = kept_start now past failures (begun_in now past failures engine) engine.memory engine refl refl alive means }))
+    (subst (λ (t : List Line). ServedOn now past failures here engine.memory t engine) (sym none) (record {
+      legal = tt;
+      ends = refl;
+      kept = kept_start now past failures here engine.memory engine refl refl alive means;
+    }))
 
 -- ---- what was printed
 
@@ -229,8 +245,10 @@ module _ {D : Type 0} (now : D → Moment) (past : D → List Moment) (failures 
   -- the setup was ended
   pub halted_run : (start engine : EngineState D) (put : List Command) (text : List ℕ) (names : List Waiter) (was mid is : Option (List ℕ)) (lines : Lines) (did : List Did) (disk : D) (calls : TraceState) (status : ℕ) → HaltsWith now past failures start engine put text names
       → Prints was mid lines text → did ≡ [] → disk ≡ engine.disk → ((status ≡ 0) ⊎ (status ≡ STALLED) → engine.failed ≡ false) → (engine.failed ≡ false → LeavesNow (now disk) (MeansState engine)) → (status ≡ 0 → ⊥)
-      → Closes mid lines is engine.memory did status → calls.served ≡ [] → RunOn now past failures start disk was is calls status
-  halted_run start engine put text names was mid is lines did disk calls status it prints none at_end works means never closes unserved =
+      → Closes mid lines is engine.memory did status → calls.served ≡ []
+      → RunOn now past failures start disk was is calls status
+  halted_run start engine put text names was mid is lines did disk calls status it prints none at_end works means never
+      closes unserved =
       let on = put_on now past failures start engine put it.has in
       let whole = on.whole ∙ append-nil put in
       record {
@@ -254,12 +272,14 @@ module _ {D : Type 0} (now : D → Moment) (past : D → List Moment) (failures 
 
   -- the elements' servers ended
   pub ended_run : (start mid : EngineState D) (setup : List Command) (text : List ℕ) (names : List Waiter) (was held is : Option (List ℕ)) (lines : Lines) (disk : D) (calls : TraceState) (status : ℕ) → GoesWith now past failures start mid setup text names
-      → Prints was held lines text → EndedOn now past failures mid disk held lines is calls.served status → RunOn now past failures start disk was is calls status
+      → Prints was held lines text → EndedOn now past failures mid disk held lines is calls.served status
+      → RunOn now past failures start disk was is calls status
   unfolding puts_on
   ended_run start mid setup text names was held is lines disk calls status it prints ended =
       let served = ended.served in
       let trace = calls.served in
       let begun = it.has.memory it.works in
+      let put = accepted_in mid.memory trace in
       let on = puts_on now past failures start mid ended.engine setup it.has it.works trace served in
       let closes = ended.printed was text prints in
       let told_is : ended.engine.memory ≡ after start.memory on.told = sym served.ends ∙ sym (accepted-after mid.memory trace) ∙ goes_on now past failures start mid ended.engine setup it.has it.works trace served (accepted_in mid.memory trace) in
@@ -268,13 +288,13 @@ module _ {D : Type 0} (now : D → Moment) (past : D → List Moment) (failures 
         told = on.told;
         doubt = on.doubt;
         puts = subst (λ (d : D). Puts now past failures start start.disk d setup on.told on.doubt) (sym ended.disk_is) on.puts;
-        settles = settled start ended.engine setup (accepted_in mid.memory trace ++ served.kept.doubt) disk status on ended.works ended.means;
+        settles = settled start ended.engine setup (put ++ served.kept.doubt) disk status on ended.works ended.means;
         printed = record {
           said = setup;
           others = [];
           split = sym (append-nil setup);
           kept = subst (λ (d : D). LeavesNow (now d) (MeansAtLeast start (on.told ++ on.doubt) (length setup))) (sym ended.disk_is)
-              (λ file left. with_or_without start on.told on.doubt (length setup) file (omega (arith, length-append setup (accepted_in mid.memory trace))) (on.puts.last file left));
+              (λ file left. with_or_without start on.told on.doubt (length setup) file (omega (arith, length-append setup put)) (on.puts.last file left));
           did = ended.did;
           begins = subst (λ (m : Contents). BeginsFinals was is (replies start.memory setup) m ended.did) told_is (subst (λ (t : List ℕ). BeginsFinals was is t ended.engine.memory ended.did) it.lines closes.0);
           whole = λ zero. subst (λ (m : Contents). Appends was is (replies start.memory setup ++ finals m ended.did (length ended.did))) told_is

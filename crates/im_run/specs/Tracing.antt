@@ -33,15 +33,15 @@ abbrev pub refusal_text : Refusal → List ℕ
 refusal_text refusal = codes "refused " ++ decimal (number_of refusal)
 
 -- what was answered
-abbrev pub answer_text : Result Outcome Refusal → List ℕ
-answer_text (Ok (Tells entry)) = entry_text entry
-answer_text (Ok Confirmed) = codes "confirmed"
-answer_text (Err refusal) = refusal_text refusal
+abbrev pub outcome_text : Result Outcome Refusal → List ℕ
+outcome_text (Ok (Tells entry)) = entry_text entry
+outcome_text (Ok Confirmed) = codes "confirmed"
+outcome_text (Err refusal) = refusal_text refusal
 
 -- a call, an arrow, and its answer
 abbrev pub trace_line : Option Line → List ℕ
 trace_line None = []
-trace_line (Some line) = call_text line.call ++ codes " -> " ++ answer_text line.answer ++ line_feed
+trace_line (Some line) = call_text line.call ++ codes " -> " ++ outcome_text line.answer ++ line_feed
 
 -- the first of these lines
 abbrev pub first_lines : List Line → ℕ → List ℕ
@@ -58,7 +58,7 @@ pub record TraceState : Type 0 where
 
 -- all lines
 abbrev pub trace_text : TraceState → List ℕ
-trace_text t = lines_text t.setup ++ lines_text t.served
+trace_text t = lines_text (t.setup ++ t.served)
 
 -- What is known of the calls of a run, given the memory at its start, the commands of its setup, and all that were
 -- acknowledged. Those of the servers are legal from the memory after the setup. Their accepted commands are those that
@@ -69,4 +69,5 @@ pub record IsTraced (start : Contents) (setup told : List Command) (calls : Trac
 
 -- a beginning of this text was printed
 abbrev pub PrintsBeginning : Option (List ℕ) → Lines → Option (List ℕ) → Lines → List ℕ → Type 0
-PrintsBeginning was before is after text = (part : List ℕ) × ((rest : List ℕ) × ((text ≡ part ++ rest) × PrintsMore was before is after part))
+PrintsBeginning was before is after text =
+    (part : List ℕ) × ((rest : List ℕ) × ((text ≡ part ++ rest) × PrintsMore was before is after part))

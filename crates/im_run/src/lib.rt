@@ -3,6 +3,7 @@
 //! The crate stands on `im_serving`. The setup is served first, through the engine.
 #![tactic(auto)]
 
+mod noting;
 mod orders;
 mod planned;
 mod run;

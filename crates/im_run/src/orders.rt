@@ -1,14 +1,15 @@
 //! What each element asks for in a script.
-ghost use Rattle.std.specs.Prelude.{◌≡◌, ◌≤◌, ◌<◌, ◌+◌, MatchResult, vec_len, vec_capacity};
+ghost use Rattle.std.specs.Prelude.{MatchResult};
 ghost use Rattle.im_serial.specs.Serving.{Ends, Serves, at};
 
+use crate::noting::note_block;
 use im_disk::Disk;
 use im_memory::Memory;
 use im_script::{Allocation, Heard, Place, Reader, Said, Script, ScriptLine, split_line};
 use im_serial::Server;
 use im_serving::Intent;
 use im_text::{Observer, Reason};
-use im_types::{Call, Command, Line, MAX_ELEMENTS, Outcome, Refusal, Request};
+use im_types::{Line, MAX_ELEMENTS};
 use std::alloc::{AllocError, Global};
 use std::io::Write;
 
@@ -27,7 +28,7 @@ pub struct Order {
 
 // What was read of a script: what each element asks for, and the calls of its setup.
 #[derive(Drop)]
-struct Reading {
+struct Sheet {
     orders: Vec<Order>,
     setup: Vec<Line>,
 }
@@ -78,59 +79,6 @@ fn add_glance(
     }
 }
 
-// Returns the line of a confirmation of element 0.
-fn confirmed_line(upto: u64) -> Line {
-    Line {
-        call: Call::Command(Command::Confirm { element: 0, upto }),
-        answer: Ok(Outcome::Confirmed),
-    }
-}
-
-// Returns the line of a request of element 0, with what the memory keeps for it.
-fn kept_line(memory: &Memory, number: u64) -> Option<Line> {
-    let kept = memory.kept(0, number)?;
-    let request = Request {
-        element: 0,
-        number,
-        op: kept.op,
-    };
-    Some(Line {
-        call: Call::Command(Command::Request(request)),
-        answer: Ok(Outcome::Entry(kept.entry)),
-    })
-}
-
-// Notes a confirmation, if element 0's window begins later than before.
-fn note_confirmed(setup: &mut Vec<Line>, base: u64, first: u64)
-    requires room { vec_len setup.old < vec_capacity setup.old }
-    ensures few { vec_len setup.new ≤ vec_len setup.old + 1 }
-    ensures capacity { vec_capacity setup.new ≡ vec_capacity setup.old }
-{
-    if base < first {
-        setup.push_reserved(confirmed_line(first));
-    }
-}
-
-// Notes element 0's request with a number, if the memory took it.
-fn note_request(setup: &mut Vec<Line>, memory: &Memory, number: u64)
-    requires room { vec_len setup.old < vec_capacity setup.old }
-{
-    if let Some(line) = kept_line(memory, number) {
-        setup.push_reserved(line);
-    }
-}
-
-// Notes what was served for a block of the setup, given element 0's window before: entries may have been confirmed, and
-// then a request may have been served.
-fn note_block(setup: &mut Vec<Line>, memory: &Memory, window: Result<(u64, u64), Refusal>)
-    requires room { vec_len setup.old + 2 ≤ vec_capacity setup.old }
-{
-    if let (Ok((base, next)), Ok((first, _))) = (window, memory.window(0)) {
-        note_confirmed(setup, base, first);
-        note_request(setup, memory, next);
-    }
-}
-
 // Makes a block of the setup, and notes what was served for it.
 fn make_block<D: Disk, W: Write, N: Observer>(
     server: &mut Server<D>,
@@ -159,7 +107,7 @@ fn make_block<D: Disk, W: Write, N: Observer>(
 // Does what a line says.
 fn take_heard<D: Disk, W: Write, N: Observer>(
     server: &mut Server<D>,
-    reading: &mut Reading,
+    sheet: &mut Sheet,
     heard: Heard,
     out: &mut W,
     observer: &mut N,
@@ -175,13 +123,13 @@ fn take_heard<D: Disk, W: Write, N: Observer>(
     match heard {
         Heard::Says(Said::Nothing | Said::Begins(_)) => Ok(()),
         Heard::Says(Said::Block(block)) => {
-            make_block(server, &mut reading.setup, block, out, observer)
+            make_block(server, &mut sheet.setup, block, out, observer)
         }
         Heard::Says(Said::Asks(line)) => {
-            add_line(reading.orders.as_mut_slice(), server.bases.as_slice(), line)
+            add_line(sheet.orders.as_mut_slice(), server.bases.as_slice(), line)
         }
         Heard::Glances(element, place) => {
-            let orders = reading.orders.as_mut_slice();
+            let orders = sheet.orders.as_mut_slice();
             add_glance(orders, server.bases.as_slice(), element, place)
         }
     }
@@ -191,7 +139,7 @@ fn take_heard<D: Disk, W: Write, N: Observer>(
 fn take_lines<D: Disk, W: Write, N: Observer>(
     alloc: Global,
     server: &mut Server<D>,
-    reading: &mut Reading,
+    sheet: &mut Sheet,
     script: &Script<'_>,
     out: &mut W,
     observer: &mut N,
@@ -216,7 +164,7 @@ fn take_lines<D: Disk, W: Write, N: Observer>(
             Ok(heard) => heard,
             Err(fault) => return Err(Reason::Script(fault)), // There was no memory for it.
         };
-        match take_heard(server, reading, heard, out, observer) {
+        match take_heard(server, sheet, heard, out, observer) {
             Ok(()) => {}
             Err(reason) => return Err(reason),
         }
@@ -228,7 +176,7 @@ fn take_lines<D: Disk, W: Write, N: Observer>(
 fn set_up<D: Disk, W: Write, N: Observer>(
     alloc: Global,
     server: &mut Server<D>,
-    reading: &mut Reading,
+    sheet: &mut Sheet,
     script: &Script<'_>,
     out: &mut W,
     observer: &mut N,
@@ -241,7 +189,7 @@ fn set_up<D: Disk, W: Write, N: Observer>(
         (at server.old.engine (W.contents out.old) server.old.lines server.old.waited.items)
         (at server.new.engine (W.contents out.new) server.new.lines server.new.waited.items)) }
 {
-    match take_lines(alloc, server, reading, script, out, observer) {
+    match take_lines(alloc, server, sheet, script, out, observer) {
         Ok(()) => server.lines.flush(out),
         Err(reason) => Err(reason),
     }
@@ -295,14 +243,14 @@ pub fn read_orders<D: Disk, W: Write, N: Observer>(
     let Ok(orders) = no_orders(alloc) else {
         return (Err(Reason::Memory), setup);
     };
-    let mut reading = Reading { orders, setup };
-    match set_up(alloc, server, &mut reading, script, out, observer) {
+    let mut sheet = Sheet { orders, setup };
+    match set_up(alloc, server, &mut sheet, script, out, observer) {
         Ok(()) => {
-            let Reading { orders, setup } = reading;
+            let Sheet { orders, setup } = sheet;
             (number_orders(alloc, server.engine.memory(), orders), setup)
         }
         Err(reason) => {
-            let Reading { orders: _, setup } = reading;
+            let Sheet { orders: _, setup } = sheet;
             (Err(reason), setup)
         }
     }

@@ -1,9 +1,9 @@
 //! The trace of a run: its calls in the order that was kept, each with its answer.
-ghost use Rattle.std.specs.Prelude.{◌≡◌, ◌++◌, [], OnOk, MatchResult, Some, slice_get, string_bytes};
+ghost use Rattle.std.specs.Prelude.{◌≡◌, ◌++◌, [], OnOk, MatchResult, Some, length, slice_get, string_bytes};
 ghost use Rattle.std.specs.Io.KnownBytes.{Appends};
 ghost use Rattle.im_text.specs.Printing.{Begins, PrintsMore, PrintsOn};
-ghost use Rattle.im_run.specs.Tracing.{PrintsBeginning, answer_text, call_text, lines_text, refusal_text, request_text};
-ghost use Rattle.im_run.specs.Tracing.{trace_line, trace_text};
+ghost use Rattle.im_run.specs.Tracing.{PrintsBeginning, call_text, lines_text, outcome_text, refusal_text};
+ghost use Rattle.im_run.specs.Tracing.{request_text, trace_line, trace_text};
 
 use im_controller::Traced;
 use im_text::{Lines, Reason, add_entry, add_op};
@@ -73,23 +73,12 @@ fn add_refusal(text: &mut String, refusal: Refusal) -> Result<(), AllocError>
 
 // Adds the answer to a call.
 fn add_answer(text: &mut String, answer: Result<Outcome, Refusal>) -> Result<(), AllocError>
-    ensures { OnOk result (string_bytes text.new ≡ string_bytes text.old ++ answer_text answer) }
+    ensures { OnOk result (string_bytes text.new ≡ string_bytes text.old ++ outcome_text answer) }
 {
     match answer {
         Ok(Outcome::Entry(entry)) => add_entry(text, entry),
         Ok(Outcome::Confirmed) => text.push_str("confirmed"),
         Err(refusal) => add_refusal(text, refusal),
-    }
-}
-
-// Makes the line of a call and its answer, if there is one.
-fn make_call(text: &mut String, line: Option<Line>) -> Result<(), AllocError>
-    ensures { OnOk result (string_bytes text.new ≡ trace_line line) }
-{
-    text.clear();
-    match line {
-        Some(line) => add_line(text, line),
-        None => Ok(()),
     }
 }
 
@@ -103,6 +92,17 @@ fn add_line(text: &mut String, line: Line) -> Result<(), AllocError>
     text.push_str("\n")
 }
 
+// Makes the line of a call and its answer, if there is one.
+fn make_call(text: &mut String, line: Option<Line>) -> Result<(), AllocError>
+    ensures { OnOk result (string_bytes text.new ≡ trace_line line) }
+{
+    text.clear();
+    let Some(line) = line else {
+        return Ok(());
+    };
+    add_line(text, line)
+}
+
 // Prints the line of a call and its answer.
 fn print_call<W: Write>(
     line: Option<Line>,
@@ -114,10 +114,10 @@ fn print_call<W: Write>(
         (λ _. PrintsMore (W.contents out.old) lines.old (W.contents out.new) lines.new (trace_line line))
         (λ _. PrintsOn (W.contents out.old) lines.old (W.contents out.new) lines.new) }
 {
-    match make_call(text, line) {
-        Ok(()) => lines.push(out, text.as_str()),
-        Err(_) => Err(Reason::Memory),
-    }
+    let Ok(()) = make_call(text, line) else {
+        return Err(Reason::Memory);
+    };
+    lines.push(out, text.as_str())
 }
 
 // Returns the line of the setup at an index.
@@ -137,61 +137,43 @@ fn served_at(served: &[Traced], at: usize) -> Option<Line>
     }
 }
 
-// Prints the lines of the setup.
-fn print_setup<W: Write>(
-    setup: &[Line],
-    text: &mut String,
-    lines: &mut Lines,
-    out: &mut W,
-) -> Result<(), Reason>
-    ensures all { OnOk result (PrintsMore (W.contents out.old) lines.old (W.contents out.new) lines.new
-        (lines_text setup.now)) }
-    ensures some { PrintsBeginning (W.contents out.old) lines.old (W.contents out.new) lines.new (lines_text setup.now) }
+// Returns the line at an index of both.
+fn line_at(setup: &[Line], served: &[Traced], at: usize) -> Option<Line>
+    ensures { result ≡ slice_get (setup.now ++ served.now) at }
 {
-    for at in 0..setup.len() {
-        match print_call(setup_at(setup, at), text, lines, out) {
-            Ok(()) => {}
-            Err(reason) => return Err(reason),
-        }
+    if at < setup.len() {
+        return setup_at(setup, at);
     }
-    Ok(())
+    served_at(served, at - setup.len())
 }
 
-// Prints the lines of the servers.
-fn print_served<W: Write>(
+// Returns how many lines both have.
+fn count_of(setup: &[Line], served: &[Traced]) -> usize
+    ensures { result ≡ length (setup.now ++ served.now) }
+{
+    setup.len() + served.len()
+}
+
+// Prints all lines of both.
+fn print_lines<W: Write>(
+    setup: &[Line],
     served: &[Traced],
     text: &mut String,
     lines: &mut Lines,
     out: &mut W,
 ) -> Result<(), Reason>
     ensures all { OnOk result (PrintsMore (W.contents out.old) lines.old (W.contents out.new) lines.new
-        (lines_text served.now)) }
-    ensures some { PrintsBeginning (W.contents out.old) lines.old (W.contents out.new) lines.new (lines_text served.now) }
+        (lines_text (setup.now ++ served.now))) }
+    ensures some { PrintsBeginning (W.contents out.old) lines.old (W.contents out.new) lines.new
+        (lines_text (setup.now ++ served.now)) }
 {
-    for at in 0..served.len() {
-        match print_call(served_at(served, at), text, lines, out) {
+    for at in 0..count_of(setup, served) {
+        match print_call(line_at(setup, served, at), text, lines, out) {
             Ok(()) => {}
             Err(reason) => return Err(reason),
         }
     }
     Ok(())
-}
-
-// Prints the lines of a trace.
-fn print_trace<W: Write>(
-    trace: &Trace,
-    text: &mut String,
-    lines: &mut Lines,
-    out: &mut W,
-) -> Result<(), Reason>
-    ensures all { OnOk result (PrintsMore (W.contents out.old) lines.old (W.contents out.new) lines.new
-        (trace_text trace.now)) }
-    ensures some { PrintsBeginning (W.contents out.old) lines.old (W.contents out.new) lines.new (trace_text trace.now) }
-{
-    match print_setup(trace.setup.as_slice(), text, lines, out) {
-        Ok(()) => print_served(trace.served.as_slice(), text, lines, out),
-        Err(reason) => Err(reason),
-    }
 }
 
 /// Writes a trace, a line for each call: what a line of a dialogue asks, ` -> `, and the reply. A dialogue that is asked
@@ -207,7 +189,9 @@ pub fn write_trace<W: Write>(alloc: Global, trace: &Trace, out: &mut W) -> Resul
         return Err(Reason::Memory);
     };
     let mut text = String::new(alloc);
-    match print_trace(trace, &mut text, &mut lines, out) {
+    let setup = trace.setup.as_slice();
+    let served = trace.served.as_slice();
+    match print_lines(setup, served, &mut text, &mut lines, out) {
         Ok(()) => lines.flush(out),
         Err(reason) => {
             let _written = lines.flush(out);

@@ -4,7 +4,6 @@ use anyhow::{Result, anyhow};
 use im_text::{Observer, Progress, Reason};
 use im_types::Entry;
 use std::alloc::Global;
-use std::cmp::min;
 use std::io;
 use std::io::Write;
 
@@ -35,41 +34,6 @@ impl Write for Paper {
     fn write(&mut self, buf: &[u8]) -> io::Result<usize> {
         self.text.extend_from_slice(buf)?;
         Ok(buf.len())
-    }
-
-    fn flush(&mut self) -> io::Result<()> {
-        Ok(())
-    }
-}
-
-/// A writer that takes some bytes and no more.
-#[derive(Drop)]
-pub struct Short {
-    paper: Paper,
-    room: usize,
-}
-
-impl Short {
-    /// Starts with nothing written, and room for so many bytes.
-    pub fn new(alloc: Global, room: usize) -> Short {
-        Short {
-            paper: Paper::new(alloc),
-            room,
-        }
-    }
-
-    /// Returns what was written.
-    pub fn into_text(self) -> Result<String> {
-        let Short { paper, room: _ } = self;
-        paper.into_text()
-    }
-}
-
-impl Write for Short {
-    fn write(&mut self, buf: &[u8]) -> io::Result<usize> {
-        let many = min(self.room, buf.len());
-        self.room -= many;
-        self.paper.write(&buf[..many])
     }
 
     fn flush(&mut self) -> io::Result<()> {
