@@ -15,8 +15,6 @@ use std::thread::Threads;
 const NO_BLOCK: &str = "setup
 alloc x m 2
 alloc y i 0
-element 1
-fetch 0
 ";
 
 // Runs a script on a new image, and tells its trace.
@@ -30,13 +28,12 @@ fn tell<G: Gate + Sync, R: Threads + Wait + Sync>(
     let Ok(script) = read_script_with_glances(alloc, text.as_bytes()) else {
         return Err(anyhow!("this is no script"));
     };
-    let disk = new_image(alloc)?;
     let mut out = Paper::new(alloc);
     let mut told = Paper::new(alloc);
     let (_status, _disk, trace) = run_on(
         rt,
         alloc,
-        disk,
+        new_image(alloc)?,
         &script,
         gate,
         &Unwatched,
