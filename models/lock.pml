@@ -42,7 +42,7 @@
 #define SPEND fresh++
 #endif
 
-mtype = { Nothing, Store, Fetch };                       /* What is asked. */
+mtype = { Nothing, Store, Fetch, Confirm };              /* What is asked. */
 mtype = { Told, Deferred, JournalFull, Failed };         /* What is answered; Failed stands for Device too. */
 mtype = { Go, Wait, Stalled, Done };                     /* What else a call comes to. */
 mtype = { Active, Waits, Retired };                      /* Server, but for one with no port. */
@@ -256,7 +256,7 @@ inline make_room() {
   did = false
 }
 /* of im_controller::lend_group 9604e848a54d
-   of im_engine::Engine::serve_group f5b8499eb94a: the fault may fall before each member, which begins a group then. */
+   of im_engine::Engine::serve_commands 0a87599efcb2: the fault may fall before each member, which begins a group then. */
 inline serve_member(m) {
   may_fail();
   if :: failed -> unclaimed[m] = Failed
@@ -264,15 +264,16 @@ inline serve_member(m) {
      :: !failed && ROOM > 0 && asked[m] == Store ->
         SPEND; stored[m] = true; unclaimed[m] = Told;
         if :: entry[(m + N - 1) % N] == Deferred -> entry[(m + N - 1) % N] = Told :: else fi
+     :: !failed && ROOM > 0 && asked[m] == Confirm -> SPEND; unclaimed[m] = Told
      :: else -> SPEND; entry[m] = (stored[(m + 1) % N] -> Told : Deferred); unclaimed[m] = entry[m]
   fi;
   asked[m] = Nothing
 }
-/* of im_controller::hold 794147ae1493
-   of im_controller::serve_asked 0a69fd091337
-   of im_controller::Inbox::next_group a8192a4a8c3b
-   of im_controller::Inbox::gather 4744c952cbf6
-   of im_controller::Log::claim 926f044364f6 */
+/* of im_controller::hold 35c3d7c5c91d
+   of im_controller::serve_asked 9d0732c5dba0
+   of im_controller::Inbox::next_group e08c6e94a090
+   of im_controller::Inbox::gather a3fa78f93397
+   of im_controller::Log::claim 66c75ff3e422 */
 inline hold(e) {
   if :: unclaimed[e] != Nothing -> skip
      :: else ->
@@ -293,17 +294,17 @@ inline who_is_answered() {
   do :: i < N -> if :: unclaimed[i] != Nothing -> answered = answered | (1 << i) :: else fi; i++ :: else -> break od;
   i = 0
 }
-/* of im_controller::Port::submit 4b6a23256070
-   of im_controller::Controller::ask 6a11fccc4065
-   of im_controller::Inbox::ask cf302d929a91
-   of im_controller::Controller::serve_all 0e2dcfbcaae4 */
+/* of im_controller::Port::submit 17ace1e7fabb
+   of im_controller::Controller::serve 78bd7c75275c
+   of im_controller::Inbox::ask 23fb3d79a544
+   of im_controller::Controller::serve_all a8a7d26820b6 */
 inline submit(e, op) {
   d_step { asked[e] = op; got = Nothing };
   do :: got == Nothing ->
         wait_turn(e);
         atomic { hold(e); who_sleeps(); who_is_answered() };
         pass_on(answered);
-        wake(AFTER_A_GROUP)
+        wake((op == Confirm -> AFTER_A_CONFIRMATION : AFTER_A_GROUP))
      :: else -> break od
 }
 /* of im_controller::Port::help 0e90bbc25526
@@ -320,20 +321,9 @@ inline help(e) {
   pass_on(answered);
   wake(AFTER_A_TURN)
 }
-/* of im_controller::Port::confirm b671db8ebc5b
-   of im_controller::Controller::serve d3095a419a96
-   of im_controller::lend 363dc7535b36 */
+/* of im_controller::Port::confirm b90c345e38e2 */
 inline confirm(e) {
-  wait_turn(e);
-  atomic {
-    make_room(); may_fail();
-    if :: failed -> got = Failed
-       :: !failed && ROOM == 0 -> got = JournalFull
-       :: else -> SPEND; got = Told fi;
-    who_sleeps()
-  };
-  pass_on(answered);
-  wake(AFTER_A_CONFIRMATION)
+  submit(e, Confirm)
 }
 /* of im_controller::Port::collect f2ef03b29c5d
    of im_controller::find 22f41e2bec52

@@ -1,39 +1,42 @@
 -- The members that are lent: those that were looked at, and what the others add.
-use Rattle.std.proofs.Common.{◌≡◌, ℕ, suc, ◌+◌, ◌<◌, ◌≤◌, Bool, true, false, List, [], ◌∷◌, ◌++◌, refl, sym, ap, ◌∙◌}
+use Rattle.std.proofs.Common.{◌≡◌, ℕ, suc, ◌+◌, ◌<◌, ◌≢◌, ◌≤◌, Bool, true, false, List, [], ◌∷◌, ◌++◌, refl, sym}
+use Rattle.std.proofs.Common.{ap, ◌∙◌}
 use Rattle.std.proofs.Common.{subst, length, length-append, length-drop, map, drop, get_or, append_assoc, append-nil}
 use Rattle.std.proofs.Common.{arith}
+use Rattle.std.specs.List.{AllByRecursion}
 use Rattle.std.proofs.Math.Seq.{drop-cons}
 use Rattle.std.proofs.lemmas.List.{drop_all}
-use Rattle.im_types.specs.declared.commands.Command.TheVariants.{Request as Asks}
-use Rattle.im_types.specs.declared.commands.Request.{Request}
+use Rattle.im_types.specs.declared.commands.Command.{Command}
 use Rattle.im_types.specs.declared.commands.Call.TheVariants.{Command as Commands}
 use Rattle.im_types.specs.declared.groups.Served.{Served}
 use Rattle.im_types.specs.Contents.{Contents}
-use Rattle.im_types.specs.Groups.{AreOthers, AreApart}
 use Rattle.im_laws.proofs.Tests.{true_false}
-use Rattle.im_engine.specs.Groups.{left_with}
+use Rattle.im_groups.specs.Commands.{places_behind}
 use Rattle.im_glass.specs.Panes.{PaneView}
 use Rattle.im_controller.specs.Groups.{those, AreRoomless, changes_put_all, next_answer, answers_left, spread}
-use Rattle.im_controller.specs.Groups.{answer_in, MayFollow, IsCut, lines_left}
+use Rattle.im_controller.specs.Log.{sender_of}
+use Rattle.im_controller.specs.Groups.{AreOneOfEach, AreSureBehind, IsSure, answer_in, are_joined, IsCut}
+use Rattle.im_controller.specs.Groups.{lines_left}
+use Rattle.im_controller.proofs.SureLemmas.{sure-behind}
 use Rattle.im_controller.specs.Lines.{lines_of}
 use Rattle.im_controller.specs.Lends.{is_taken}
 use Rattle.im_controller.proofs.GroupLemmas.{Fits, few_lines}
 use Rattle.im_controller.proofs.PutLemmas.{lines_all, taken-none, left-none}
 
 -- what was chosen so far, after which all is as from the start
-pub record Chooses (m : Contents) (left0 : ℕ) (rs0 : List Request) (p0 : PaneView) (left : ℕ) (rs : List Request)
-    (roomy : List Bool) (lent : List Request) (p : PaneView) : Type 0 where
+pub record Chooses (m : Contents) (left0 : ℕ) (rs0 : List Command) (p0 : PaneView) (left : ℕ) (rs : List Command)
+    (roomy : List Bool) (lent : List Command) (p : PaneView) : Type 0 where
   pub roomless : (bs : List Bool) → AreRoomless m left bs rs → AreRoomless m left0 (roomy ++ bs) rs0
   pub chosen : (bs : List Bool) → lent ++ those bs rs ≡ those (roomy ++ bs) rs0
-  pub puts : (qs : List Request) → p.ahead ++ changes_put_all m left qs
+  pub puts : (qs : List Command) → p.ahead ++ changes_put_all m left qs
       ≡ p0.ahead ++ changes_put_all m left0 (lent ++ qs)
   pub pane : p ≡ record p0 { ahead = p.ahead }
   pub many : length roomy + length rs ≡ length rs0
   pub few : length lent ≤ length roomy
 
 -- and at the end
-module _ (m : Contents) (left0 : ℕ) (rs0 : List Request) (p0 : PaneView) (left : ℕ) (roomy : List Bool)
-    (lent : List Request) (p : PaneView) (i : ℕ) (past : length rs0 ≤ i)
+module _ (m : Contents) (left0 : ℕ) (rs0 : List Command) (p0 : PaneView) (left : ℕ) (roomy : List Bool)
+    (lent : List Command) (p : PaneView) (i : ℕ) (past : length rs0 ≤ i)
     (k : Chooses m left0 rs0 p0 left (drop i rs0) roomy lent p) where
   pub chosen-roomless : AreRoomless m left0 roomy rs0
   chosen-roomless = subst (λ (xs : List Bool). AreRoomless m left0 xs rs0) (append-nil roomy)
@@ -48,30 +51,37 @@ module _ (m : Contents) (left0 : ℕ) (rs0 : List Request) (p0 : PaneView) (left
 
 -- ---- those that are lent
 
-pub those-others : (element : ℕ) (bs : List Bool) (rs : List Request) → AreOthers element rs
-    → AreOthers element (those bs rs)
-those-others element [] rs others = tt
-those-others element (b ∷ bs) [] others = tt
-those-others element (true ∷ bs) (r ∷ rs) others = (others.0, those-others element bs rs others.1)
-those-others element (false ∷ bs) (r ∷ rs) others = those-others element bs rs others.1
+module _ (P : Command → Type 0) where
+  pub those-all : (bs : List Bool) (rs : List Command) → AllByRecursion P rs → AllByRecursion P (those bs rs)
+  those-all [] rs all = tt
+  those-all (b ∷ bs) [] all = tt
+  those-all (true ∷ bs) (r ∷ rs) all = (all.0, those-all bs rs all.1)
+  those-all (false ∷ bs) (r ∷ rs) all = those-all bs rs all.1
 
-pub those-apart : (bs : List Bool) (rs : List Request) → AreApart rs → AreApart (those bs rs)
+pub those-apart : (bs : List Bool) (rs : List Command) → AreOneOfEach rs → AreOneOfEach (those bs rs)
 those-apart [] rs apart = tt
 those-apart (b ∷ bs) [] apart = tt
-those-apart (true ∷ bs) (r ∷ rs) apart = (those-others r.element bs rs apart.0, those-apart bs rs apart.1)
+those-apart (true ∷ bs) (r ∷ rs) apart = (
+  those-all (λ (c : Command). sender_of r ≢ sender_of c) bs rs apart.0,
+  those-apart bs rs apart.1,
+)
 those-apart (false ∷ bs) (r ∷ rs) apart = those-apart bs rs apart.1
 
-those-follow : (r : Request) (bs : List Bool) (rs : List Request) → MayFollow r.op rs → MayFollow r.op (those bs rs)
-those-follow r [] rs follow = tt
-those-follow r (b ∷ bs) [] follow = tt
-those-follow r (true ∷ bs) (q ∷ rs) follow = (follow.0, those-follow r bs rs follow.1)
-those-follow r (false ∷ bs) (q ∷ rs) follow = those-follow r bs rs follow.1
-
-pub those-cut : (bs : List Bool) (rs : List Request) → IsCut rs → IsCut (those bs rs)
+pub those-cut : (bs : List Bool) (rs : List Command) → IsCut rs → IsCut (those bs rs)
 those-cut [] rs cut = tt
 those-cut (b ∷ bs) [] cut = tt
-those-cut (true ∷ bs) (r ∷ rs) cut = (those-follow r bs rs cut.0, those-cut bs rs cut.1)
+those-cut (true ∷ bs) (r ∷ rs) cut = (
+  those-all (λ (c : Command). are_joined r c ≡ true) bs rs cut.0,
+  those-cut bs rs cut.1,
+)
 those-cut (false ∷ bs) (r ∷ rs) cut = those-cut bs rs cut.1
+
+pub those-sure : (m : Contents) (bs : List Bool) (rs : List Command) → AreSureBehind m rs
+    → AreSureBehind m (those bs rs)
+those-sure m [] rs sure = tt
+those-sure m (b ∷ bs) [] sure = tt
+those-sure m (true ∷ bs) (r ∷ rs) sure = those-all (IsSure m) bs rs sure
+those-sure m (false ∷ bs) (r ∷ rs) sure = sure-behind m (those bs rs) (those-all (IsSure m) bs rs sure)
 
 -- ---- the answers to all, by those to the ones that are lent
 
@@ -82,7 +92,7 @@ few-served ss n is = omega (arith, few_lines (map answer_in ss), many ss, is)
     many [] = refl
     many (s ∷ ss) = omega (arith, many ss)
 
-pub spread-fits : (bs : List Bool) (rs : List Request) (ss : List Served) (m n c : Contents) (left : ℕ)
+pub spread-fits : (bs : List Bool) (rs : List Command) (ss : List Served) (m n c : Contents) (left : ℕ)
     → AreRoomless c left bs rs → Fits m (those bs rs) ss n → Fits m rs (spread bs ss) n
 spread-fits [] rs ss m n c left none fits = rw none (record {
   whole = refl;
@@ -101,7 +111,7 @@ spread-fits (false ∷ bs) (r ∷ rs) ss m n c left none fits =
 spread-fits (true ∷ bs) (r ∷ rs) [] m n c left none fits = absurd fits.are_so
 spread-fits (true ∷ bs) (r ∷ rs) (s ∷ ss) m n c left none fits =
     let so = fits.are_so in
-    let rest = spread-fits bs rs ss _ n c (left_with c left r) none
+    let rest = spread-fits bs rs ss _ n c (places_behind c left r) none
     (record {
       whole = omega (arith, fits.whole);
       are_so = so.1;
@@ -115,7 +125,7 @@ spread-fits (true ∷ bs) (r ∷ rs) (s ∷ ss) m n c left none fits =
       few = few-served (spread (true ∷ bs) (s ∷ ss)) (length (r ∷ rs)) (omega (arith, rest.whole));
     }
 
-pub spread-lines : (bs : List Bool) (rs : List Request) (ss : List Served) (c : Contents) (left : ℕ)
+pub spread-lines : (bs : List Bool) (rs : List Command) (ss : List Served) (c : Contents) (left : ℕ)
     → AreRoomless c left bs rs → length ss ≡ length (those bs rs)
     → lines_all rs (map answer_in (spread bs ss)) ≡ lines_all (those bs rs) (map answer_in ss)
 spread-lines [] rs ss c left none whole = rw none refl
@@ -123,20 +133,20 @@ spread-lines (b ∷ bs) [] ss c left none whole = absurd none
 spread-lines (false ∷ bs) (r ∷ rs) ss c left none whole = spread-lines bs rs ss c left none.1 whole
 spread-lines (true ∷ bs) (r ∷ rs) [] c left none whole = absurd (omega (arith, whole))
 spread-lines (true ∷ bs) (r ∷ rs) (s ∷ ss) c left none whole =
-    ap (λ l. lines_of (Commands (Asks r)) (answer_in s) ++ l)
-    (spread-lines bs rs ss c (left_with c left r) none (omega (arith, whole)))
+    ap (λ l. lines_of (Commands r) (answer_in s) ++ l)
+    (spread-lines bs rs ss c (places_behind c left r) none (omega (arith, whole)))
 
 -- where there is no place, all are lent
-pub all-lent : (bs : List Bool) (rs : List Request) (ss : List Served) (c : Contents) (left : ℕ) → left ≡ 0
+pub all-lent : (bs : List Bool) (rs : List Command) (ss : List Served) (c : Contents) (left : ℕ) → left ≡ 0
     → AreRoomless c left bs rs → length ss ≡ length (those bs rs) → (those bs rs ≡ rs) × (spread bs ss ≡ ss)
 all-lent [] rs [] c left zero none whole = (sym none, refl)
 all-lent [] rs (s ∷ ss) c left zero none whole = absurd (omega (arith, whole))
 all-lent (b ∷ bs) [] ss c left zero none whole = absurd none
 all-lent (false ∷ bs) (r ∷ rs) ss c left zero none whole = absurd
-    (true_false (sym none.0 ∙ ap (λ n. is_taken c n (Asks r)) zero ∙ taken-none c r))
+    (true_false (sym none.0 ∙ ap (λ n. is_taken c n r) zero ∙ taken-none c r))
 all-lent (true ∷ bs) (r ∷ rs) [] c left zero none whole = absurd (omega (arith, whole))
 all-lent (true ∷ bs) (r ∷ rs) (s ∷ ss) c left zero none whole =
-    let rest = all-lent bs rs ss c (left_with c left r) (ap (λ n. left_with c n r) zero ∙ left-none c r) none
+    let rest = all-lent bs rs ss c (places_behind c left r) (ap (λ n. places_behind c n r) zero ∙ left-none c r) none
     (omega (arith, whole)) in
     (ap (λ l. r ∷ l) rest.0, ap (λ l. s ∷ l) rest.1)
 
@@ -167,7 +177,7 @@ spread-room xs bs ss ss0 i all within few =
       length-drop i bs,
     )
 
-pub spread-left : (bs : List Bool) (rs : List Request) (ss : List Served) (c : Contents) (left : ℕ)
+pub spread-left : (bs : List Bool) (rs : List Command) (ss : List Served) (c : Contents) (left : ℕ)
     → AreRoomless c left bs rs → length ss ≡ length (those bs rs)
     → lines_left (map answer_in (spread bs ss)) ≡ lines_left (map answer_in ss)
 spread-left [] rs [] c left none whole = refl
@@ -176,4 +186,4 @@ spread-left (b ∷ bs) [] ss c left none whole = absurd none
 spread-left (false ∷ bs) (r ∷ rs) ss c left none whole = omega (arith, spread-left bs rs ss c left none.1 whole)
 spread-left (true ∷ bs) (r ∷ rs) [] c left none whole = absurd (omega (arith, whole))
 spread-left (true ∷ bs) (r ∷ rs) (s ∷ ss) c left none whole = omega
-    (arith, spread-left bs rs ss c (left_with c left r) none (omega (arith, whole)))
+    (arith, spread-left bs rs ss c (places_behind c left r) none (omega (arith, whole)))

@@ -4,31 +4,28 @@ use Rattle.std.proofs.Common.{[], ◌∷◌, refl, sym, ap, ◌∙◌, subst, Re
 use Rattle.std.specs.Prelude.{nat_lt}
 use Rattle.std.proofs.lemmas.Bool.Decides.{nat_tests}
 use Rattle.im_types.specs.declared.commands.Command.{Command}
-use Rattle.im_types.specs.declared.commands.Command.TheVariants.{Request as Asks}
-use Rattle.im_types.specs.declared.commands.Request.{Request}
 use Rattle.im_types.specs.declared.commands.Outcome.{Outcome}
 use Rattle.im_types.specs.declared.commands.Call.TheVariants.{Command as Commands}
 use Rattle.im_types.specs.declared.groups.Served.{Served}
 use Rattle.im_types.specs.declared.refusals.Refusal.{Refusal}
 use Rattle.im_types.specs.declared.refusals.Refusal.TheVariants.{JournalFull, Device, Failed, TraceFull}
 use Rattle.im_types.specs.Contents.{Contents}
-use Rattle.im_types.specs.Meaning.{Reached}
 use Rattle.im_types.specs.Run.{after}
-use Rattle.im_types.specs.Step.{step}
-use Rattle.im_types.specs.Groups.{as_served, is_new, with_request, answer_of, reached_by_one, reached_by_all}
-use Rattle.im_types.specs.Groups.{answers_of}
+use Rattle.im_types.specs.Step.{step, is_accepted}
+use Rattle.im_types.specs.Groups.{as_served}
 use Rattle.im_laws.proofs.Tests.{true_false}
 use Rattle.im_laws.proofs.AcceptLemmas.{unaccepted-leaves, accepted-ok}
-use Rattle.im_laws.proofs.GroupLemmas.{puts-after}
 use Rattle.im_engine.specs.State.{EngineState}
-use Rattle.im_engine.specs.Groups.{reached_in, group_put, after_group, all_refused, answers_in, GroupAnswered}
+use Rattle.im_groups.specs.Commands.{places, answer_with, contents_with, places_behind, answers_with, contents_after}
+use Rattle.im_groups.proofs.CommandLemmas.{at-after}
+use Rattle.im_engine.specs.Commands.{commands_put, after_commands, each_refused, answers_in_turn, CommandsAnswered}
 use Rattle.im_controller.specs.Lines.{leaves_line, memory_after}
 use Rattle.im_controller.specs.Groups.{answer_in, IsAnswerTo, AreAnswersTo, memory_after_all, lines_left}
 use Rattle.im_controller.specs.Groups.{MembersAnswered}
 use Rattle.im_controller.proofs.LendLemmas.{ok-leaves, same_by}
 
 -- what the log asks of the answers to a group, from one memory to another
-pub record Fits (m : Contents) (rs : List Request) (ss : List Served) (n : Contents) : Type 0 where
+pub record Fits (m : Contents) (rs : List Command) (ss : List Served) (n : Contents) : Type 0 where
   pub whole : length ss ≡ length rs
   pub are_so : AreAnswersTo m rs (map answer_in ss)
   pub ends : memory_after_all m rs (map answer_in ss) ≡ n
@@ -36,32 +33,32 @@ pub record Fits (m : Contents) (rs : List Request) (ss : List Served) (n : Conte
 
 -- all are refused alike, with no line
 module _ (e : Refusal) (lineless : leaves_line (Err e) ≡ false) where
-  stays : (m : Contents) (r : Request) → memory_after m (Commands (Asks r)) (Err e) ≡ m
-  stays m r = ap (λ b. if b then (step m (Asks r)).contents else m) lineless
+  stays : (m : Contents) (r : Command) → memory_after m (Commands r) (Err e) ≡ m
+  stays m r = ap (λ b. if b then (step m r).contents else m) lineless
 
-  alike_so : (m : Contents) (rs : List Request) → AreAnswersTo m rs (map answer_in (all_refused e rs))
+  alike_so : (m : Contents) (rs : List Command) → AreAnswersTo m rs (map answer_in (each_refused e rs))
   alike_so m [] = tt
   alike_so m (r ∷ rs) = (
     (λ told. absurd (true_false (sym told ∙ lineless))),
-    subst (λ (n : Contents). AreAnswersTo n rs (map answer_in (all_refused e rs))) (sym (stays m r)) (alike_so m rs),
+    subst (λ (n : Contents). AreAnswersTo n rs (map answer_in (each_refused e rs))) (sym (stays m r)) (alike_so m rs),
   )
 
-  alike_ends : (m : Contents) (rs : List Request) → memory_after_all m rs (map answer_in (all_refused e rs)) ≡ m
+  alike_ends : (m : Contents) (rs : List Command) → memory_after_all m rs (map answer_in (each_refused e rs)) ≡ m
   alike_ends m [] = refl
-  alike_ends m (r ∷ rs) = ap (λ n. memory_after_all n rs (map answer_in (all_refused e rs))) (stays m r)
+  alike_ends m (r ∷ rs) = ap (λ n. memory_after_all n rs (map answer_in (each_refused e rs))) (stays m r)
       ∙ alike_ends m rs
 
-  pub alike_none : (rs : List Request) → lines_left (map answer_in (all_refused e rs)) ≡ 0
+  pub alike_none : (rs : List Command) → lines_left (map answer_in (each_refused e rs)) ≡ 0
   alike_none [] = refl
   alike_none (r ∷ rs) =
       let none : (if leaves_line (Err e) then 1 else 0) ≡ 0 = ap {B = ℕ} (λ b. if b then 1 else 0) lineless in
       omega (arith, none, alike_none rs)
 
-  alike_whole : (rs : List Request) → length (all_refused e rs) ≡ length rs
+  alike_whole : (rs : List Command) → length (each_refused e rs) ≡ length rs
   alike_whole [] = refl
   alike_whole (r ∷ rs) = omega (arith, alike_whole rs)
 
-  pub alike_fits : (m : Contents) (rs : List Request) → Fits m rs (all_refused e rs) m
+  pub alike_fits : (m : Contents) (rs : List Command) → Fits m rs (each_refused e rs) m
   alike_fits m rs = record {
     whole = alike_whole rs;
     are_so = alike_so m rs;
@@ -71,25 +68,23 @@ module _ (e : Refusal) (lineless : leaves_line (Err e) ≡ false) where
   }
 
 -- a member's answer, and what it reaches
-module _ (s : Reached) (r : Request) where
-  so_by : (b : Bool) → leaves_line (if b then Err JournalFull else (step s.contents (Asks r)).answer) ≡ true
-      → (if b then Err JournalFull else (step s.contents (Asks r)).answer) ≡ (step s.contents (Asks r)).answer
+module _ (m : Contents) (left : ℕ) (r : Command) where
+  so_by : (b : Bool) → leaves_line (if b then Err JournalFull else (step m r).answer) ≡ true
+      → (if b then Err JournalFull else (step m r).answer) ≡ (step m r).answer
   so_by true told = absurd (true_false (sym told))
   so_by false told = refl
 
-  pub member-so : IsAnswerTo s.contents r (answer_of s r)
-  member-so = so_by (is_new s r && (s.room == 0))
+  member-so : IsAnswerTo m r (answer_with m left r)
+  member-so = so_by (is_accepted m r && (left == 0))
 
-  after_by : (b some none : Bool) → is_new s r ≡ b → (some ≡ true → none ≡ false) → (some ≡ false → none ≡ true)
-      → (if b && some then with_request s r else s).contents
-      ≡ memory_after s.contents (Commands (Asks r))
-      (if b && none then Err JournalFull else (step s.contents (Asks r)).answer)
-  after_by false some none new f g = same_by (leaves_line (step s.contents (Asks r)).answer) s.contents
-      (step s.contents (Asks r)).contents (unaccepted-leaves s.contents (Asks r) new)
+  after_by : (b some none : Bool) → is_accepted m r ≡ b → (some ≡ true → none ≡ false)
+      → (some ≡ false → none ≡ true) → (if b && some then (step m r).contents else m)
+      ≡ memory_after m (Commands r) (if b && none then Err JournalFull else (step m r).answer)
+  after_by false some none new f g = same_by (leaves_line (step m r).answer) m (step m r).contents
+      (unaccepted-leaves m r new)
   after_by true true true new f g = absurd (true_false (f refl))
-  after_by true true false new f g =
-      sym (ap (λ b. if b then (step s.contents (Asks r)).contents else s.contents)
-      (ok-leaves (step s.contents (Asks r)).answer (accepted-ok s.contents (Asks r) new)))
+  after_by true true false new f g = sym (ap (λ b. if b then (step m r).contents else m)
+      (ok-leaves (step m r).answer (accepted-ok m r new)))
   after_by true false true new f g = refl
   after_by true false false new f g = absurd (true_false (sym (g refl)))
 
@@ -99,23 +94,24 @@ module _ (s : Reached) (r : Request) where
   room_none : (n : ℕ) → nat_lt 0 n ≡ false → (n == 0) ≡ true
   room_none n none = grind (arith, nat_tests)
 
-  pub member-after : (reached_by_one s r).contents ≡ memory_after s.contents (Commands (Asks r)) (answer_of s r)
-  member-after = after_by (is_new s r) (nat_lt 0 s.room) (s.room == 0) refl (room_some s.room) (room_none s.room)
+  pub member-after : contents_with m left r ≡ memory_after m (Commands r) (answer_with m left r)
+  member-after = after_by (is_accepted m r) (nat_lt 0 left) (left == 0) refl (room_some left) (room_none left)
 
-members-so : (s : Reached) (rs : List Request) → AreAnswersTo s.contents rs (answers_of s rs)
-members-so s [] = tt
-members-so s (r ∷ rs) = (
-  member-so s r,
-  subst (λ (m : Contents). AreAnswersTo m rs (answers_of (reached_by_one s r) rs)) (member-after s r)
-      (members-so (reached_by_one s r) rs),
+members-so : (m : Contents) (left : ℕ) (rs : List Command) → AreAnswersTo m rs (answers_with m left rs)
+members-so m left [] = tt
+members-so m left (r ∷ rs) = (
+  member-so m left r,
+  subst (λ (n : Contents). AreAnswersTo n rs (answers_with (contents_with m left r) (places_behind m left r) rs))
+      (member-after m left r) (members-so (contents_with m left r) (places_behind m left r) rs),
 )
 
-members-after : (s : Reached) (rs : List Request) → memory_after_all s.contents rs (answers_of s rs)
-    ≡ (reached_by_all s rs).contents
-members-after s [] = refl
-members-after s (r ∷ rs) =
-    ap (λ (m : Contents). memory_after_all m rs (answers_of (reached_by_one s r) rs)) (sym (member-after s r))
-    ∙ members-after (reached_by_one s r) rs
+members-after : (m : Contents) (left : ℕ) (rs : List Command) → memory_after_all m rs (answers_with m left rs)
+    ≡ contents_after m left rs
+members-after m left [] = refl
+members-after m left (r ∷ rs) =
+    ap (λ (n : Contents). memory_after_all n rs (answers_with (contents_with m left r) (places_behind m left r) rs))
+    (sym (member-after m left r))
+    ∙ members-after (contents_with m left r) (places_behind m left r) rs
 
 answer_served : (a : Result Outcome Refusal) → answer_in (as_served a) ≡ a
 answer_served (Ok outcome) = refl
@@ -130,9 +126,9 @@ whole_served : (xs : List (Result Outcome Refusal)) → length (map as_served xs
 whole_served [] = refl
 whole_served (x ∷ xs) = omega (arith, whole_served xs)
 
-whole_answers : (s : Reached) (rs : List Request) → length (answers_of s rs) ≡ length rs
-whole_answers s [] = refl
-whole_answers s (r ∷ rs) = omega (arith, whole_answers (reached_by_one s r) rs)
+whole_answers : (m : Contents) (left : ℕ) (rs : List Command) → length (answers_with m left rs) ≡ length rs
+whole_answers m left [] = refl
+whole_answers m left (r ∷ rs) = omega (arith, whole_answers (contents_with m left r) (places_behind m left r) rs)
 
 pub few_lines : (xs : List (Result Outcome Refusal)) → lines_left xs ≤ length xs
 few_lines [] = omega arith
@@ -142,38 +138,39 @@ few_lines (x ∷ xs) = omega (arith, few_lines xs, at_most (leaves_line x))
     at_most true = omega arith
     at_most false = omega arith
 
-members_fit : (s : Reached) (rs : List Request)
-    → Fits s.contents rs (map as_served (answers_of s rs)) (reached_by_all s rs).contents
-members_fit s rs =
-    let xs = answers_of s rs in let same = answers_served xs in
+members_fit : (m : Contents) (left : ℕ) (rs : List Command)
+    → Fits m rs (map as_served (answers_with m left rs)) (contents_after m left rs)
+members_fit m left rs =
+    let xs = answers_with m left rs in let same = answers_served xs in
     record {
-      whole = whole_served xs ∙ whole_answers s rs;
-      are_so = subst (λ (ys : List (Result Outcome Refusal)). AreAnswersTo s.contents rs ys) (sym same)
-          (members-so s rs);
-      ends = ap (λ ys. memory_after_all s.contents rs ys) same ∙ members-after s rs;
-      few = omega (arith, few_lines xs, ap lines_left same, whole_answers s rs);
+      whole = whole_served xs ∙ whole_answers m left rs;
+      are_so = subst (λ (ys : List (Result Outcome Refusal)). AreAnswersTo m rs ys) (sym same)
+          (members-so m left rs);
+      ends = ap (λ ys. memory_after_all m rs ys) same ∙ members-after m left rs;
+      few = omega (arith, few_lines xs, ap lines_left same, whole_answers m left rs);
     }
 
-module _ {D : Type 0} (e f : EngineState D) (rs : List Request) (ss : List Served) where
-  fits_alike : (refusal : Refusal) → leaves_line (Err refusal) ≡ false → ss ≡ all_refused refusal rs → f.memory
+module _ {D : Type 0} (e f : EngineState D) (rs : List Command) (ss : List Served) where
+  fits_alike : (refusal : Refusal) → leaves_line (Err refusal) ≡ false → ss ≡ each_refused refusal rs → f.memory
       ≡ e.memory → Fits e.memory rs ss f.memory
   fits_alike refusal lineless same stay =
       subst (λ (m : Contents). Fits e.memory rs ss m) (sym stay)
       (subst (λ (ts : List Served). Fits e.memory rs ts e.memory) (sym same) (alike_fits refusal lineless e.memory rs))
 
-  fits_done : ss ≡ answers_in e rs → f.memory ≡ (after_group e rs).memory → Fits e.memory rs ss f.memory
+  fits_done : ss ≡ answers_in_turn e rs → f.memory ≡ (after_commands e rs).memory → Fits e.memory rs ss f.memory
   fits_done same ends =
       subst (λ (m : Contents). Fits e.memory rs ss m) (sym ends)
-      (subst (λ (ts : List Served). Fits e.memory rs ts (after_group e rs).memory) (sym same)
-      (members_fit (reached_in e) rs))
+      (subst (λ (ts : List Served). Fits e.memory rs ts (after_commands e rs).memory) (sym same)
+      (members_fit e.memory (places e.count e.room) rs))
 
   memory-of : {a b : EngineState D} → a ≡ b → a.memory ≡ b.memory
   memory-of same = ap (λ (x : EngineState D). x.memory) same
 
-  group_stays : group_put e rs ≡ [] → e.memory ≡ (after_group e rs).memory
-  group_stays none = sym (puts-after (reached_in e) rs ∙ ap (λ (cs : List Command). after e.memory cs) none)
+  group_stays : commands_put e rs ≡ [] → e.memory ≡ (after_commands e rs).memory
+  group_stays none = ap (λ (cs : List Command). after e.memory cs) (sym none)
+      ∙ at-after e.memory (places e.count e.room) rs
 
-  fits_alive : GroupAnswered e rs ss f → e.failed ≡ false → (puts : List Command) → group_put e rs ≡ puts
+  fits_alive : CommandsAnswered e rs ss f → e.failed ≡ false → (puts : List Command) → commands_put e rs ≡ puts
       → Fits e.memory rs ss f.memory
   fits_alive a alive [] none = let is = a.none alive none in fits_done is.0 (memory-of is.1 ∙ group_stays none)
   fits_alive a alive (command ∷ commands) put = ⊎_elim
@@ -181,9 +178,9 @@ module _ {D : Type 0} (e f : EngineState D) (rs : List Request) (ss : List Serve
       (λ doubt. fits_alike Device refl doubt.0 (memory-of doubt.1))
       (a.put alive (omega (arith, ap length put)))
 
-  fits_by : (b : Bool) → e.failed ≡ b → GroupAnswered e rs ss f → Fits e.memory rs ss f.memory
+  fits_by : (b : Bool) → e.failed ≡ b → CommandsAnswered e rs ss f → Fits e.memory rs ss f.memory
   fits_by true dead a = let is = a.dead dead in fits_alike Failed refl is.0 (memory-of is.1)
-  fits_by false alive a = fits_alive a alive (group_put e rs) refl
+  fits_by false alive a = fits_alive a alive (commands_put e rs) refl
 
   -- whichever way a group is answered
   members_by : (b : Bool) (room n : ℕ) → e.failed ≡ b → room ≡ n → MembersAnswered e room rs ss f
@@ -196,7 +193,7 @@ module _ {D : Type 0} (e f : EngineState D) (rs : List Request) (ss : List Serve
   pub members-fit : (room : ℕ) → MembersAnswered e room rs ss f → Fits e.memory rs ss f.memory
   members-fit room a = members_by e.failed room room refl refl a
 
-  none_left : (refusal : Refusal) → leaves_line (Err refusal) ≡ false → ss ≡ all_refused refusal rs
+  none_left : (refusal : Refusal) → leaves_line (Err refusal) ≡ false → ss ≡ each_refused refusal rs
       → lines_left (map answer_in ss) ≡ 0
   none_left refusal lineless same = ap (λ ts. lines_left (map answer_in ts)) same ∙ alike_none refusal lineless rs
 

@@ -5,17 +5,16 @@ use Rattle.std.proofs.Common.{map, drop, arith, if◌then◌else◌}
 use Rattle.std.proofs.Math.Seq.{drop-cons}
 use Rattle.std.proofs.lemmas.List.{get_or-set_other, length-set}
 use Rattle.std.proofs.lemmas.Option.{slice_get_within, slice_get-get_or, get_or_from_slice_get}
-use Rattle.im_types.specs.declared.commands.Command.TheVariants.{Request as Asks}
-use Rattle.im_types.specs.declared.commands.Request.{Request}
+use Rattle.im_types.specs.declared.commands.Command.{Command}
 use Rattle.im_types.specs.declared.commands.Outcome.{Outcome}
 use Rattle.im_types.specs.declared.commands.Call.TheVariants.{Command as Commands}
 use Rattle.im_types.specs.declared.refusals.Refusal.{Refusal}
 use Rattle.im_types.specs.Contents.{Contents}
 use Rattle.im_types.specs.Trace.{end_of}
-use Rattle.im_types.specs.Groups.{AreOthers, AreApart}
 use Rattle.im_controller.specs.Lines.{leaves_line, lines_of}
-use Rattle.im_controller.specs.Log.{UnclaimedState, LogState, with_unclaimed}
-use Rattle.im_controller.specs.Groups.{AreFreeFor, with_all_unclaimed, AreAnswersTo, memory_after_all, lines_left}
+use Rattle.im_controller.specs.Log.{sender_of, UnclaimedState, LogState, with_unclaimed}
+use Rattle.im_controller.specs.Groups.{AreOfOthers, AreOneOfEach, AreFreeFor, with_all_unclaimed, AreAnswersTo}
+use Rattle.im_controller.specs.Groups.{memory_after_all, lines_left}
 use Rattle.im_controller.proofs.LogLemmas.{lines_by, end-lines}
 
 get-set_other : {X : Type 0} (xs : List X) (i j : ℕ) (x y : X) → i ≢ j → slice_get xs j ≡ Some y
@@ -26,54 +25,54 @@ get-set_other xs i j x y apart there =
     ∙ ap Some (get_or-set_other xs i j x y (λ e. apart (sym e)) ∙ get_or_from_slice_get xs j y y there)
 
 -- other places stay free
-pub free_after : (places : List (Option UnclaimedState)) (e : ℕ) (w : Option UnclaimedState) (rs : List Request)
-    → AreOthers e rs → AreFreeFor places rs → AreFreeFor (slice_set places e w) rs
+pub free_after : (places : List (Option UnclaimedState)) (e : ℕ) (w : Option UnclaimedState) (rs : List Command)
+    → AreOfOthers e rs → AreFreeFor places rs → AreFreeFor (slice_set places e w) rs
 free_after places e w [] others free = tt
 free_after places e w (r ∷ rs) others free =
-    (get-set_other places e r.element w None others.0 free.0, free_after places e w rs others.1 free.1)
+    (get-set_other places e (sender_of r) w None others.0 free.0, free_after places e w rs others.1 free.1)
 
-left_by : (b : Bool) (r : Request) (x : Result Outcome Refusal) → length (lines_by b (Commands (Asks r)) x)
+left_by : (b : Bool) (r : Command) (x : Result Outcome Refusal) → length (lines_by b (Commands r) x)
     ≡ (if b then 1 else 0)
 left_by true r x = refl
 left_by false r x = refl
 
-left_is : (r : Request) (x : Result Outcome Refusal) → length (lines_of (Commands (Asks r)) x)
+left_is : (r : Command) (x : Result Outcome Refusal) → length (lines_of (Commands r) x)
     ≡ (if leaves_line x then 1 else 0)
 left_is r x = left_by (leaves_line x) r x
 
 -- the members that are left, after which all is as it would be from the start
-pub record Keeps (m : Contents) (l0 : LogState) (rs0 : List Request) (xs0 : List (Result Outcome Refusal))
-    (l : LogState) (rs : List Request) (xs : List (Result Outcome Refusal)) : Type 0 where
+pub record Keeps (m : Contents) (l0 : LogState) (rs0 : List Command) (xs0 : List (Result Outcome Refusal))
+    (l : LogState) (rs : List Command) (xs : List (Result Outcome Refusal)) : Type 0 where
   pub log_is : with_all_unclaimed l rs xs ≡ with_all_unclaimed l0 rs0 xs0
   pub end_is : memory_after_all (end_of m l.trace) rs xs ≡ memory_after_all (end_of m l0.trace) rs0 xs0
   pub are_so : AreAnswersTo (end_of m l.trace) rs xs
-  pub apart : AreApart rs
+  pub apart : AreOneOfEach rs
   pub free : AreFreeFor l.places rs
   pub room : length l.trace + lines_left xs ≤ l.limit
 
-module _ (m : Contents) (l0 : LogState) (rs0 : List Request) (xs0 : List (Result Outcome Refusal)) where
-  pub keeps_next : (l : LogState) (r : Request) (x : Result Outcome Refusal) (rs : List Request)
+module _ (m : Contents) (l0 : LogState) (rs0 : List Command) (xs0 : List (Result Outcome Refusal)) where
+  pub keeps_next : (l : LogState) (r : Command) (x : Result Outcome Refusal) (rs : List Command)
       (xs : List (Result Outcome Refusal)) → Keeps m l0 rs0 xs0 l (r ∷ rs) (x ∷ xs)
       → Keeps m l0 rs0 xs0 (with_unclaimed l r x) rs xs
   keeps_next l r x rs xs k =
-      let now = end-lines m l.trace (Commands (Asks r)) x in
+      let now = end-lines m l.trace (Commands r) x in
       record {
         log_is = k.log_is;
         end_is = ap (λ s. memory_after_all s rs xs) now ∙ k.end_is;
         are_so = subst (λ (s : Contents). AreAnswersTo s rs xs) (sym now) k.are_so.1;
         apart = k.apart.1;
-        free = free_after l.places r.element _ rs k.apart.0 k.free.1;
-        room = omega (arith, k.room, length-append l.trace (lines_of (Commands (Asks r)) x), left_is r x);
+        free = free_after l.places (sender_of r) _ rs k.apart.0 k.free.1;
+        room = omega (arith, k.room, length-append l.trace (lines_of (Commands r) x), left_is r x);
       }
 
   -- the same, by the place of the next member
-  pub keeps_cons : {X : Type 0} (f : X → Result Outcome Refusal) (l : LogState) (rs : List Request) (ss : List X)
-      (i : ℕ) (d : Request) (e : X) → i < length rs → i < length ss
+  pub keeps_cons : {X : Type 0} (f : X → Result Outcome Refusal) (l : LogState) (rs : List Command) (ss : List X)
+      (i : ℕ) (d : Command) (e : X) → i < length rs → i < length ss
       → Keeps m l0 rs0 xs0 l (drop i rs) (map f (drop i ss))
       → Keeps m l0 rs0 xs0 l (get_or rs i d ∷ drop (i + 1) rs) (f (get_or ss i e) ∷ map f (drop (i + 1) ss))
   keeps_cons {X = X} f l rs ss i d e within there k =
       let next : suc i ≡ i + 1 = omega arith in
       let these = drop-cons rs i d within ∙ ap (λ n. get_or rs i d ∷ drop n rs) next in
       let those = drop-cons ss i e there ∙ ap (λ n. get_or ss i e ∷ drop n ss) next in
-      subst (λ (qs : List Request). Keeps m l0 rs0 xs0 l qs (f (get_or ss i e) ∷ map f (drop (i + 1) ss))) these
+      subst (λ (qs : List Command). Keeps m l0 rs0 xs0 l qs (f (get_or ss i e) ∷ map f (drop (i + 1) ss))) these
       (subst (λ (ts : List X). Keeps m l0 rs0 xs0 l (drop i rs) (map f ts)) those k)

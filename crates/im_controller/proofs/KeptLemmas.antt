@@ -6,8 +6,6 @@ use Rattle.std.specs.Prelude.{Some, nat_lt, ◌==◌, IfErr}
 use Rattle.std.proofs.lemmas.Bool.Decides.{nat_tests}
 use Rattle.std.proofs.lemmas.List.{append-nil, take_all, take-append-le}
 use Rattle.im_types.specs.declared.commands.Command.{Command}
-use Rattle.im_types.specs.declared.commands.Command.TheVariants.{Request as Asks}
-use Rattle.im_types.specs.declared.commands.Request.{Request}
 use Rattle.im_types.specs.declared.commands.Outcome.{Outcome}
 use Rattle.im_types.specs.declared.commands.Call.TheVariants.{Command as Commands, Collect}
 use Rattle.im_types.specs.declared.commands.Line.{Line}
@@ -15,17 +13,15 @@ use Rattle.im_types.specs.declared.groups.Served.{Served}
 use Rattle.im_types.specs.declared.refusals.Refusal.{Refusal}
 use Rattle.im_types.specs.declared.refusals.Refusal.TheVariants.{JournalFull, Device, Failed, TraceFull}
 use Rattle.im_types.specs.Contents.{Contents}
-use Rattle.im_types.specs.Meaning.{Means, Reached, accept_each}
+use Rattle.im_types.specs.Meaning.{Means, accept_each}
 use Rattle.im_types.specs.Run.{after, accepted}
 use Rattle.im_types.specs.Step.{step, is_accepted}
 use Rattle.im_types.specs.Trace.{end_of}
-use Rattle.im_types.specs.Groups.{is_new, is_put, answer_of, reached_by_one, answers_of, puts_of}
 use Rattle.im_laws.specs.Traces.{command_in, commands_of}
 use Rattle.im_laws.proofs.Tests.{true_false, true_or_false}
 use Rattle.im_laws.proofs.AcceptLemmas.{accepted-ok}
 use Rattle.im_laws.proofs.RunLemmas.{after-append, accepted-append, after-accepted}
 use Rattle.im_laws.proofs.TraceLemmas.{end_of-commands}
-use Rattle.im_laws.proofs.GroupLemmas.{puts-after, puts-accepted, puts-counted}
 use Rattle.im_disk.specs.Moment.{Moment, Rises, Faults}
 use Rattle.im_disk.specs.Since.{Leaves, LeavesNow}
 use Rattle.im_disk.proofs.SinceLemmas.{leaves_start, leaves_then, leaves_weaker}
@@ -34,8 +30,12 @@ use Rattle.im_checkpoint.specs.declared.checkpoint.TurnDone.TheVariants.{Idle, B
 use Rattle.im_checkpoint.proofs.Fitting.{none_or_some}
 use Rattle.im_engine.specs.State.{EngineState, MeansState, MeansEither, with_command}
 use Rattle.im_engine.specs.Run.{Answered, TurnAnswered, SweepAnswered}
-use Rattle.im_engine.specs.Groups.{reached_in, group_put, after_group, answers_in, all_refused, GroupAnswered}
-use Rattle.im_engine.specs.Groups.{GroupFaults, MeansGroup}
+use Rattle.im_engine.specs.Groups.{GroupFaults}
+use Rattle.im_engine.specs.Commands.{commands_put, after_commands, answers_in_turn, each_refused, CommandsAnswered}
+use Rattle.im_engine.specs.Commands.{MeansCommands}
+use Rattle.im_groups.specs.Commands.{places, answer_with, contents_with, places_behind, command_at, answers_with}
+use Rattle.im_groups.specs.Commands.{commands_at}
+use Rattle.im_groups.proofs.CommandLemmas.{at-after, at-accepted}
 use Rattle.im_engine.proofs.Keeping.{accept_both, accept_one}
 use Rattle.im_engine.proofs.Running.{Failures, failures_more, failures_turned}
 use Rattle.im_controller.specs.Lines.{leaves_line, line_of, lines_of}
@@ -48,7 +48,8 @@ use Rattle.im_controller.proofs.PutLemmas.{lines_all, one-end, refused-lines}
 
 -- ---- what leaves the memory: a turn and a sweep
 
--- an engine that had failed stays as it was, and any other one has the same memory and count, and has failed where a call of the disk did
+-- an engine that had failed stays as it was, and any other one has the same memory and count, and has failed where a
+-- call of the disk did
 pub record IsQuiet {D : Type 0} (failures : D → ℕ) (e f : EngineState D) : Type 0 where
   pub dead : e.failed ≡ true → f ≡ e
   pub stays : (f.memory ≡ e.memory) × (f.count ≡ e.count)
@@ -139,36 +140,35 @@ module _ (m : Contents) (c : Command) (a : Result Outcome Refusal) where
       ∙ ap (λ b. if b then c ∷ [] else []) is
 
 -- of a group's members
-one_put : (s : Reached) (r : Request) → accepted_in s.contents (lines_of (Commands (Asks r)) (answer_of s r))
-    ≡ (if is_put s r then Asks r ∷ [] else [])
-one_put s r = by_tests (is_new s r) (nat_lt 0 s.room) refl refl
+one_put : (m : Contents) (left : ℕ) (r : Command) → accepted_in m (lines_of (Commands r) (answer_with m left r))
+    ≡ command_at m left r
+one_put m left r = by_tests (is_accepted m r) (nat_lt 0 left) refl refl
   where
-    answer_is : (c : Bool) → is_new s r ≡ true → (s.room == 0) ≡ c → answer_of s r
-        ≡ (if c then Err JournalFull else (step s.contents (Asks r)).answer)
-    answer_is c new none = ap
-        (λ x. if x && (s.room == 0) then Err JournalFull else (step s.contents (Asks r)).answer) new
-        ∙ ap (λ x. if x then Err JournalFull else (step s.contents (Asks r)).answer) none
+    answer_is : (c : Bool) → is_accepted m r ≡ true → (left == 0) ≡ c → answer_with m left r
+        ≡ (if c then Err JournalFull else (step m r).answer)
+    answer_is c new none = ap (λ x. if x && (left == 0) then Err JournalFull else (step m r).answer) new
+        ∙ ap (λ x. if x then Err JournalFull else (step m r).answer) none
 
-    by_tests : (b c : Bool) → is_new s r ≡ b → nat_lt 0 s.room ≡ c
-        → accepted_in s.contents (lines_of (Commands (Asks r)) (answer_of s r)) ≡ (if b && c then Asks r ∷ [] else [])
-    by_tests false c new some = unaccepted s.contents (Asks r) (answer_of s r) new
+    by_tests : (b c : Bool) → is_accepted m r ≡ b → nat_lt 0 left ≡ c
+        → accepted_in m (lines_of (Commands r) (answer_with m left r)) ≡ (if b && c then r ∷ [] else [])
+    by_tests false c new some = unaccepted m r (answer_with m left r) new
     by_tests true false new some =
-        let none : (s.room == 0) ≡ true = grind (arith, nat_tests) in
-        lineless s.contents (Asks r) (answer_of s r) (ap leaves_line (answer_is true new none))
+        let none : (left == 0) ≡ true = grind (arith, nat_tests) in
+        lineless m r (answer_with m left r) (ap leaves_line (answer_is true new none))
     by_tests true true new some =
-        let none : (s.room == 0) ≡ false = grind (arith, nat_tests) in
-        lined s.contents (Asks r) (answer_of s r)
-        (ap leaves_line (answer_is false new none)
-        ∙ ok-leaves (step s.contents (Asks r)).answer (accepted-ok s.contents (Asks r) new)) new
+        let none : (left == 0) ≡ false = grind (arith, nat_tests) in
+        lined m r (answer_with m left r)
+        (ap leaves_line (answer_is false new none) ∙ ok-leaves (step m r).answer (accepted-ok m r new)) new
 
-all_put : (s : Reached) (rs : List Request) → accepted_in s.contents (lines_all rs (answers_of s rs)) ≡ puts_of s rs
-all_put s [] = refl
-all_put s (r ∷ rs) =
-    let t = reached_by_one s r in
-    accepted-more s.contents t.contents (lines_of (Commands (Asks r)) (answer_of s r))
-    (lines_all rs (answers_of t rs)) (one-end s r)
-    ∙ ap (λ l. l ++ accepted_in t.contents (lines_all rs (answers_of t rs))) (one_put s r)
-    ∙ ap (λ l. (if is_put s r then Asks r ∷ [] else []) ++ l) (all_put t rs)
+all_put : (m : Contents) (left : ℕ) (rs : List Command) → accepted_in m (lines_all rs (answers_with m left rs))
+    ≡ commands_at m left rs
+all_put m left [] = refl
+all_put m left (r ∷ rs) =
+    let t = contents_with m left r in let now = places_behind m left r in
+    accepted-more m t (lines_of (Commands r) (answer_with m left r)) (lines_all rs (answers_with t now rs))
+    (one-end m left r)
+    ∙ ap (λ l. l ++ accepted_in t (lines_all rs (answers_with t now rs))) (one_put m left r)
+    ∙ ap (λ l. command_at m left r ++ l) (all_put t now rs)
 
 -- ---- what a file means
 
@@ -377,43 +377,44 @@ module _ {D : Type 0} (now : D → Moment) (past : D → List Moment) (failures 
           none_by true = append-nil told
           none_by false = append-nil told
 
-      module _ (rs : List Request) (ss : List Served) (answered : GroupAnswered e rs ss f)
+      module _ (rs : List Command) (ss : List Served) (answered : CommandsAnswered e rs ss f)
           (cause : GroupFaults e.failed f.failed (failures e.disk) (failures f.disk))
-          (leaves : Leaves (now e.disk) (now f.disk) (past e.disk) (past f.disk) (MeansGroup e rs))
-          (last : LeavesNow (now f.disk) (MeansGroup e rs))
+          (leaves : Leaves (now e.disk) (now f.disk) (past e.disk) (past f.disk) (MeansCommands e rs))
+          (last : LeavesNow (now f.disk) (MeansCommands e rs))
           (means : f.failed ≡ false → LeavesNow (now f.disk) (MeansState f)) where
         abbrev puts : List Command
-        puts = group_put e rs
+        puts = commands_put e rs
 
         abbrev NextAll : Type 0
         NextAll = Has (told ++ accepted_in e.memory (lines_all rs (map answer_in ss))) f
 
-        group_after : (after_group e rs).memory ≡ after e.memory puts
-        group_after = puts-after (reached_in e) rs
+        group_after : (after_commands e rs).memory ≡ after e.memory puts
+        group_after = sym (at-after e.memory (places e.count e.room) rs)
 
-        group_count : (after_group e rs).count ≡ e.count + length puts
-        group_count = puts-counted (reached_in e) rs
+        group_count : (after_commands e rs).count ≡ e.count + length puts
+        group_count = refl
 
-        group_either : (file : List ℕ) → MeansGroup e rs file → MeansBoth e puts file
+        group_either : (file : List ℕ) → MeansCommands e rs file → MeansBoth e puts file
         group_either file (inl image) = inl (meant e file image)
         group_either file (inr image) =
             inr (subst (λ (x : Contents). Means x (e.count + length puts) 0 file) group_after
-            (subst (λ (n : ℕ). Means (after_group e rs).memory n 0 file) group_count
-            (meant (after_group e rs) file image)))
+            (subst (λ (n : ℕ). Means (after_commands e rs).memory n 0 file) group_count
+            (meant (after_commands e rs) file image)))
 
-        lines_done : ss ≡ answers_in e rs → accepted_in e.memory (lines_all rs (map answer_in ss)) ≡ puts
+        lines_done : ss ≡ answers_in_turn e rs → accepted_in e.memory (lines_all rs (map answer_in ss)) ≡ puts
         lines_done is =
             ap (λ xs. accepted_in e.memory (lines_all rs (map answer_in xs))) is
-            ∙ ap (λ xs. accepted_in e.memory (lines_all rs xs)) (answers_served (answers_of (reached_in e) rs))
-            ∙ all_put (reached_in e) rs
+            ∙ ap (λ xs. accepted_in e.memory (lines_all rs xs))
+            (answers_served (answers_with e.memory (places e.count e.room) rs))
+            ∙ all_put e.memory (places e.count e.room) rs
 
-        group_goes : (f.failed ≡ false → (f.memory ≡ (after_group e rs).memory)
-            × (f.count ≡ (after_group e rs).count)) → accepted_in e.memory (lines_all rs (map answer_in ss))
+        group_goes : (f.failed ≡ false → (f.memory ≡ (after_commands e rs).memory)
+            × (f.count ≡ (after_commands e rs).count)) → accepted_in e.memory (lines_all rs (map answer_in ss))
             ≡ (if f.failed then [] else puts) → NextAll
         group_goes far lines =
             subst (λ (l : List Command). Has (told ++ l) f) (sym lines)
-            (kept_more told puts e f it alive ends (puts-accepted (reached_in e) rs ∙ ap Some group_after)
-            (leaves_weaker (now e.disk) (now f.disk) (past e.disk) (past f.disk) (MeansGroup e rs)
+            (kept_more told puts e f it alive ends (at-accepted e.memory (places e.count e.room) rs)
+            (leaves_weaker (now e.disk) (now f.disk) (past e.disk) (past f.disk) (MeansCommands e rs)
             (MeansBoth e puts) leaves group_either)
             (λ file left. group_either file (last file left))
             (λ living. ((far living).0 ∙ group_after, (far living).1 ∙ group_count)) means
@@ -441,11 +442,11 @@ module _ {D : Type 0} (now : D → Moment) (past : D → List Moment) (failures 
 
   -- whichever way its members were answered
   module _ (e f : EngineState D) (told : List Command) (it : Has told e) (ends : e.memory ≡ after m told)
-      (rs : List Request) (ss : List Served) (cause : GroupFaults e.failed f.failed (failures e.disk) (failures f.disk))
-      (leaves : e.failed ≡ false → Leaves (now e.disk) (now f.disk) (past e.disk) (past f.disk) (MeansGroup e rs))
-      (last : e.failed ≡ false → LeavesNow (now f.disk) (MeansGroup e rs))
+      (rs : List Command) (ss : List Served) (cause : GroupFaults e.failed f.failed (failures e.disk) (failures f.disk))
+      (leaves : e.failed ≡ false → Leaves (now e.disk) (now f.disk) (past e.disk) (past f.disk) (MeansCommands e rs))
+      (last : e.failed ≡ false → LeavesNow (now f.disk) (MeansCommands e rs))
       (means : f.failed ≡ false → LeavesNow (now f.disk) (MeansState f)) where
-    refused : (r : Refusal) → leaves_line (Err r) ≡ false → ss ≡ all_refused r rs → f ≡ e
+    refused : (r : Refusal) → leaves_line (Err r) ≡ false → ss ≡ each_refused r rs → f ≡ e
         → Has (told ++ accepted_in e.memory (lines_all rs (map answer_in ss))) f
     refused r none is same =
         kept_same told _ e f same

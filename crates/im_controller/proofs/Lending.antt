@@ -1,36 +1,38 @@
 -- A group that is lent, and what is shown then.
 use Rattle.std.proofs.Common.{◌≡◌, ⊎_elim, ℕ, ◌+◌, ◌-◌, ◌<◌, ◌≤◌, Bool, true, false, List, [], ◌++◌, refl, sym, ap}
 use Rattle.std.proofs.Common.{◌∙◌, subst, length, map, arith}
-use Rattle.im_types.specs.declared.commands.Request.{Request}
+use Rattle.im_types.specs.declared.commands.Command.{Command}
 use Rattle.im_types.specs.declared.groups.Served.{Served}
 use Rattle.im_types.specs.declared.refusals.Refusal.TheVariants.{TraceFull}
 use Rattle.im_types.specs.Contents.{Contents}
+use Rattle.im_types.specs.Agreement.{WaitingAgrees}
 use Rattle.im_types.specs.Trace.{end_of}
 use Rattle.im_types.specs.Changes.{changes_of, shown_by}
-use Rattle.im_types.specs.Groups.{AreApart}
 use Rattle.im_laws.proofs.Tests.{true_false}
 use Rattle.im_engine.specs.State.{EngineState}
-use Rattle.im_engine.specs.Groups.{all_refused, GroupAnswered}
+use Rattle.im_engine.specs.Commands.{each_refused, CommandsAnswered}
 use Rattle.im_glass.specs.Panes.{PaneView}
 use Rattle.im_controller.specs.Log.{LogState}
 use Rattle.im_controller.specs.State.{SharedState}
-use Rattle.im_controller.specs.Groups.{IsCut, answer_in, with_all_unclaimed, lines_left, MembersAnswered, places_with}
+use Rattle.im_controller.specs.Groups.{AreOneOfEach, AreSureBehind, IsCut, answer_in, with_all_unclaimed, lines_left}
+use Rattle.im_controller.specs.Groups.{MembersAnswered, places_with}
 use Rattle.im_controller.specs.Groups.{those, AreRoomless, changes_put_all, spread, LendsGroup}
 use Rattle.im_controller.proofs.GroupLemmas.{Fits, members-fit, members-room}
 use Rattle.im_controller.proofs.PutLemmas.{lines_all, all-trace, GroupShows, members-shown}
-use Rattle.im_controller.proofs.Choosing.{those-apart, those-cut, spread-fits, spread-lines, spread-left, all-lent}
+use Rattle.im_controller.proofs.Choosing.{those-sure, those-apart, those-cut, spread-fits, spread-lines, spread-left}
+use Rattle.im_controller.proofs.Choosing.{all-lent}
 use Rattle.im_controller.proofs.ShownLemmas.{pane-shows, shown-grows}
 
 -- what was chosen and served
-pub record Group {D : Type 0} (e f : EngineState D) (room : ℕ) (members : List Request) (roomy : List Bool)
-    (lent : List Request) (ss answers : List Served) : Type 0 where
+pub record Group {D : Type 0} (e f : EngineState D) (room : ℕ) (members : List Command) (roomy : List Bool)
+    (lent : List Command) (ss answers : List Served) : Type 0 where
   pub roomless : AreRoomless e.memory (places_with e room) roomy members
   pub lent_is : lent ≡ those roomy members
   pub answered : MembersAnswered e room lent ss f
   pub answers_is : answers ≡ spread roomy ss
 
-module _ {D : Type 0} (e f : EngineState D) (room : ℕ) (members : List Request) (roomy : List Bool)
-    (lent : List Request) (ss answers : List Served) (it : Group e f room members roomy lent ss answers) where
+module _ {D : Type 0} (e f : EngineState D) (room : ℕ) (members : List Command) (roomy : List Bool)
+    (lent : List Command) (ss answers : List Served) (it : Group e f room members roomy lent ss answers) where
   fits-lent : Fits e.memory lent ss f.memory
   fits-lent = members-fit e f lent ss room it.answered
 
@@ -41,7 +43,7 @@ module _ {D : Type 0} (e f : EngineState D) (room : ℕ) (members : List Request
   group-fits =
       subst (λ (xs : List Served). Fits e.memory members xs f.memory) (sym it.answers_is)
       (spread-fits roomy members ss e.memory f.memory e.memory (places_with e room) it.roomless
-      (subst (λ (rs : List Request). Fits e.memory rs ss f.memory) it.lent_is fits-lent))
+      (subst (λ (rs : List Command). Fits e.memory rs ss f.memory) it.lent_is fits-lent))
 
   pub group-room : (limit lines : ℕ) → room ≡ limit - lines → lines ≤ limit
       → (lines < limit → lines + length members ≤ limit) → lines + lines_left (map answer_in answers) ≤ limit
@@ -53,11 +55,14 @@ module _ {D : Type 0} (e f : EngineState D) (room : ℕ) (members : List Request
       (λ some. omega (arith, group-fits.few, enough (omega (arith, some.0, is))))
       (members-room e f lent ss room it.answered)
 
-  module _ (cut : IsCut members) (apart : AreApart members) where
+  module _ (agrees : WaitingAgrees e.memory) (cut : IsCut members) (apart : AreOneOfEach members)
+      (sure : AreSureBehind e.memory members) where
     shows-lent : GroupShows e.memory (lines_all lent (map answer_in ss))
         (changes_put_all e.memory (places_with e room) lent) f.failed
-    shows-lent = members-shown e f lent ss (subst IsCut (sym it.lent_is) (those-cut roomy members cut))
-        (subst AreApart (sym it.lent_is) (those-apart roomy members apart)) room it.answered
+    shows-lent = members-shown e f lent ss agrees (subst IsCut (sym it.lent_is) (those-cut roomy members cut))
+        (subst AreOneOfEach (sym it.lent_is) (those-apart roomy members apart))
+        (subst (λ (rs : List Command). AreSureBehind e.memory rs) (sym it.lent_is)
+        (those-sure e.memory roomy members sure)) room it.answered
 
     pub lines-same : lines_all members (map answer_in answers) ≡ lines_all lent (map answer_in ss)
     lines-same =
@@ -103,8 +108,8 @@ module _ {D : Type 0} (e f : EngineState D) (room : ℕ) (members : List Request
         }
 
 -- a group, as its clause has it
-pub lends-group : {D : Type 0} (s s' : SharedState D) (members : List Request) (roomy : List Bool)
-    (lent : List Request) (ss answers : List Served) (room : ℕ)
+pub lends-group : {D : Type 0} (s s' : SharedState D) (members : List Command) (roomy : List Bool)
+    (lent : List Command) (ss answers : List Served) (room : ℕ)
     → Group s.engine s'.engine room members roomy lent ss answers → room ≡ s.log.limit - length s.log.trace
     → s'.log ≡ with_all_unclaimed s.log members (map answer_in answers) → s'.servers ≡ s.servers
     → (s'.engine.failed ≡ false → s'.shown
@@ -123,9 +128,9 @@ lends-group {D = D} s s' members roomy lent ss answers room it is log servers sh
           let all = all-lent roomy members ss e.memory (places_with e room) (now ∙ zero) it.roomless
           (whole-lent e f room members roomy lent ss answers it) in (all.0, it.answers_is ∙ all.1);
       full = λ alive over. let full = it.answered.full alive (omega (arith, is, over)) in
-          (full.0 ∙ ap (all_refused TraceFull) it.lent_is, full.1);
-      dead = λ dead. subst (λ (rs : List Request). GroupAnswered e rs ss f) it.lent_is (it.answered.dead dead);
-      served = λ some. subst (λ (rs : List Request). GroupAnswered e rs ss f) it.lent_is
+          (full.0 ∙ ap (each_refused TraceFull) it.lent_is, full.1);
+      dead = λ dead. subst (λ (rs : List Command). CommandsAnswered e rs ss f) it.lent_is (it.answered.dead dead);
+      served = λ some. subst (λ (rs : List Command). CommandsAnswered e rs ss f) it.lent_is
           (it.answered.served (omega (arith, is, some)));
       log = log;
       servers = servers;
@@ -136,8 +141,8 @@ lends-group {D = D} s s' members roomy lent ss answers room it is log servers sh
     }
 
 -- from what is called
-pub group-is : {D : Type 0} (e f : EngineState D) (room : ℕ) (members slice : List Request) (roomy bools : List Bool)
-    (lent : List Request) (ss served answers : List Served) (contents : Contents) (places : ℕ)
+pub group-is : {D : Type 0} (e f : EngineState D) (room : ℕ) (members slice : List Command) (roomy bools : List Bool)
+    (lent : List Command) (ss served answers : List Served) (contents : Contents) (places : ℕ)
     → contents ≡ e.memory → places ≡ places_with e room → slice ≡ members → AreRoomless contents places roomy slice
     → lent ≡ those roomy slice
     → MembersAnswered e room lent ss f → bools ≡ roomy → served ≡ ss → answers ≡ spread bools served
@@ -146,7 +151,7 @@ group-is e f room members slice roomy bools lent ss served answers contents plac
   roomless =
       subst (λ (n : Contents). AreRoomless n (places_with e room) roomy members) same
       (subst (λ (n : ℕ). AreRoomless contents n roomy members) left
-      (subst (λ (rs : List Request). AreRoomless contents places roomy rs) all roomless));
+      (subst (λ (rs : List Command). AreRoomless contents places roomy rs) all roomless));
   lent_is = chosen ∙ ap (those roomy) all;
   answered = answered;
   answers_is = is ∙ ap (λ l. spread l served) bs ∙ ap (spread roomy) xs;

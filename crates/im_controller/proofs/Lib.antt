@@ -6,6 +6,7 @@ pub mod LendLemmas
 pub mod ShownLemmas
 pub mod PutLemmas
 pub mod WaitLemmas
+pub mod SureLemmas
 pub mod Gathering
 pub mod Keeping
 pub mod GroupLemmas

@@ -9,8 +9,6 @@ use Rattle.std.proofs.lemmas.List.Sums.{sum_by-append, sum_by-set}
 use Rattle.std.proofs.lemmas.Option.{slice_get_within, get_or_from_slice_get}
 use Rattle.im_types.specs.declared.changes.Change.{Change}
 use Rattle.im_types.specs.declared.commands.Command.{Command}
-use Rattle.im_types.specs.declared.commands.Command.TheVariants.{Request as Asks}
-use Rattle.im_types.specs.declared.commands.Request.{Request}
 use Rattle.im_types.specs.declared.commands.Outcome.{Outcome}
 use Rattle.im_types.specs.declared.commands.Call.{Call}
 use Rattle.im_types.specs.declared.commands.Call.TheVariants.{Command as Commands}
@@ -23,7 +21,7 @@ use Rattle.im_types.specs.Trace.{told, answer_to, contents_after, IsLegal, end_o
 use Rattle.im_laws.proofs.TraceLemmas.{end_of-append, IsLegal-push}
 use Rattle.im_controller.specs.Lines.{Counts, EndsIn, EndsInAll, leaves_line, line_of, lines_of, memory_after}
 use Rattle.im_controller.specs.Lines.{counts_after}
-use Rattle.im_controller.specs.Log.{UnclaimedState, LogState, IsProof, IsProofIn, unclaimed_lines, with_line}
+use Rattle.im_controller.specs.Log.{sender_of, UnclaimedState, LogState, IsProof, IsProofIn, unclaimed_lines, with_line}
 use Rattle.im_controller.specs.Log.{with_unclaimed, without_unclaimed, AreFree, AreClaimed, IsLog, IsOfTrace}
 use Rattle.im_controller.specs.Log.{receipt_for}
 
@@ -127,15 +125,15 @@ module _ (m : Contents) (marks : Line → Bool) (l : LogState) (books : Counts) 
       }
 
   -- an answer that waits for its port
-  pub log-keeps : (r : Request) (answer : Result Outcome Refusal) → slice_get l.places r.element ≡ Some None
+  pub log-keeps : (r : Command) (answer : Result Outcome Refusal) → slice_get l.places (sender_of r) ≡ Some None
       → (leaves_line answer ≡ true → length l.trace < l.limit)
-      → (leaves_line answer ≡ true → answer ≡ answer_to (end_of m l.trace) (Commands (Asks r)))
+      → (leaves_line answer ≡ true → answer ≡ answer_to (end_of m l.trace) (Commands r))
       → IsLog m marks (with_unclaimed l r answer) books
   log-keeps r answer free room so =
-      let call = Commands (Asks r) in
+      let call = Commands r in
       let more = lines_of call answer in
       let history = l.trace ++ more in
-      let w : UnclaimedState = record { request = r; answer = answer; before = length l.trace; history = history } in
+      let w : UnclaimedState = record { command = r; answer = answer; before = length l.trace; history = history } in
       let legal = legal_by (leaves_line answer) m l.trace call answer is.legal so in record {
         legal = legal;
         few = omega (
@@ -148,17 +146,17 @@ module _ (m : Contents) (marks : Line → Bool) (l : LogState) (books : Counts) 
           arith,
           is.lines,
           sum_kept
-              (λ p. length (unclaimed_lines p)) refl l.places r.element w free,
+              (λ p. length (unclaimed_lines p)) refl l.places (sender_of r) w free,
           length-append l.trace more,
         );
         marked = omega (
           arith,
           is.marked,
           sum_kept
-              (λ p. count_by marks (unclaimed_lines p)) refl l.places r.element w free,
+              (λ p. count_by marks (unclaimed_lines p)) refl l.places (sender_of r) w free,
           count-append marks l.trace more,
         );
-        proofs = all-set (IsProofIn m (l.trace ++ more)) l.places r.element (Some w)
+        proofs = all-set (IsProofIn m (l.trace ++ more)) l.places (sender_of r) (Some w)
             (proofs-more m l.trace more l.places is.proofs)
             (proof_at m l.trace call answer legal, ([], append-nil (l.trace ++ more)), (l.trace, refl, refl));
       }

@@ -1,13 +1,11 @@
 -- What a port has seen of the trace, when a call of it has left its line.
 use Rattle.std.proofs.Common.{◌≡◌, ◌⊎◌, inl, inr, ⊎_elim, ℕ, ◌<◌, ◌≤◌, Bool, true, false, List}
 use Rattle.std.proofs.Common.{[], ◌++◌}
-use Rattle.std.proofs.Common.{refl, sym, ap, ◌∙◌, subst, Option, Some, Result, Ok, Err, length, length-append}
+use Rattle.std.proofs.Common.{refl, sym, ap, ◌∙◌, subst, Some, Result, Ok, Err, length, length-append}
 use Rattle.std.proofs.Common.{append-nil, arith}
 use mathlib.Core.List.{IsPrefix}
 use Rattle.im_types.specs.declared.operations.Entry.{Entry}
 use Rattle.im_types.specs.declared.commands.Command.{Command}
-use Rattle.im_types.specs.declared.commands.Command.TheVariants.{Request as Asks}
-use Rattle.im_types.specs.declared.commands.Request.{Request}
 use Rattle.im_types.specs.declared.commands.Outcome.{Outcome}
 use Rattle.im_types.specs.declared.commands.Call.TheVariants.{Command as Commands, Collect}
 use Rattle.im_types.specs.declared.commands.Line.{Line}
@@ -22,8 +20,7 @@ use Rattle.im_controller.specs.Lines.{Counts, AreInOrder, GoesOnTo, lines_of}
 use Rattle.im_controller.specs.Log.{LogState, ReceiptState, HasHistory, SeesAnswer, IsBefore, plain, receipt_for}
 use Rattle.im_controller.specs.State.{SharedState}
 use Rattle.im_controller.specs.Waits.{SeesFound}
-use Rattle.im_controller.specs.Lends.{Lends, Looks}
-use Rattle.im_controller.specs.Planned.{has_command}
+use Rattle.im_controller.specs.Lends.{Looks}
 
 -- ---- prefixes
 
@@ -47,22 +44,21 @@ has-history history shown command (Ok outcome) = refl
 has-history history shown command (Err refusal) = tt
 
 -- what is seen then, if no more was seen than there were lines before it
-pub claimed-follows : (seen history now : List Line) (shown : List Change) (before : ℕ) (r : Request)
-    (command : Command)
+pub claimed-follows : (seen history now : List Line) (shown : List Change) (before : ℕ) (r command : Command)
     (a : Result Outcome Refusal) (receipt : Result ReceiptState Refusal) → AreInOrder seen history
     → length seen ≤ before
-    → IsBefore before (lines_of (Commands (Asks r)) a) history → receipt ≡ receipt_for history shown command a
+    → IsBefore before (lines_of (Commands r) a) history → receipt ≡ receipt_for history shown command a
     → now ≡ history
     → SeesAnswer seen r (Some receipt) now
 claimed-follows seen history now shown before r command a receipt order less behind is same =
-    let last = lines_of (Commands (Asks r)) a in
+    let last = lines_of (Commands r) a in
     let start = behind.0 in
     let begins = prefix-before seen start last history order behind.2 (omega (arith, less, behind.1)) in
     let answers : plain receipt ≡ a = ap plain is ∙ plain-receipt history shown command a in (
       (
         begins.0,
         same ∙ behind.2 ∙ ap (λ ls. ls ++ last) (sym begins.1)
-            ∙ ap (λ b. (seen ++ begins.0) ++ lines_of (Commands (Asks r)) b) (sym answers),
+            ∙ ap (λ b. (seen ++ begins.0) ++ lines_of (Commands r) b) (sym answers),
       ),
       subst (λ b. HasHistory now b) (sym is)
           (subst (λ ls. HasHistory ls (receipt_for history shown command a)) (sym same)
@@ -80,38 +76,6 @@ same-trace : {D : Type 0} (s s' : SharedState D) (last : List Line) → s' ≡ s
     → s'.log.trace ≡ s.log.trace ++ last
 same-trace s s' last same none = ap (λ t. t.log.trace) same ∙ sym (append-nil s.log.trace)
     ∙ ap (λ ls. s.log.trace ++ ls) (sym none)
-
-module _ {D : Type 0} (marks : Line → Bool) (plan : Option (List Request)) (s s' : SharedState D) (t t' : Counts)
-    (command : Command)
-    (a : Result ReceiptState Refusal) (l : Lends marks plan s t command a s' t') where
-  abbrev lines : Result ReceiptState Refusal → List Line
-  lines b = lines_of (Commands command) (plain b)
-
-  lends-served : s.engine.failed ≡ false → length s.log.trace < s.log.limit → (has : Bool)
-      → has_command plan command ≡ has
-      → s'.log.trace ≡ s.log.trace ++ lines a
-  lends-served alive room false off = let is = l.off alive room off in same-trace s s' (lines a) is.1 (ap lines is.0)
-  lends-served alive room true on = ⊎_elim
-      (λ done. ap (λ (k : LogState). k.trace) done.1.log)
-      (λ none. same-trace s s' (lines a) none.same (ap lines none.refused))
-      (l.served alive room on)
-
-  lends-alive : s.engine.failed ≡ false → (length s.log.trace < s.log.limit) ⊎ (s.log.limit ≤ length s.log.trace)
-      → s'.log.trace ≡ s.log.trace ++ lines a
-  lends-alive alive (inl room) = lends-served alive room (has_command plan command) refl
-  lends-alive alive (inr over) = let is = l.full alive over in same-trace s s' (lines a) is.1 (ap lines is.0)
-
-  lends-by : (failed : Bool) → s.engine.failed ≡ failed → s'.log.trace ≡ s.log.trace ++ lines a
-  lends-by true dead = let is = l.dead dead in same-trace s s' (lines a) is.1 (ap lines is.0)
-  lends-by false alive = lends-alive alive (below_or_from (length s.log.trace) s.log.limit)
-
-  pub lends-trace : s'.log.trace ≡ s.log.trace ++ lines_of (Commands command) (plain a)
-  lends-trace = lends-by s.engine.failed refl
-
-  pub lends-own : (now : List Line) → now ≡ s'.log.trace → HasHistory now a
-  lends-own now is = subst (λ (b : Result ReceiptState Refusal). HasHistory now b) (sym l.receipt)
-      (subst (λ ls. HasHistory now (receipt_for ls s'.shown command (plain a))) is
-      (has-history now s'.shown command (plain a)))
 
 module _ {D : Type 0} (marks : Line → Bool) (s s' : SharedState D) (t t' : Counts) (e n : ℕ)
     (a : Result Entry Refusal) (l : Looks marks s t e n a s' t') where

@@ -5,8 +5,7 @@ use Rattle.std.specs.List.{AllByRecursion}
 use mathlib.Core.List.{IsPrefix}
 use Rattle.im_types.specs.declared.operations.Entry.{Entry}
 use Rattle.im_types.specs.declared.commands.Command.{Command}
-use Rattle.im_types.specs.declared.commands.Command.TheVariants.{Request as Asks}
-use Rattle.im_types.specs.declared.commands.Request.{Request}
+use Rattle.im_types.specs.declared.commands.Command.TheVariants.{Request as Asks, Confirm}
 use Rattle.im_types.specs.declared.commands.Outcome.{Outcome}
 use Rattle.im_types.specs.declared.commands.Call.{Call}
 use Rattle.im_types.specs.declared.commands.Call.TheVariants.{Command as Commands}
@@ -33,9 +32,14 @@ pub record FoundState : Type 0 where
   pub history : List Line
   pub told : List Change
 
--- the answer to a request that its port hasn't taken yet, how many lines there were before it, and the trace right after it
+-- the element of a command
+abbrev pub sender_of : Command → ℕ
+sender_of (Asks r) = r.element
+sender_of (Confirm element upto) = element
+
+-- the answer to a command that its port hasn't taken yet, how many lines there were before it, and the trace right after it
 pub record UnclaimedState : Type 0 where
-  pub request : Request
+  pub command : Command
   pub answer : Result Outcome Refusal
   pub before : ℕ
   pub history : List Line
@@ -68,17 +72,17 @@ IsProof m call (Err refusal) history = Unit {0}
 -- the lines that an answer in a place left
 abbrev pub unclaimed_lines : Option UnclaimedState → List Line
 unclaimed_lines None = []
-unclaimed_lines (Some waiting) = lines_of (Commands (Asks waiting.request)) waiting.answer
+unclaimed_lines (Some waiting) = lines_of (Commands waiting.command) waiting.answer
 
 -- the log after the line of a call; its port was told
 abbrev pub with_line : LogState → Call → Result Outcome Refusal → LogState
 with_line l call answer = record l { trace = l.trace ++ lines_of call answer }
 
--- the log with the answer to a request in its element's place
-abbrev pub with_unclaimed : LogState → Request → Result Outcome Refusal → LogState
-with_unclaimed l r answer =
-    let trace = l.trace ++ lines_of (Commands (Asks r)) answer in
-    record { trace = trace; limit = l.limit; places = slice_set l.places r.element (Some (record { request = r; answer = answer; before = length l.trace; history = trace })) }
+-- the log with the answer to a command in its element's place
+abbrev pub with_unclaimed : LogState → Command → Result Outcome Refusal → LogState
+with_unclaimed l command answer =
+    let trace = l.trace ++ lines_of (Commands command) answer in
+    record { trace = trace; limit = l.limit; places = slice_set l.places (sender_of command) (Some (record { command = command; answer = answer; before = length l.trace; history = trace })) }
 
 -- the log with an element's place free
 abbrev pub without_unclaimed : LogState → ℕ → LogState
@@ -91,7 +95,7 @@ IsBefore before last lines = (start : List Line) × (length start ≡ before) ×
 -- an answer that waits in a place has a prefix of the trace, which is legal and ends in its line
 abbrev pub IsProofIn : Contents → List Line → Option UnclaimedState → Type 0
 IsProofIn m trace None = Unit {0}
-IsProofIn m trace (Some waiting) = IsProof m (Commands (Asks waiting.request)) waiting.answer waiting.history × IsPrefix waiting.history trace
+IsProofIn m trace (Some waiting) = IsProof m (Commands waiting.command) waiting.answer waiting.history × IsPrefix waiting.history trace
     × IsBefore waiting.before (unclaimed_lines (Some waiting)) waiting.history
 
 -- A legal trace with no more lines than it may have. The books count each line that its port was told: all but those of
@@ -109,17 +113,17 @@ abbrev pub IsOf : Command → Result ReceiptState Refusal → Type 0
 IsOf command (Ok receipt) = receipt.command ≡ command
 IsOf command (Err refusal) = Unit {0}
 
--- the answer to a request is taken from an element's place, or isn't there
-abbrev pub Takes : List (Option UnclaimedState) → ℕ → Request → Option UnclaimedState → List (Option UnclaimedState) → Type 0
-Takes places element r None others = others ≡ places
-Takes places element r (Some w) others = (slice_get places element ≡ Some (Some w)) × (w.request ≡ r) × (others ≡ slice_set places element None)
+-- the answer to a command is taken from an element's place, or isn't there
+abbrev pub Takes : List (Option UnclaimedState) → ℕ → Command → Option UnclaimedState → List (Option UnclaimedState) → Type 0
+Takes places element command None others = others ≡ places
+Takes places element command (Some w) others = (slice_get places element ≡ Some (Some w)) × (w.command ≡ command) × (others ≡ slice_set places element None)
 
--- A port looks for the answer to its request in its element's place. There is none, or it takes it, and its line is
+-- A port looks for the answer to its command in its element's place. There is none, or it takes it, and its line is
 -- counted.
-abbrev pub Claims : (Line → Bool) → LogState → Counts → ℕ → Request → Option (Result ReceiptState Refusal) → LogState → Counts → Type 0
-Claims marks l t element r None l' t' = (l' ≡ l) × (t' ≡ t)
-Claims marks l t element r (Some answer) l' t' =
-    (l' ≡ without_unclaimed l element) × (t' ≡ counts_after marks t (lines_of (Commands (Asks r)) (plain answer))) × IsOf (Asks r) answer
+abbrev pub Claims : (Line → Bool) → LogState → Counts → ℕ → Command → Option (Result ReceiptState Refusal) → LogState → Counts → Type 0
+Claims marks l t element command None l' t' = (l' ≡ l) × (t' ≡ t)
+Claims marks l t element command (Some answer) l' t' =
+    (l' ≡ without_unclaimed l element) × (t' ≡ counts_after marks t (lines_of (Commands command) (plain answer))) × IsOf command answer
 
 -- a receipt has this trace
 abbrev pub HasHistory : List Line → Result ReceiptState Refusal → Type 0
@@ -131,10 +135,10 @@ HasHistory history (Err refusal) = Unit {0}
 abbrev pub SeesReceipt : List Line → Command → Result ReceiptState Refusal → List Line → Type 0
 SeesReceipt seen command answer seen' = GoesOnTo seen (lines_of (Commands command) (plain answer)) seen' × HasHistory seen' answer
 
--- the same, when it looks for the answer to its request: it sees no more if there is none
-abbrev pub SeesAnswer : List Line → Request → Option (Result ReceiptState Refusal) → List Line → Type 0
-SeesAnswer seen r None seen' = seen' ≡ seen
-SeesAnswer seen r (Some answer) seen' = SeesReceipt seen (Asks r) answer seen'
+-- the same, when it looks for the answer to its command: it sees no more if there is none
+abbrev pub SeesAnswer : List Line → Command → Option (Result ReceiptState Refusal) → List Line → Type 0
+SeesAnswer seen command None seen' = seen' ≡ seen
+SeesAnswer seen command (Some answer) seen' = SeesReceipt seen command answer seen'
 
 -- an outcome has a prefix of the trace, which is legal and ends in its line
 abbrev pub IsOfTrace : Contents → List Line → Result ReceiptState Refusal → Type 0

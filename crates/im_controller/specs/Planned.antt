@@ -36,10 +36,10 @@ abbrev pub IsOnPlan : Option (List Request) → Call → Type 0
 IsOnPlan None call = Unit {0}
 IsOnPlan (Some plan) call = IsPlannedCall plan call
 
--- the plan has each of these requests
-abbrev pub AreOnPlan : Option (List Request) → List Request → Type 0
+-- the plan has each of these commands that is a request
+abbrev pub AreOnPlan : Option (List Request) → List Command → Type 0
 AreOnPlan plan [] = Unit {0}
-AreOnPlan plan (r ∷ rs) = IsOnPlan plan (Commands (Asks r)) × AreOnPlan plan rs
+AreOnPlan plan (c ∷ cs) = IsOnPlan plan (Commands c) × AreOnPlan plan cs
 
 -- the plan, if there is one, fits the memory
 abbrev pub StartsBy : Contents → Option (List Request) → Type 0

@@ -16,18 +16,19 @@ use crate::books::Tally;
 use crate::chain::Prefix;
 use crate::groups::hold;
 use crate::inbox::Inbox;
-use crate::keeper::{Kept, keep_once, make_room, mark_ended};
+use crate::keeper::{Kept, keep_once, mark_ended};
+use crate::log::element_of;
 use crate::name::{Name, Shown};
 use crate::ports::Port;
 use crate::receipts::Receipt;
 use crate::shared::{
-    Shared, Sleepers, lend_seen, make_glance, make_port, stands_for, who_is_answered, who_sleeps,
+    Shared, Sleepers, make_glance, make_port, stands_for, who_is_answered, who_sleeps,
 };
 use crate::tellers::{Silent, Teller};
 use crate::turns::Turns;
 use im_disk::Disk;
 use im_glass::Glance;
-use im_types::{Command, Refusal, Request};
+use im_types::{Command, Refusal};
 use std::sync::{Mutex, MutexGuard, Wait};
 
 /// The lock round an engine and its trace, with the queue before the lock and an inbox that has a lock of its own. It
@@ -159,53 +160,46 @@ impl<D: Disk, K: Name> Controller<D, K> {
         self.answers.ring(rt, sleepers.ports.as_slice());
     }
 
-    // Lends the engine to a port's command, in the queue's order.
+    // Serves a port's command: it asks, and holds the lock until there is an answer.
     pub(crate) fn serve<R: Wait>(
         &self,
         rt: &R,
-        place: u16,
         tally: &mut Tally<K>,
         seen: &mut Prefix<K>,
         command: &Command,
     ) -> Result<Receipt<K>, Refusal>
         ensures asked { IfOk result (λ r. r.command ≡ command.now) }
+        ensures planned { TellsOf K.memory K.plan result }
         ensures legal { IfOk result (λ r. IsLegal K.memory r.history) }
         ensures last { IfOk result (λ r. EndsIn r.history (line_of (Commands r.command) (plain result))) }
         ensures counts { tally.new ≡ counts_after K.marks tally.old (lines_of (Commands command.now) (plain result)) }
         ensures order { SeesReceipt seen.old command.now result seen.new }
     {
-        let turn = self.turns.wait(rt, place as usize);
-        let mut guard = self.shared.lock(rt);
-        make_room(&mut *guard, 1);
-        let answer = lend_seen(rt, &mut *guard, tally, seen, command);
-        let sleepers = who_sleeps(&mut *guard);
-        let _lock = MutexGuard::unlock(guard);
-        self.turns.pass_on(rt, turn, &[]);
-        self.wake(rt, sleepers);
-        answer
+        self.inbox.lock(rt).ask(command);
+        for _ in rt.forever() {
+            if let Some(answer) = self.serve_all(rt, tally, seen, command) {
+                return answer;
+            }
+        }
+        unreachable!()
     }
 
-    // Puts a request into the inbox.
-    pub(crate) fn ask<R: Wait>(&self, rt: &R, request: &Request) {
-        self.inbox.lock(rt).ask(request);
-    }
-
-    // Holds the lock once, in the queue's order, for a port that has asked. Returns the answer to its request, if there
+    // Holds the lock once, in the queue's order, for a port that has asked. Returns the answer to its command, if there
     // is one.
-    pub(crate) fn serve_all<R: Wait>(
+    fn serve_all<R: Wait>(
         &self,
         rt: &R,
         tally: &mut Tally<K>,
         seen: &mut Prefix<K>,
-        request: &Request,
+        command: &Command,
     ) -> Option<Result<Receipt<K>, Refusal>>
-        ensures holds { Holds K.marks tally.old request.now result tally.new }
+        ensures holds { Holds K.marks tally.old command.now result tally.new }
         ensures planned { IfSome result (TellsOf K.memory K.plan) }
-        ensures order { SeesAnswer seen.old request.now result seen.new }
+        ensures order { SeesAnswer seen.old command.now result seen.new }
     {
-        let turn = self.turns.wait(rt, request.element as usize);
+        let turn = self.turns.wait(rt, element_of(command) as usize);
         let mut guard = self.shared.lock(rt);
-        let answer = hold(rt, &mut *guard, &self.inbox, tally, seen, request);
+        let answer = hold(rt, &mut *guard, &self.inbox, tally, seen, command);
         let sleepers = who_sleeps(&mut *guard);
         let answered = who_is_answered(&*guard);
         let _lock = MutexGuard::unlock(guard);

@@ -1,12 +1,13 @@
-//! Groups of requests that the engine is lent to. Their answers wait for their ports.
+//! Groups of commands that the engine is lent to. Their answers wait for their ports.
 ghost use Rattle.std.specs.Prelude.{◌≡◌, ◌<◌, ◌≤◌, ◌+◌, ◌-◌, ◌++◌, [], ◌∷◌, false, length, map, IfSome, if◌then◌else◌};
 ghost use Rattle.im_types.specs.Trace.{end_of};
-ghost use Rattle.im_types.specs.Groups.{AreApart};
 ghost use Rattle.im_disk.specs.Since.{LeavesWithin, LeavesNow, CallsAtMost};
 ghost use Rattle.im_engine.specs.State.{MeansState};
-ghost use Rattle.im_engine.specs.Groups.{all_refused, group_put, calls_for_group, MeansGroup, GroupFaults};
+ghost use Rattle.im_engine.specs.Groups.{calls_for_group, GroupFaults};
+ghost use Rattle.im_engine.specs.Commands.{commands_put, each_refused, CommandsAnswered, MeansCommands, ServesCommands};
 ghost use Rattle.im_controller.specs.Groups.{answer_in, with_all_unclaimed, AreAnswersTo, memory_after_all, lines_left};
-ghost use Rattle.im_controller.specs.Groups.{AreFreeFor, MembersAnswered, LendsGroup, Holds, IsCut};
+ghost use Rattle.im_controller.specs.Groups.{AreOneOfEach, AreFreeFor, AreSureBehind, IsCut};
+ghost use Rattle.im_controller.specs.Groups.{MembersAnswered, LendsGroup, Holds};
 ghost use Rattle.im_controller.specs.Groups.{those, spread, next_answer, answers_left};
 ghost use Rattle.im_controller.specs.Log.{SeesAnswer};
 ghost use Rattle.im_controller.specs.Planned.{AreOnPlan, StartsBy, TellsOf};
@@ -19,14 +20,14 @@ use crate::keeper::make_room;
 use crate::log::Log;
 use crate::name::Name;
 use crate::panes::{choose, places_with, show_put};
-use crate::plans::has_request;
+use crate::plans::has_command;
 use crate::receipts::Receipt;
 use crate::shared::Shared;
 use arrayvec::ArrayVec;
 use im_disk::Disk;
 use im_engine::Engine;
 use im_planning::Plan;
-use im_types::{Outcome, Refusal, Request, Served};
+use im_types::{Command, Outcome, Refusal, Served};
 use std::sync::{Mutex, Wait};
 
 // Returns what a member was answered.
@@ -41,10 +42,10 @@ fn answer_in(served: Served) -> Result<Outcome, Refusal>
 }
 
 // Keeps the answers of the members for their ports, in order.
-fn keep_all<K: Name>(log: &mut Log<K>, members: &[Request], served: &[Served])
+fn keep_all<K: Name>(log: &mut Log<K>, members: &[Command], served: &[Served])
     requires whole { length served.now ≡ length members.now }
     requires are_so { AreAnswersTo (end_of K.memory log.old.trace) members.now (map answer_in served.now) }
-    requires apart { AreApart members.now }
+    requires apart { AreOneOfEach members.now }
     requires free { AreFreeFor log.old.places members.now }
     requires room { length log.old.trace + lines_left (map answer_in served.now) ≤ log.old.limit }
     ensures log { log.new ≡ with_all_unclaimed log.old members.now (map answer_in served.now) }
@@ -57,34 +58,50 @@ fn keep_all<K: Name>(log: &mut Log<K>, members: &[Request], served: &[Served])
 }
 
 // Refuses all members with the same refusal.
-fn refuse_alike(refusal: Refusal, members: &[Request], served: &mut ArrayVec<Served, 16>)
+fn refuse_alike(refusal: Refusal, members: &[Command], served: &mut ArrayVec<Served, 16>)
     requires fits { length members.now ≤ 16 }
     requires empty { served.old.items ≡ [] }
-    ensures { served.new.items ≡ all_refused refusal members.now }
+    ensures { served.new.items ≡ each_refused refusal members.now }
 {
     for _i in 0..members.len() {
         served.push(Served::Refused(refusal));
     }
 }
 
-// Serves the members, if the trace has room for more lines. If it has none, each is refused with `TraceFull`.
+// Serves all of these: behind the first one, each is sure.
+fn serve_each<D: Disk>(
+    engine: &mut Engine<D>,
+    members: &ArrayVec<Command, 16>,
+    served: &mut ArrayVec<Served, 16>,
+)
+    requires sure { AreSureBehind engine.old.memory members.now.items }
+    requires empty { served.old.items ≡ [] }
+    ensures answered { CommandsAnswered engine.old members.now.items served.new.items engine.new }
+    ensures runs { ServesCommands D.Disk engine.old engine.new members.now.items }
+{
+    // A crash in this call leaves on the disk all that the group puts there, or nothing of it. No answer is given
+    // before.
+    engine.serve_commands(members, served);
+}
+
+// Serves all members, if the trace has room for more lines. If it has none, each is refused with `TraceFull`.
 fn serve_members<D: Disk>(
     engine: &mut Engine<D>,
     room: usize,
-    members: &ArrayVec<Request, 16>,
+    members: &ArrayVec<Command, 16>,
     served: &mut ArrayVec<Served, 16>,
 )
-    requires apart { AreApart members.now.items }
+    requires sure { AreSureBehind engine.old.memory members.now.items }
     requires empty { served.old.items ≡ [] }
     ensures answered { MembersAnswered engine.old room members.now.items served.new.items engine.new }
     ensures few { D.honest engine.new.disk → CallsAtMost D.past engine.old.disk engine.new.disk
-        (calls_for_group (length (group_put engine.old members.now.items))) }
+        (calls_for_group (length (commands_put engine.old members.now.items))) }
     ensures faults { GroupFaults engine.old.failed engine.new.failed (D.failures engine.old.disk)
         (D.failures engine.new.disk) }
     ensures leaves { D.honest engine.new.disk → engine.old.failed ≡ false
-        → LeavesWithin D.now D.past engine.old.disk engine.new.disk (MeansGroup engine.old members.now.items) }
+        → LeavesWithin D.now D.past engine.old.disk engine.new.disk (MeansCommands engine.old members.now.items) }
     ensures doubt { D.honest engine.new.disk → engine.old.failed ≡ false
-        → LeavesNow (D.now engine.new.disk) (MeansGroup engine.old members.now.items) }
+        → LeavesNow (D.now engine.new.disk) (MeansCommands engine.old members.now.items) }
     ensures means { D.honest engine.new.disk → engine.new.failed ≡ false
         → LeavesNow (D.now engine.new.disk) (MeansState engine.new) }
     ensures honest { D.honest engine.new.disk → D.honest engine.old.disk }
@@ -92,9 +109,8 @@ fn serve_members<D: Disk>(
     if !engine.failed() && room == 0 {
         return refuse_alike(Refusal::TraceFull, members.as_slice(), served);
     }
-    // A crash in this call leaves on the disk all that the group puts there, or nothing of it. No answer is given
-    // before.
-    engine.serve_group(members, served);
+    // A crash in this call leaves all of the group on the disk, or nothing of it.
+    serve_each(engine, members, served);
 }
 
 // Returns the next answer, for a member that was lent or for one that wasn't.
@@ -140,10 +156,11 @@ fn spread(roomy: &[bool], served: &[Served], answers: &mut ArrayVec<Served, 16>)
 fn lend_members<D: Disk, K: Name, R: Wait>(
     rt: &R,
     shared: &mut Shared<D, K>,
-    members: &ArrayVec<Request, 16>,
+    members: &ArrayVec<Command, 16>,
 ) -> ArrayVec<bool, 16>
     requires cut { IsCut members.now.items }
-    requires apart { AreApart members.now.items }
+    requires apart { AreOneOfEach members.now.items }
+    requires sure { AreSureBehind shared.old.engine.memory members.now.items }
     requires free { AreFreeFor shared.old.log.places members.now.items }
     requires room { length shared.old.log.trace < shared.old.log.limit
         → length shared.old.log.trace + length members.now.items ≤ shared.old.log.limit }
@@ -152,15 +169,15 @@ fn lend_members<D: Disk, K: Name, R: Wait>(
     ensures lends { LendsGroup shared.old members.now.items result.items shared.new }
     // What the disk is left with is as after the engine's own call.
     ensures few { D.honest shared.new.engine.disk → CallsAtMost D.past shared.old.engine.disk shared.new.engine.disk
-        (calls_for_group (length (group_put shared.old.engine (those result.items members.now.items)))) }
+        (calls_for_group (length (commands_put shared.old.engine (those result.items members.now.items)))) }
     ensures faults { GroupFaults shared.old.engine.failed shared.new.engine.failed
         (D.failures shared.old.engine.disk) (D.failures shared.new.engine.disk) }
     ensures leaves { D.honest shared.new.engine.disk → shared.old.engine.failed ≡ false
         → LeavesWithin D.now D.past shared.old.engine.disk shared.new.engine.disk
-        (MeansGroup shared.old.engine (those result.items members.now.items)) }
+        (MeansCommands shared.old.engine (those result.items members.now.items)) }
     ensures doubt { D.honest shared.new.engine.disk → shared.old.engine.failed ≡ false
         → LeavesNow (D.now shared.new.engine.disk)
-        (MeansGroup shared.old.engine (those result.items members.now.items)) }
+        (MeansCommands shared.old.engine (those result.items members.now.items)) }
     ensures means { D.honest shared.new.engine.disk → shared.new.engine.failed ≡ false
         → LeavesNow (D.now shared.new.engine.disk) (MeansState shared.new.engine) }
     ensures honest { D.honest shared.new.engine.disk → D.honest shared.old.engine.disk }
@@ -171,9 +188,11 @@ fn lend_members<D: Disk, K: Name, R: Wait>(
     let mut answers = ArrayVec::new();
     let room = shared.log.room();
     let places = places_with(&shared.engine, room);
+    let memory = shared.engine.memory();
+    let _cells = memory.cells(); // So that it is known that its lists of waiters agree with what waits.
     choose(
         &mut shared.pane,
-        shared.engine.memory(),
+        memory,
         places,
         members.as_slice(),
         &mut roomy,
@@ -186,22 +205,22 @@ fn lend_members<D: Disk, K: Name, R: Wait>(
     roomy
 }
 
-// Puts a request at the end of these, if it is picked.
-fn push_if(chosen: &mut ArrayVec<Request, 16>, is_picked: bool, request: Request)
+// Puts a command at the end of these, if it is picked.
+fn push_if(chosen: &mut ArrayVec<Command, 16>, is_picked: bool, command: Command)
     requires room { length chosen.old.items < 16 }
-    ensures { chosen.new.items ≡ chosen.old.items ++ (if is_picked then request ∷ [] else []) }
+    ensures { chosen.new.items ≡ chosen.old.items ++ (if is_picked then command ∷ [] else []) }
 {
     if is_picked {
-        chosen.push(request);
+        chosen.push(command);
     }
 }
 
 // Returns whether a member is picked. If the plan is asked, `wanted` picks the members that it has, and `!wanted` the
 // others. If it isn't asked, `wanted` picks all members, and `!wanted` none.
-fn is_picked(plan: &Option<Plan>, asked: bool, wanted: bool, member: &Request) -> bool
+fn is_picked(plan: &Option<Plan>, asked: bool, wanted: bool, member: &Command) -> bool
     ensures { result ≡ is_picked plan.now asked wanted member.now }
 {
-    if asked && !has_request(plan, member) {
+    if asked && !has_command(plan, member) {
         return !wanted;
     }
     wanted
@@ -212,8 +231,8 @@ fn pick(
     plan: &Option<Plan>,
     asked: bool,
     wanted: bool,
-    members: &[Request],
-    chosen: &mut ArrayVec<Request, 16>,
+    members: &[Command],
+    chosen: &mut ArrayVec<Command, 16>,
 )
     requires fits { length members.now ≤ 16 }
     requires empty { chosen.old.items ≡ [] }
@@ -242,12 +261,12 @@ fn is_asked<D: Disk, K: Name>(shared: &Shared<D, K>) -> bool
 // has. The refusals of the others wait for their ports.
 fn admit<D: Disk, K: Name>(
     shared: &mut Shared<D, K>,
-    members: &[Request],
-    lent: &mut ArrayVec<Request, 16>,
+    members: &[Command],
+    lent: &mut ArrayVec<Command, 16>,
 )
     requires fits { length members.now ≤ 16 }
     requires empty { lent.old.items ≡ [] }
-    requires apart { AreApart members.now }
+    requires apart { AreOneOfEach members.now }
     requires free { AreFreeFor shared.old.log.places members.now }
     ensures lent { lent.new.items ≡ admitted K.plan shared.old members.now }
     ensures shared { shared.new ≡ with_refused_off K.plan shared.old members.now }
@@ -262,7 +281,7 @@ fn admit<D: Disk, K: Name>(
     keep_all(&mut shared.log, off.as_slice(), refused.as_slice());
 }
 
-// Lends the engine to the requests of a group. Each gets what `lend` would answer, one after another.
+// Lends the engine to the commands of a group. Each gets what `lend` would answer, one after another.
 // The answers wait for their ports, and their lines are counted when the ports take them. What the members change is
 // shown once, after all of them are on the disk.
 //
@@ -274,15 +293,16 @@ fn admit<D: Disk, K: Name>(
 // - `Failed` for all members if the engine has failed.
 // - `TraceFull` for all members if the trace has no room left.
 // - `OffPlan` for each member that a plan doesn't have with its operation under its number.
-// - What `Engine::serve_group` answers each: a refusal of numbers, `JournalFull`, or `Device` for all that are lent.
+// - What `Engine::serve_commands` answers each: a refusal of numbers, `JournalFull`, or `Device` for all that are lent.
 //   `Device` leaves no line. After it the engine has failed, and nothing more is shown.
 pub(crate) fn lend_group<D: Disk, K: Name, R: Wait>(
     rt: &R,
     shared: &mut Shared<D, K>,
-    members: &ArrayVec<Request, 16>,
+    members: &ArrayVec<Command, 16>,
 ) -> ArrayVec<bool, 16>
     requires cut { IsCut members.now.items }
-    requires apart { AreApart members.now.items }
+    requires apart { AreOneOfEach members.now.items }
+    requires sure { AreSureBehind shared.old.engine.memory members.now.items }
     requires free { AreFreeFor shared.old.log.places members.now.items }
     requires room { length shared.old.log.trace < shared.old.log.limit
         → length shared.old.log.trace + length members.now.items ≤ shared.old.log.limit }
@@ -290,16 +310,16 @@ pub(crate) fn lend_group<D: Disk, K: Name, R: Wait>(
         (admitted K.plan shared.old members.now.items) result.items shared.new }
     // What the disk is left with is as after the engine's own call.
     ensures few { D.honest shared.new.engine.disk → CallsAtMost D.past shared.old.engine.disk shared.new.engine.disk
-        (calls_for_group (length (group_put shared.old.engine
+        (calls_for_group (length (commands_put shared.old.engine
         (those result.items (admitted K.plan shared.old members.now.items))))) }
     ensures faults { GroupFaults shared.old.engine.failed shared.new.engine.failed
         (D.failures shared.old.engine.disk) (D.failures shared.new.engine.disk) }
     ensures leaves { D.honest shared.new.engine.disk → shared.old.engine.failed ≡ false
         → LeavesWithin D.now D.past shared.old.engine.disk shared.new.engine.disk
-        (MeansGroup shared.old.engine (those result.items (admitted K.plan shared.old members.now.items))) }
+        (MeansCommands shared.old.engine (those result.items (admitted K.plan shared.old members.now.items))) }
     ensures doubt { D.honest shared.new.engine.disk → shared.old.engine.failed ≡ false
         → LeavesNow (D.now shared.new.engine.disk)
-        (MeansGroup shared.old.engine (those result.items (admitted K.plan shared.old members.now.items))) }
+        (MeansCommands shared.old.engine (those result.items (admitted K.plan shared.old members.now.items))) }
     ensures means { D.honest shared.new.engine.disk → shared.new.engine.failed ≡ false
         → LeavesNow (D.now shared.new.engine.disk) (MeansState shared.new.engine) }
     ensures honest { D.honest shared.new.engine.disk → D.honest shared.old.engine.disk }
@@ -326,14 +346,16 @@ fn most_members<D: Disk, K: Name>(shared: &Shared<D, K>) -> usize
     lines
 }
 
-// Serves, group by group, each request that is asked and has a free place for its answer. Makes room before each group.
+// Serves, group by group, each command that is asked and has a free place for its answer. Makes room before each group.
 fn serve_asked<D: Disk, K: Name, R: Wait>(rt: &R, shared: &mut Shared<D, K>, inbox: &Mutex<Inbox>) {
     let asked = inbox.lock(rt).asked();
     let mut from = 0;
     for _ in 0..shared.log.elements() {
         make_room(shared, asked);
         let most = most_members(shared);
-        let group = inbox.lock(rt).next_group(&shared.log, from, most);
+        let group = inbox
+            .lock(rt)
+            .next_group(&shared.log, shared.engine.memory(), from, most);
         if group.next == from {
             break;
         }
@@ -344,7 +366,7 @@ fn serve_asked<D: Disk, K: Name, R: Wait>(rt: &R, shared: &mut Shared<D, K>, inb
     }
 }
 
-// Holds the lock once for a port that has asked. Returns the answer to its request if it waits; if it doesn't, serves
+// Holds the lock once for a port that has asked. Returns the answer to its command if it waits; if it doesn't, serves
 // all that is asked and looks again.
 pub(crate) fn hold<D: Disk, K: Name, R: Wait>(
     rt: &R,
@@ -352,15 +374,15 @@ pub(crate) fn hold<D: Disk, K: Name, R: Wait>(
     inbox: &Mutex<Inbox>,
     tally: &mut Tally<K>,
     seen: &mut Prefix<K>,
-    request: &Request,
+    command: &Command,
 ) -> Option<Result<Receipt<K>, Refusal>>
-    ensures holds { Holds K.marks tally.old request.now result tally.new }
+    ensures holds { Holds K.marks tally.old command.now result tally.new }
     ensures planned { IfSome result (TellsOf K.memory K.plan) }
-    ensures order { SeesAnswer seen.old request.now result seen.new }
+    ensures order { SeesAnswer seen.old command.now result seen.new }
 {
-    if let Some(answer) = shared.log.claim(shared.pane.told(), tally, seen, request) {
+    if let Some(answer) = shared.log.claim(shared.pane.told(), tally, seen, command) {
         return Some(answer);
     }
     serve_asked(rt, shared, inbox);
-    shared.log.claim(shared.pane.told(), tally, seen, request)
+    shared.log.claim(shared.pane.told(), tally, seen, command)
 }

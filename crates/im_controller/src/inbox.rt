@@ -1,20 +1,23 @@
-//! Requests that ask to be served. Each element has a place, under a lock of its own for all places.
+//! Commands that ask to be served. Each element has a place, under a lock of its own for all places.
 ghost use Rattle.std.specs.Prelude.{◌≡◌, ◌≤◌, ◌<◌, ◌+◌, true, length, IfSome};
-ghost use Rattle.im_types.specs.Groups.{AreApart};
-ghost use Rattle.im_controller.specs.Groups.{is_social, stored_at, are_apart_at, are_together, MayJoin, IsCut};
-ghost use Rattle.im_controller.specs.Groups.{AreFreeFor, Gathers};
+ghost use Rattle.im_types.specs.Step.{is_accepted};
+ghost use Rattle.im_controller.specs.Log.{sender_of};
+ghost use Rattle.im_controller.specs.Groups.{is_social, stored_at, are_apart_at, are_together, are_joined, MayJoin};
+ghost use Rattle.im_controller.specs.Groups.{IsSure, IsSureBehind, AreSureBehind, AreOneOfEach, AreFreeFor, IsCut};
+ghost use Rattle.im_controller.specs.Groups.{Gathers};
 
-use crate::log::Log;
+use crate::log::{Log, element_of};
 use crate::name::Name;
 use arrayvec::ArrayVec;
-use im_types::{Op, Request};
+use im_memory::Memory;
+use im_types::{Command, Op, Request};
 use std::alloc::{AllocError, Global};
 
 // What an element asks. The place says which element.
 #[derive(Clone, Copy)]
-struct Asked {
-    number: u64,
-    op: Op,
+enum Asked {
+    Request { number: u64, op: Op },
+    Confirm { upto: u64 },
 }
 
 // What the elements ask.
@@ -26,7 +29,7 @@ pub(crate) struct Inbox {
 // A group out of the inbox, and the first element that wasn't looked at.
 #[derive(Drop)]
 pub(crate) struct NextGroup {
-    pub(crate) members: ArrayVec<Request, 16>,
+    pub(crate) members: ArrayVec<Command, 16>,
     pub(crate) next: u16,
 }
 
@@ -83,16 +86,68 @@ fn are_together(earlier: Op, later: Op) -> bool
     false
 }
 
-// Returns whether an operation may stand in a group after these requests.
-fn may_join(op: Op, members: &[Request]) -> bool
-    ensures { result ≡ true → MayJoin op members.now }
+// Returns whether a command may be served in one group with an earlier one.
+fn are_joined(earlier: &Command, later: &Command) -> bool
+    ensures { result ≡ are_joined earlier.now later.now }
+{
+    match earlier {
+        Command::Confirm { .. } => true,
+        Command::Request(first) => match later {
+            Command::Confirm { .. } => true,
+            Command::Request(second) => are_together(first.op, second.op),
+        },
+    }
+}
+
+// Returns whether a command may stand in a group after these.
+fn may_join(command: &Command, members: &[Command]) -> bool
+    ensures { result ≡ true → MayJoin command.now members.now }
 {
     for member in members {
-        if !are_together(member.op, op) {
+        if !are_joined(member, command) {
             return false;
         }
     }
     true
+}
+
+// Returns whether the memory accepts a command.
+fn accepts(memory: &Memory, command: &Command) -> bool
+    ensures { result ≡ is_accepted memory.now.contents command.now }
+{
+    match memory.judge(command) {
+        Ok(accepted) => accepted,
+        Err(_) => false,
+    }
+}
+
+// Returns whether it is known that a command is accepted or not, before the requests ahead of it act. Of a confirmation
+// it is, if the memory accepts it already.
+fn is_sure(memory: &Memory, command: &Command) -> bool
+    ensures { result ≡ true → IsSure memory.now.contents command.now }
+{
+    match command {
+        Command::Request(_) => true,
+        Command::Confirm { .. } => accepts(memory, command),
+    }
+}
+
+// Returns whether that is known of a command after these. Of the first one nothing has to be known.
+fn is_sure_behind(memory: &Memory, command: &Command, members: &[Command]) -> bool
+    ensures { result ≡ true → IsSureBehind memory.now.contents command.now members.now }
+{
+    members.is_empty() || is_sure(memory, command)
+}
+
+// Returns whether a command may be the next one of a group after these.
+fn is_next(memory: &Memory, command: &Command, members: &[Command]) -> bool
+    ensures joins { result ≡ true → MayJoin command.now members.now }
+    ensures sure { result ≡ true → IsSureBehind memory.now.contents command.now members.now }
+{
+    if !may_join(command, members) {
+        return false;
+    }
+    is_sure_behind(memory, command, members)
 }
 
 impl Inbox {
@@ -105,12 +160,15 @@ impl Inbox {
         Ok(Inbox { places })
     }
 
-    // Asks for a request to be served.
-    pub(crate) fn ask(&mut self, request: &Request) {
-        if let Some(place) = self.places.get_mut(request.element as usize) {
-            *place = Some(Asked {
-                number: request.number,
-                op: request.op,
+    // Asks for a command to be served.
+    pub(crate) fn ask(&mut self, command: &Command) {
+        if let Some(place) = self.places.get_mut(element_of(command) as usize) {
+            *place = Some(match command {
+                Command::Request(request) => Asked::Request {
+                    number: request.number,
+                    op: request.op,
+                },
+                Command::Confirm { upto, .. } => Asked::Confirm { upto: *upto },
             });
         }
     }
@@ -127,51 +185,61 @@ impl Inbox {
     }
 
     // Takes out what an element asks.
-    fn take(&mut self, element: u16) -> Option<Request>
-        ensures { IfSome result (λ r. r.element ≡ element) }
+    fn take(&mut self, element: u16) -> Option<Command>
+        ensures { IfSome result (λ c. sender_of c ≡ element) }
     {
-        let asked = self.places.get_mut(element as usize)?.take()?;
-        Some(Request {
-            element,
-            number: asked.number,
-            op: asked.op,
-        })
+        match self.places.get_mut(element as usize)?.take()? {
+            Asked::Request { number, op } => Some(Command::Request(Request {
+                element,
+                number,
+                op,
+            })),
+            Asked::Confirm { upto } => Some(Command::Confirm { element, upto }),
+        }
     }
 
-    // Adds what an element asks to a group, if its answer has a free place. Returns false if the request has to wait
+    // Adds what an element asks to a group, if its answer has a free place. Returns false if the command has to wait
     // for the next group.
     #[tactic(auto, using(crate::proofs::Gathering::gathers_weaker, crate::proofs::Gathering::gathers_push))]
     fn gather<K: Name>(
         &mut self,
         log: &Log<K>,
+        memory: &Memory,
         element: u16,
-        members: &mut ArrayVec<Request, 16>,
+        members: &mut ArrayVec<Command, 16>,
     ) -> bool
         requires room { length members.old.items < 16 }
-        requires before { Gathers log.now.places element members.old.items }
-        ensures gathered { Gathers log.now.places (element + 1) members.new.items }
+        requires before { Gathers log.now.places memory.now.contents element members.old.items }
+        ensures gathered { Gathers log.now.places memory.now.contents (element + 1) members.new.items }
         ensures few { length members.new.items ≤ length members.old.items + 1 }
     {
         if !log.is_free(element) {
             return true;
         }
-        let Some(request) = self.take(element) else {
+        let Some(command) = self.take(element) else {
             return true;
         };
-        if !may_join(request.op, members.as_slice()) {
-            self.ask(&request);
+        if !is_next(memory, &command, members.as_slice()) {
+            self.ask(&command);
             return false;
         }
-        members.push(request);
+        members.push(command);
         true
     }
 
     // Takes out the next group, with at most `most` members. It looks at the elements in order, from `from` on, and
     // leaves out those whose answers have no free place.
-    pub(crate) fn next_group<K: Name>(&mut self, log: &Log<K>, from: u16, most: usize) -> NextGroup
-        ensures apart { AreApart result.members.items }
+    pub(crate) fn next_group<K: Name>(
+        &mut self,
+        log: &Log<K>,
+        memory: &Memory,
+        from: u16,
+        most: usize,
+    ) -> NextGroup
+        ensures apart { AreOneOfEach result.members.items }
         ensures free { AreFreeFor log.now.places result.members.items }
         ensures cut { IsCut result.members.items }
+        ensures sure { AreSureBehind memory.now.contents result.members.items }
         ensures few { length result.members.items ≤ most }
     {
         let mut members = ArrayVec::new();
@@ -180,7 +248,7 @@ impl Inbox {
             if members.len() >= most || members.len() >= 16 {
                 break;
             }
-            if !self.gather(log, element, &mut members) {
+            if !self.gather(log, memory, element, &mut members) {
                 break;
             }
             next = element + 1;

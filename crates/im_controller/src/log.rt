@@ -1,14 +1,15 @@
 //! The trace, the books that count its lines, and the answers that wait for their ports.
 ghost use Rattle.std.specs.Prelude.{◌≡◌, ◌<◌, ◌≤◌, ◌+◌, ◌-◌, ◌++◌, true, false, Some, None, Ok, length, vec_len};
-ghost use Rattle.std.specs.Prelude.{vec_capacity, slice_get, slice_set, sum_by, count_by, IfOk, IfSome, MatchOption, if◌then◌else◌};
+ghost use Rattle.std.specs.Prelude.{vec_capacity, slice_get, slice_set, sum_by, count_by, IfOk, IfSome, MatchOption};
+ghost use Rattle.std.specs.Prelude.{if◌then◌else◌};
 ghost use mathlib.Core.List.{IsPrefix};
 ghost use Rattle.im_types.specs.declared.commands.Call.TheVariants.{Command as Commands, Collect};
 ghost use Rattle.im_types.specs.declared.commands.Outcome.TheVariants.{Entry as Tells};
-ghost use Rattle.im_types.specs.declared.commands.Command.TheVariants.{Request as Asks};
 ghost use Rattle.im_types.specs.Trace.{answer_to, end_of, IsLegal};
 ghost use Rattle.im_controller.specs.Lines.{leaves_line, lines_of, memory_after, counts_after};
 ghost use Rattle.im_controller.specs.Lines.{EndsIn, EndsInAll, line_of};
-ghost use Rattle.im_controller.specs.Log.{with_line, with_unclaimed, Takes, Claims, IsProof, IsToldOf, AreFree};
+ghost use Rattle.im_controller.specs.Log.{sender_of, with_line, with_unclaimed, Takes, Claims, IsProof, IsToldOf};
+ghost use Rattle.im_controller.specs.Log.{AreFree};
 ghost use Rattle.im_controller.specs.Log.{receipt_for, unclaimed_lines, IsOfTrace, SeesAnswer, AreClaimed};
 
 use crate::books::{Books, Tally};
@@ -18,16 +19,16 @@ use crate::receipts::{Found, Receipt};
 use crate::traced::Traced;
 use arrayvec::ArrayVec;
 use im_glass::Told;
-use im_types::{Call, Command, Entry, Line, Outcome, Refusal, Request};
+use im_types::{Call, Command, Entry, Line, Outcome, Refusal};
 use std::alloc::{AllocError, Global};
 use std::cmp::min;
 use std::marker::Model;
 use std::snapshot::Snapshot;
 
-// The answer to a request that its port hasn't taken yet.
+// The answer to a command that its port hasn't taken yet.
 #[derive(Drop)]
 pub(crate) struct Unclaimed {
-    request: Request,
+    command: Command,
     answer: Result<Outcome, Refusal>,
     before: usize,
     count: usize,
@@ -42,7 +43,7 @@ impl Model for Unclaimed {
     ghost Value = { UnclaimedState };
 
     ghost view = { λ u. record {
-      request = u.request;
+      command = u.command;
       answer = u.answer;
       before = u.before;
       history = u.history.value.items;
@@ -73,6 +74,16 @@ impl<K: Name> Model for Log<K> {
     ghost invariant = { λ l.
         IsLog K.memory K.marks (record { trace = l.trace.items; limit = l.limit; places = l.places.items }) l.books
         × (l.limit ≤ vec_capacity l.trace) × (l.chain ≡ l.trace.items) };
+}
+
+// Returns the element of a command.
+pub(crate) fn element_of(command: &Command) -> u16
+    ensures { result ≡ sender_of command.now }
+{
+    match command {
+        Command::Request(request) => request.element,
+        Command::Confirm { element, .. } => *element,
+    }
 }
 
 // Returns whether an answer leaves a line.
@@ -196,28 +207,28 @@ impl<K: Name> Log<K> {
         }
     }
 
-    // Keeps the answer to a request for its port, and leaves its line. The line is counted when the port takes the
+    // Keeps the answer to a command for its port, and leaves its line. The line is counted when the port takes the
     // answer.
-    pub(crate) fn keep(&mut self, request: &Request, answer: Result<Outcome, Refusal>)
-        requires free { slice_get self.old.places request.now.element ≡ Some None }
+    pub(crate) fn keep(&mut self, command: &Command, answer: Result<Outcome, Refusal>)
+        requires free { slice_get self.old.places (sender_of command.now) ≡ Some None }
         requires room { leaves_line answer ≡ true → length self.old.trace < self.old.limit }
         requires is_so { leaves_line answer ≡ true
-            → answer ≡ answer_to (end_of K.memory self.old.trace) (Commands (Asks request.now)) }
-        ensures log { self.new ≡ with_unclaimed self.old request.now answer }
+            → answer ≡ answer_to (end_of K.memory self.old.trace) (Commands command.now) }
+        ensures log { self.new ≡ with_unclaimed self.old command.now answer }
         ensures end { end_of K.memory self.new.trace
-            ≡ memory_after (end_of K.memory self.old.trace) (Commands (Asks request.now)) answer }
+            ≡ memory_after (end_of K.memory self.old.trace) (Commands command.now) answer }
     {
         let before = self.trace.len();
         push_line(
             &mut self.trace,
             &mut self.chain,
-            Call::Command(Command::Request(*request)),
+            Call::Command(*command),
             answer,
         );
         put_in(
             &mut self.places,
             Unclaimed {
-                request: *request,
+                command: *command,
                 answer,
                 before,
                 count: self.trace.len(),
@@ -227,29 +238,29 @@ impl<K: Name> Log<K> {
         );
     }
 
-    // Gives a port the answer to its request, if that waits in the element's place, and counts its line. What is shown
+    // Gives a port the answer to its command, if that waits in the element's place, and counts its line. What is shown
     // goes with it.
     pub(crate) fn claim(
         &mut self,
         told: Told<Shown<K>>,
         tally: &mut Tally<K>,
         seen: &mut Prefix<K>,
-        request: &Request,
+        command: &Command,
     ) -> Option<Result<Receipt<K>, Refusal>>
         requires told { IsToldOf K.memory self.old.trace told }
-        ensures claims { Claims K.marks self.old tally.old request.now.element request.now result self.new tally.new }
+        ensures claims { Claims K.marks self.old tally.old (sender_of command.now) command.now result self.new tally.new }
         ensures proof { IfSome result (IsOfTrace K.memory self.old.trace) }
         ensures trace { self.new.trace ≡ self.old.trace }
-        ensures order { SeesAnswer seen.old request.now result seen.new }
+        ensures order { SeesAnswer seen.old command.now result seen.new }
     {
-        let found = take_from(&mut self.places, request.element, request, seen.len())?;
-        let command = Command::Request(found.request);
+        let found = take_from(&mut self.places, element_of(command), command, seen.len())?;
+        let asked = found.command;
         let answer = found.answer;
-        count_line(&mut self.books, tally, Call::Command(command), answer);
+        count_line(&mut self.books, tally, Call::Command(asked), answer);
         let history = Prefix::begun(found.history, found.count, &self.chain);
         seen.order(&history);
         *seen = Prefix::begun(found.same, found.count, &self.chain);
-        Some(receipt_of(history, told, &command, answer))
+        Some(receipt_of(history, told, &asked, answer))
     }
 }
 
@@ -310,39 +321,39 @@ fn receipt_of<K: Name>(
 
 // Puts an answer into its element's place.
 fn put_in(places: &mut Vec<Option<Unclaimed>>, answer: Unclaimed)
-    requires { slice_get places.old.items answer.request.element ≡ Some None }
-    ensures { places.new.items ≡ slice_set places.old.items answer.request.element (Some answer) }
+    requires { slice_get places.old.items (sender_of answer.command) ≡ Some None }
+    ensures { places.new.items ≡ slice_set places.old.items (sender_of answer.command) (Some answer) }
 {
-    let element = answer.request.element as usize;
+    let element = element_of(&answer.command) as usize;
     places[element] = Some(answer);
 }
 
-// Takes the answer to a request out of its element's place, if it waits there.
+// Takes the answer to a command out of its element's place, if it waits there.
 fn take_from(
     places: &mut Vec<Option<Unclaimed>>,
     element: u16,
-    request: &Request,
+    command: &Command,
     seen: usize,
 ) -> Option<Unclaimed>
-    ensures takes { Takes places.old.items element request.now result places.new.items }
+    ensures takes { Takes places.old.items element command.now result places.new.items }
     ensures later { IfSome result (λ w. seen ≤ w.before) }
 {
     let at = element as usize;
-    if at >= places.len() || !is_of(&places[at], request, seen) {
+    if at >= places.len() || !is_of(&places[at], command, seen) {
         return None;
     }
     places[at].take()
 }
 
-// Returns whether the answer that waits in a place is the answer to this request.
-fn is_of(place: &Option<Unclaimed>, request: &Request, seen: usize) -> bool
-    ensures same { result ≡ true → MatchOption place.now ⊥ (λ w. w.request ≡ request.now) }
+// Returns whether the answer that waits in a place is the answer to this command.
+fn is_of(place: &Option<Unclaimed>, command: &Command, seen: usize) -> bool
+    ensures same { result ≡ true → MatchOption place.now ⊥ (λ w. w.command ≡ command.now) }
     ensures later { result ≡ true → MatchOption place.now ⊥ (λ w. seen ≤ w.before) }
 {
     match place {
         // It was served after the port asked, so its line stands after all that the port has seen. No clause of the inbox
         // says so.
-        Some(waiting) => waiting.request == *request && seen <= waiting.before,
+        Some(waiting) => waiting.command == *command && seen <= waiting.before,
         None => false,
     }
 }

@@ -1,11 +1,10 @@
 //! Changes are put ahead on the pane before the engine is lent, and shown after it.
 ghost use Rattle.std.specs.Prelude.{◌≡◌, ◌<◌, ◌≤◌, ◌++◌, [], true, false, length, IfOk, OnOk, OnErr};
-ghost use Rattle.im_types.specs.declared.commands.Command.TheVariants.{Request as Asks};
-ghost use Rattle.im_types.specs.declared.commands.Request.{Request};
+ghost use Rattle.im_types.specs.declared.commands.Command.{Command};
 ghost use Rattle.im_types.specs.Contents.{Contents};
-ghost use Rattle.im_engine.specs.Groups.{left_with};
+ghost use Rattle.im_groups.specs.Commands.{places, places_behind};
 ghost use Rattle.im_controller.specs.Lends.{is_taken, changes_put};
-ghost use Rattle.im_controller.specs.Groups.{those, AreRoomless, changes_put_all, places_left, places_with};
+ghost use Rattle.im_controller.specs.Groups.{those, AreRoomless, changes_put_all, places_with};
 
 use arrayvec::ArrayVec;
 use im_changes::change_by;
@@ -13,7 +12,7 @@ use im_disk::Disk;
 use im_engine::Engine;
 use im_glass::{Pane, PaneName, Told};
 use im_memory::Memory;
-use im_types::{Command, LAST, Refusal, Request};
+use im_types::{Command, LAST, Refusal};
 use std::cmp::min;
 use std::sync::Wait;
 
@@ -76,13 +75,12 @@ pub(crate) fn show_put<J: PaneName, R: Wait>(
 
 // Returns how many commands an engine takes.
 fn places_left<D: Disk>(engine: &Engine<D>) -> u64
-    ensures { result ≡ places_left engine.now }
+    ensures { result ≡ places engine.now.count engine.now.room }
 {
-    let gap = LAST.saturating_sub(engine.count());
-    if gap == 0 {
-        return u64::from(engine.room());
-    }
-    min(u64::from(engine.room()), gap)
+    min(
+        u64::from(engine.room()),
+        LAST.saturating_sub(engine.count()),
+    )
 }
 
 // Returns how many commands an engine takes, and 0 if it has failed or the trace has no room.
@@ -98,9 +96,9 @@ pub(crate) fn places_with<D: Disk>(engine: &Engine<D>, room: usize) -> u64
     places_left(engine)
 }
 
-// Returns the places that are left after a request.
-fn left_with(taken: bool, left: u64) -> u64
-    ensures { (m : Contents) (r : Request) → taken ≡ is_taken m left (Asks r) → result ≡ left_with m left r }
+// Returns the places that are left after a command.
+fn places_behind(taken: bool, left: u64) -> u64
+    ensures { (m : Contents) (c : Command) → taken ≡ is_taken m left c → result ≡ places_behind m left c }
 {
     if taken {
         return left.saturating_sub(1);
@@ -113,9 +111,9 @@ pub(crate) fn choose<J: PaneName>(
     pane: &mut Pane<J>,
     memory: &Memory,
     left: u64,
-    members: &[Request],
+    members: &[Command],
     roomy: &mut ArrayVec<bool, 16>,
-    lent: &mut ArrayVec<Request, 16>,
+    lent: &mut ArrayVec<Command, 16>,
 )
     requires cells { pane.old.cells ≡ length memory.now.contents.cells }
     requires fits { length members.now ≤ 16 }
@@ -129,9 +127,9 @@ pub(crate) fn choose<J: PaneName>(
     let mut left = left;
     for i in 0..members.len() {
         let member = members[i];
-        match put_ahead(pane, memory, left, &Command::Request(member)) {
+        match put_ahead(pane, memory, left, &member) {
             Ok(taken) => {
-                left = left_with(taken, left);
+                left = places_behind(taken, left);
                 roomy.push(true);
                 lent.push(member);
             }

@@ -89,22 +89,17 @@ impl<K: Name> Port<K> {
             number,
             op,
         };
-        controller.ask(rt, &request);
-        for _ in rt.forever() {
-            if let Some(answer) = controller.serve_all(
-                rt,
-                &mut self.tally,
-                &mut self.seen,
-                &request,
-            ) {
-                return answer;
-            }
-        }
-        unreachable!()
+        controller.serve(
+            rt,
+            &mut self.tally,
+            &mut self.seen,
+            &Command::Request(request),
+        )
     }
 
-    /// Confirms this element's entries below a number: they are forgotten. It is refused as by [`lend`](crate::lend):
-    /// `Failed`, `TraceFull`, `NoElement`, `Gap`, `NotAnswered`, `JournalFull`, `Device`.
+    /// Confirms this element's entries below a number: they are forgotten. This port serves it, or another port serves
+    /// it in a group, as [`Port::submit`] has it. It is refused as by [`lend`](crate::lend): `Failed`, `TraceFull`,
+    /// `NoMemory`, `NoElement`, `Gap`, `NotAnswered`, `JournalFull`, `Device`.
     pub fn confirm<D: Disk, R: Wait>(
         &mut self,
         rt: &R,
@@ -121,7 +116,6 @@ impl<K: Name> Port<K> {
     {
         controller.serve(
             rt,
-            self.element,
             &mut self.tally,
             &mut self.seen,
             &Command::Confirm {

@@ -1,7 +1,9 @@
 //! The servers of the elements: what each one does, and which ports sleep.
-ghost use Rattle.std.specs.Prelude.{◌≡◌, ◌↔◌, ◌≤◌, ◌+◌, ◌||◌, ◌==◌, ℕ, List, true, false, length, count_by, if◌then◌else◌, IfOk};
+ghost use Rattle.std.specs.Prelude.{◌≡◌, ◌↔◌, ◌≤◌, ◌+◌, ◌||◌, ◌==◌, ℕ, List, true, false, length, count_by};
+ghost use Rattle.std.specs.Prelude.{if◌then◌else◌, IfOk};
 ghost use Rattle.im_types.specs.Contents.{Contents};
-ghost use Rattle.im_controller.specs.Servers.{is_waiting, is_unmade, is_stuck, are_stuck, with_server, Makes, AllStuckBut};
+ghost use Rattle.im_controller.specs.Servers.{is_waiting, is_unmade, is_stuck, are_stuck, with_server, Makes};
+ghost use Rattle.im_controller.specs.Servers.{AllStuckBut};
 
 use arrayvec::ArrayVec;
 use im_memory::Memory;

@@ -11,8 +11,8 @@ ghost use Rattle.im_disk.specs.Since.{LeavesWithin, LeavesNow, CallsAtMost, Call
 ghost use Rattle.im_engine.specs.Run.{calls_for};
 ghost use Rattle.im_engine.specs.State.{MeansState, MeansEither};
 ghost use Rattle.im_controller.specs.Lines.{EndsIn, line_of};
-ghost use Rattle.im_controller.specs.Log.{SeesReceipt};
-ghost use Rattle.im_controller.specs.Lends.{Lends, Looks, LendsTurn, IsTurnFault, BeginsWait, told_turn, standing_in, with_server_at};
+ghost use Rattle.im_controller.specs.Lends.{Lends, Looks, LendsTurn, IsTurnFault, BeginsWait, told_turn, standing_in};
+ghost use Rattle.im_controller.specs.Lends.{with_server_at};
 ghost use Rattle.im_controller.specs.Lends.{MakesPort};
 ghost use Rattle.im_controller.specs.Planned.{TellsOf, TellsFound};
 ghost use Rattle.im_controller.specs.Waits.{Awaits, SeesEntry, SeesFound, IsTold, IsFoundAt, IsFoundOf, entry_of};
@@ -163,25 +163,6 @@ fn seen_all<D: Disk, K: Name>(shared: &Shared<D, K>) -> Prefix<K>
     ensures { result ≡ shared.now.log.trace }
 {
     shared.log.prefix()
-}
-
-// Does the same as `lend` for a port that has seen a prefix of the trace. It has seen the whole trace afterwards.
-pub(crate) fn lend_seen<D: Disk, K: Name, R: Wait>(
-    rt: &R,
-    shared: &mut Shared<D, K>,
-    tally: &mut Tally<K>,
-    seen: &mut Prefix<K>,
-    command: &Command,
-) -> Result<Receipt<K>, Refusal>
-    ensures lends { Lends K.marks K.plan shared.old tally.old command.now result shared.new tally.new }
-    ensures planned { TellsOf K.memory K.plan result }
-    ensures legal { IfOk result (λ r. IsLegal K.memory r.history) }
-    ensures order { SeesReceipt seen.old command.now result seen.new }
-{
-    know(shared, seen);
-    let answer = lend(rt, shared, tally, command);
-    *seen = seen_all(shared);
-    answer
 }
 
 // Returns the answer for an entry as an outcome.

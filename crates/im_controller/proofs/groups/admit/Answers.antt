@@ -3,7 +3,7 @@ use Rattle.im_types.specs.declared.commands.Line.{Line}
 use Rattle.im_types.specs.declared.refusals.Refusal.TheVariants.{OffPlan}
 use Rattle.im_types.specs.Trace.{end_of}
 use Rattle.im_types.specs.Changes.{shown_by}
-use Rattle.im_engine.specs.Groups.{all_refused}
+use Rattle.im_engine.specs.Commands.{each_refused}
 use Rattle.im_controller.specs.Log.{LogState}
 use Rattle.im_controller.specs.State.{SharedState}
 use Rattle.im_controller.specs.Groups.{AreFreeFor}
@@ -37,7 +37,7 @@ pub invariant_of-shared : goal.invariant_of-shared
 invariant_of-shared g c =
     let m = g.K.Name.memory in let e = c.shared.inside.engine in
     let log = off-log c.shared.inside.log c.keep_all.new.log c.pick-2.new.chosen.items c.as_slice-2.result.now c.as_slice-3.result.now c.keep_all.ensures.log c.as_slice-2.ensures.value
-    (c.as_slice-3.ensures.value ∙ c.refuse_alike.ensures ∙ ap (all_refused OffPlan) c.as_slice.ensures.value) in
+    (c.as_slice-3.ensures.value ∙ c.refuse_alike.ensures ∙ ap (each_refused OffPlan) c.as_slice.ensures.value) in
     let same = sym (ap (λ (l : LogState). l.trace) log ∙ off-trace c.shared.inside.log c.pick-2.new.chosen.items) in (
       subst (λ (ls : List Line). end_of m ls ≡ e.memory) same c.shared.invariant.0,
       subst (λ (ls : List Line). c.shared.inside.pane.shown ≡ shown_by m ls) same c.shared.invariant.1,
@@ -66,7 +66,8 @@ returns-clause-shared g c =
     ∙ ap (λ a. picked (is_picked g.K.Name.plan a false) rs) c.is_asked-asked.ensures.asked
     ∙ refused-is c.args.shared.now rs g.K.Name.plan in
     let log = off-log c.shared.inside.log c.keep_all.new.log _ c.as_slice-2.result.now c.as_slice-3.result.now c.keep_all.ensures.log (c.as_slice-2.ensures.value ∙ off)
-    (c.as_slice-3.ensures.value ∙ c.refuse_alike.ensures ∙ ap (all_refused OffPlan) (c.as_slice.ensures.value ∙ off)) in
+    (c.as_slice-3.ensures.value ∙ c.refuse_alike.ensures ∙ ap (each_refused OffPlan)
+    (c.as_slice.ensures.value ∙ off)) in
     let s : SharedState g.row.D.Denot = record { engine = c.shared.inside.engine; log = c.shared.inside.log; servers = c.shared.inside.servers; shown = c.shared.inside.pane.shown } in
     off-shared s c.args.shared.now c.shared.view_is c.keep_all.new.log g.K.Name.plan rs log
 

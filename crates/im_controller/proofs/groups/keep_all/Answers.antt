@@ -1,7 +1,7 @@
 use Rattle.std.proofs.Common.{◌≡◌, ap, arith, subst, sym, ◌∙◌, ◌+◌, map, drop, get_or}
 use Rattle.im_types.specs.declared.operations.Kind.TheVariants.{I}
 use Rattle.im_types.specs.declared.operations.Op.TheVariants.{Alloc}
-use Rattle.im_types.specs.declared.commands.Request.{Request}
+use Rattle.im_types.specs.declared.commands.Command.TheVariants.{Request as Asks}
 use Rattle.im_types.specs.declared.groups.Served.TheVariants.{Unserved}
 use Rattle.im_controller.specs.Log.{LogState, with_unclaimed}
 use Rattle.im_controller.specs.Groups.{answer_in}
@@ -12,7 +12,7 @@ pub loop-i-preserved : goal.loop-i-preserved
 loop-i-preserved g c =
     let m = g.K.Name.memory in
     let l0 = c.args.log.now in let rs = c.args.members.now in let ss = c.args.served.now in let xs = map answer_in ss in
-    let i = c.loop-i.i in let first : Request = record { element = 0; number = 0; op = Alloc I 0 } in
+    let i = c.loop-i.i in let first = Asks (record { element = 0; number = 0; op = Alloc I 0 }) in
     let k = keeps_cons m l0 rs xs answer_in c.loop-i.log rs ss i first Unserved (omega arith)
     (omega (arith, c.requires.whole)) c.loop-i.invariant in
     let next = keeps_next m l0 rs xs c.loop-i.log (get_or rs i first) (answer_in (get_or ss i Unserved))

@@ -1,36 +1,40 @@
 use Rattle.std.proofs.Common.{◌≡◌, ◌+◌, ◌++◌, ◌<◌, ◌≤◌, false, List, refl, ap, sym, subst, ◌∙◌, map, length, arith}
-use Rattle.im_types.specs.declared.commands.Request.{Request}
+use Rattle.im_types.specs.declared.commands.Command.{Command}
 use Rattle.im_types.specs.declared.commands.Line.{Line}
 use Rattle.im_types.specs.Contents.{Contents}
+use Rattle.im_types.specs.Agreement.{WaitingAgrees}
 use Rattle.im_types.specs.Changes.{shown_by}
 use Rattle.im_disk.specs.Since.{CallsAtMost, LeavesWithin, LeavesNow}
-use Rattle.im_engine.specs.Groups.{MeansGroup, calls_for_group, group_put}
+use Rattle.im_engine.specs.Groups.{calls_for_group}
+use Rattle.im_engine.specs.Commands.{MeansCommands, commands_put}
 use Rattle.im_controller.specs.Log.{LogState}
 use Rattle.im_controller.specs.State.{SharedState}
 use Rattle.im_controller.specs.Groups.{answer_in, those, with_all_unclaimed, AreAnswersTo, memory_after_all}
-use Rattle.im_controller.specs.Groups.{AreFreeFor, LendsGroup}
+use Rattle.im_controller.specs.Groups.{AreFreeFor, AreSureBehind, LendsGroup}
 use Rattle.im_controller.specs.Kept.{accepted_in}
 use Rattle.im_controller.specs.Planned.{AreOnPlan, KeepsTo}
 use Rattle.im_controller.proofs.AdmitLemmas.{keeps-members}
 use Rattle.im_controller.proofs.ShownLemmas.{end-cells}
 use Rattle.im_controller.proofs.PutLemmas.{lines_all, all-trace}
 use Rattle.im_controller.proofs.KeptLemmas.{accepted-after, kept_on, kept_members}
-use Rattle.im_controller.proofs.Choosing.{those-apart}
+use Rattle.im_controller.proofs.Choosing.{those-sure}
 use Rattle.im_controller.proofs.Lending.{group-is, group-fits, group-room, group-pane, lines-same, lends-group}
 use Rattle.im_controller.proofs.groups.lend_members.Goals as goal
 
 pub choose-requires : goal.choose-requires
 choose-requires g c = record {
   cells = c.shared.invariant.2 ∙ sym (end-cells g.K.Name.memory c.shared.inside.log.trace)
-      ∙ ap (λ (m : Contents). length m.cells) (c.shared.invariant.0 ∙ sym c.memory.ensures);
+      ∙ ap (λ (m : Contents). length m.cells) (c.shared.invariant.0 ∙ sym c.memory-memory.ensures);
   fits = c.as_slice.ensures.fits;
   empty = (c.new-roomy.ensures, c.new-lent.ensures);
 }
 
 pub serve_members-requires : goal.serve_members-requires
 serve_members-requires g c = record {
-  apart = rw (c.choose.ensures.lent, c.as_slice.ensures.value)
-      (those-apart c.choose.new.roomy.items c.args.members.now.items c.requires.apart);
+  sure = rw (c.choose.ensures.lent, c.as_slice.ensures.value)
+      (those-sure c.shared.inside.engine.memory c.choose.new.roomy.items c.args.members.now.items
+      (subst (λ (s : SharedState g.row.D.Denot). AreSureBehind s.engine.memory c.args.members.now.items)
+      (sym c.shared.view_is) c.requires.sure));
   empty = c.new-served.ensures;
 }
 
@@ -44,7 +48,7 @@ pub keep_all-requires : goal.keep_all-requires
 keep_all-requires g c =
     let log = c.shared.inside.log in let rs = c.args.members.now.items in let xs = c.spread.new.answers.items in
     let it = group-is c.shared.inside.engine c.serve_members.new.engine c.room-room.result c.args.members.now.items c.as_slice.result.now c.choose.new.roomy.items c.as_slice-2.result.now c.choose.new.lent.items
-    c.serve_members.new.served.items c.as_slice-3.result.now c.spread.new.answers.items c.memory.result.now.contents c.places_with-places.result c.memory.ensures c.places_with-places.ensures
+    c.serve_members.new.served.items c.as_slice-3.result.now c.spread.new.answers.items c.memory-memory.result.now.contents c.places_with-places.result c.memory-memory.ensures c.places_with-places.ensures
     c.as_slice.ensures.value c.choose.ensures.roomless c.choose.ensures.lent c.serve_members.ensures.answered c.as_slice-2.ensures.value c.as_slice-3.ensures.value c.spread.ensures in
     let fits = group-fits c.shared.inside.engine c.serve_members.new.engine c.room-room.result c.args.members.now.items c.choose.new.roomy.items c.choose.new.lent.items c.serve_members.new.served.items c.spread.new.answers.items it in
     let enough = subst (λ (s : SharedState g.row.D.Denot). length s.log.trace < s.log.limit
@@ -65,12 +69,12 @@ pub invariant_of-shared : goal.invariant_of-shared
 invariant_of-shared g c =
     let rs = c.args.members.now.items in let xs = c.spread.new.answers.items in
     let it = group-is c.shared.inside.engine c.serve_members.new.engine c.room-room.result c.args.members.now.items c.as_slice.result.now c.choose.new.roomy.items c.as_slice-2.result.now c.choose.new.lent.items
-    c.serve_members.new.served.items c.as_slice-3.result.now c.spread.new.answers.items c.memory.result.now.contents c.places_with-places.result c.memory.ensures c.places_with-places.ensures
+    c.serve_members.new.served.items c.as_slice-3.result.now c.spread.new.answers.items c.memory-memory.result.now.contents c.places_with-places.result c.memory-memory.ensures c.places_with-places.ensures
     c.as_slice.ensures.value c.choose.ensures.roomless c.choose.ensures.lent c.serve_members.ensures.answered c.as_slice-2.ensures.value c.as_slice-3.ensures.value c.spread.ensures in
     let fits = group-fits c.shared.inside.engine c.serve_members.new.engine c.room-room.result c.args.members.now.items c.choose.new.roomy.items c.choose.new.lent.items c.serve_members.new.served.items c.spread.new.answers.items it in
-    let pane = group-pane c.shared.inside.engine c.serve_members.new.engine c.room-room.result c.args.members.now.items c.choose.new.roomy.items c.choose.new.lent.items c.serve_members.new.served.items c.spread.new.answers.items it c.requires.cut c.requires.apart
-    g.K.Name.memory c.memory.result.now.contents c.shared.inside.log c.shared.inside.pane c.choose.new.pane c.show_put-told.new.pane c.places_with-places.result c.failed.result
-    c.memory.ensures c.places_with-places.ensures c.shared.invariant.0 c.shared.invariant.1 c.shared.invariant.3 c.choose.ensures.ahead c.failed.ensures.failed c.show_put-told.ensures.shown c.show_put-told.ensures.hidden in
+    let pane = group-pane c.shared.inside.engine c.serve_members.new.engine c.room-room.result c.args.members.now.items c.choose.new.roomy.items c.choose.new.lent.items c.serve_members.new.served.items c.spread.new.answers.items it (subst WaitingAgrees c.memory-memory.ensures c.cells-cells.ensures.memory.agrees) c.requires.cut c.requires.apart (subst (λ (s : SharedState g.row.D.Denot). AreSureBehind s.engine.memory c.args.members.now.items) (sym c.shared.view_is) c.requires.sure)
+    g.K.Name.memory c.memory-memory.result.now.contents c.shared.inside.log c.shared.inside.pane c.choose.new.pane c.show_put-told.new.pane c.places_with-places.result c.failed.result
+    c.memory-memory.ensures c.places_with-places.ensures c.shared.invariant.0 c.shared.invariant.1 c.shared.invariant.3 c.choose.ensures.ahead c.failed.ensures.failed c.show_put-told.ensures.shown c.show_put-told.ensures.hidden in
     let log = c.keep_all.ensures.log
     ∙ ap (λ rs. with_all_unclaimed c.shared.inside.log rs
     (map answer_in c.as_slice-5.result.now)) c.as_slice-4.ensures.value
@@ -81,7 +85,7 @@ invariant_of-shared g c =
     (ap (λ m. memory_after_all m rs (map answer_in xs)) c.shared.invariant.0 ∙ fits.ends) in
     let e = c.shared.inside.engine in let f = c.serve_members.new.engine in let m = g.K.Name.memory in let trace = c.shared.inside.log.trace in
     let lent = c.choose.new.lent.items in let ss = c.serve_members.new.served.items in
-    let same = lines-same e f c.room-room.result rs c.choose.new.roomy.items lent ss xs it c.requires.cut c.requires.apart in
+    let same = lines-same e f c.room-room.result rs c.choose.new.roomy.items lent ss xs it (subst WaitingAgrees c.memory-memory.ensures c.cells-cells.ensures.memory.agrees) c.requires.cut c.requires.apart (subst (λ (s : SharedState g.row.D.Denot). AreSureBehind s.engine.memory c.args.members.now.items) (sym c.shared.view_is) c.requires.sure) in
     let lines = ap (λ (l : LogState). l.trace) log ∙ all-trace c.shared.inside.log rs (map answer_in xs)
     ∙ ap (λ ls. trace ++ ls) same in (
       ends,
@@ -112,11 +116,11 @@ invariant_of-shared g c =
 pub returns-clause-lends : goal.returns-clause-lends
 returns-clause-lends g c =
     let it = group-is c.shared.inside.engine c.serve_members.new.engine c.room-room.result c.args.members.now.items c.as_slice.result.now c.choose.new.roomy.items c.as_slice-2.result.now c.choose.new.lent.items
-    c.serve_members.new.served.items c.as_slice-3.result.now c.spread.new.answers.items c.memory.result.now.contents c.places_with-places.result c.memory.ensures c.places_with-places.ensures
+    c.serve_members.new.served.items c.as_slice-3.result.now c.spread.new.answers.items c.memory-memory.result.now.contents c.places_with-places.result c.memory-memory.ensures c.places_with-places.ensures
     c.as_slice.ensures.value c.choose.ensures.roomless c.choose.ensures.lent c.serve_members.ensures.answered c.as_slice-2.ensures.value c.as_slice-3.ensures.value c.spread.ensures in
-    let pane = group-pane c.shared.inside.engine c.serve_members.new.engine c.room-room.result c.args.members.now.items c.choose.new.roomy.items c.choose.new.lent.items c.serve_members.new.served.items c.spread.new.answers.items it c.requires.cut c.requires.apart
-    g.K.Name.memory c.memory.result.now.contents c.shared.inside.log c.shared.inside.pane c.choose.new.pane c.show_put-told.new.pane c.places_with-places.result c.failed.result
-    c.memory.ensures c.places_with-places.ensures c.shared.invariant.0 c.shared.invariant.1 c.shared.invariant.3 c.choose.ensures.ahead c.failed.ensures.failed c.show_put-told.ensures.shown c.show_put-told.ensures.hidden in
+    let pane = group-pane c.shared.inside.engine c.serve_members.new.engine c.room-room.result c.args.members.now.items c.choose.new.roomy.items c.choose.new.lent.items c.serve_members.new.served.items c.spread.new.answers.items it (subst WaitingAgrees c.memory-memory.ensures c.cells-cells.ensures.memory.agrees) c.requires.cut c.requires.apart (subst (λ (s : SharedState g.row.D.Denot). AreSureBehind s.engine.memory c.args.members.now.items) (sym c.shared.view_is) c.requires.sure)
+    g.K.Name.memory c.memory-memory.result.now.contents c.shared.inside.log c.shared.inside.pane c.choose.new.pane c.show_put-told.new.pane c.places_with-places.result c.failed.result
+    c.memory-memory.ensures c.places_with-places.ensures c.shared.invariant.0 c.shared.invariant.1 c.shared.invariant.3 c.choose.ensures.ahead c.failed.ensures.failed c.show_put-told.ensures.shown c.show_put-told.ensures.hidden in
     let log = c.keep_all.ensures.log
     ∙ ap (λ rs. with_all_unclaimed c.shared.inside.log rs
     (map answer_in c.as_slice-5.result.now)) c.as_slice-4.ensures.value
@@ -134,10 +138,10 @@ returns-clause-few g c =
     subst (λ (s : SharedState g.row.D.Denot). g.D.Disk.honest f.disk
     → CallsAtMost g.D.Disk.past s.engine.disk f.disk
     (calls_for_group (length
-    (group_put s.engine (those c.choose.new.roomy.items c.args.members.now.items))))) c.shared.view_is
-    (subst (λ (rs : List Request). g.D.Disk.honest f.disk
+    (commands_put s.engine (those c.choose.new.roomy.items c.args.members.now.items))))) c.shared.view_is
+    (subst (λ (rs : List Command). g.D.Disk.honest f.disk
     → CallsAtMost g.D.Disk.past c.shared.inside.engine.disk f.disk
-    (calls_for_group (length (group_put c.shared.inside.engine rs)))) these c.serve_members.ensures.few)
+    (calls_for_group (length (commands_put c.shared.inside.engine rs)))) these c.serve_members.ensures.few)
 
 pub returns-clause-leaves : goal.returns-clause-leaves
 returns-clause-leaves g c =
@@ -145,10 +149,10 @@ returns-clause-leaves g c =
     let these = c.choose.ensures.lent ∙ ap (those c.choose.new.roomy.items) c.as_slice.ensures.value in
     subst (λ (s : SharedState g.row.D.Denot). g.D.Disk.honest f.disk → s.engine.failed ≡ false
     → LeavesWithin g.D.Disk.now g.D.Disk.past s.engine.disk f.disk
-    (MeansGroup s.engine (those c.choose.new.roomy.items c.args.members.now.items))) c.shared.view_is
-    (subst (λ (rs : List Request). g.D.Disk.honest f.disk → c.shared.inside.engine.failed ≡ false
+    (MeansCommands s.engine (those c.choose.new.roomy.items c.args.members.now.items))) c.shared.view_is
+    (subst (λ (rs : List Command). g.D.Disk.honest f.disk → c.shared.inside.engine.failed ≡ false
     → LeavesWithin g.D.Disk.now g.D.Disk.past c.shared.inside.engine.disk f.disk
-    (MeansGroup c.shared.inside.engine rs)) these c.serve_members.ensures.leaves)
+    (MeansCommands c.shared.inside.engine rs)) these c.serve_members.ensures.leaves)
 
 pub returns-clause-doubt : goal.returns-clause-doubt
 returns-clause-doubt g c =
@@ -156,6 +160,6 @@ returns-clause-doubt g c =
     let these = c.choose.ensures.lent ∙ ap (those c.choose.new.roomy.items) c.as_slice.ensures.value in
     subst (λ (s : SharedState g.row.D.Denot). g.D.Disk.honest f.disk → s.engine.failed ≡ false
     → LeavesNow (g.D.Disk.now f.disk)
-    (MeansGroup s.engine (those c.choose.new.roomy.items c.args.members.now.items))) c.shared.view_is
-    (subst (λ (rs : List Request). g.D.Disk.honest f.disk → c.shared.inside.engine.failed ≡ false
-    → LeavesNow (g.D.Disk.now f.disk) (MeansGroup c.shared.inside.engine rs)) these c.serve_members.ensures.doubt)
+    (MeansCommands s.engine (those c.choose.new.roomy.items c.args.members.now.items))) c.shared.view_is
+    (subst (λ (rs : List Command). g.D.Disk.honest f.disk → c.shared.inside.engine.failed ≡ false
+    → LeavesNow (g.D.Disk.now f.disk) (MeansCommands c.shared.inside.engine rs)) these c.serve_members.ensures.doubt)
