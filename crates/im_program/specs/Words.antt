@@ -15,7 +15,7 @@ use Rattle.im_script.specs.Grammar.{number_up_to}
 
 -- ---- what the parser knows of the command line
 
--- an option that takes a number
+-- an option that takes a number or a path
 abbrev pub option_rule : Text → Rule
 option_rule id = record (new_rule id) { long = Some id; value_names = 1 }
 
@@ -43,9 +43,9 @@ format_app = with_rule (with_rule (with_rule (with_rule (file_app (codes "format
 abbrev pub script_app : Text → App
 script_app name = with_rule (file_app name (codes "IMAGE")) (path_rule (codes "SCRIPT"))
 
--- run IMAGE SCRIPT [--planned] [--statuses] [--wait SECONDS]
+-- run IMAGE SCRIPT [--planned] [--trace FILE] [--statuses] [--wait SECONDS]
 abbrev pub run_app : App
-run_app = with_rule (script_app (codes "run")) (flag_rule (codes "planned"))
+run_app = with_rule (with_rule (script_app (codes "run")) (flag_rule (codes "planned"))) (option_rule (codes "trace"))
 
 -- serve IMAGE [--watch] [--statuses] [--wait SECONDS]
 abbrev pub serve_app : App
@@ -101,7 +101,7 @@ pub data Task : Type 0 where
   demonstration : Task
   format : (image : List ℕ) (cells elements slots : ℕ) (is_new : Bool) → Task
   serial : (image script : List ℕ) → Task
-  run : (image script : List ℕ) (planned : Bool) → Task
+  run : (image script : List ℕ) (planned : Bool) (trace : Option (List ℕ)) → Task
   serve : (image : List ℕ) (watch : Bool) → Task
   inspect : (image : List ℕ) → Task
   migrate : (old new : List ℕ) → Task
@@ -122,7 +122,7 @@ task_of_job (Load text new asked) = load text.now new.now asked
 -- the task that a Work is
 abbrev pub task_of : Work → Task
 task_of (Alone job) = task_of_job job
-task_of (Run image script planned) = run image.now script.now planned
+task_of (Run image script planned trace) = run image.now script.now planned (option_map (λ path. path.now) trace)
 task_of (Migrate old new) = migrate old.now new.now
 task_of (Copy old new asked) = copy old.now new.now asked
 
@@ -162,9 +162,11 @@ format_task rows =
 abbrev pub serial_task : List Row → Task
 serial_task rows = serial (path_in rows (codes "IMAGE")) (path_in rows (codes "SCRIPT"))
 
--- the task of run, by its two paths and whether it is planned
+-- the task of run, by its two paths, whether it is planned, and the path of its trace
 abbrev pub run_task : List Row → Task
-run_task rows = run (path_in rows (codes "IMAGE")) (path_in rows (codes "SCRIPT")) (is_given rows (codes "planned"))
+run_task rows =
+    run (path_in rows (codes "IMAGE")) (path_in rows (codes "SCRIPT")) (is_given rows (codes "planned"))
+    (first_of (codes "trace") rows)
 
 -- the task of serve, by its path and whether it is watched
 abbrev pub serve_task : List Row → Task

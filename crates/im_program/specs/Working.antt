@@ -8,6 +8,7 @@ use Rattle.im_report.specs.Inspecting.{Tells}
 use Rattle.im_serial.specs.Serving.{ServedFrom}
 use Rattle.im_dialogue.specs.Dialogue.{TalkedFrom}
 use Rattle.im_run.specs.Running.{RanFrom}
+use Rattle.im_run.specs.Tracing.{TraceState}
 use Rattle.im_disk.specs.declared.file.FileDisk.{FileDisk}
 use Rattle.im_disk.specs.declared.start.Start.{Ghosts}
 use Rattle.im_dump.specs.Dumping.{Dumps}
@@ -23,7 +24,8 @@ DoneOn now past failures first demonstration was is status disk = ⊥
 DoneOn now past failures first (format image cells elements slots is_new) was is status disk =
     (status ≡ 0) × AreLimits cells elements slots × LeavesNow (now disk) (λ file. file ≡ new_image 0xA5 (record { cells = cells; elements = elements; slots = slots }))
 DoneOn now past failures first (serial image script) was is status disk = ServedFrom now past failures first disk was is status
-DoneOn now past failures first (run image script planned) was is status disk = RanFrom now past failures first disk was is status
+DoneOn now past failures first (run image script planned trace) was is status disk =
+    (calls : TraceState) × RanFrom now past failures first disk was is calls status
 DoneOn now past failures first (serve image watch) was is status disk = TalkedFrom watch now past first disk was is status
 DoneOn now past failures first (inspect image) was is status disk = (status ≡ 0 → Tells first.bytes was is) × ReadsOnly first (now disk) [] (past disk)
 DoneOn now past failures first (migrate old new) was is status disk = Unit {0}
@@ -36,7 +38,7 @@ abbrev pub IsOfTwo : Task → Type 0
 IsOfTwo demonstration = ⊥
 IsOfTwo (format image cells elements slots is_new) = ⊥
 IsOfTwo (serial image script) = ⊥
-IsOfTwo (run image script planned) = ⊥
+IsOfTwo (run image script planned trace) = ⊥
 IsOfTwo (serve image watch) = ⊥
 IsOfTwo (inspect image) = ⊥
 IsOfTwo (migrate old new) = Unit {0}
@@ -50,7 +52,7 @@ module _ {S T : Type 0} (start : Ghosts S) (other : Ghosts T) where
   MovedBy demonstration was is status old new = ⊥
   MovedBy (format image cells elements slots is_new) was is status old new = ⊥
   MovedBy (serial image script) was is status old new = ⊥
-  MovedBy (run image script planned) was is status old new = ⊥
+  MovedBy (run image script planned trace) was is status old new = ⊥
   MovedBy (serve image watch) was is status old new = ⊥
   MovedBy (inspect image) was is status old new = ⊥
   MovedBy (migrate from to) was is status old new = MigratedFrom start other was is status old new

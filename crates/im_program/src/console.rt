@@ -168,6 +168,19 @@ impl<'a, R: Eprint + AllocGlobal> Console<'a, R> {
         self.tell(reason);
     }
 
+    /// Prints what is wrong with the file of a trace.
+    pub(crate) fn tell_trace(&self, trace: &str, reason: Reason) {
+        let path = Shown(trace);
+        let _printed = eprintln!(self.rt; "imem: the trace {path}: {reason}");
+    }
+
+    /// Prints why no file for a trace is made, and so nothing is run.
+    pub(crate) fn refuse_trace(&mut self, trace: &str, reason: Reason) {
+        self.refused = Some(reason);
+        self.waits = false;
+        self.tell_trace(trace, reason);
+    }
+
     // Prints which call failed, if the last refusal waits for it or a note is needed.
     fn tell_failed(&mut self, reason: Reason, noting: Noting) {
         if self.waits || noting != Noting::Unneeded {

@@ -12,6 +12,7 @@ mod moving;
 mod opening;
 mod overwriting;
 mod statuses;
+mod tracing;
 mod words;
 mod work;
 

@@ -1,7 +1,8 @@
 //! Reads the words of the command line.
 ghost use Rattle.std.specs.Prelude.{IfSome, ◌≡◌, [], true, false, Some, IfOk, IfErr, IsOk, IsSome, codes};
 ghost use Rattle.std.specs.Option.{option_map};
-ghost use Rattle.clap.specs.Words.{app_of, fault_of, found_of, kind_of, rows_of, rule_of, subcommand_rows_of, takes};
+ghost use Rattle.clap.specs.Words.{app_of, fault_of, first_of, found_of, kind_of, rows_of, rule_of};
+ghost use Rattle.clap.specs.Words.{subcommand_rows_of, takes};
 ghost use Rattle.clap.specs.declared.builder.command.Command.TheViews.{out-Command};
 ghost use Rattle.im_script.specs.Grammar.{texts};
 ghost use Rattle.im_program.specs.Words.{asked, asks_statuses, file_app, flag_rule, format_app, format_task, has_statuses, imem_app, inspect_app, inspect_task};
@@ -44,6 +45,8 @@ pub enum Work<'a> {
         script: &'a str,
         /// Whether the script is a plan.
         planned: bool,
+        /// The path of the new file for the trace, if one is asked for.
+        trace: Option<&'a str>,
     },
     /// Move an image of the first layout version to a new file.
     Migrate {
@@ -227,10 +230,17 @@ store to a cell. Each i cell that they name is empty when they begin. Then the r
 lines in every run, in whatever order the elements are served. A script that is no such plan ends after
 its setup with 'refused 23 BadPlan', and none of its parts is served.
 
+With --trace, FILE is a new file. At the end each call is written to it with its answer, in the order in
+which the calls were served: 'K.N OPERATION -> REPLY', 'confirm K UPTO -> confirmed' or
+'collect K.N -> REPLY'. What stands before the arrows is a dialogue for 'imem serve', which gets the same
+replies on the image as it was before. If a file of that name exists, nothing is run: 'refused 8 Device'.
+If a write of it fails, standard error says so.
+
 Example: the lines 'setup', 'alloc x i 1', 'element 1', 'fetch x', 'element 2', 'store x 5' in the
-file fetch.script, run on the image a.img, and as a plan
+file fetch.script, run on the image a.img, as a plan, and with a trace
   imem run a.img fetch.script
   imem run b.img fetch.script --planned
+  imem run c.img fetch.script --trace c.trace
 
 Exit status: 0 all was answered; 1 something was refused, with 'refused N NAME' as the last line, or the
 output can't be written; 2 a bad command line; 3 the elements wait for each other, with
@@ -299,12 +309,20 @@ Exit status: 0 the image is moved; 1 refused, with 'refused N NAME' as the last 
 of the version in use, 12 WrongLength if NEW has another length, 22 NotBlank if NEW is an image already;
 2 a bad command line. A refusal also has a line on standard error, which says why.";
 
+/// An option with a value, which the help names.
+fn value_option<'a>(alloc: Global, id: &'a str, value: &'a str, help: &'a str) -> Arg<'a>
+    ensures rule { rule_of result ≡ option_rule id.entry.now }
+    ensures local { result.global ≡ false }
+{
+    Arg::new(alloc, id).long(id).value_name(value).help(help)
+}
+
 /// An option that takes a number.
 pub(crate) fn number_option<'a>(alloc: Global, id: &'a str, help: &'a str) -> Arg<'a>
     ensures rule { rule_of result ≡ option_rule id.entry.now }
     ensures local { result.global ≡ false }
 {
-    Arg::new(alloc, id).long(id).value_name("N").help(help)
+    value_option(alloc, id, "N", help)
 }
 
 /// A flag: an option without a value.
@@ -459,8 +477,15 @@ fn run_command<'a>(alloc: Global) -> Result<Command<'a>, AllocError>
         "planned",
         "Serve the script as a plan: fetches, stores and glances, at most one store to a cell",
     );
+    let trace = value_option(
+        alloc,
+        "trace",
+        "FILE",
+        "Write each call and its answer to a new file, in the order of the lock",
+    );
     let one = script.arg(planned)?;
-    Ok(one)
+    let two = one.arg(trace)?;
+    Ok(two)
 }
 
 /// The subcommand `serve`.
@@ -561,6 +586,13 @@ pub(crate) fn path_of<'a>(found: &ArgMatches<'a>, id: &str) -> &'a str
     }
 }
 
+/// Returns the text of an option that takes a path, if it is given.
+fn path_if<'a>(found: &ArgMatches<'a>, id: &str) -> Option<&'a str>
+    ensures { option_map (λ path. path.now) result ≡ first_of id.now (rows_of (found_of found.now)) }
+{
+    found.get_str(id)
+}
+
 /// Whether a flag is given.
 fn is_given(found: &ArgMatches, id: &str) -> bool
     ensures { result ≡ is_given (rows_of (found_of found.now)) id.now }
@@ -608,10 +640,12 @@ fn run_work<'a>(found: &ArgMatches<'a>) -> Work<'a>
 {
     let (image, script) = two_paths(found);
     let planned = is_given(found, "planned");
+    let trace = path_if(found, "trace");
     Work::Run {
         image,
         script,
         planned,
+        trace,
     }
 }
 

@@ -1,5 +1,5 @@
 //! The work that the program does.
-ghost use Rattle.std.specs.Prelude.{◌≡◌, ◌⊎◌, ◌↔◌, ◌≤◌, ℕ, List, [], IsOk, IfOk, IfErr, OnErr, IfSome, IfNone};
+ghost use Rattle.std.specs.Prelude.{◌≡◌, ◌⊎◌, ◌↔◌, ◌≤◌, ℕ, List, [], IsOk, IfOk, IfErr, OnErr, IfSome, IfNone, IsSome};
 ghost use Rattle.std.specs.Io.KnownBytes.{Keeps};
 ghost use Rattle.im_types.specs.declared.refusals.Refusal.TheVariants.{BadScript, Device, NoMemory, WrongLength};
 ghost use Rattle.im_types.specs.Layout.{sizes_of};
@@ -11,6 +11,7 @@ ghost use Rattle.im_text.specs.Printing.{Begins, IsLast};
 ghost use Rattle.im_serial.specs.Serving.{ServedFrom};
 ghost use Rattle.im_dialogue.specs.Dialogue.{NotOpened, Talked, TalkedFrom};
 ghost use Rattle.im_run.specs.Running.{RanFrom};
+ghost use Rattle.im_run.specs.Tracing.{TraceState};
 ghost use Rattle.im_program.specs.Words.{copy, demonstration, migrate, task_of, task_of_job};
 ghost use Rattle.im_program.specs.Working.{DoneOn, HasMoved, IsOfTwo};
 
@@ -22,6 +23,7 @@ use crate::loading::{LoadObserver, Loading, load_file};
 use crate::moving::{Paths, migrate_file};
 use crate::opening::{format_reason, reason_of};
 use crate::overwriting::may_be_made;
+use crate::tracing::{keep_trace, make_file_if};
 use crate::words::{DEFAULT_CELLS, DEFAULT_ELEMENTS, DEFAULT_SLOTS, Job, Work};
 use im_damage::Damage;
 use im_dialogue::dialogue_on;
@@ -34,7 +36,7 @@ use im_image::image_length;
 use im_listening::Ear;
 use im_migration::Follower;
 use im_report::inspect_on;
-use im_run::{STALLED, run_on};
+use im_run::{STALLED, Trace, run_on};
 use im_script::{Script, ScriptFault, TextFault, read_script, read_script_with_glances, read_text};
 use im_serial::serial_on;
 use im_serving::{Open, Watcher};
@@ -272,8 +274,8 @@ pub fn serve_file<R: Files<File = File> + AllocGlobal, S: Start, I: Read, W: Wri
 }
 
 /// Runs the script of one file on the image of another, each element's requests by threads of its own. The script may
-/// have glances, and is a plan if `planned`. Returns the status of [`run_on`] and the image's disk; [`run_on`] also
-/// says which lines are printed. The script is read first. The path `-` stands for `input`, which is read to its end.
+/// have glances, and is a plan if `planned`. Returns the status of [`run_on`], the image's disk and the trace; [`run_on`]
+/// also says which lines are printed. The script is read first. The path `-` stands for `input`, which is read to its end.
 ///
 /// The clauses hold for whatever the image held when it was opened (`S`), as long as the file was honest. A crash at
 /// any moment since then leaves what [`run_on`] says.
@@ -305,11 +307,11 @@ pub fn run_file<
     out: &mut W,
     observer: &mut N,
     start: S,
-) -> Result<(u8, FileDisk<S>), Refusal>
+) -> Result<(u8, FileDisk<S>, Trace), Refusal>
     ensures status { IfOk result (λ r. (r.0 ≤ 1) ⊎ (r.0 ≡ STALLED)) }
     ensures ran { IfOk result (λ r. ⟦<FileDisk<S> as Disk>⟧.honest r.1 →
         RanFrom ⟦<FileDisk<S> as Disk>⟧.now ⟦<FileDisk<S> as Disk>⟧.past ⟦<FileDisk<S> as Disk>⟧.failures
-        S.first r.1 (W.contents out.old) (W.contents out.new) r.0) }
+        S.first r.1 (W.contents out.old) (W.contents out.new) r.2 r.0) }
     ensures refused { IfErr result (λ refusal. (refusal ≡ BadScript) ⊎ (refusal ≡ NoMemory) ⊎ (refusal ≡ Device)) }
     ensures same { OnErr result (Keeps (W.contents out.old) (W.contents out.new)) }
 {
@@ -323,7 +325,7 @@ pub fn run_file<
     };
     match open_image(rt, image, start) {
         Ok(disk) => {
-            let (ended, disk) = run_on(
+            let (ended, disk, trace) = run_on(
                 rt,
                 rt.alloc(),
                 disk,
@@ -334,7 +336,7 @@ pub fn run_file<
                 observer,
                 planned,
             );
-            Ok((ended, disk))
+            Ok((ended, disk, trace))
         }
         Err(fault) => Err(refusal_of(rt, image, fault, observer)),
     }
@@ -710,22 +712,25 @@ fn run_at_once<
     out: &mut W,
     observer: &mut N,
     start: S,
-) -> (u8, Option<FileDisk<S>>)
+) -> (u8, Option<FileDisk<S>>, Option<Trace>)
     ensures status { (result.0 ≤ 1) ⊎ (result.0 ≡ STALLED) }
     ensures ran { IfSome result.1 (λ disk. ⟦<FileDisk<S> as Disk>⟧.honest disk →
+        IfSome result.2 (λ trace.
         RanFrom ⟦<FileDisk<S> as Disk>⟧.now ⟦<FileDisk<S> as Disk>⟧.past ⟦<FileDisk<S> as Disk>⟧.failures
-        S.first disk (W.contents out.old) (W.contents out.new) result.0) }
+        S.first disk (W.contents out.old) (W.contents out.new) trace result.0)) }
     ensures none { IfNone result.1 (result.0 ≡ 1) }
+    ensures both { IfSome result.1 (λ _. IsSome result.2) }
 {
     match run_file(
         rt, held, image, script, planned, watcher, input, out, observer, start,
     ) {
-        Ok((status, disk)) => (status, Some(disk)),
-        Err(refusal) => (refuse(rt.alloc(), refusal, out), None),
+        Ok((status, disk, trace)) => (status, Some(disk), Some(trace)),
+        Err(refusal) => (refuse(rt.alloc(), refusal, out), None, None),
     }
 }
 
-/// Runs a script with threads for its elements. Returns the status, and the disk of the image if it was opened.
+/// Runs a script with threads for its elements, and writes its trace if one is asked for. Returns the status, and the
+/// disk of the image if it was opened.
 fn act_at_once<
     R: Files<File = File> + AllocGlobal + Eprint + Threads + Wait + Sync,
     S: Start + Send,
@@ -737,6 +742,7 @@ fn act_at_once<
     image: &str,
     script: &str,
     planned: bool,
+    trace: Option<&str>,
     input: &mut I,
     out: &mut W,
     console: &mut Console<'_, R>,
@@ -744,14 +750,19 @@ fn act_at_once<
 ) -> (u8, Option<FileDisk<S>>)
     ensures status { (result.0 ≤ 1) ⊎ (result.0 ≡ STALLED) }
     ensures ran { IfSome result.1 (λ disk. ⟦<FileDisk<S> as Disk>⟧.honest disk →
-        RanFrom ⟦<FileDisk<S> as Disk>⟧.now ⟦<FileDisk<S> as Disk>⟧.past ⟦<FileDisk<S> as Disk>⟧.failures
-        S.first disk (W.contents out.old) (W.contents out.new) result.0) }
+        (run : TraceState) × RanFrom ⟦<FileDisk<S> as Disk>⟧.now ⟦<FileDisk<S> as Disk>⟧.past
+        ⟦<FileDisk<S> as Disk>⟧.failures S.first disk (W.contents out.old) (W.contents out.new) run result.0) }
     ensures none { IfNone result.1 (result.0 ≡ 1) }
 {
+    let file = match make_file_if(rt, held, trace, console) {
+        Ok(file) => file,
+        Err(refusal) => return (refuse(rt.alloc(), refusal, out), None),
+    };
     let watch = Watch::new(rt, console.is_watched());
-    let (status, disk) = run_at_once(
+    let (status, disk, run) = run_at_once(
         rt, held, image, script, planned, &watch, input, out, console, start,
     );
+    keep_trace(rt, file, run, console);
     settle(rt, image, &disk, console);
     (status, disk)
 }
@@ -825,6 +836,9 @@ fn act_copying<R: Files<File = File> + AllocGlobal + Eprint, S: Start, T: Start,
 /// run (3 if its elements wait for each other), of [`migrate_file`] for a migration, or of [`copy_file`] for a copy.
 /// These functions also say what is printed and refused.
 ///
+/// The trace of a run is written to a new file, if one is asked for. If that can't be made, nothing is run, and the work
+/// is refused with `Device`. If it can't be written, a person is told, and the status is that of the run.
+///
 /// Also returns the disk of the image, if its file was made or opened. For a migration or a copy, returns the disk of
 /// the new file and that of the old one, if both were opened.
 ///
@@ -864,9 +878,10 @@ pub fn act<
             image,
             script,
             planned,
+            trace,
         } => {
             let (status, disk) = act_at_once(
-                rt, held, image, script, *planned, input, out, console, start,
+                rt, held, image, script, *planned, *trace, input, out, console, start,
             );
             (status, disk, None)
         }

@@ -1,13 +1,15 @@
 -- What a run puts on a disk, and what it prints. (Own.)
 use Rattle.std.proofs.Common.{◌≡◌, ◌∙◌, ◌-◌, ◌+◌, ◌≤◌, inl, inr, ⊎_elim, ℕ, zero, suc, Bool, true, false, List, [], ◌++◌, length, refl, sym, ap, subst, take, drop, length-append, append_assoc, arith}
-use Rattle.std.specs.Prelude.{Option, Some, ◌⊎◌, slice_get}
+use Rattle.std.specs.Prelude.{Option, Some, ◌⊎◌, MatchResult, Result, Ok, Err, slice_get}
 use Rattle.std.specs.Io.KnownBytes.{Appends}
 use Rattle.std.proofs.lemmas.List.{append-nil, take_all, take-append-le, take-append-drop, length-take-le}
 use Rattle.im_types.specs.declared.commands.Command.{Command}
+use Rattle.im_types.specs.declared.commands.Line.{Line}
 use Rattle.im_types.specs.declared.operations.Waiter.{Waiter}
 use Rattle.im_types.specs.Contents.{Contents}
 use Rattle.im_types.specs.Meaning.{Means, accept_each}
 use Rattle.im_types.specs.Run.{after}
+use Rattle.im_types.specs.Trace.{IsLegal}
 use Rattle.im_laws.proofs.RunLemmas.{after-append}
 use Rattle.im_laws.proofs.Tests.{true_false, true_or_false}
 use Rattle.im_disk.specs.Moment.{Moment, Left, Rises}
@@ -25,7 +27,18 @@ use Rattle.im_text.proofs.TextLemmas.{written_none}
 use Rattle.im_serial.specs.Serving.{GoesWith, HaltsWith, HasPut, MeansAtLeast, NotOpened}
 use Rattle.im_run.specs.declared.run.TheConstants.{STALLED}
 use Rattle.im_run.specs.declared.served.Did.{Did}
+use Rattle.im_run.specs.Tracing.{TraceState}
 use Rattle.im_run.specs.Running.{BeginsFinals, Closes, EndedOn, PrintsFinals, Puts, Ran, RanOn, RunOn, ServedOn, Settles, final_line, finals}
+
+-- ---- what holds of a result
+
+pub match_ok : {T E : Type 0} (P Q : Type 0) (r : Result T E) (x : T) → r ≡ Ok x → MatchResult r (λ _. P) (λ _. Q) → P
+match_ok P Q (Ok y) x is holds = holds
+match_ok P Q (Err e) x is holds = absurd (cc)
+
+pub match_err : {T E : Type 0} (P Q : Type 0) (r : Result T E) (e : E) → r ≡ Err e → MatchResult r (λ _. P) (λ _. Q) → Q
+match_err P Q (Ok y) e is holds = absurd (cc)
+match_err P Q (Err d) e is holds = holds
 
 -- ---- beginnings of lists
 
@@ -125,9 +138,10 @@ module _ {D : Type 0} (now : D → Moment) (past : D → List Moment) (failures 
         (true_or_false engine.failed)
 
   -- and then by the elements' servers
-  module _ (start mid engine : EngineState D) (setup : List Command) (it : HasPut now past failures start mid setup) (alive : mid.failed ≡ false) (on : ServedOn now past failures (begun_in now past failures mid) mid.memory engine) where
+  module _ (start mid engine : EngineState D) (setup : List Command) (it : HasPut now past failures start mid setup) (alive : mid.failed ≡ false) (trace : List Line)
+      (on : ServedOn now past failures (begun_in now past failures mid) mid.memory trace engine) where
     abbrev served : List Command
-    served = accepted_in mid.memory on.trace
+    served = accepted_in mid.memory trace
 
     abbrev doubt : List Command
     doubt = on.kept.doubt
@@ -177,17 +191,23 @@ module _ {D : Type 0} (now : D → Moment) (past : D → List Moment) (failures 
       };
       calm = λ works. let counts = it.count alive in (
         on.kept.sure works,
-        sym on.ends ∙ sym (accepted-after mid.memory on.trace) ∙ goes_on served,
+        sym on.ends ∙ sym (accepted-after mid.memory trace) ∙ goes_on served,
         omega (arith, on.kept.count works, counts, length-append setup served),
       );
     }
 
 -- no servers began
-pub none_served : {D : Type 0} (now : D → Moment) (past : D → List Moment) (failures : D → ℕ) (begun engine : EngineState D) → engine ≡ begun → engine.failed ≡ false → LeavesNow (now engine.disk) (MeansState engine)
-    → ServedOn now past failures (begun_in now past failures begun) begun.memory engine
-none_served {D} now past failures begun engine same alive means =
-    subst (λ (b : EngineState D). ServedOn now past failures (begun_in now past failures b) b.memory engine) same
-    (record { trace = []; ends = refl; kept = kept_start now past failures (begun_in now past failures engine) engine.memory engine refl refl alive means })
+pub none_served : {D : Type 0} (now : D → Moment) (past : D → List Moment) (failures : D → ℕ) (begun engine : EngineState D) (trace : List Line)
+    → trace ≡ [] → engine ≡ begun → engine.failed ≡ false → LeavesNow (now engine.disk) (MeansState engine)
+    → ServedOn now past failures (begun_in now past failures begun) begun.memory trace engine
+none_served {D} now past failures begun engine trace none same alive means =
+    let here = begun_in now past failures engine in
+    subst (λ (b : EngineState D). ServedOn now past failures (begun_in now past failures b) b.memory trace engine) same
+    (subst (λ (t : List Line). ServedOn now past failures here engine.memory t engine) (sym none) (record {
+      legal = tt;
+      ends = refl;
+      kept = kept_start now past failures here engine.memory engine refl refl alive means;
+    }))
 
 -- ---- what was printed
 
@@ -223,10 +243,12 @@ module _ {D : Type 0} (now : D → Moment) (past : D → List Moment) (failures 
       no_finals (suc many) few = absurd (omega arith)
 
   -- the setup was ended
-  pub halted_run : (start engine : EngineState D) (put : List Command) (text : List ℕ) (names : List Waiter) (was mid is : Option (List ℕ)) (lines : Lines) (did : List Did) (disk : D) (status : ℕ) → HaltsWith now past failures start engine put text names
+  pub halted_run : (start engine : EngineState D) (put : List Command) (text : List ℕ) (names : List Waiter) (was mid is : Option (List ℕ)) (lines : Lines) (did : List Did) (disk : D) (calls : TraceState) (status : ℕ) → HaltsWith now past failures start engine put text names
       → Prints was mid lines text → did ≡ [] → disk ≡ engine.disk → ((status ≡ 0) ⊎ (status ≡ STALLED) → engine.failed ≡ false) → (engine.failed ≡ false → LeavesNow (now disk) (MeansState engine)) → (status ≡ 0 → ⊥)
-      → Closes mid lines is engine.memory did status → RunOn now past failures start disk was is status
-  halted_run start engine put text names was mid is lines did disk status it prints none at_end works means never closes =
+      → Closes mid lines is engine.memory did status → calls.served ≡ []
+      → RunOn now past failures start disk was is calls status
+  halted_run start engine put text names was mid is lines did disk calls status it prints none at_end works means never
+      closes unserved =
       let on = put_on now past failures start engine put it.has in
       let whole = on.whole ∙ append-nil put in
       record {
@@ -245,40 +267,49 @@ module _ {D : Type 0} (now : D → Moment) (past : D → List Moment) (failures 
           begins = subst (λ (t : List ℕ). BeginsFinals was is t (after start.memory on.told) did) it.lines (none_done was is text engine.memory (after start.memory on.told) did none (closes was text prints).0);
           whole = λ zero. absurd (never zero);
         };
+        traced = record { legal = subst (IsLegal (after start.memory put)) (sym unserved) tt; accepted = inl unserved };
       }
 
   -- the elements' servers ended
-  pub ended_run : (start mid : EngineState D) (setup : List Command) (text : List ℕ) (names : List Waiter) (was held is : Option (List ℕ)) (lines : Lines) (disk : D) (status : ℕ) → GoesWith now past failures start mid setup text names
-      → Prints was held lines text → EndedOn now past failures mid disk held lines is status → RunOn now past failures start disk was is status
+  pub ended_run : (start mid : EngineState D) (setup : List Command) (text : List ℕ) (names : List Waiter) (was held is : Option (List ℕ)) (lines : Lines) (disk : D) (calls : TraceState) (status : ℕ) → GoesWith now past failures start mid setup text names
+      → Prints was held lines text → EndedOn now past failures mid disk held lines is calls.served status
+      → RunOn now past failures start disk was is calls status
   unfolding puts_on
-  ended_run start mid setup text names was held is lines disk status it prints ended =
+  ended_run start mid setup text names was held is lines disk calls status it prints ended =
       let served = ended.served in
-      let on = puts_on now past failures start mid ended.engine setup it.has it.works served in
+      let trace = calls.served in
+      let begun = it.has.memory it.works in
+      let put = accepted_in mid.memory trace in
+      let on = puts_on now past failures start mid ended.engine setup it.has it.works trace served in
       let closes = ended.printed was text prints in
-      let told_is : ended.engine.memory ≡ after start.memory on.told = sym served.ends ∙ sym (accepted-after mid.memory served.trace) ∙ goes_on now past failures start mid ended.engine setup it.has it.works served (accepted_in mid.memory served.trace) in
+      let told_is : ended.engine.memory ≡ after start.memory on.told = sym served.ends ∙ sym (accepted-after mid.memory trace) ∙ goes_on now past failures start mid ended.engine setup it.has it.works trace served (accepted_in mid.memory trace) in
       record {
         setup = setup;
         told = on.told;
         doubt = on.doubt;
         puts = subst (λ (d : D). Puts now past failures start start.disk d setup on.told on.doubt) (sym ended.disk_is) on.puts;
-        settles = settled start ended.engine setup (accepted_in mid.memory served.trace ++ served.kept.doubt) disk status on ended.works ended.means;
+        settles = settled start ended.engine setup (put ++ served.kept.doubt) disk status on ended.works ended.means;
         printed = record {
           said = setup;
           others = [];
           split = sym (append-nil setup);
           kept = subst (λ (d : D). LeavesNow (now d) (MeansAtLeast start (on.told ++ on.doubt) (length setup))) (sym ended.disk_is)
-              (λ file left. with_or_without start on.told on.doubt (length setup) file (omega (arith, length-append setup (accepted_in mid.memory served.trace))) (on.puts.last file left));
+              (λ file left. with_or_without start on.told on.doubt (length setup) file (omega (arith, length-append setup put)) (on.puts.last file left));
           did = ended.did;
           begins = subst (λ (m : Contents). BeginsFinals was is (replies start.memory setup) m ended.did) told_is (subst (λ (t : List ℕ). BeginsFinals was is t ended.engine.memory ended.did) it.lines closes.0);
           whole = λ zero. subst (λ (m : Contents). Appends was is (replies start.memory setup ++ finals m ended.did (length ended.did))) told_is
               (subst (λ (t : List ℕ). Appends was is (t ++ finals ended.engine.memory ended.did (length ended.did))) it.lines (closes.1 zero));
         };
+        traced = record {
+          legal = subst (λ (m : Contents). IsLegal m trace) begun served.legal;
+          accepted = inr (ap (λ (m : Contents). setup ++ accepted_in m trace) begun);
+        };
       }
 
   -- an opening leaves nothing new, and what it found was there
-  pub ran_on : (old : D) (start : EngineState D) (new : D) (was is : Option (List ℕ)) (status : ℕ) → Leaves (now old) (now start.disk) (past old) (past start.disk) (Left (now old)) → LeavesNow (now start.disk) (MeansState start) → failures start.disk ≡ failures old
-      → RunOn now past failures start new was is status → RanOn now past failures old new was is status
-  ran_on old start new was is status opened means same it =
+  pub ran_on : (old : D) (start : EngineState D) (new : D) (was is : Option (List ℕ)) (calls : TraceState) (status : ℕ) → Leaves (now old) (now start.disk) (past old) (past start.disk) (Left (now old)) → LeavesNow (now start.disk) (MeansState start) → failures start.disk ≡ failures old
+      → RunOn now past failures start new was is calls status → RanOn now past failures old new was is calls status
+  ran_on old start new was is calls status opened means same it =
       let file = (now start.disk).bytes in
       let here = left_now (now start.disk) in
       record {
@@ -297,16 +328,17 @@ module _ {D : Type 0} (now : D → Moment) (past : D → List Moment) (failures 
         };
         settles = it.settles;
         printed = it.printed;
+        traced = it.traced;
       }
 
   -- a run by what is known at its end
-  pub ran : (old new : D) (was is : Option (List ℕ)) (status : ℕ) → (status ≡ 0) ⊎ (status ≡ STALLED) → NotOpened now past old new was is status ⊎ RanOn now past failures old new was is status → Ran now new was is status
-  ran old new was is status ends (inl none) = absurd (no_end status none.status_is ends)
+  pub ran : (old new : D) (was is : Option (List ℕ)) (calls : TraceState) (status : ℕ) → (status ≡ 0) ⊎ (status ≡ STALLED) → NotOpened now past old new was is status ⊎ RanOn now past failures old new was is calls status → Ran now new was is status
+  ran old new was is calls status ends (inl none) = absurd (no_end status none.status_is ends)
     where
       no_end : (n : ℕ) → n ≡ 1 → (n ≡ 0) ⊎ (n ≡ STALLED) → ⊥
       no_end n is (inl none) = omega (arith, is, none)
       no_end n is (inr stalled) = omega (arith, is, stalled)
-  ran old new was is status ends (inr it) =
+  ran old new was is calls status ends (inr it) =
       let settled = it.settles ends in
       record {
         memory = after it.start.memory it.told;

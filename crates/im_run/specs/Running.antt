@@ -28,6 +28,7 @@ use Rattle.im_run.specs.declared.orders.Order.{Order}
 use Rattle.im_run.specs.declared.run.TheConstants.{STALLED}
 use Rattle.im_run.specs.declared.served.Did.{Did}
 use Rattle.im_run.specs.declared.served.Did.TheVariants.{Sent, Glanced}
+use Rattle.im_run.specs.Tracing.{IsTraced, TraceState}
 
 -- the reason that a call of the disk failed
 abbrev pub disk_failed : Reason
@@ -86,22 +87,18 @@ abbrev pub Closes : Option (List ℕ) → Lines → Option (List ℕ) → Conten
 Closes was before is m did status = (start : Option (List ℕ)) (text : List ℕ) → Prints start was before text
     → BeginsFinals start is text m did × (status ≡ 0 → Appends start is (text ++ finals m did (length did)))
 
--- a legal history of calls leads from the first memory to the second
-abbrev pub Follows : Contents → Contents → Type 0
-Follows m n = (trace : List Line) × IsLegal m trace × (end_of m trace ≡ n)
-
--- what elements' servers left since they began: their trace leads to the engine's memory, and a crash left a prefix of
--- it
-pub record ServedOn {D : Type 0} (now : D → Moment) (past : D → List Moment) (failures : D → ℕ) (b : Begun) (m : Contents) (engine : EngineState D) : Type 0 where
-  pub trace : List Line
+-- what elements' servers left since they began: this trace is legal and leads to the engine's memory, and a crash left
+-- a prefix of it
+pub record ServedOn {D : Type 0} (now : D → Moment) (past : D → List Moment) (failures : D → ℕ) (b : Begun) (m : Contents) (trace : List Line) (engine : EngineState D) : Type 0 where
+  pub legal : IsLegal m trace
   pub ends : end_of m trace ≡ engine.memory
   pub kept : HasKept now past failures b m (accepted_in m trace) engine
 
--- an engine's servers ended, the engine was closed, and this status was given
-pub record EndedOn {D : Type 0} (now : D → Moment) (past : D → List Moment) (failures : D → ℕ) (begun : EngineState D) (disk : D) (was : Option (List ℕ)) (before : Lines) (is : Option (List ℕ)) (status : ℕ) : Type 0 where
+-- an engine's servers ended with this trace, the engine was closed, and this status was given
+pub record EndedOn {D : Type 0} (now : D → Moment) (past : D → List Moment) (failures : D → ℕ) (begun : EngineState D) (disk : D) (was : Option (List ℕ)) (before : Lines) (is : Option (List ℕ)) (trace : List Line) (status : ℕ) : Type 0 where
   pub engine : EngineState D
   pub disk_is : disk ≡ engine.disk
-  pub served : ServedOn now past failures (begun_in now past failures begun) begun.memory engine
+  pub served : ServedOn now past failures (begun_in now past failures begun) begun.memory trace engine
   pub works : (status ≡ 0) ⊎ (status ≡ STALLED) → engine.failed ≡ false
   pub means : engine.failed ≡ false → LeavesNow (now disk) (MeansState engine)
   pub did : List Did
@@ -136,17 +133,18 @@ pub record Says {D : Type 0} (now : D → Moment) (start : EngineState D) (new :
   pub begins : BeginsFinals was is (replies start.memory said) (after start.memory told) did
   pub whole : status ≡ 0 → Appends was is (replies start.memory setup ++ finals (after start.memory told) did (length did))
 
--- An engine was closed, and this status was given, after a run on it.
-pub record RunOn {D : Type 0} (now : D → Moment) (past : D → List Moment) (failures : D → ℕ) (start : EngineState D) (disk : D) (was is : Option (List ℕ)) (status : ℕ) : Type 0 where
+-- An engine was closed, and this status was given, after a run on it with these calls.
+pub record RunOn {D : Type 0} (now : D → Moment) (past : D → List Moment) (failures : D → ℕ) (start : EngineState D) (disk : D) (was is : Option (List ℕ)) (calls : TraceState) (status : ℕ) : Type 0 where
   pub setup : List Command
   pub told : List Command
   pub doubt : List Command
   pub puts : Puts now past failures start start.disk disk setup told doubt
   pub settles : Settles now start disk told doubt status
   pub printed : Says now start disk setup told doubt was is status
+  pub traced : IsTraced start.memory setup told calls
 
 -- The image was opened, with the meaning of a file that a crash could leave then, and a script was run on it.
-pub record RanOn {D : Type 0} (now : D → Moment) (past : D → List Moment) (failures : D → ℕ) (old new : D) (was is : Option (List ℕ)) (status : ℕ) : Type 0 where
+pub record RanOn {D : Type 0} (now : D → Moment) (past : D → List Moment) (failures : D → ℕ) (old new : D) (was is : Option (List ℕ)) (calls : TraceState) (status : ℕ) : Type 0 where
   pub start : EngineState D
   pub found : (file : List ℕ) × Left (now old) file × MeansState start file
   pub setup : List Command
@@ -155,13 +153,14 @@ pub record RanOn {D : Type 0} (now : D → Moment) (past : D → List Moment) (f
   pub puts : Puts now past failures start old new setup told doubt
   pub settles : Settles now start new told doubt status
   pub printed : Says now start new setup told doubt was is status
+  pub traced : IsTraced start.memory setup told calls
 
 -- The same of a disk that is at this moment, and has no moment before it; or the image was not opened.
-pub record RanFrom {D : Type 0} (now : D → Moment) (past : D → List Moment) (failures : D → ℕ) (first : Moment) (new : D) (was is : Option (List ℕ)) (status : ℕ) : Type 0 where
+pub record RanFrom {D : Type 0} (now : D → Moment) (past : D → List Moment) (failures : D → ℕ) (first : Moment) (new : D) (was is : Option (List ℕ)) (calls : TraceState) (status : ℕ) : Type 0 where
   pub old : D
   pub begins : now old ≡ first
   pub none : past old ≡ []
-  pub run : NotOpened now past old new was is status ⊎ RanOn now past failures old new was is status
+  pub run : NotOpened now past old new was is status ⊎ RanOn now past failures old new was is calls status
 
 -- At the end each file that a crash may leave means one memory. If the status is 0, what was printed is the setup's
 -- lines, then the lines of what was done: of the requests that were sent, each with its final entry in that memory, and

@@ -3,10 +3,13 @@
 //! The crate stands on `im_serving`. The setup is served first, through the engine.
 #![tactic(auto)]
 
+mod noting;
 mod orders;
 mod planned;
 mod run;
 mod served;
 mod telling;
+mod tracing;
 
 pub use run::{STALLED, run_on};
+pub use tracing::{Trace, write_trace};

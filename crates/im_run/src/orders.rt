@@ -2,13 +2,14 @@
 ghost use Rattle.std.specs.Prelude.{MatchResult};
 ghost use Rattle.im_serial.specs.Serving.{Ends, Serves, at};
 
+use crate::noting::note_block;
 use im_disk::Disk;
 use im_memory::Memory;
-use im_script::{Heard, Place, Reader, Said, Script, ScriptLine, split_line};
+use im_script::{Allocation, Heard, Place, Reader, Said, Script, ScriptLine, split_line};
 use im_serial::Server;
 use im_serving::Intent;
 use im_text::{Observer, Reason};
-use im_types::MAX_ELEMENTS;
+use im_types::{Line, MAX_ELEMENTS};
 use std::alloc::{AllocError, Global};
 use std::io::Write;
 
@@ -23,6 +24,13 @@ pub struct Order {
     pub next: u64,
     /// Its operations and glances.
     pub intents: Vec<Intent>,
+}
+
+// What was read of a script: what each element asks for, and the calls of its setup.
+#[derive(Drop)]
+struct Sheet {
+    orders: Vec<Order>,
+    setup: Vec<Line>,
 }
 
 // Makes an order for each element that a script can name. It asks for nothing yet.
@@ -71,10 +79,35 @@ fn add_glance(
     }
 }
 
+// Makes a block of the setup, and notes what was served for it.
+fn make_block<D: Disk, W: Write, N: Observer>(
+    server: &mut Server<D>,
+    setup: &mut Vec<Line>,
+    block: Allocation,
+    out: &mut W,
+    observer: &mut N,
+) -> Result<(), Reason>
+    ensures serves { MatchResult result
+        (λ _. Serves D.now D.past D.failures D.honest
+        (at server.old.engine (W.contents out.old) server.old.lines server.old.waited.items)
+        (at server.new.engine (W.contents out.new) server.new.lines server.new.waited.items))
+        (λ _. Ends D.now D.past D.failures D.honest
+        (at server.old.engine (W.contents out.old) server.old.lines server.old.waited.items)
+        (at server.new.engine (W.contents out.new) server.new.lines server.new.waited.items)) }
+{
+    if setup.reserve(2).is_err() {
+        return Err(Reason::Memory);
+    }
+    let window = server.engine.memory().window(0);
+    let made = server.make_block(block, out, observer);
+    note_block(setup, server.engine.memory(), window);
+    made
+}
+
 // Does what a line says.
 fn take_heard<D: Disk, W: Write, N: Observer>(
     server: &mut Server<D>,
-    orders: &mut [Order],
+    sheet: &mut Sheet,
     heard: Heard,
     out: &mut W,
     observer: &mut N,
@@ -89,9 +122,14 @@ fn take_heard<D: Disk, W: Write, N: Observer>(
 {
     match heard {
         Heard::Says(Said::Nothing | Said::Begins(_)) => Ok(()),
-        Heard::Says(Said::Block(block)) => server.make_block(block, out, observer),
-        Heard::Says(Said::Asks(line)) => add_line(orders, server.bases.as_slice(), line),
+        Heard::Says(Said::Block(block)) => {
+            make_block(server, &mut sheet.setup, block, out, observer)
+        }
+        Heard::Says(Said::Asks(line)) => {
+            add_line(sheet.orders.as_mut_slice(), server.bases.as_slice(), line)
+        }
         Heard::Glances(element, place) => {
+            let orders = sheet.orders.as_mut_slice();
             add_glance(orders, server.bases.as_slice(), element, place)
         }
     }
@@ -101,7 +139,7 @@ fn take_heard<D: Disk, W: Write, N: Observer>(
 fn take_lines<D: Disk, W: Write, N: Observer>(
     alloc: Global,
     server: &mut Server<D>,
-    orders: &mut [Order],
+    sheet: &mut Sheet,
     script: &Script<'_>,
     out: &mut W,
     observer: &mut N,
@@ -126,7 +164,7 @@ fn take_lines<D: Disk, W: Write, N: Observer>(
             Ok(heard) => heard,
             Err(fault) => return Err(Reason::Script(fault)), // There was no memory for it.
         };
-        match take_heard(server, orders, heard, out, observer) {
+        match take_heard(server, sheet, heard, out, observer) {
             Ok(()) => {}
             Err(reason) => return Err(reason),
         }
@@ -138,7 +176,7 @@ fn take_lines<D: Disk, W: Write, N: Observer>(
 fn set_up<D: Disk, W: Write, N: Observer>(
     alloc: Global,
     server: &mut Server<D>,
-    orders: &mut [Order],
+    sheet: &mut Sheet,
     script: &Script<'_>,
     out: &mut W,
     observer: &mut N,
@@ -151,7 +189,7 @@ fn set_up<D: Disk, W: Write, N: Observer>(
         (at server.old.engine (W.contents out.old) server.old.lines server.old.waited.items)
         (at server.new.engine (W.contents out.new) server.new.lines server.new.waited.items)) }
 {
-    match take_lines(alloc, server, orders, script, out, observer) {
+    match take_lines(alloc, server, sheet, script, out, observer) {
         Ok(()) => server.lines.flush(out),
         Err(reason) => Err(reason),
     }
@@ -182,18 +220,18 @@ fn number_orders(alloc: Global, memory: &Memory, orders: Vec<Order>) -> Result<V
 }
 
 /// Serves the setup of a script, and prints its lines at once. Returns what each element asks for, from the least
-/// element. Nothing after the setup is served.
+/// element, and the setup's calls with their answers. Nothing after the setup is served.
 ///
 /// It is refused with what serving a block is refused with, with `Place` if a request's place lies past the last
-/// address, and with `Memory`.
+/// address, and with `Memory`. The setup's calls until then are returned.
 pub fn read_orders<D: Disk, W: Write, N: Observer>(
     alloc: Global,
     server: &mut Server<D>,
     script: &Script<'_>,
     out: &mut W,
     observer: &mut N,
-) -> Result<Vec<Order>, Reason>
-    ensures serves { MatchResult result
+) -> (Result<Vec<Order>, Reason>, Vec<Line>)
+    ensures serves { MatchResult result.0
         (λ _. Serves D.now D.past D.failures D.honest
         (at server.old.engine (W.contents out.old) server.old.lines server.old.waited.items)
         (at server.new.engine (W.contents out.new) server.new.lines server.new.waited.items))
@@ -201,11 +239,19 @@ pub fn read_orders<D: Disk, W: Write, N: Observer>(
         (at server.old.engine (W.contents out.old) server.old.lines server.old.waited.items)
         (at server.new.engine (W.contents out.new) server.new.lines server.new.waited.items)) }
 {
-    let Ok(mut orders) = no_orders(alloc) else {
-        return Err(Reason::Memory);
+    let setup = Vec::new(alloc);
+    let Ok(orders) = no_orders(alloc) else {
+        return (Err(Reason::Memory), setup);
     };
-    match set_up(alloc, server, orders.as_mut_slice(), script, out, observer) {
-        Ok(()) => number_orders(alloc, server.engine.memory(), orders),
-        Err(reason) => Err(reason),
+    let mut sheet = Sheet { orders, setup };
+    match set_up(alloc, server, &mut sheet, script, out, observer) {
+        Ok(()) => {
+            let Sheet { orders, setup } = sheet;
+            (number_orders(alloc, server.engine.memory(), orders), setup)
+        }
+        Err(reason) => {
+            let Sheet { orders: _, setup } = sheet;
+            (Err(reason), setup)
+        }
     }
 }

@@ -9,6 +9,8 @@ use crate::orders::{Order, read_orders};
 use crate::planned::begin;
 use crate::served::{Did, Outcome, serve_orders};
 use crate::telling::print_finals;
+use crate::tracing::Trace;
+use im_controller::Traced;
 use im_damage::Damage;
 use im_disk::Disk;
 use im_engine::Engine;
@@ -165,7 +167,8 @@ fn close<D: Disk, W: Write, N: Observer>(
     (status_of(failed, stalled, status), engine.close())
 }
 
-// Serves what each element asks for on an engine. Returns the status and the engine's disk.
+// Serves what each element asks for on an engine. Returns the status, the engine's disk, and the calls in the order of
+// the lock.
 fn serve_on<
     D: Disk + Drop + Send,
     W: Write,
@@ -184,10 +187,11 @@ fn serve_on<
     out: &mut W,
     observer: &mut N,
     planned: bool,
-) -> (u8, D)
+) -> (u8, D, Vec<Traced>)
     ensures status { (result.0 ≤ 1) ⊎ (result.0 ≡ STALLED) }
     ensures ended { D.honest result.1 → engine.failed ≡ false
-        → EndedOn D.now D.past D.failures engine result.1 (W.contents out.old) paper.lines (W.contents out.new) result.0 }
+        → EndedOn D.now D.past D.failures engine result.1 (W.contents out.old) paper.lines (W.contents out.new)
+        result.2.items result.0 }
     ensures honest { D.honest result.1 → D.honest engine.disk }
 {
     let none = Vec::new(alloc);
@@ -197,15 +201,22 @@ fn serve_on<
             let Outcome {
                 engine,
                 did,
+                trace,
                 refused,
             } = serve_orders::<D, Brand, G, V, R>(rt, alloc, opening, orders, gate, watcher);
-            close(alloc, engine, did, reason_of(refused), paper, out, observer)
+            let reason = reason_of(refused);
+            let (status, disk) = close(alloc, engine, did, reason, paper, out, observer);
+            (status, disk, trace)
         }
-        Err((reason, engine)) => close(alloc, engine, none, Err(reason), paper, out, observer),
+        Err((reason, engine)) => {
+            let trace = Vec::new(alloc);
+            let (status, disk) = close(alloc, engine, none, Err(reason), paper, out, observer);
+            (status, disk, trace)
+        }
     }
 }
 
-// Serves a script on an engine. Returns the status and the engine's disk.
+// Serves a script on an engine. Returns the status, the engine's disk, and the trace.
 fn run_engine<
     D: Disk + Drop + Send,
     W: Write,
@@ -224,29 +235,37 @@ fn run_engine<
     out: &mut W,
     observer: &mut N,
     planned: bool,
-) -> (u8, D)
+) -> (u8, D, Trace)
     requires works { engine.failed ≡ false }
     requires means { D.honest engine.disk → LeavesNow (D.now engine.disk) (MeansState engine) }
     requires pending { desk.lines.pending.items ≡ [] }
     ensures status { (result.0 ≤ 1) ⊎ (result.0 ≡ STALLED) }
     ensures run { D.honest result.1
-        → RunOn D.now D.past D.failures engine result.1 (W.contents out.old) (W.contents out.new) result.0 }
+        → RunOn D.now D.past D.failures engine result.1 (W.contents out.old) (W.contents out.new) result.2
+        result.0 }
     ensures honest { D.honest result.1 → D.honest engine.disk }
 {
     let none = Vec::new(alloc);
     let mut server = Server::new(alloc, engine, desk);
-    let read = read_orders(alloc, &mut server, script, out, observer);
+    let (read, setup) = read_orders(alloc, &mut server, script, out, observer);
     let (engine, paper) = server.leave();
     match read {
-        Ok(orders) => serve_on(
-            rt, alloc, engine, orders, paper, gate, watcher, out, observer, planned,
-        ),
-        Err(reason) => close(alloc, engine, none, Err(reason), paper, out, observer),
+        Ok(orders) => {
+            let (status, disk, served) = serve_on(
+                rt, alloc, engine, orders, paper, gate, watcher, out, observer, planned,
+            );
+            (status, disk, Trace { setup, served })
+        }
+        Err(reason) => {
+            let served = Vec::new(alloc);
+            let (status, disk) = close(alloc, engine, none, Err(reason), paper, out, observer);
+            (status, disk, Trace { setup, served })
+        }
     }
 }
 
-/// Serves a script, which may have glances, on the image of a disk, and gives the disk back. Each element's requests
-/// have a server of their own, and all run at once. What it prints goes to `out`, in this order:
+/// Serves a script, which may have glances, on the image of a disk, and gives the disk back, with the trace. Each
+/// element's requests have a server of their own, and all run at once. What it prints goes to `out`, in this order:
 ///
 /// - The lines `0.N REPLY` of the setup, which is served first.
 /// - For each element from the least, its requests in order as `K.N REPLY`. K is the element, N the number, and REPLY
@@ -282,6 +301,10 @@ fn run_engine<
 /// file that a crash leaves. Each entry of an element's line is in the memory of every such file, or was told to a
 /// server that confirmed it.
 ///
+/// The trace has each call that the setup and the servers made, with its answer: the setup's, then those of all servers
+/// in the order of the lock. What the servers were answered is legal from the memory after the setup, and the commands
+/// that were accepted are those that were put on the image behind the setup's.
+///
 /// If the status is 0 or 3, each file that a crash may leave at the return means one memory. If it is 0, all lines are
 /// written. The elements' lines tell the entries that this memory keeps, or what a server was told of an entry that it
 /// confirmed, and what was seen at glances.
@@ -302,18 +325,22 @@ pub fn run_on<
     out: &mut W,
     observer: &mut N,
     planned: bool,
-) -> (u8, D)
+) -> (u8, D, Trace)
     ensures status { (result.0 ≤ 1) ⊎ (result.0 ≡ STALLED) }
     ensures ran { D.honest result.1 → (result.0 ≡ 0) ⊎ (result.0 ≡ STALLED)
         → Ran D.now result.1 (W.contents out.old) (W.contents out.new) result.0 }
     ensures run { D.honest result.1
         → NotOpened D.now D.past disk result.1 (W.contents out.old) (W.contents out.new) result.0
-        ⊎ RanOn D.now D.past D.failures disk result.1 (W.contents out.old) (W.contents out.new) result.0 }
+        ⊎ RanOn D.now D.past D.failures disk result.1 (W.contents out.old) (W.contents out.new) result.2
+        result.0 }
     ensures honest { D.honest result.1 → D.honest disk }
 {
     let desk = match Desk::new(alloc) {
         Ok(desk) => desk,
-        Err(_) => return (end(alloc, Err(Reason::Memory), out, observer), disk),
+        Err(_) => {
+            let status = end(alloc, Err(Reason::Memory), out, observer);
+            return (status, disk, Trace::new(alloc));
+        }
     };
     match Engine::open(alloc, disk) {
         Ok(engine) => run_engine(
@@ -321,7 +348,8 @@ pub fn run_on<
         ),
         Err((refusal, mut disk)) => {
             let reason = diagnose(alloc, &mut disk, refusal);
-            (end(alloc, Err(reason), out, observer), disk)
+            let status = end(alloc, Err(reason), out, observer);
+            (status, disk, Trace::new(alloc))
         }
     }
 }

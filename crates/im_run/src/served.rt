@@ -3,10 +3,10 @@ ghost use Rattle.std.specs.Prelude.{◌≡◌, false};
 ghost use Rattle.im_types.specs.Trace.{IsLegal, end_of};
 ghost use Rattle.im_types.specs.declared.commands.Line.{Line};
 ghost use Rattle.im_controller.specs.Kept.{begun_in};
-ghost use Rattle.im_run.specs.Running.{Follows, ServedOn};
+ghost use Rattle.im_run.specs.Running.{ServedOn};
 
 use crate::orders::Order;
-use im_controller::{Controller, Name, Opening, Port, finish};
+use im_controller::{Controller, Finished, Name, Opening, Port, Traced, finish};
 use im_disk::Disk;
 use im_engine::Engine;
 use im_serving::{Done, Gate, Glanced, Glances, Part, Served, Watcher, serve_elements};
@@ -32,6 +32,8 @@ pub struct Outcome<D: Disk> {
     pub engine: Engine<D>,
     /// What was done, by elements, and for each element in order.
     pub did: Vec<Did>,
+    /// Each call with its answer, in the order of the lock.
+    pub trace: Vec<Traced>,
     /// The refusal of the least element that has one. It is `Stalled` only if there is no other.
     pub refused: Option<(u16, Refusal)>,
 }
@@ -179,8 +181,8 @@ fn make_parts<D: Disk, K: Name, R: Wait>(
     parts
 }
 
-/// Serves what each element asks for, all at once, through a controller over an engine, and gives the engine back. The
-/// thread that keeps checkpoints tells the watcher how things stand.
+/// Serves what each element asks for, all at once, through a controller over an engine, and gives the engine and the
+/// trace back. The thread that keeps checkpoints tells the watcher how things stand.
 ///
 /// An element that doesn't exist is refused with `NoElement`, and one for which memory or a thread is missing with
 /// `NoMemory`. Nothing of it is served then. The requests of the others continue.
@@ -206,9 +208,10 @@ pub fn serve_orders<
     requires plan { opening.plan ≡ K.plan }
     requires begun { begun_in D.now D.past D.failures opening.engine ≡ K.begun }
     requires honest { D.honest opening.engine.disk → K.honest }
-    ensures follows { Follows K.memory result.engine.memory }
+    ensures legal { IsLegal K.memory result.trace.items }
+    ensures end { end_of K.memory result.trace.items ≡ result.engine.memory }
     ensures kept { D.honest result.engine.disk → K.begun.failed ≡ false
-        → ServedOn D.now D.past D.failures K.begun K.memory result.engine }
+        → ServedOn D.now D.past D.failures K.begun K.memory result.trace.items result.engine }
     ensures honest { D.honest result.engine.disk → K.honest }
 {
     let controller = opening.named::<K>();
@@ -227,9 +230,17 @@ pub fn serve_orders<
         did,
         refused,
     } = notes;
+    let Finished {
+        engine,
+        trace,
+        came: _,
+        left: _,
+        claimed: _,
+    } = finish(rt, controller, ports);
     Outcome {
-        engine: finish(rt, controller, ports).engine,
+        engine,
         did,
+        trace,
         refused,
     }
 }

@@ -20,6 +20,8 @@ imem serial a.img - = serve - on a.img
 imem run a.img s = run s on a.img
 imem run a.img s --planned = run s on a.img, planned
 imem run --planned a.img - = run - on a.img, planned
+imem run a.img s --trace t = run s on a.img, traced to t
+imem run --trace=t --planned a.img s --statuses = run s on a.img, planned, traced to t, by statuses
 imem serve a.img = talk on a.img, unwatched
 imem serve a.img --watch = talk on a.img, watched
 imem serve --watch a.img = talk on a.img, watched
@@ -76,6 +78,10 @@ imem serial a.img s --planned = status 2
 says --planned = yes
 imem run a.img s --planned=yes = status 2
 says --planned = yes
+imem run a.img s --trace = status 2
+says --trace = yes
+imem serial a.img s --trace t = status 2
+says --trace = yes
 imem run a.img = status 2
 says Usage: imem run <IMAGE> <SCRIPT> = yes
 imem mend = status 2

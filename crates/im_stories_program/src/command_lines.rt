@@ -62,9 +62,14 @@ fn add_work(said: &mut String, work: &Work) -> Result<(), AllocError> {
             image,
             script,
             planned,
+            trace,
         } => {
             let how = if *planned { ", planned" } else { "" };
-            write!(said, "run {script} on {image}{how}")
+            write!(said, "run {script} on {image}{how}")?;
+            match trace {
+                Some(path) => write!(said, ", traced to {path}"),
+                None => Ok(()),
+            }
         }
         Work::Migrate { old, new } => write!(said, "move {old} on to {new}"),
         Work::Copy { old, new, asked } => {

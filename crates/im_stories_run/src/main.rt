@@ -3,6 +3,7 @@
 #![tactic(auto)]
 
 mod gates;
+mod traces;
 mod writers;
 
 use anyhow::{Result, anyhow};
@@ -19,6 +20,7 @@ use im_types::{LAST, Limits, Refusal, WINDOW};
 use std::alloc::Global;
 use std::sync::Wait;
 use std::thread::Threads;
+use traces::tell_traces;
 use writers::{Nobody, Paper, Told};
 
 // A fetch without its store.
@@ -221,7 +223,7 @@ fn run_as<G: Gate + Sync, R: Threads + Wait + Sync>(
         return Err(anyhow!("this is no script"));
     };
     let mut out = Paper::new(alloc);
-    let (status, disk) = run_on(
+    let (status, disk, _trace) = run_on(
         rt,
         alloc,
         disk,
@@ -300,7 +302,7 @@ fn tell_fault<R: Threads + Wait + Sync>(rt: &R, alloc: Global, said: &mut String
     let mut out = Paper::new(alloc);
     let mut told = Told { reason: None };
     let disk = FuseDisk::new(new_image(alloc)?, opening, Mode::Stop);
-    let (status, _disk) = run_on(
+    let (status, _disk, _trace) = run_on(
         rt, alloc, disk, &script, &Open, &Unwatched, &mut out, &mut told, false,
     );
     let is_told = match told.reason {
@@ -433,6 +435,7 @@ fn tell_all<R: Threads + Wait + Sync>(rt: &R, alloc: Global, said: &mut String) 
     tell_missing(rt, alloc, said)?;
     tell_fault(rt, alloc, said)?;
     tell_plans(rt, alloc, said)?;
+    tell_traces(rt, alloc, said)?;
     said.push_str("# an image of the first version is not run on\n")?;
     let disk = image_of_old(alloc)?;
     let disk = run(rt, alloc, disk, BOTH, &Open, said)?;

@@ -3,4 +3,8 @@ use Rattle.clap.specs.Words.{with_rule}
 use Rattle.im_program.proofs.words.run_command.Goals as goal
 
 pub returns-clause-app : goal.returns-clause-app
-returns-clause-app c = c.in_ok-one.ensures.shape c.flag_option-planned.ensures.local ∙ ap₂ with_rule c.in_ok-script.ensures.app c.flag_option-planned.ensures.rule
+returns-clause-app c =
+    let flag = c.flag_option-planned in
+    let path = c.value_option-trace in
+    let one = c.in_ok-one.ensures.shape flag.ensures.local ∙ ap₂ with_rule c.in_ok-script.ensures.app flag.ensures.rule in
+    c.in_ok-two.ensures.shape path.ensures.local ∙ ap₂ with_rule one path.ensures.rule

@@ -9,13 +9,13 @@ use Rattle.im_run.proofs.run.serve_on.Goals as goal
 pub returns-in-Ok-clause-ended : goal.returns-in-Ok-clause-ended
 returns-in-Ok-clause-ended g c = λ honest alive.
     let s = c.serve_orders-engine in
-    let k = c.close in
+    let k = c.close-status in
     let same = c.in-Ok.ensures.found.0 in
     let works = ap (λ (e : EngineState g.row.D.Denot). e.failed) same ∙ alive in
     record {
       engine = s.result.engine;
       disk_is = k.ensures.disk;
-      served = subst (λ (e : EngineState g.row.D.Denot). ServedOn g.D.Disk.now g.D.Disk.past g.D.Disk.failures (begun_in g.D.Disk.now g.D.Disk.past g.D.Disk.failures e) e.memory s.result.engine) same
+      served = subst (λ (e : EngineState g.row.D.Denot). ServedOn g.D.Disk.now g.D.Disk.past g.D.Disk.failures (begun_in g.D.Disk.now g.D.Disk.past g.D.Disk.failures e) e.memory s.result.trace.items s.result.engine) same
           (s.ensures.kept (subst g.D.Disk.honest k.ensures.disk honest) works);
       works = k.ensures.works;
       means = k.ensures.means honest;
@@ -25,18 +25,18 @@ returns-in-Ok-clause-ended g c = λ honest alive.
 
 pub returns-in-Ok-clause-honest : goal.returns-in-Ok-clause-honest
 returns-in-Ok-clause-honest g c = λ honest.
-    subst (λ (e : EngineState g.row.D.Denot). g.D.Disk.honest e.disk) c.in-Ok.ensures.found.0 (c.serve_orders-engine.ensures.honest (subst g.D.Disk.honest c.close.ensures.disk honest))
+    subst (λ (e : EngineState g.row.D.Denot). g.D.Disk.honest e.disk) c.in-Ok.ensures.found.0 (c.serve_orders-engine.ensures.honest (subst g.D.Disk.honest c.close-status.ensures.disk honest))
 
 pub returns-in-Err-clause-ended : goal.returns-in-Err-clause-ended
 returns-in-Err-clause-ended g c = λ honest alive.
-    let k = c.close-in-Err in
+    let k = c.close-status-in-Err in
     let e = c.in-Err.engine in
     let same = c.in-Err.ensures.same in
     let works = ap (λ (x : EngineState g.row.D.Denot). x.failed) same ∙ alive in
     record {
       engine = e;
       disk_is = k.ensures.disk;
-      served = none_served g.D.Disk.now g.D.Disk.past g.D.Disk.failures c.args.engine e same works
+      served = none_served g.D.Disk.now g.D.Disk.past g.D.Disk.failures c.args.engine e c.new-trace.result.items c.new-trace.ensures.items same works
           (subst (λ d. LeavesNow (g.D.Disk.now d) (MeansState e)) k.ensures.disk (k.ensures.means honest works));
       works = k.ensures.works;
       means = k.ensures.means honest;

@@ -1,0 +1,69 @@
+"""Reads the trace of a run, for the scripts beside this file, and judges it by the plain memory of images.py.
+
+A line is `K.N OPERATION -> REPLY`, `confirm K UPTO -> confirmed` or `collect K.N -> REPLY`. What stands before the arrow is a line of a
+dialogue.
+"""
+import re
+from dataclasses import dataclass
+
+import images
+from judging import need, text_of
+
+CODES = {"fetch": images.FETCH, "store": images.STORE, "take": images.TAKE, "put": images.PUT, "release": images.RELEASE, "reset": images.RESET, "alloc i": images.ALLOC_I, "alloc m": images.ALLOC_M}
+REQUEST, CONFIRM, COLLECT = re.compile(r"(\d+)\.(\d+) (alloc [im]|[a-z]+) (\d+)(?: (\d+))?"), re.compile(r"confirm (\d+) (\d+)"), re.compile(r"collect (\d+)\.(\d+)")
+
+
+@dataclass
+class Call:
+    """A line: what was asked, as a dialogue has it, and the reply. `op` is the operation, images.CONFIRM's, or None of a collect."""
+
+    asked: str
+    reply: str
+    element: int
+    number: int
+    op: tuple | None
+
+    @property
+    def answer(self):
+        """What a dialogue answers."""
+        if self.op is not None and self.op[0] == images.CONFIRM:
+            return f"{self.element} {self.reply} {self.number}" if self.reply == "confirmed" else f"{self.element} {self.reply}"
+        return f"{self.element}.{self.number} {self.reply}"
+
+
+def call_of(line):
+    asked, arrow, reply = line.partition(" -> ")
+    if arrow and (met := REQUEST.fullmatch(asked)):
+        return Call(asked, reply, int(met[1]), int(met[2]), (CODES[met[3]], int(met[4]), int(met[5] or 0)))
+    if arrow and (met := CONFIRM.fullmatch(asked)):
+        return Call(asked, reply, int(met[1]), int(met[2]), (images.CONFIRM, 0, 0))
+    met = COLLECT.fullmatch(asked)
+    need(arrow and met, f"{line!r} is no line of a trace")
+    return Call(asked, reply, int(met[1]), int(met[2]), None)
+
+
+def calls_of(text):
+    need(not text or text.endswith("\n"), "the last line of the trace is cut off")
+    return [call_of(line) for line in text.splitlines()]
+
+
+def kept(memory, element, number):
+    base, entries = memory.windows[element]
+    need(base <= number < base + len(entries), f"{element}.{number} is looked for, and isn't kept")
+    return text_of(entries[number - base][1])
+
+
+def replay(memory, calls):
+    """Lets the plain memory take these calls, and sees that it gives the same replies. What it kept of each request when that was confirmed."""
+    dropped = {}
+    for call in calls:
+        if call.op is None:
+            reply = kept(memory, call.element, call.number)
+        else:
+            if call.op[0] == images.CONFIRM and call.element < len(memory.windows):
+                base, entries = memory.windows[call.element]
+                dropped.update({(call.element, base + at): text_of(it) for at, (_, it) in enumerate(entries[: call.number - base])})
+            need(memory.step(call.element, call.number, call.op), f"{call.asked}: the plain memory refuses it")
+            reply = "confirmed" if call.op[0] == images.CONFIRM else kept(memory, call.element, call.number)
+        need(reply == call.reply, f"{call.asked} -> {call.reply}: the plain memory says {reply}")
+    return dropped
