@@ -17,7 +17,7 @@ abbrev pub DoneOn : {D : Type 0} → (D → Moment) → (D → List Moment) → 
 DoneOn now past failures first demonstration was is status disk = ⊥
 DoneOn now past failures first (format image cells elements slots is_new) was is status disk =
     (status ≡ 0) × AreLimits cells elements slots × LeavesNow (now disk) (λ file. file ≡ new_image 0xA5 (record { cells = cells; elements = elements; slots = slots }))
-DoneOn now past failures first (serial image script) was is status disk = ServedFrom now past failures first disk was is status
+DoneOn now past failures first (serial image script once) was is status disk = ServedFrom now past failures first disk was is status
 DoneOn now past failures first (run image script planned) was is status disk = RanFrom now past failures first disk was is status
 DoneOn now past failures first (serve image watch) was is status disk = TalkedFrom watch now past first disk was is status
 DoneOn now past failures first (inspect image) was is status disk = (status ≡ 0 → Tells first.bytes was is) × ReadsOnly first (now disk) [] (past disk)
@@ -27,7 +27,7 @@ DoneOn now past failures first (migrate old new) was is status disk = Unit {0}
 abbrev pub IsMigration : Task → Type 0
 IsMigration demonstration = ⊥
 IsMigration (format image cells elements slots is_new) = ⊥
-IsMigration (serial image script) = ⊥
+IsMigration (serial image script once) = ⊥
 IsMigration (run image script planned) = ⊥
 IsMigration (serve image watch) = ⊥
 IsMigration (inspect image) = ⊥

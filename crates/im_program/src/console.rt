@@ -81,7 +81,7 @@ impl<'a, R: Eprint + AllocGlobal> Console<'a, R> {
             Work::Alone(Job::Format { image, .. }) | Work::Alone(Job::Inspect { image }) => {
                 (image, "")
             }
-            Work::Alone(Job::Serial { image, script }) | Work::Run { image, script, .. } => {
+            Work::Alone(Job::Serial { image, script, .. }) | Work::Run { image, script, .. } => {
                 (image, script)
             }
             Work::Alone(Job::Serve { image, .. }) => (image, "-"),

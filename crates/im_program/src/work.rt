@@ -33,7 +33,7 @@ use im_listening::Ear;
 use im_report::inspect_on;
 use im_run::{STALLED, run_on};
 use im_script::{Script, ScriptFault, TextFault, read_script, read_script_with_glances, read_text};
-use im_serial::serial_on;
+use im_serial::{serial_on, serial_once_on};
 use im_serving::{Open, Watcher};
 use im_text::{Observer, PathFault, Reason, Warning, put_refusal};
 use im_types::{Limits, MAX_CELLS, MAX_ELEMENTS, Refusal};
@@ -242,6 +242,7 @@ pub fn serve_file<R: Files<File = File> + AllocGlobal, S: Start, I: Read, W: Wri
     held: &Descriptors,
     image: &str,
     script: &str,
+    once: bool,
     input: &mut I,
     out: &mut W,
     observer: &mut N,
@@ -263,6 +264,7 @@ pub fn serve_file<R: Files<File = File> + AllocGlobal, S: Start, I: Read, W: Wri
         Err(refusal) => return Err(refusal),
     };
     match open_image(rt, image, start) {
+        Ok(disk) if once => Ok(serial_once_on(rt.alloc(), disk, &script, out, observer)),
         Ok(disk) => Ok(serial_on(rt.alloc(), disk, &script, out, observer)),
         Err(fault) => Err(refusal_of(rt, image, fault, observer)),
     }
@@ -514,8 +516,12 @@ fn do_job<R: Files<File = File> + AllocGlobal, S: Start, I: BufRead + Ear, W: Wr
             Ok(disk) => Ok((0, Some(disk))),
             Err(refusal) => Err(refusal),
         },
-        Job::Serial { image, script } => match serve_file(
-            rt, held, image, script, input, out, observer, start,
+        Job::Serial {
+            image,
+            script,
+            once,
+        } => match serve_file(
+            rt, held, image, script, once, input, out, observer, start,
         ) {
             Ok((status, disk)) => Ok((status, Some(disk))),
             Err(refusal) => Err(refusal),

@@ -103,6 +103,57 @@ fn serve_on<D: Disk, W: Write, N: Observer>(
     (status_at(failed, status), engine.close())
 }
 
+/// Serves a script on the image of a disk, as [`serial_on`] does, but asks once for each request, however often it is
+/// called: the n-th request of an element in the script has number n, and what the image has of them isn't sent anew.
+pub fn serial_once_on<D: Disk, W: Write, N: Observer>(
+    alloc: Global,
+    disk: D,
+    script: &Script<'_>,
+    out: &mut W,
+    observer: &mut N,
+) -> (u8, D)
+{
+    let desk = match Desk::new(alloc) {
+        Ok(desk) => desk,
+        Err(_) => return (end(alloc, Err(Reason::Memory), out, observer), disk),
+    };
+    match Engine::open(alloc, disk) {
+        Ok(engine) => serve_once_on(alloc, engine, desk, script, out, observer),
+        Err((refusal, mut disk)) => {
+            let reason = diagnose(alloc, &mut disk, refusal);
+            (end(alloc, Err(reason), out, observer), disk)
+        }
+    }
+}
+
+// Serves what an engine doesn't have of a script. Returns the status and the engine's disk.
+fn serve_once_on<D: Disk, W: Write, N: Observer>(
+    alloc: Global,
+    engine: Engine<D>,
+    desk: Desk,
+    script: &Script<'_>,
+    out: &mut W,
+    observer: &mut N,
+) -> (u8, D)
+{
+    let mut server = Server::new(alloc, engine, desk);
+    let served = server.serve_once(alloc, script, out, observer);
+    server.learn_all(observer);
+    let told = server.tell(out);
+    let (engine, mut paper) = server.leave();
+    let status = finish(
+        alloc,
+        both(served, told),
+        &mut paper.lines,
+        &mut paper.line,
+        out,
+        observer,
+    );
+    // If the disk failed, a refusal was printed: the status is 1 already.
+    let failed = engine.failed();
+    (status_at(failed, status), engine.close())
+}
+
 // Returns the first refusal, if there is one.
 fn both(served: Result<(), Reason>, told: Result<(), Reason>) -> Result<(), Reason>
     ensures served { IsOk result → IsOk served }
