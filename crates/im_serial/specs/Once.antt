@@ -1,12 +1,13 @@
 -- A script that is served once: what a memory has of its requests, and which of them are new. (Own.)
 use Rattle.std.specs.Prelude.{◌≡◌, ◌⊎◌, ℕ, ◌+◌, ◌-◌, ◌<◌, ◌≤◌, ◌&&◌, Bool, nat_lt, List, [], ◌∷◌, ◌++◌, length, map, take}
-use Rattle.std.specs.Prelude.{codes, decimal, Option, None, Some, slice_get, slice_index_or, slice_set, if◌then◌else◌}
+use Rattle.std.specs.Prelude.{true, false, codes, decimal, Result, MatchResult, OnOk, Option, None, Some, slice_get, slice_index_or, slice_set, if◌then◌else◌}
 use Rattle.std.specs.Option.{option_map_or}
 use Rattle.std.specs.Io.KnownBytes.{Appends}
 use Rattle.im_types.specs.declared.commands.Command.{Command}
 use Rattle.im_types.specs.declared.operations.Waiter.{Waiter}
 use Rattle.im_types.specs.Contents.{Contents, kept_for}
 use Rattle.im_types.specs.Meaning.{accept_each}
+use Rattle.im_types.specs.Memory.{IsMemory}
 use Rattle.im_types.specs.Run.{after}
 use Rattle.im_types.specs.Window.{next_number}
 use Rattle.im_disk.specs.Moment.{Moment, Left, Rises}
@@ -17,11 +18,14 @@ use Rattle.im_engine.specs.Run.{MeansAfter, MeansBeginning, MeansAllOrInDoubt}
 use Rattle.im_script.specs.declared.places.Action.{Action}
 use Rattle.im_script.specs.declared.places.Action.TheVariants.{Alloc}
 use Rattle.im_text.specs.declared.replies.Waited.{Waited}
-use Rattle.im_text.specs.Printing.{Begins, IsLast, nows, replies, told_line, waits, waits_if, who_of}
+use Rattle.im_text.specs.Printing.{Begins, IsLast, Prints, nows, replies, told_line, waits, waits_if, who_of}
 use Rattle.im_text.specs.Texts.{line_feed}
-use Rattle.im_serial.specs.Asked.{IsAsked, Wanted, wanted_of}
-use Rattle.im_serial.specs.Noted.{AreLast}
-use Rattle.im_serial.specs.Serving.{MeansAtLeast, NotOpened}
+use Rattle.im_serial.specs.Asked.{Course, IsAsked, Wanted, standing, wanted_of}
+use Rattle.im_serial.specs.declared.meeting.Met.{Met}
+use Rattle.im_serial.specs.declared.meeting.Met.TheVariants.{New, Done, Kept}
+use Rattle.im_serial.specs.declared.waits.Mark.{Mark}
+use Rattle.im_serial.specs.Noted.{AreKnown, AreLast, IsMarked, noted_if, notes}
+use Rattle.im_serial.specs.Serving.{GoesAt, HaltsAt, MeansAtLeast, NotOpened, ScriptServer}
 
 -- ---- what a memory has of a script
 
@@ -119,15 +123,117 @@ abbrev pub waits_had : Contents → List ℕ → List Wanted → List Waiter
 waits_had m many [] = []
 waits_had m many (w ∷ wanted) = wait_had m many w ++ waits_had m (met many w.element) wanted
 
--- ---- at the end
+-- what is noted of a request that the memory has, if it waits
+abbrev pub noted_of : Contents → Waiter → List Waited
+noted_of m who = option_map_or (λ k. noted_if who k.entry) (kept_for m.windows who) []
+
+-- ---- while it is printed
 
 -- the one list begins with the other
 abbrev pub IsPrefix : {A : Type 0} → List A → List A → Type 0
 IsPrefix {A} part all = (rest : List A) × (all ≡ part ++ rest)
 
+-- What is known when the first requests of a script were met, and these are left: the lines of those that the memory
+-- has were made, and those of them that wait are noted.
+pub record HasMet (m : Contents) (script : List Wanted) (many : List ℕ) (left : List Wanted) (text : List ℕ) (waited : List Waited) (marks : List Mark) : Type 0 where
+  pub memory : IsMemory (length m.cells) (length m.windows) m
+  pub lines : lines_had m (numbers_had m) script ≡ text ++ lines_had m many left
+  pub names : waits_had m (numbers_had m) script ≡ map who_of waited ++ waits_had m many left
+  pub marked : (at : ℕ) (w : Waited) → slice_get waited at ≡ Some w → IsMarked m 0 0 marks at w
+  pub passed : (at : ℕ) (w : Waited) → slice_get waited at ≡ Some w → w.number + left_of many w.element < next_had m w.element
+
+-- what is known when it was ended in the middle
+pub record HasBroken (m : Contents) (script : List Wanted) (text : List ℕ) (waited : List Waited) : Type 0 where
+  pub lines : IsPrefix text (lines_had m (numbers_had m) script)
+  pub names : IsPrefix (map who_of waited) (waits_had m (numbers_had m) script)
+  pub known : AreKnown m [] waited
+
+module _ {D : Type 0} where
+  -- these requests are left, and what was made of the others was printed
+  abbrev pub MetAt : List Wanted → List ℕ → List Wanted → Option (List ℕ) → ScriptServer D → Type 0
+  MetAt script many left held t = (text : List ℕ) × (HasMet t.engine.memory script many left text t.waited t.marks × Prints held t.held t.lines text)
+
+  -- it was ended, and what was made of them was printed
+  abbrev pub BrokenAt : List Wanted → Option (List ℕ) → ScriptServer D → Type 0
+  BrokenAt script held t = (text : List ℕ) × (HasBroken t.engine.memory script text t.waited × Prints held t.held t.lines text)
+
+  -- from these requests it comes to those
+  abbrev pub Meets : List ℕ → List Wanted → List ℕ → List Wanted → ScriptServer D → ScriptServer D → Type 0
+  Meets many wanted later left old new = (script rest : List Wanted) (held : Option (List ℕ))
+      → MetAt script many (wanted ++ rest) held old → MetAt script later (left ++ rest) held new
+
+  -- from these requests it is ended
+  abbrev pub Breaks : List ℕ → List Wanted → ScriptServer D → ScriptServer D → Type 0
+  Breaks many wanted old new = (script rest : List Wanted) (held : Option (List ℕ))
+      → MetAt script many (wanted ++ rest) held old → BrokenAt script held new
+
+  -- these requests were met, if the call succeeded
+  abbrev pub HasPassed : {T E : Type 0} → List ℕ → List Wanted → List ℕ → Result T E → ScriptServer D → ScriptServer D → Type 0
+  HasPassed many wanted later result old new = MatchResult result (λ _. Meets many wanted later [] old new) (λ _. Breaks many wanted old new)
+
+-- From these requests it comes to those: the bases of the blocks among them were appended.
+abbrev pub Names : List ℕ → ℕ → List Wanted → List ℕ → ℕ → List Wanted → List ℕ → List ℕ → Type 0
+Names many end wanted later behind left before after = (all : List ℕ) (rest : List Wanted)
+    → all ≡ before ++ bases_had many end (wanted ++ rest) → all ≡ after ++ bases_had later behind (left ++ rest)
+
+-- What a memory has of a script was printed and written out: the bases of its blocks are known, and nothing was put.
+pub record HasShown {D : Type 0} (script : List Wanted) (bases known : List ℕ) (old mid : ScriptServer D) : Type 0 where
+  pub engine : mid.engine ≡ old.engine
+  pub later : List ℕ
+  pub meets : Meets (numbers_had old.engine.memory) script later [] old mid
+  pub names : known ≡ bases ++ bases_had (numbers_had old.engine.memory) 0 script
+  pub pending : mid.lines.pending.items ≡ []
+  pub works : mid.lines.broken ≡ false
+
+-- what an image has of a request: nothing, that it was confirmed, or its entry
+abbrev pub is_had : Met → Bool
+is_had New = false
+is_had Done = true
+is_had (Kept entry) = true
+
+-- ---- at the end
+
 -- the requests of a script that a memory doesn't have
 abbrev pub new_of : Contents → List Wanted → List Wanted
 new_of m script = news (numbers_had m) script
+
+-- what is left of a script in a memory
+abbrev pub course_of : Contents → List Wanted → Course
+course_of m script = record {
+  first = bases_had (numbers_had m) 0 script;
+  wanted = new_of m script;
+  earlier = waits_had m (numbers_had m) script;
+}
+
+-- it is this course, as far as it was printed which requests wait, and these lines
+pub record IsCourse (m : Contents) (script : List Wanted) (c : Course) (had : List ℕ) : Type 0 where
+  pub first : c.first ≡ bases_had (numbers_had m) 0 script
+  pub wanted : c.wanted ≡ new_of m script
+  pub had_is : IsPrefix had (lines_had m (numbers_had m) script)
+  pub earlier_is : IsPrefix c.earlier (waits_had m (numbers_had m) script)
+
+-- a server that has served nothing
+pub record IsReady {D : Type 0} (disk : Ghosts D) (t : ScriptServer D) (bases : List ℕ) : Type 0 where
+  pub works : t.engine.failed ≡ false
+  pub means : disk.honest t.engine.disk → LeavesNow (disk.now t.engine.disk) (MeansState t.engine)
+  pub memory : IsMemory (length t.engine.memory.cells) (length t.engine.memory.windows) t.engine.memory
+  pub waited : t.waited ≡ []
+  pub bases_is : bases ≡ []
+  pub pending : t.lines.pending.items ≡ []
+
+module _ {D : Type 0} (disk : Ghosts D) where
+  -- the script was ended, and what was told of it was printed
+  abbrev pub EndedOnce : EngineState D → List Wanted → Option (List ℕ) → ScriptServer D → Type 0
+  EndedOnce start script was t = (c : Course) × ((had : List ℕ) × (IsCourse start.memory script c had × ((text : List ℕ) × (HaltsAt disk start (Some c) t.engine text t.waited × Prints was t.held t.lines (had ++ text)))))
+
+  -- nothing is left of the script, and what was told of it was printed
+  abbrev pub DoneOnce : EngineState D → List Wanted → Option (List ℕ) → ScriptServer D → Type 0
+  DoneOnce start script was t = (bases : List ℕ) × ((text : List ℕ) × (GoesAt disk start (standing (Some (course_of start.memory script)) bases []) t.engine text (notes t.waited t.marks)
+      × Prints was t.held t.lines (lines_had start.memory (numbers_had start.memory) script ++ text)))
+
+  -- the script was served once, if the call succeeded
+  abbrev pub HasServedOnce : {T E : Type 0} → List Wanted → List ℕ → Result T E → ScriptServer D → ScriptServer D → Type 0
+  HasServedOnce script bases result old new = IsReady disk old bases → EndedOnce old.engine script old.held new × OnOk result (DoneOnce old.engine script old.held new)
 
 -- The commands that were put are, confirmations aside, the first of these, in their order, each with its element's next
 -- number. The names stand for the blocks that the memory has and for those that were made.

@@ -142,11 +142,11 @@ pub record ScriptServer (D : Type 0) : Type 0 where
 abbrev pub server_of : {D : Type 0} → EngineState D → Option (List ℕ) → Lines → List Waited → List Mark → ScriptServer D
 server_of engine held lines waited marks = record { engine = engine; held = held; lines = lines; waited = waited; marks = marks }
 
-module _ {D : Type 0} (disk : Ghosts D) where
-  -- those that had to wait are these, behind those that waited when the script began
-  abbrev pub AreWaited : Option Course → List Waited → List Waiter → Type 0
-  AreWaited script waited names = map who_of waited ≡ earlier_in script ++ names
+-- those that had to wait are these, behind those that waited when the script began
+abbrev pub AreWaited : Option Course → List Waited → List Waiter → Type 0
+AreWaited script waited names = map who_of waited ≡ earlier_in script ++ names
 
+module _ {D : Type 0} (disk : Ghosts D) where
   -- it goes on
   abbrev pub GoesAt : EngineState D → Standing → EngineState D → List ℕ → Notes → Type 0
   GoesAt start s engine text n = disk.honest engine.disk → disk.honest start.disk

@@ -1,9 +1,12 @@
 //! What an image has of a script already.
+ghost use Rattle.std.specs.Prelude.{◌≡◌, ◌-◌, ◌+◌, ℕ, false, true, [], IfOk, IfSome, OnOk, slice_get, string_bytes};
+ghost use Rattle.std.specs.Option.{option_map_or};
+ghost use Rattle.im_types.specs.Window.{next_number};
+ghost use Rattle.im_serial.specs.Asked.{wanted_by};
+ghost use Rattle.im_serial.specs.Once.{done_line, left_of, met, met_all, news, numbers_had};
 
-use crate::room::next_number;
-use im_disk::Disk;
-use im_engine::Engine;
-use im_script::{Reader, Said, Script, ScriptFault, split_line};
+use im_memory::Memory;
+use im_script::{Allocation, Reader, Said, Script, ScriptFault, split_line};
 use im_text::Reason;
 use im_types::{Entry, Op, Refusal, Reply};
 use std::alloc::{AllocError, Global};
@@ -17,44 +20,55 @@ pub struct Past {
     pub end: u32,
 }
 
-// Returns how many requests of an element an image has, by their numbers.
-fn count_of<D: Disk>(engine: &Engine<D>, element: u16) -> u64 {
-    match next_number(engine, element) {
-        Ok(next) => next.saturating_sub(1),
+// Returns how many requests an element made, by its next number.
+fn count_of(memory: &Memory, element: u16) -> u64
+    ensures { result ≡ option_map_or (λ w. next_number w - 1) (slice_get memory.now.contents.windows element) 0 }
+{
+    match memory.window(element) {
+        Ok((_, next)) => next.saturating_sub(1),
         Err(_) => 0,
     }
 }
 
 impl Past {
-    /// Counts the requests that an image has.
-    pub fn new<D: Disk>(alloc: Global, engine: &Engine<D>) -> Result<Past, AllocError> {
-        let elements = engine.memory().elements();
+    /// Counts the requests that a memory has.
+    pub fn new(alloc: Global, memory: &Memory) -> Result<Past, AllocError>
+        ensures many { IfOk result (λ past. past.many.items ≡ numbers_had memory.now.contents) }
+        ensures end { IfOk result (λ past. past.end ≡ 0) }
+    {
+        let elements = memory.elements();
         let mut many = Vec::with_capacity(alloc, elements as usize)?;
         for element in 0..elements {
-            many.push(count_of(engine, element))?;
+            many.push(count_of(memory, element))?;
         }
         Ok(Past { many, end: 0 })
     }
 
-    /// Returns how many of an element's requests are left.
-    pub fn left(&self, element: u16) -> u64 {
+    /// Meets an element's next request. Returns how many were left before it: 0 if the memory doesn't have it.
+    pub fn meet(&mut self, element: u16) -> u64
+        ensures left { result ≡ left_of self.old.many.items element }
+        ensures many { self.new.many.items ≡ met self.old.many.items element }
+        ensures end { self.new.end ≡ self.old.end }
+    {
         let at = element as usize;
-        if at < self.many.len() { self.many[at] } else { 0 }
-    }
-
-    /// Meets an element's next request. Returns how many were left before it: 0 if the image doesn't have it.
-    pub fn meet(&mut self, element: u16) -> u64 {
-        let left = self.left(element);
-        if left > 0 {
-            self.many[element as usize] = left - 1;
+        if at < self.many.len() && self.many[at] > 0 {
+            let left = self.many[at];
+            self.many[at] = left - 1;
+            left
+        } else {
+            0
         }
-        left
     }
 
-    /// Meets what a line says. Returns whether it asks for something that the image has.
-    pub fn has(&mut self, said: Said) -> bool {
+    /// Meets what a line says. Returns whether it asks for something that the memory has.
+    pub fn has(&mut self, said: Said) -> bool
+        ensures new { result ≡ false → news self.old.many.items (wanted_by said) ≡ wanted_by said }
+        ensures had { result ≡ true → news self.old.many.items (wanted_by said) ≡ [] }
+        ensures many { self.new.many.items ≡ met_all self.old.many.items (wanted_by said) }
+    {
         match said {
-            Said::Nothing | Said::Begins(_) => false,
+            Said::Nothing => false,
+            Said::Begins(_element) => false,
             Said::Block(_) => self.meet(0) > 0,
             Said::Asks(line) => self.meet(line.element) > 0,
         }
@@ -62,7 +76,11 @@ impl Past {
 
     /// Places the next block of the setup behind those before it. Returns its base, or `None` if it ends past the last
     /// address.
-    pub fn place(&mut self, length: u32) -> Option<u32> {
+    pub fn place(&mut self, length: u32) -> Option<u32>
+        ensures base { IfSome result (λ base. base ≡ self.old.end) }
+        ensures end { IfSome result (λ base. self.new.end ≡ self.old.end + length) }
+        ensures many { self.new.many ≡ self.old.many }
+    {
         let base = self.end;
         match base.checked_add(length) {
             Some(end) => {
@@ -75,14 +93,16 @@ impl Past {
 }
 
 /// Makes the line `K.N done` for a request that was confirmed.
-pub fn make_done(line: &mut String, element: u16, number: u64) -> Result<(), AllocError> {
+pub fn make_done(line: &mut String, element: u16, number: u64) -> Result<(), AllocError>
+    ensures { OnOk result (string_bytes line.new ≡ done_line (record { element = element; number = number })) }
+{
     line.clear();
     writeln!(line, "{element}.{number} done")
 }
 
 // Compares an element's next request with the one that is kept under its number, if there is one.
-fn compare<D: Disk>(
-    engine: &Engine<D>,
+fn compare(
+    memory: &Memory,
     past: &mut Past,
     element: u16,
     op: Option<Op>,
@@ -92,11 +112,11 @@ fn compare<D: Disk>(
     if left == 0 {
         return Ok(());
     }
-    let next = match next_number(engine, element) {
-        Ok(next) => next,
+    let number = match memory.window(element) {
+        Ok((_, next)) => next.saturating_sub(left),
         Err(refusal) => return Err(Reason::Request(element, refusal)),
     };
-    let Some(kept) = engine.memory().kept(element, next.saturating_sub(left)) else {
+    let Some(kept) = memory.kept(element, number) else {
         return Ok(()); // It was confirmed.
     };
     let is_there = match (kept.entry, base) {
@@ -110,35 +130,49 @@ fn compare<D: Disk>(
     }
 }
 
+// Compares a block of the setup.
+fn compare_block(
+    memory: &Memory,
+    past: &mut Past,
+    bases: &mut Vec<u32>,
+    block: Allocation,
+) -> Result<(), Reason> {
+    let base = past.place(block.length);
+    if let Some(base) = base {
+        if bases.push(base).is_err() {
+            return Err(Reason::Memory);
+        }
+    }
+    compare(
+        memory,
+        past,
+        0,
+        Some(Op::Alloc(block.kind, block.length)),
+        base,
+    )
+}
+
 // Compares what a line says.
-fn compare_said<D: Disk>(
-    engine: &Engine<D>,
+fn compare_said(
+    memory: &Memory,
     past: &mut Past,
     bases: &mut Vec<u32>,
     said: Said,
 ) -> Result<(), Reason> {
     match said {
         Said::Nothing | Said::Begins(_) => Ok(()),
-        Said::Block(block) => {
-            let base = past.place(block.length);
-            if let Some(base) = base {
-                if bases.push(base).is_err() {
-                    return Err(Reason::Memory);
-                }
-            }
-            compare(engine, past, 0, Some(Op::Alloc(block.kind, block.length)), base)
-        }
+        Said::Block(block) => compare_block(memory, past, bases, block),
         Said::Asks(line) => {
             let op = line.action.op(bases.as_slice());
-            compare(engine, past, line.element, op, None)
+            compare(memory, past, line.element, op, None)
         }
     }
 }
 
 // Compares all lines of a script.
-fn compare_all<D: Disk>(
+fn compare_all(
     alloc: Global,
-    engine: &Engine<D>,
+    memory: &Memory,
     past: &mut Past,
     script: &Script<'_>,
 ) -> Result<(), Reason> {
@@ -156,7 +190,7 @@ fn compare_all<D: Disk>(
             Ok(said) => said,
             Err(fault) => return Err(Reason::Script(fault)), // There was no memory for it.
         };
-        match compare_said(engine, past, &mut bases, said) {
+        match compare_said(memory, past, &mut bases, said) {
             Ok(()) => {}
             Err(reason) => return Err(reason),
         }
@@ -165,33 +199,29 @@ fn compare_all<D: Disk>(
 }
 
 // Whether an element's window begins beyond the script: more of its requests are left than are kept.
-fn is_beyond<D: Disk>(engine: &Engine<D>, past: &Past, element: u16) -> bool {
-    match engine.window(element) {
-        Ok((base, next)) => past.left(element) > next.saturating_sub(base),
+fn is_beyond(memory: &Memory, past: &mut Past, element: u16) -> bool {
+    match memory.window(element) {
+        Ok((base, next)) => past.meet(element) > next.saturating_sub(base),
         Err(_) => false,
     }
 }
 
-/// Compares a script with what an image has of it. Changes nothing.
+/// Compares a script with what a memory has of it. Changes nothing.
 ///
 /// Errors: `Mismatch` if under a number of the script another operation is kept, or for a block of the setup another
 /// base than the script's setup has in a new image; `BadScript` if a window begins beyond the script. Another script
 /// used this image then. `NoMemory`.
-pub fn compare_script<D: Disk>(
-    alloc: Global,
-    engine: &Engine<D>,
-    script: &Script<'_>,
-) -> Result<(), Reason> {
-    let mut past = match Past::new(alloc, engine) {
+pub fn compare_script(alloc: Global, memory: &Memory, script: &Script<'_>) -> Result<(), Reason> {
+    let mut past = match Past::new(alloc, memory) {
         Ok(past) => past,
         Err(_) => return Err(Reason::Memory),
     };
-    match compare_all(alloc, engine, &mut past, script) {
+    match compare_all(alloc, memory, &mut past, script) {
         Ok(()) => {}
         Err(reason) => return Err(reason),
     }
-    for element in 0..engine.memory().elements() {
-        if is_beyond(engine, &past, element) {
+    for element in 0..memory.elements() {
+        if is_beyond(memory, &mut past, element) {
             return Err(Reason::Request(element, Refusal::BadScript));
         }
     }

@@ -13,6 +13,7 @@ ghost use Rattle.im_text.specs.Printing.{who_of};
 ghost use Rattle.im_serial.specs.declared.waits.Mark.TheVariants.{Here};
 ghost use Rattle.im_serial.specs.Noted.{AreKnown, AreLast, noted_if, mark_place};
 ghost use Rattle.im_serial.specs.Asked.{wanted_by, wanted_of};
+ghost use Rattle.im_serial.specs.Once.{done_line};
 ghost use Rattle.im_serial.specs.Serving.{Ends, HasAsked, HasServed, Prepares, Serves, at, server_of};
 
 use crate::past::make_done;
@@ -351,7 +352,19 @@ impl<D: Disk> Server<D> {
     }
 
     // Prints that a request is done.
-    pub(crate) fn print_done<W: Write>(&mut self, who: (u16, u64), out: &mut W) -> Result<(), Reason>
+    pub(crate) fn print_done<W: Write>(
+        &mut self,
+        who: (u16, u64),
+        out: &mut W,
+    ) -> Result<(), Reason>
+        ensures engine { self.new.engine ≡ self.old.engine }
+        ensures names { self.new.waited.items ≡ self.old.waited.items }
+        ensures marks { self.new.places.marks.items ≡ self.old.places.marks.items }
+        ensures bases { self.new.bases.items ≡ self.old.bases.items }
+        ensures more { MatchResult result
+            (λ _. PrintsMore (W.contents out.old) self.old.lines (W.contents out.new) self.new.lines
+            (done_line (record { element = who.0; number = who.1 })))
+            (λ _. PrintsOn (W.contents out.old) self.old.lines (W.contents out.new) self.new.lines) }
     {
         match make_done(&mut self.line, who.0, who.1) {
             Ok(()) => self.lines.push(out, self.line.as_str()),
