@@ -8,12 +8,11 @@ ghost use Rattle.im_disk.specs.Since.{LeavesNow, ReadsOnly};
 ghost use Rattle.im_image.specs.Fresh.{new_image};
 ghost use Rattle.im_report.specs.Inspecting.{Tells};
 ghost use Rattle.im_text.specs.Printing.{Begins, IsLast};
-ghost use Rattle.im_serial.specs.Serving.{ServedFrom};
 ghost use Rattle.im_dialogue.specs.Dialogue.{NotOpened, Talked, TalkedFrom};
 ghost use Rattle.im_run.specs.Running.{RanFrom};
 ghost use Rattle.im_program.specs.Words.{demonstration, task_of, task_of_job};
 ghost use Rattle.im_program.specs.Moving.{HasMoved};
-ghost use Rattle.im_program.specs.Working.{DoneOn, IsMigration};
+ghost use Rattle.im_program.specs.Working.{DoneOn, IsMigration, WasServed};
 
 use crate::console::{Console, Watch};
 use crate::descriptors::Descriptors;
@@ -223,7 +222,8 @@ fn script_in<'a, N: Observer>(
 
 /// Serves the script of one file on the image of another. Returns the status of [`serial_on`] and the image's disk;
 /// [`serial_on`] also says which lines are printed. The script is read first. The path `-` stands for `input`, which is
-/// read to its end.
+/// read to its end. With `once`, what the image has of the script isn't asked anew: then [`serial_once_on`] stands for
+/// [`serial_on`] here.
 ///
 /// The clauses hold for whatever the image held when it was opened (`S`), as long as the file was honest. A crash at
 /// any moment since then leaves what [`serial_on`] says.
@@ -250,7 +250,7 @@ pub fn serve_file<R: Files<File = File> + AllocGlobal, S: Start, I: Read, W: Wri
 ) -> Result<(u8, FileDisk<S>), Refusal>
     ensures status { IfOk result (λ r. r.0 ≤ 1) }
     ensures served { IfOk result (λ r. ⟦<FileDisk<S> as Disk>⟧.honest r.1 →
-        ServedFrom ⟦<FileDisk<S> as Disk>⟧.now ⟦<FileDisk<S> as Disk>⟧.past ⟦<FileDisk<S> as Disk>⟧.failures
+        WasServed once ⟦<FileDisk<S> as Disk>⟧.now ⟦<FileDisk<S> as Disk>⟧.past ⟦<FileDisk<S> as Disk>⟧.failures
         S.first r.1 (W.contents out.old) (W.contents out.new) r.0) }
     ensures refused { IfErr result (λ refusal. (refusal ≡ BadScript) ⊎ (refusal ≡ NoMemory) ⊎ (refusal ≡ Device)) }
     ensures same { OnErr result (Keeps (W.contents out.old) (W.contents out.new)) }
@@ -264,8 +264,13 @@ pub fn serve_file<R: Files<File = File> + AllocGlobal, S: Start, I: Read, W: Wri
         Err(refusal) => return Err(refusal),
     };
     match open_image(rt, image, start) {
-        Ok(disk) if once => Ok(serial_once_on(rt.alloc(), disk, &script, out, observer)),
-        Ok(disk) => Ok(serial_on(rt.alloc(), disk, &script, out, observer)),
+        Ok(disk) => {
+            if once {
+                Ok(serial_once_on(rt.alloc(), disk, &script, out, observer))
+            } else {
+                Ok(serial_on(rt.alloc(), disk, &script, out, observer))
+            }
+        }
         Err(fault) => Err(refusal_of(rt, image, fault, observer)),
     }
 }

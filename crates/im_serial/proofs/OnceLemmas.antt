@@ -1,6 +1,6 @@
 -- A script that is served once: what a memory has of it. (Own.)
 use Rattle.std.proofs.Common.{◌≡◌, ◌⊎◌, ◌∙◌, inl, inr, ⊎_elim, ℕ, ◌+◌, ◌-◌, ◌<◌, ◌≤◌, zero, suc, Bool, true, false, List}
-use Rattle.std.proofs.Common.{[], ◌∷◌, ◌++◌, length, map, set, get_or, Some, None, refl, sym, ap, ap₂, subst, arith}
+use Rattle.std.proofs.Common.{[], ◌∷◌, ◌++◌, length, map, set, get_or, take, Some, None, refl, sym, ap, ap₂, subst, arith}
 use Rattle.std.proofs.Common.{append_assoc}
 use Rattle.std.specs.Borrow.{Bor}
 use Rattle.std.specs.Prelude.{Option, Result, Ok, Err, IsOk, OnOk, MatchResult, ◌==◌, ◌&&◌, nat_lt, slice_get, if◌then◌else◌}
@@ -8,7 +8,7 @@ use Rattle.std.specs.Io.KnownBytes.{Appends}
 use Rattle.std.specs.Option.{option_map, option_map_or}
 use Rattle.std.proofs.KnownBytes.{Appends-trans}
 use Rattle.std.proofs.lemmas.Bool.Decides.{nat_tests}
-use Rattle.std.proofs.lemmas.List.{append-nil, get_or-set_same, get_or-set_other, map-append}
+use Rattle.std.proofs.lemmas.List.{append-nil, get_or-set_same, get_or-set_other, length-map, map-append, take_all, take_more}
 use Rattle.im_types.specs.declared.operations.Entry.{Entry}
 use Rattle.im_types.specs.declared.operations.Entry.TheVariants.{Waiting, Answered}
 use Rattle.im_types.specs.declared.operations.Kept.{Kept}
@@ -108,11 +108,14 @@ met_less many e f = by_test (has_next many e) refl
 
 -- something is left
 pub has_some : (many : List ℕ) (e f left : ℕ) → f ≡ e → left ≡ left_of many e → (left ≡ 0 → ⊥) → has_next many f ≡ true
-has_some many e f left same is some = ap (has_next many) same ∙ by_left (left_of many e) (λ zero. some (is ∙ zero))
+has_some many e f left same is some = ap (has_next many) same ∙ by_left (left_of many e) (λ none. some (is ∙ none))
   where
+    by_some : (n : ℕ) → 0 < n → nat_lt 0 n ≡ true
+    by_some n less = grind (arith, nat_tests)
+
     by_left : (n : ℕ) → (n ≡ 0 → ⊥) → nat_lt 0 n ≡ true
-    by_left zero no = absurd (no refl)
-    by_left (suc n) no = refl
+    by_left zero some = absurd (some refl)
+    by_left (suc n) some = by_some (suc n) (omega arith)
 
 -- the next request of an element, by its window
 pub who_is_next : (m : Contents) (many : List ℕ) (e f base next left number : ℕ) → f ≡ e → bounds m.windows e ≡ Ok (
@@ -131,6 +134,29 @@ who_is_next m many e f base next left number same found is number_is =
 -- nothing is met if nothing is left
 met_none : (many : List ℕ) (e : ℕ) → has_next many e ≡ false → met many e ≡ many
 met_none many e none = ap (λ (b : Bool). if b then set many e (left_of many e - 1) else many) none
+
+-- ---- how many requests a memory has
+
+had_at : (windows : List Window) (k : ℕ) → get_or (map (λ (w : Window). next_number w - 1) windows) k 0
+    ≡ option_map_or (λ (w : Window). next_number w - 1) (slice_get windows k) 0
+had_at [] k = refl
+had_at (w ∷ windows) zero = refl
+had_at (w ∷ windows) (suc k) = had_at windows k
+
+-- one element more
+pub had_more : (m : Contents) (k count : ℕ) (many : List ℕ) → many ≡ take k (numbers_had m) → k < length m.windows
+    → count ≡ option_map_or (λ (w : Window). next_number w - 1) (slice_get m.windows k) 0
+    → many ++ count ∷ [] ≡ take (k + 1) (numbers_had m)
+had_more m k count many so_far inside is =
+    let same = length-map m.windows (λ (w : Window). next_number w - 1) in
+    ap₂ (λ (l : List ℕ) (n : ℕ). l ++ n ∷ []) so_far (is ∙ sym (had_at m.windows k))
+    ∙ sym (take_more (numbers_had m) k 0 (omega arith))
+
+-- all of them
+pub had_all : (m : Contents) (k : ℕ) → length m.windows ≤ k → take k (numbers_had m) ≡ numbers_had m
+had_all m k past =
+    let same = length-map m.windows (λ (w : Window). next_number w - 1) in
+    take_all k (numbers_had m) (omega arith)
 
 -- ---- a request that the memory has
 
@@ -164,8 +190,8 @@ number_left m many e k windows is =
     let from : there.0.base ≤ next_had m e - left_of many e = there.2 in
     omega arith
 
-nothing_dropped : (w : Waited) → w.number < 0 → ⊥
-nothing_dropped w less = omega arith
+nothing_below : (n : ℕ) → n < 0 → ⊥
+nothing_below n less = omega arith
 
 module _ (m : Contents) (script rest : List Wanted) (many : List ℕ) (w : Wanted) (text : List ℕ) (waited : List Waited)
     (marks : List Mark) (it : HasMet m script many (w ∷ rest) text waited marks) where
@@ -259,7 +285,7 @@ module _ (m : Contents) (script rest : List Wanted) (many : List ℕ) (w : Wante
               < next_had m x.element)) (sym v_is) (record {
                 kept = k;
                 kept_is = kept;
-                learnt = λ below. absurd (nothing_dropped _ below.1);
+                learnt = λ below. absurd (nothing_below (next_had m w.element - left_of many w.element) below.1);
                 marked = λ no. mark k kept e ∙ ap (λ (n : ℕ). Some (Here n)) (sym at_is);
               }, new_passed))
               (last_or_before waited (record { element = who.element; number = who.number; entry = Waiting }) at v (ap
@@ -400,20 +426,26 @@ module _ {D : Type 0} where
         engine.memory it)
         → Breaks many (w ∷ []) (server_of engine held before waited marks) (server_of same later last noted marked)
     breaks_before nothing prints = λ script rest from at.
-        let m = engine.memory in
-        let there : Waiter = who_next m many w.element in
         subst (λ (e : EngineState D). BrokenAt script from (server_of e later last noted marked)) (sym engines)
         (subst (λ (l : List Waited). BrokenAt script from (server_of engine later last l marked)) (sym nothing)
-        (⊎_elim {C = λ x. BrokenAt script from (server_of engine later last waited marked)} (λ on. (
+        (by_prints script rest from at prints))
+      where
+        by_prints : (script rest : List Wanted) (from : Option (List ℕ)) → MetAt script many (w ∷ rest) from (server_of
+            engine held before waited marks)
+            → PrintsOn held before later last ⊎ PrintsMore held before later last (line_of engine.memory it)
+            → BrokenAt script from (server_of engine later last waited marked)
+        by_prints script rest from at (inl on) = (
           at.0,
-          (met_broken m script many (w ∷ rest) at.0 waited marks at.1.0, on from at.0 at.1.1),
-        )) (λ more. (
-          at.0 ++ line_of m there,
+          (met_broken engine.memory script many (w ∷ rest) at.0 waited marks at.1.0, on from at.0 at.1.1),
+        )
+        by_prints script rest from at (inr more) = (
+          at.0 ++ line_of engine.memory (who_next engine.memory many w.element),
           (
-            met_line_broken m script rest many w at.0 waited marks at.1.0 has,
-            subst (λ (x : Waiter). Prints from later last (at.0 ++ line_of m x)) it_is (more from at.0 at.1.1),
+            met_line_broken engine.memory script rest many w at.0 waited marks at.1.0 has,
+            subst (λ (x : Waiter). Prints from later last (at.0 ++ line_of engine.memory x)) it_is (more from at.0
+                at.1.1),
           ),
-        )) prints))
+        )
 
     pub passed_had : {T E : Type 0} (r : Result T E) → MatchResult r (λ x. noted ≡ waited ++ noted_of engine.memory it)
         (λ e. noted ≡ waited)
@@ -629,6 +661,24 @@ module _ {D : Type 0} (disk : Ghosts D) where
     ),
   )
 
+  -- a server that was made of this engine
+  pub ready_of : (start engine : EngineState D) (held : Option (List ℕ)) (before lines : Lines) (waited : List Waited)
+      (marks : List Mark) (bases : List ℕ) → start.failed ≡ false
+      → (disk.honest start.disk → LeavesNow (disk.now start.disk) (MeansState start))
+      → IsMemory (length start.memory.cells) (length start.memory.windows) start.memory
+      → before.pending.items ≡ [] → waited ≡ [] → bases ≡ [] → engine ≡ start → lines ≡ before
+      → IsReady disk (server_of engine held lines waited marks) bases
+  ready_of start engine held before lines waited marks bases works means memory pending none no_bases engines line = record {
+    works = ap (λ (e : EngineState D). e.failed) engines ∙ works;
+    means = subst (λ (e : EngineState D). disk.honest e.disk → LeavesNow (disk.now e.disk) (MeansState e)) (sym engines)
+        means;
+    memory = subst (λ (e : EngineState D). IsMemory (length e.memory.cells) (length e.memory.windows) e.memory) (sym
+        engines) memory;
+    waited = none;
+    bases_is = no_bases;
+    pending = ap (λ (l : Lines). l.pending.items) line ∙ pending;
+  }
+
   -- it was ended before the first request
   unbegun : (script : List Wanted) (old new : ScriptServer D) (bases : List ℕ) → IsReady disk old bases
       → new.engine ≡ old.engine → BrokenAt script old.held new → EndedOnce disk old.engine script old.held new
@@ -682,10 +732,10 @@ module _ {D : Type 0} (disk : Ghosts D) where
       )
 
   -- it failed before the first request
-  pub once_unbegun : {T E : Type 0} (e : E) (script : List Wanted) (old new : ScriptServer D) (bases : List ℕ)
+  pub once_unbegun : (T : Type 0) {E : Type 0} (e : E) (script : List Wanted) (old new : ScriptServer D) (bases : List ℕ)
       → new.engine ≡ old.engine → Breaks (numbers_had old.engine.memory) script old new
       → HasServedOnce disk {T = T} script bases (Err e) old new
-  once_unbegun e script old new bases same breaks = λ ready. (
+  once_unbegun T e script old new bases same breaks = λ ready. (
     unbegun script old new bases ready same (breaks script [] old.held (met_start script old bases ready)),
     tt,
   )
@@ -693,8 +743,8 @@ module _ {D : Type 0} (disk : Ghosts D) where
   module _ (script : List Wanted) (bases known : List ℕ) (old mid : ScriptServer D) (it : HasShown script bases known
       old mid) where
     -- and then it was ended
-    pub shown_ends : {T E : Type 0} (e : E) → HasServedOnce disk {T = T} script bases (Err e) old mid
-    shown_ends e = once_unbegun e script old mid bases it.engine (breaks_here (numbers_had old.engine.memory) it.later
+    pub shown_ends : (T : Type 0) {E : Type 0} (e : E) → HasServedOnce disk {T = T} script bases (Err e) old mid
+    shown_ends T e = once_unbegun T e script old mid bases it.engine (breaks_here (numbers_had old.engine.memory) it.later
         script [] old mid it.meets)
 
     shown_at : IsReady disk old bases → MetAt script it.later [] old.held mid
@@ -790,7 +840,7 @@ module _ {D : Type 0} (disk : Ghosts D) where
       × Appends was is (had ++ replies start.memory put ++ nows waited (length waited)))
       → ToldOnce disk.now start script put engine.disk was is status
   told_once start engine script put text names status was is waited many last done doubt had earlier it had_is
-      earlier_is same apart few entries last_is begins whole = record {
+      earlier_is same parts few entries last_is begins whole = record {
     had = had;
     had_is = had_is;
     told = it.told;
@@ -803,15 +853,13 @@ module _ {D : Type 0} (disk : Ghosts D) where
     waiting = (it.many, same ∙ ap (λ (l : List Waiter). earlier ++ l) it.waiting);
     done = done;
     doubt = doubt;
-    apart = apart;
+    apart = parts;
     few = few;
     last_entries = entries;
     many = many;
     last = last;
     last_is = last_is;
-    begins = subst (Begins was is) (ap (λ (l : List ℕ). l ++ last) (append_assoc had text (nows waited many))
-        ∙ append_assoc had (text ++ nows waited many) last
-        ∙ ap (λ (t : List ℕ). had ++ ((t ++ nows waited many) ++ last)) it.lines) begins;
+    begins = subst (λ (t : List ℕ). Begins was is (((had ++ t) ++ nows waited many) ++ last)) it.lines begins;
     whole = whole;
   }
 
@@ -888,8 +936,7 @@ module _ {D : Type 0} (disk : Ghosts D) where
                   refl,
                   refl,
                   same ∙ it.1.1.1.0 ∙ ap (λ (l : List Waiter). early ++ l) goes.waiting,
-                  subst (Appends was is) (append_assoc lines text (nows waited (length waited)) ∙ ap (λ (t : List ℕ).
-                      lines ++ (t ++ nows waited (length waited))) goes.lines) full,
+                  subst (λ (t : List ℕ). Appends was is ((lines ++ t) ++ nows waited (length waited))) goes.lines full,
                 ))),
           )
       by_status there (suc n) more =

@@ -262,7 +262,7 @@ pub record ToldOnce {D : Type 0} (now : D → Moment) (start : EngineState D) (s
   pub many : ℕ
   pub last : List ℕ
   pub last_is : IsLast last
-  pub begins : Begins was is (had ++ (replies start.memory told ++ nows waited many) ++ last)
+  pub begins : Begins was is (had ++ replies start.memory told ++ nows waited many ++ last)
   pub whole : status ≡ 0 → (doubt ≡ []) × (had ≡ lines_had start.memory (numbers_had start.memory) script)
       × (map who_of waited ≡ waits_had start.memory (numbers_had start.memory) script ++ waits start.memory put)
       × Appends was is (had ++ replies start.memory put ++ nows waited (length waited))

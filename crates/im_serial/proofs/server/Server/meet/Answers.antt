@@ -29,4 +29,9 @@ returns-in-Ok-clause-passed g c = λ w element.
     t.ensures.others t.ensures.unmarked t.result t.ensures.pushed t.ensures.mark t.ensures.more)
 
 pub returns-in-Err-clause-passed : goal.returns-in-Err-clause-passed
-returns-in-Err-clause-passed g c = λ w element. breaks_here _ _ (w ∷ []) (w ∷ []) _ _ (meets_refl _ (w ∷ []) _)
+returns-in-Err-clause-passed g c = λ w element.
+    let was = c.args.self.now in
+    let old = server_of was.engine (g.W.Write.contents c.args.out.now) was.lines was.waited.items was.places.marks.items
+    in
+    let many = c.args.past.now.many.items in
+    breaks_here many many (w ∷ []) (w ∷ []) old old (meets_refl many (w ∷ []) old)
