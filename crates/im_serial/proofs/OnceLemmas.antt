@@ -282,12 +282,15 @@ module _ (m : Contents) (script rest : List Wanted) (many : List ℕ) (w : Wante
               let at_is : at ≡ length waited = last.0 in
               let v_is : v ≡ record { element = who.element; number = who.number; entry = Waiting } = last.1 in
               subst (λ (x : Waited). IsMarked m 0 0 later at x × (x.number + left_of (met many w.element) x.element
-              < next_had m x.element)) (sym v_is) (record {
-                kept = k;
-                kept_is = kept;
-                learnt = λ below. absurd (nothing_below (next_had m w.element - left_of many w.element) below.1);
-                marked = λ no. mark k kept e ∙ ap (λ (n : ℕ). Some (Here n)) (sym at_is);
-              }, new_passed))
+              < next_had m x.element)) (sym v_is) (
+                record {
+                  kept = k;
+                  kept_is = kept;
+                  learnt = λ below. absurd (nothing_below (next_had m w.element - left_of many w.element) below.1);
+                  marked = λ no. mark k kept e ∙ ap (λ (n : ℕ). Some (Here n)) (sym at_is);
+                },
+                new_passed,
+              ))
               (last_or_before waited (record { element = who.element; number = who.number; entry = Waiting }) at v (ap
               (λ (l : List Waited). slice_get l at) (sym is) ∙ found))
             where
@@ -540,15 +543,15 @@ module _ {D : Type 0} where
       (λ e. Breaks (numbers_had old.engine.memory) script old (server_of engine after last waited marks))
   shown_by (Ok x) script bases known later behind old engine held after before last waited marks same meets names prints
       pending works = record {
-    engine = same;
-    later = later;
-    meets = meets_printed (numbers_had old.engine.memory) later script [] old engine held after before last waited marks
-        meets prints;
-    names = sym (append-nil known) ∙ sym (names (bases ++ bases_had (numbers_had old.engine.memory) 0 (script ++ [])) []
-        refl) ∙ ap (λ (l : List Wanted). bases ++ bases_had (numbers_had old.engine.memory) 0 l) (append-nil script);
-    pending = pending;
-    works = works;
-  }
+        engine = same;
+        later = later;
+        meets = meets_printed (numbers_had old.engine.memory) later script [] old engine held after before last waited marks
+            meets prints;
+        names = sym (append-nil known) ∙ sym (names (bases ++ bases_had (numbers_had old.engine.memory) 0 (script ++ [])) []
+            refl) ∙ ap (λ (l : List Wanted). bases ++ bases_had (numbers_had old.engine.memory) 0 l) (append-nil script);
+        pending = pending;
+        works = works;
+      }
   shown_by (Err e) script bases known later behind old engine held after before last waited marks same meets names
       prints pending works = breaks_here (numbers_had old.engine.memory) later script [] old (server_of engine after
       last waited marks) (meets_printed (numbers_had old.engine.memory) later script [] old engine held after before
@@ -584,9 +587,9 @@ news_behind many d None = refl
 -- what is new of a line, and of those behind it
 pub news_line : (many later : List ℕ) (d next : Draft) (said : Said) (text line : List ℕ) (behind : Option (Bor (List
     ℕ))) → lines_of text ≡ line ∷ option_map_or (λ rest. lines_of rest.now) behind [] → counted d line ≡ Some (
-  next,
-  said,
-) → later ≡ met_all many (wanted_by said) → news many (wanted_in d (lines_of text)) ≡ news many (wanted_by said) ++
+      next,
+      said,
+    ) → later ≡ met_all many (wanted_by said) → news many (wanted_in d (lines_of text)) ≡ news many (wanted_by said) ++
     option_map_or (λ rest. news later (wanted_in next (lines_of rest.now))) behind []
 news_line many later d next said text line behind lines read same =
     ap (news many) (line_wanted d next said text line behind lines read)
@@ -796,13 +799,19 @@ module _ {D : Type 0} (disk : Ghosts D) where
                   first = refl;
                   wanted = refl;
                   had_is = ([], sym (append-nil (lines_had old.engine.memory (numbers_had old.engine.memory) script)));
-                  earlier_is = ([], sym (append-nil (waits_had old.engine.memory (numbers_had old.engine.memory)
-                      script)));
+                  earlier_is = (
+                    [],
+                    sym (append-nil (waits_had old.engine.memory (numbers_had old.engine.memory)
+                        script)),
+                  );
                 },
                 (
                   ends.0,
-                  (ends.1.0, prints_after old.held mid.held new.held new.lines _ ends.0 (shown_written ready)
-                  ends.1.1),
+                  (
+                    ends.1.0,
+                    prints_after old.held mid.held new.held new.lines _ ends.0 (shown_written ready)
+                        ends.1.1,
+                  ),
                 ),
               ),
             ),
@@ -841,27 +850,27 @@ module _ {D : Type 0} (disk : Ghosts D) where
       → ToldOnce disk.now start script put engine.disk was is status
   told_once start engine script put text names status was is waited many last done doubt had earlier it had_is
       earlier_is same parts few entries last_is begins whole = record {
-    had = had;
-    had_is = had_is;
-    told = it.told;
-    others = it.others;
-    split = it.split;
-    kept = it.kept;
-    earlier = earlier;
-    earlier_is = earlier_is;
-    waited = waited;
-    waiting = (it.many, same ∙ ap (λ (l : List Waiter). earlier ++ l) it.waiting);
-    done = done;
-    doubt = doubt;
-    apart = parts;
-    few = few;
-    last_entries = entries;
-    many = many;
-    last = last;
-    last_is = last_is;
-    begins = subst (λ (t : List ℕ). Begins was is (((had ++ t) ++ nows waited many) ++ last)) it.lines begins;
-    whole = whole;
-  }
+        had = had;
+        had_is = had_is;
+        told = it.told;
+        others = it.others;
+        split = it.split;
+        kept = it.kept;
+        earlier = earlier;
+        earlier_is = earlier_is;
+        waited = waited;
+        waiting = (it.many, same ∙ ap (λ (l : List Waiter). earlier ++ l) it.waiting);
+        done = done;
+        doubt = doubt;
+        apart = parts;
+        few = few;
+        last_entries = entries;
+        many = many;
+        last = last;
+        last_is = last_is;
+        begins = subst (λ (t : List ℕ). Begins was is (((had ++ t) ++ nows waited many) ++ last)) it.lines begins;
+        whole = whole;
+      }
 
   closed_with : (script : List ℕ) (start engine : EngineState D) (put : List Command) (text : List ℕ) (names : List
       Waiter) (status : ℕ) (was is : Option (List ℕ)) → HaltsWith disk.now disk.past disk.failures start engine put text
@@ -989,8 +998,13 @@ module _ {D : Type 0} (disk : Ghosts D) where
         accepted = it.accepted;
         leaves = leaves_then (now old) (now start.disk) (now new) (past old) (past start.disk) (past new) (λ file. ⊥)
             (MeansBeginning start it.put) (MeansBeginning start it.put)
-            (record { later = opened.later; each = λ t c le left. ⊎_elim (λ before. inl before) (λ here. inl (inl (le,
-            here))) (opened.each t c le left) }) it.leaves (λ file no. absurd no) (λ file is. is);
+            (record {
+              later = opened.later;
+              each = λ t c le left. ⊎_elim (λ before. inl before) (λ here. inl (inl (
+                le,
+                here,
+              ))) (opened.each t c le left);
+            }) it.leaves (λ file no. absurd no) (λ file is. is);
         doubt = λ file left. doubt_by (Rises (failures start.disk) (failures new)) (Rises (failures old) (failures new))
             start it.put file (λ rose. subst (λ (n : ℕ). Rises n (failures new)) same rose) (it.doubt file left);
         done = it.done;

@@ -219,21 +219,24 @@ module _ {D : Type 0} (disk : Ghosts D) where
           put,
           (
             names,
-            (it.1.1.1.0, (
-            halts disk.now disk.past disk.failures start engine put text names g,
-            record {
-              left = s.left;
-              leads = stands_here start.memory s put u.reached;
-              done = put;
-              doubt = [];
-              split = sym (append-nil put);
-              few = omega arith;
-              sure = λ works. refl;
-              memory = g.has.memory g.works;
-              known = if_any s.script (IsRecorded start.memory put n) (AreKnown start.memory put n.waited) (λ r.
-                  noted_known start.memory put n.element n.upto n.marks n.waited r.noted) u.recorded;
-            },
-            ))
+            (
+              it.1.1.1.0,
+              (
+                halts disk.now disk.past disk.failures start engine put text names g,
+                record {
+                  left = s.left;
+                  leads = stands_here start.memory s put u.reached;
+                  done = put;
+                  doubt = [];
+                  split = sym (append-nil put);
+                  few = omega arith;
+                  sure = λ works. refl;
+                  memory = g.has.memory g.works;
+                  known = if_any s.script (IsRecorded start.memory put n) (AreKnown start.memory put n.waited) (λ r.
+                      noted_known start.memory put n.element n.upto n.marks n.waited r.noted) u.recorded;
+                },
+              ),
+            ),
           ),
         ),
       )
@@ -277,23 +280,26 @@ module _ {D : Type 0} (disk : Ghosts D) where
           put ++ put_by_command m c (Err e),
           (
             names,
-            (before.1.1.1.0, (
-            served_halts disk.now disk.past disk.failures start mid new put text names c (Err e) g
-                it.answered (it.leaves h) (it.doubt h) (it.means h) it.cause,
-            record {
-              left = leads.0;
-              leads = leads.1;
-              done = put;
-              doubt = put_by_command m c (Err e);
-              split = refl;
-              few = put_or_not (λ (more : List Command). length more ≤ 1) c (is_accepted m c && is_put (Err e)) (omega
-                  arith) (omega arith);
-              sure = λ works. subst (λ (x : Contents). put_by_command x c (Err e) ≡ []) same (stays.1 works);
-              memory = stays.0 ∙ same;
-              known = if_any s.script (IsRecorded start.memory put n) (AreKnown start.memory put n.waited) (λ r.
-                  noted_known start.memory put n.element n.upto n.marks n.waited r.noted) u.recorded;
-            },
-            ))
+            (
+              before.1.1.1.0,
+              (
+                served_halts disk.now disk.past disk.failures start mid new put text names c (Err e) g
+                    it.answered (it.leaves h) (it.doubt h) (it.means h) it.cause,
+                record {
+                  left = leads.0;
+                  leads = leads.1;
+                  done = put;
+                  doubt = put_by_command m c (Err e);
+                  split = refl;
+                  few = put_or_not (λ (more : List Command). length more ≤ 1) c (is_accepted m c && is_put (Err e)) (omega
+                      arith) (omega arith);
+                  sure = λ works. subst (λ (x : Contents). put_by_command x c (Err e) ≡ []) same (stays.1 works);
+                  memory = stays.0 ∙ same;
+                  known = if_any s.script (IsRecorded start.memory put n) (AreKnown start.memory put n.waited) (λ r.
+                      noted_known start.memory put n.element n.upto n.marks n.waited r.noted) u.recorded;
+                },
+              ),
+            ),
           ),
         ),
       )
@@ -329,19 +335,22 @@ module _ {D : Type 0} (disk : Ghosts D) where
           put ++ put_by_command m c a,
           (
             names,
-            (before.1.1.1.0, (
-            confirmed disk.now disk.past disk.failures start mid new put text names element upto a o g
-                it.answered (it.leaves h) (it.doubt h) (it.means h) it.cause is,
-            record {
-              reached = put_or_not (λ (more : List Command). HasReached start.memory s (put ++ more)) c (is_accepted m c &&
-                  is_put a)
-                  (subst (HasReached start.memory s) (sym (append-nil put)) u.reached) (stands_confirmed start.memory s put
-                  element upto u.reached);
-              recorded = if_any s.script (IsRecorded start.memory put (learnt waited marks element upto)) (IsRecorded
-                  start.memory (put ++ put_by_command m c a) (notes waited marks))
-                  (confirm_recorded start.memory put element upto waited marks a o is answer) u.recorded;
-            },
-            ))
+            (
+              before.1.1.1.0,
+              (
+                confirmed disk.now disk.past disk.failures start mid new put text names element upto a o g
+                    it.answered (it.leaves h) (it.doubt h) (it.means h) it.cause is,
+                record {
+                  reached = put_or_not (λ (more : List Command). HasReached start.memory s (put ++ more)) c (is_accepted m c &&
+                      is_put a)
+                      (subst (HasReached start.memory s) (sym (append-nil put)) u.reached) (stands_confirmed start.memory s put
+                      element upto u.reached);
+                  recorded = if_any s.script (IsRecorded start.memory put (learnt waited marks element upto)) (IsRecorded
+                      start.memory (put ++ put_by_command m c a) (notes waited marks))
+                      (confirm_recorded start.memory put element upto waited marks a o is answer) u.recorded;
+                },
+              ),
+            ),
           ),
         ),
       )
@@ -362,11 +371,14 @@ module _ {D : Type 0} (disk : Ghosts D) where
             before.1.0,
             (
               before.1.1.0,
-              (before.1.1.1.0, (
-              turned disk.now disk.past disk.failures start mid new before.1.0 text before.1.1.0 a done
-                  before.1.1.1.1.0 it (leaves h) (means h) (works h) cause is,
-              before.1.1.1.1.1,
-              ))
+              (
+                before.1.1.1.0,
+                (
+                  turned disk.now disk.past disk.failures start mid new before.1.0 text before.1.1.0 a done
+                      before.1.1.1.1.0 it (leaves h) (means h) (works h) cause is,
+                  before.1.1.1.1.1,
+                ),
+              ),
             ),
           ),
         )
@@ -383,22 +395,25 @@ module _ {D : Type 0} (disk : Ghosts D) where
             put,
             (
               names,
-              (before.1.1.1.0, (
-              turn_halts disk.now disk.past disk.failures start mid new put text names a g it
-                  (leaves h) (means h) (works h) cause,
-              record {
-                left = s.left;
-                leads = stands_here start.memory s put u.reached;
-                done = put;
-                doubt = [];
-                split = sym (append-nil put);
-                few = omega arith;
-                sure = λ works. refl;
-                memory = turn_stays mid new a it g.works ∙ g.has.memory g.works;
-                known = if_any s.script (IsRecorded start.memory put n) (AreKnown start.memory put n.waited) (λ r.
-                    noted_known start.memory put n.element n.upto n.marks n.waited r.noted) u.recorded;
-              },
-              ))
+              (
+                before.1.1.1.0,
+                (
+                  turn_halts disk.now disk.past disk.failures start mid new put text names a g it
+                      (leaves h) (means h) (works h) cause,
+                  record {
+                    left = s.left;
+                    leads = stands_here start.memory s put u.reached;
+                    done = put;
+                    doubt = [];
+                    split = sym (append-nil put);
+                    few = omega arith;
+                    sure = λ works. refl;
+                    memory = turn_stays mid new a it g.works ∙ g.has.memory g.works;
+                    known = if_any s.script (IsRecorded start.memory put n) (AreKnown start.memory put n.waited) (λ r.
+                        noted_known start.memory put n.element n.upto n.marks n.waited r.noted) u.recorded;
+                  },
+                ),
+              ),
             ),
           ),
         )
@@ -445,19 +460,22 @@ module _ {D : Type 0} (disk : Ghosts D) where
           put,
           (
             it.1.1.0,
-            (names ∙ it.1.1.1.0, (
-            g,
-            record {
-              reached = u.reached;
-              recorded = if_any s.script (IsRecorded start.memory put (notes waited marks)) (IsRecorded start.memory put
-                  (learnt learned later element upto))
-                  (λ r. record {
-                    memory = r.memory;
-                    noted = learn start.memory put same r.memory (subst (λ (m : Contents).
-                        bounds m.windows element ≡ Ok (base, next)) same (found g.works)) r.noted;
-                  }) u.recorded;
-            },
-            ))
+            (
+              names ∙ it.1.1.1.0,
+              (
+                g,
+                record {
+                  reached = u.reached;
+                  recorded = if_any s.script (IsRecorded start.memory put (notes waited marks)) (IsRecorded start.memory put
+                      (learnt learned later element upto))
+                      (λ r. record {
+                        memory = r.memory;
+                        noted = learn start.memory put same r.memory (subst (λ (m : Contents).
+                            bounds m.windows element ≡ Ok (base, next)) same (found g.works)) r.noted;
+                      }) u.recorded;
+                },
+              ),
+            ),
           ),
         ),
       )
@@ -587,14 +605,17 @@ module _ {D : Type 0} (disk : Ghosts D) where
               g.1.0,
               (
                 map who_of old.waited,
-                (refl, (
-                g.1.1,
-                record {
-                  reached = stands_anywhere start.memory before
-                      (wanted ++ []) g.1.0;
-                  recorded = tt;
-                },
-                ))
+                (
+                  refl,
+                  (
+                    g.1.1,
+                    record {
+                      reached = stands_anywhere start.memory before
+                          (wanted ++ []) g.1.0;
+                      recorded = tt;
+                    },
+                  ),
+                ),
               ),
             ),
           )),
@@ -783,11 +804,14 @@ module _ {D : Type 0} (disk : Ghosts D) where
                     t.1.put ++ Asks r ∷ [],
                     (
                       t.1.names,
-                      (t.1.waited_is, (
-                      unnoted disk.now disk.past disk.failures start new (t.1.put ++ Asks r ∷ []) text t.1.names
-                          (waits_if (asker r) entry) t.1.goes,
-                      before_over start script rest going.0 t.1,
-                      ))
+                      (
+                        t.1.waited_is,
+                        (
+                          unnoted disk.now disk.past disk.failures start new (t.1.put ++ Asks r ∷ []) text t.1.names
+                              (waits_if (asker r) entry) t.1.goes,
+                          before_over start script rest going.0 t.1,
+                        ),
+                      ),
                     ),
                   ),
                 )),
@@ -829,15 +853,18 @@ module _ {D : Type 0} (disk : Ghosts D) where
                       t.1.put ++ Asks r ∷ [],
                       (
                         t.1.names ++ waits_if (asker r) entry,
-                        (waited_more start s going.0 t.1, (
-                        t.1.goes,
-                        record {
-                          reached = stands_asked start.memory script bases added w rest t.1.put r t.1.under_way.reached
-                              (request_is (after start.memory t.1.put) bases w r t.1.base element op t.1.next_is) (ap
-                              (bases_by w) t.1.answer ∙ made);
-                          recorded = recorded start s going.0 t.1;
-                        },
-                        ))
+                        (
+                          waited_more start s going.0 t.1,
+                          (
+                            t.1.goes,
+                            record {
+                              reached = stands_asked start.memory script bases added w rest t.1.put r t.1.under_way.reached
+                                  (request_is (after start.memory t.1.put) bases w r t.1.base element op t.1.next_is) (ap
+                                  (bases_by w) t.1.answer ∙ made);
+                              recorded = recorded start s going.0 t.1;
+                            },
+                          ),
+                        ),
                       ),
                     ),
                   )),
@@ -859,14 +886,17 @@ module _ {D : Type 0} (disk : Ghosts D) where
                       t.1.put ++ Asks r ∷ [],
                       (
                         t.1.names ++ waits_if (asker r) entry,
-                        (waited_more start s going.0 t.1, (
-                        halts disk.now disk.past disk.failures start new (t.1.put ++ Asks r ∷ []) text (t.1.names ++
-                            waits_if (asker r) entry) t.1.goes,
-                        over start script rest going.0 t.1 noted (if_any script (IsRecorded start.memory (t.1.put ++ Asks r ∷
-                            []) (notes noted marked)) (AreKnown start.memory (t.1.put ++ Asks r ∷ []) noted)
-                            (λ rec. noted_known start.memory (t.1.put ++ Asks r ∷ []) 0 0 marked noted rec.noted) (recorded start
-                            s going.0 t.1)),
-                        ))
+                        (
+                          waited_more start s going.0 t.1,
+                          (
+                            halts disk.now disk.past disk.failures start new (t.1.put ++ Asks r ∷ []) text (t.1.names ++
+                                waits_if (asker r) entry) t.1.goes,
+                            over start script rest going.0 t.1 noted (if_any script (IsRecorded start.memory (t.1.put ++ Asks r ∷
+                                []) (notes noted marked)) (AreKnown start.memory (t.1.put ++ Asks r ∷ []) noted)
+                                (λ rec. noted_known start.memory (t.1.put ++ Asks r ∷ []) 0 0 marked noted rec.noted) (recorded start
+                                s going.0 t.1)),
+                          ),
+                        ),
                       ),
                     ),
                   )),
@@ -933,14 +963,17 @@ module _ {D : Type 0} (disk : Ghosts D) where
           [],
           (
             [],
-            (names ∙ sym (append-nil c.earlier), (
-            goes_none disk.now disk.past disk.failures start works (means h),
-            record {
-              reached = subst (λ (l : List Wanted). HasReached start.memory (standing (Some c) c.first l) []) (sym
-                  (append-nil c.wanted)) (stands_first start.memory c);
-              recorded = recorded;
-            },
-            ))
+            (
+              names ∙ sym (append-nil c.earlier),
+              (
+                goes_none disk.now disk.past disk.failures start works (means h),
+                record {
+                  reached = subst (λ (l : List Wanted). HasReached start.memory (standing (Some c) c.first l) []) (sym
+                      (append-nil c.wanted)) (stands_first start.memory c);
+                  recorded = recorded;
+                },
+              ),
+            ),
           ),
         ),
       )),

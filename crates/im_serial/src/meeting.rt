@@ -118,12 +118,7 @@ impl<D: Disk> Server<D> {
     }
 
     // Meets an element's next request.
-    fn meet<W: Write>(
-        &mut self,
-        element: u16,
-        past: &mut Past,
-        out: &mut W,
-    ) -> Result<Met, Reason>
+    fn meet<W: Write>(&mut self, element: u16, past: &mut Past, out: &mut W) -> Result<Met, Reason>
         ensures engine { self.new.engine ≡ self.old.engine }
         ensures bases { self.new.bases.items ≡ self.old.bases.items }
         ensures end { past.new.end ≡ past.old.end }

@@ -164,7 +164,12 @@ impl<D: Disk> Server<D> {
     }
 
     // Prints a request's entry.
-    pub(crate) fn print<W: Write>(&mut self, who: (u16, u64), entry: Entry, out: &mut W) -> Result<(), Reason>
+    pub(crate) fn print<W: Write>(
+        &mut self,
+        who: (u16, u64),
+        entry: Entry,
+        out: &mut W,
+    ) -> Result<(), Reason>
         ensures engine { self.new.engine ≡ self.old.engine }
         ensures names { self.new.waited.items ≡ self.old.waited.items }
         ensures marks { self.new.places.marks.items ≡ self.old.places.marks.items }

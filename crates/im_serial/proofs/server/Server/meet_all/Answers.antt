@@ -36,10 +36,10 @@ returns-in-Err g c =
     let mid = server_of now.engine (g.W.Write.contents c.loop-number.out) now.lines now.waited.items
     now.places.marks.items in
     record {
-  engine = c.loop-number.invariant.0;
-  names = tt;
-  passed = breaks_here _ _ (wanted_of c.args.script.now) _ old mid c.loop-number.invariant.1.1;
-}
+      engine = c.loop-number.invariant.0;
+      names = tt;
+      passed = breaks_here _ _ (wanted_of c.args.script.now) _ old mid c.loop-number.invariant.1.1;
+    }
 
 pub returns-in-Err-meet_said : goal.returns-in-Err-meet_said
 returns-in-Err-meet_said g c =
@@ -77,8 +77,7 @@ loop-number-preserved g c =
     let first = c.args.past.now in
     let past = c.loop-number.past in
     let all = wanted_of c.args.script.now in
-    let d = draft_of c.loop-number.reader in
-    (
+    let d = draft_of c.loop-number.reader in (
       c.meet_said.ensures.engine ∙ c.loop-number.invariant.0,
       (
         line_names all first.many.items past.many.items old mid d (draft_of c.read.new.self) c.in-Ok.said c.in-Some.text.now c.split_line.result.0.now
@@ -104,7 +103,7 @@ returns g c =
     let mid = server_of now.engine (g.W.Write.contents c.loop-number.out) now.lines now.waited.items
     now.places.marks.items in
     record {
-  engine = c.loop-number.invariant.0;
-  names = tt;
-  passed = breaks_here _ _ (wanted_of c.args.script.now) _ old mid c.loop-number.invariant.1.1;
-}
+      engine = c.loop-number.invariant.0;
+      names = tt;
+      passed = breaks_here _ _ (wanted_of c.args.script.now) _ old mid c.loop-number.invariant.1.1;
+    }
