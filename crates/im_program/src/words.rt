@@ -180,9 +180,14 @@ A script has one line for each request. A line whose first word begins with '#' 
   alloc KIND LEN        make a block
 PLACE is an address, NAME or NAME+OFFSET.
 
+With --once, the n-th request of an element in the script has number n. What the image has of the script
+isn't asked again: it prints 'K.N REPLY', or 'K.N done' if it was confirmed. So a script that was stopped is
+continued by the same command. An image that another script used is refused.
+
 Example: the lines 'setup', 'alloc x i 1', 'element 1', 'fetch x', 'element 2', 'store x 5' in the
-file fetch.script, served on the image a.img
-  imem serial a.img fetch.script
+file fetch.script, served on the image a.img, and then the rest of it after a stop
+  imem serial a.img fetch.script --once
+  imem serial a.img fetch.script --once
 
 Exit status: 0 all was served; 1 something was refused, with 'refused N NAME' as the last line, or the
 output can't be written; 2 a bad command line. A refusal also has a line on standard error, which says why.";

@@ -525,9 +525,7 @@ fn do_job<R: Files<File = File> + AllocGlobal, S: Start, I: BufRead + Ear, W: Wr
             image,
             script,
             once,
-        } => match serve_file(
-            rt, held, image, script, once, input, out, observer, start,
-        ) {
+        } => match serve_file(rt, held, image, script, once, input, out, observer, start) {
             Ok((status, disk)) => Ok((status, Some(disk))),
             Err(refusal) => Err(refusal),
         },

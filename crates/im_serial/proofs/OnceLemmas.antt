@@ -5,7 +5,7 @@ use Rattle.std.proofs.Common.{append_assoc}
 use Rattle.std.specs.Borrow.{Bor}
 use Rattle.std.specs.Prelude.{Option, Result, Ok, Err, IsOk, OnOk, MatchResult, ◌==◌, ◌&&◌, nat_lt, slice_get, if◌then◌else◌}
 use Rattle.std.specs.Io.KnownBytes.{Appends}
-use Rattle.std.specs.Option.{option_map, option_map_or}
+use Rattle.std.specs.Option.{option_map_or}
 use Rattle.std.proofs.KnownBytes.{Appends-trans}
 use Rattle.std.proofs.lemmas.Bool.Decides.{nat_tests}
 use Rattle.std.proofs.lemmas.List.{append-nil, get_or-set_same, get_or-set_other, length-map, map-append, take_all, take_more}
@@ -29,21 +29,21 @@ use Rattle.im_laws.proofs.Tests.{eq_by_test}
 use Rattle.im_laws.proofs.WindowLemmas.{kept_for-window}
 use Rattle.im_text.specs.declared.lines.Lines.{Lines}
 use Rattle.im_text.specs.declared.replies.Waited.{Waited}
-use Rattle.im_text.specs.Printing.{Begins, IsLast, Prints, PrintsMore, PrintsNows, PrintsOn, nows, replies, told_line, waits}
+use Rattle.im_text.specs.Printing.{Begins, IsLast, Prints, PrintsMore, PrintsNows, PrintsOn, nows, replies, waits}
 use Rattle.im_text.specs.Printing.{waits_if, who_of}
 use Rattle.im_text.proofs.PrintingLemmas.{prints_all, prints_begins, prints_none, true_false}
 use Rattle.im_text.proofs.WindowLemmas.{bounds_found}
 use Rattle.im_serial.specs.declared.waits.Mark.{Mark}
 use Rattle.im_serial.specs.declared.waits.Mark.TheVariants.{Here}
-use Rattle.im_serial.specs.Noted.{AreKnown, AreLast, IsMarked, mark_place, noted_if, notes}
+use Rattle.im_serial.specs.Noted.{AreKnown, AreLast, IsMarked, mark_place, noted_if}
 use Rattle.im_script.specs.declared.script.Said.{Said}
 use Rattle.im_script.specs.Script.{Draft, counted, lines_of}
-use Rattle.im_serial.specs.Asked.{Course, Leads, LeadsIf, Wanted, standing, wanted_by, wanted_in, wanted_of}
-use Rattle.im_serial.specs.Serving.{EndsAt, GoesAt, GoingAt, HaltsAt, HaltsWith, HasServed, IsOver, Passes, ScriptServer, server_of}
+use Rattle.im_serial.specs.Asked.{Course, Leads, Wanted, standing, wanted_by, wanted_in, wanted_of}
+use Rattle.im_serial.specs.Serving.{EndsAt, GoingAt, HaltsAt, HaltsWith, HasServed, Passes, ScriptServer, server_of}
 use Rattle.im_serial.specs.Once.{Breaks, BrokenAt, HasBroken, HasMet, HasPassed, HasShown, IsPrefix, Meets, MetAt, Names}
-use Rattle.im_serial.specs.Once.{base_had, bases_had, end_behind, has_block, has_next, left_of, length_asked, line_had}
-use Rattle.im_serial.specs.Once.{if_new, line_of, lines_had, met, met_all, news, next_had, noted_of, numbers_had, wait_had, waits_had}
-use Rattle.im_serial.specs.Once.{waits_of, who_next, ClosedOnce, DoneOnce, EndedOnce, HasServedOnce, IsAskedOnce, IsCourse}
+use Rattle.im_serial.specs.Once.{bases_had, has_block, has_next, left_of, length_asked}
+use Rattle.im_serial.specs.Once.{if_new, line_of, lines_had, met, met_all, news, next_had, noted_of, numbers_had, waits_had}
+use Rattle.im_serial.specs.Once.{waits_of, who_next, ClosedOnce, DoneOnce, EndedOnce, HasServedOnce, IsAskedOnce}
 use Rattle.im_serial.specs.Once.{IsReady, ServedOnce, ToldOnce, course_of, new_of}
 use Rattle.im_serial.proofs.AskedLemmas.{stands_here, wanted_line}
 use Rattle.im_serial.proofs.NotedLemmas.{apart, last_or_before, noted_known}

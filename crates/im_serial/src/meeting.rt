@@ -1,7 +1,6 @@
 //! Prints what an image has of a script's requests.
-ghost use Rattle.std.specs.Prelude.{◌≡◌, ◌⊎◌, ◌+◌, ◌++◌, ℕ, true, [], ◌∷◌, IfOk, OnOk, None, Some, MatchResult, length, false};
-ghost use Rattle.std.specs.Prelude.{not};
-ghost use Rattle.std.specs.Prelude.{slice_get};
+ghost use Rattle.std.specs.Prelude.{◌≡◌, ◌⊎◌, ◌+◌, ◌++◌, ℕ, true, [], ◌∷◌, IfOk, OnOk, None, Some, MatchResult};
+ghost use Rattle.std.specs.Prelude.{false, length, not, slice_get};
 ghost use Rattle.im_types.specs.declared.operations.Entry.TheVariants.{Waiting};
 ghost use Rattle.im_types.specs.declared.operations.Kept.{Kept};
 ghost use Rattle.im_types.specs.declared.operations.Waiter.{Waiter};
@@ -61,7 +60,8 @@ fn name_past(
     met: Met,
 ) -> Result<(), Reason>
     ensures many { past.new.many.items ≡ past.old.many.items }
-    ensures new { OnOk result (is_had met ≡ false → (bases.new.items ≡ bases.old.items) × (past.new.end ≡ past.old.end)) }
+    ensures new { OnOk result (is_had met ≡ false → (bases.new.items ≡ bases.old.items)
+        × (past.new.end ≡ past.old.end)) }
     ensures had { OnOk result (is_had met ≡ true → (bases.new.items ≡ bases.old.items ++ past.old.end ∷ [])
         × (past.new.end ≡ past.old.end + block.length)) }
 {
@@ -126,8 +126,10 @@ impl<D: Disk> Server<D> {
         ensures had { IfOk result (λ it. is_had it ≡ has_next past.old.many.items element) }
         ensures passed { (w : Wanted) → w.element ≡ element
             → HasPassed past.old.many.items (w ∷ []) past.new.many.items result
-            (server_of self.old.engine (W.contents out.old) self.old.lines self.old.waited.items self.old.places.marks.items)
-            (server_of self.new.engine (W.contents out.new) self.new.lines self.new.waited.items self.new.places.marks.items) }
+            (server_of self.old.engine (W.contents out.old) self.old.lines self.old.waited.items
+            self.old.places.marks.items)
+            (server_of self.new.engine (W.contents out.new) self.new.lines self.new.waited.items
+            self.new.places.marks.items) }
     {
         let left = past.meet(element);
         if left == 0 {
@@ -153,8 +155,10 @@ impl<D: Disk> Server<D> {
         ensures names { OnOk result (Names past.old.many.items past.old.end (wanted_by (Said.Block block))
             past.new.many.items past.new.end [] self.old.bases.items self.new.bases.items) }
         ensures passed { HasPassed past.old.many.items (wanted_by (Said.Block block)) past.new.many.items result
-            (server_of self.old.engine (W.contents out.old) self.old.lines self.old.waited.items self.old.places.marks.items)
-            (server_of self.new.engine (W.contents out.new) self.new.lines self.new.waited.items self.new.places.marks.items) }
+            (server_of self.old.engine (W.contents out.old) self.old.lines self.old.waited.items
+            self.old.places.marks.items)
+            (server_of self.new.engine (W.contents out.new) self.new.lines self.new.waited.items
+            self.new.places.marks.items) }
     {
         let met = match self.meet(0, past, out) {
             Ok(met) => met,
@@ -174,8 +178,10 @@ impl<D: Disk> Server<D> {
         ensures names { OnOk result (Names past.old.many.items past.old.end (wanted_by (Said.Asks line))
             past.new.many.items past.new.end [] self.old.bases.items self.new.bases.items) }
         ensures passed { HasPassed past.old.many.items (wanted_by (Said.Asks line)) past.new.many.items result
-            (server_of self.old.engine (W.contents out.old) self.old.lines self.old.waited.items self.old.places.marks.items)
-            (server_of self.new.engine (W.contents out.new) self.new.lines self.new.waited.items self.new.places.marks.items) }
+            (server_of self.old.engine (W.contents out.old) self.old.lines self.old.waited.items
+            self.old.places.marks.items)
+            (server_of self.new.engine (W.contents out.new) self.new.lines self.new.waited.items
+            self.new.places.marks.items) }
     {
         match self.meet(line.element, past, out) {
             Ok(_met) => Ok(()),
@@ -194,8 +200,10 @@ impl<D: Disk> Server<D> {
         ensures names { OnOk result (Names past.old.many.items past.old.end (wanted_by said)
             past.new.many.items past.new.end [] self.old.bases.items self.new.bases.items) }
         ensures passed { HasPassed past.old.many.items (wanted_by said) past.new.many.items result
-            (server_of self.old.engine (W.contents out.old) self.old.lines self.old.waited.items self.old.places.marks.items)
-            (server_of self.new.engine (W.contents out.new) self.new.lines self.new.waited.items self.new.places.marks.items) }
+            (server_of self.old.engine (W.contents out.old) self.old.lines self.old.waited.items
+            self.old.places.marks.items)
+            (server_of self.new.engine (W.contents out.new) self.new.lines self.new.waited.items
+            self.new.places.marks.items) }
     {
         match said {
             Said::Nothing => Ok(()),
@@ -217,8 +225,10 @@ impl<D: Disk> Server<D> {
         ensures names { OnOk result (Names past.old.many.items past.old.end (wanted_of script.now)
             past.new.many.items past.new.end [] self.old.bases.items self.new.bases.items) }
         ensures passed { HasPassed past.old.many.items (wanted_of script.now) past.new.many.items result
-            (server_of self.old.engine (W.contents out.old) self.old.lines self.old.waited.items self.old.places.marks.items)
-            (server_of self.new.engine (W.contents out.new) self.new.lines self.new.waited.items self.new.places.marks.items) }
+            (server_of self.old.engine (W.contents out.old) self.old.lines self.old.waited.items
+            self.old.places.marks.items)
+            (server_of self.new.engine (W.contents out.new) self.new.lines self.new.waited.items
+            self.new.places.marks.items) }
     {
         let mut reader = Reader::new(alloc);
         let mut rest = Some(script.text());

@@ -24,8 +24,10 @@ impl<D: Disk> Server<D> {
         ensures many { past.new.many.items ≡ met_all past.old.many.items (wanted_by said) }
         ensures served { HasServed D.Disk (news past.old.many.items (wanted_by said)) self.old.bases.items
             self.new.bases.items result
-            (server_of self.old.engine (W.contents out.old) self.old.lines self.old.waited.items self.old.places.marks.items)
-            (server_of self.new.engine (W.contents out.new) self.new.lines self.new.waited.items self.new.places.marks.items) }
+            (server_of self.old.engine (W.contents out.old) self.old.lines self.old.waited.items
+            self.old.places.marks.items)
+            (server_of self.new.engine (W.contents out.new) self.new.lines self.new.waited.items
+            self.new.places.marks.items) }
     {
         if past.has(said) {
             Ok(())
@@ -45,8 +47,10 @@ impl<D: Disk> Server<D> {
     ) -> Result<(), Reason>
         ensures served { HasServed D.Disk (news past.old.many.items (wanted_of script.now)) self.old.bases.items
             self.new.bases.items result
-            (server_of self.old.engine (W.contents out.old) self.old.lines self.old.waited.items self.old.places.marks.items)
-            (server_of self.new.engine (W.contents out.new) self.new.lines self.new.waited.items self.new.places.marks.items) }
+            (server_of self.old.engine (W.contents out.old) self.old.lines self.old.waited.items
+            self.old.places.marks.items)
+            (server_of self.new.engine (W.contents out.new) self.new.lines self.new.waited.items
+            self.new.places.marks.items) }
     {
         let mut reader = Reader::new(alloc);
         let mut rest = Some(script.text());
@@ -79,11 +83,15 @@ impl<D: Disk> Server<D> {
     ) -> Result<(), Reason>
         ensures shown { MatchResult result
             (λ _. HasShown (wanted_of script.now) self.old.bases.items self.new.bases.items
-            (server_of self.old.engine (W.contents out.old) self.old.lines self.old.waited.items self.old.places.marks.items)
-            (server_of self.new.engine (W.contents out.new) self.new.lines self.new.waited.items self.new.places.marks.items))
+            (server_of self.old.engine (W.contents out.old) self.old.lines self.old.waited.items
+            self.old.places.marks.items)
+            (server_of self.new.engine (W.contents out.new) self.new.lines self.new.waited.items
+            self.new.places.marks.items))
             (λ _. Breaks (numbers_had self.old.engine.memory) (wanted_of script.now)
-            (server_of self.old.engine (W.contents out.old) self.old.lines self.old.waited.items self.old.places.marks.items)
-            (server_of self.new.engine (W.contents out.new) self.new.lines self.new.waited.items self.new.places.marks.items)) }
+            (server_of self.old.engine (W.contents out.old) self.old.lines self.old.waited.items
+            self.old.places.marks.items)
+            (server_of self.new.engine (W.contents out.new) self.new.lines self.new.waited.items
+            self.new.places.marks.items)) }
         ensures engine { self.new.engine ≡ self.old.engine }
     {
         match compare_script(alloc, self.engine.memory(), script) {
@@ -109,8 +117,10 @@ impl<D: Disk> Server<D> {
         observer: &mut N,
     ) -> Result<(), Reason>
         ensures served { HasServedOnce D.Disk (wanted_of script.now) self.old.bases.items result
-            (server_of self.old.engine (W.contents out.old) self.old.lines self.old.waited.items self.old.places.marks.items)
-            (server_of self.new.engine (W.contents out.new) self.new.lines self.new.waited.items self.new.places.marks.items) }
+            (server_of self.old.engine (W.contents out.old) self.old.lines self.old.waited.items
+            self.old.places.marks.items)
+            (server_of self.new.engine (W.contents out.new) self.new.lines self.new.waited.items
+            self.new.places.marks.items) }
     {
         match self.show_past(alloc, script, out) {
             Ok(()) => {}

@@ -144,8 +144,8 @@ pub fn serial_once_on<D: Disk, W: Write, N: Observer>(
     match Engine::open(alloc, disk) {
         Ok(engine) => serve_once_on(alloc, engine, desk, script, out, observer),
         Err((refusal, mut disk)) => {
-            let reason = diagnose(alloc, &mut disk, refusal);
-            (end(alloc, Err(reason), out, observer), disk)
+            let why = diagnose(alloc, &mut disk, refusal);
+            (end(alloc, Err(why), out, observer), disk)
         }
     }
 }

@@ -1,12 +1,10 @@
-use Rattle.std.proofs.Common.{◌∙◌, [], ap, length, subst, sym}
-use Rattle.im_types.specs.Memory.{IsMemory}
-use Rattle.im_disk.specs.Since.{LeavesNow}
-use Rattle.im_engine.specs.State.{EngineState, MeansState}
+use Rattle.std.proofs.Common.{◌∙◌, ap, length, subst, sym}
+use Rattle.im_engine.specs.State.{EngineState}
 use Rattle.im_text.specs.declared.lines.Lines.{Lines}
 use Rattle.im_text.specs.Printing.{PrintsMore, PrintsNows, nows}
 use Rattle.im_text.proofs.PrintingLemmas.{on_ok_by}
 use Rattle.im_serial.specs.Asked.{wanted_of}
-use Rattle.im_serial.specs.Once.{ClosedOnce, DoneOnce, EndedOnce, IsReady}
+use Rattle.im_serial.specs.Once.{ClosedOnce, DoneOnce, EndedOnce}
 use Rattle.im_serial.specs.Serving.{server_of}
 use Rattle.im_serial.proofs.OnceLemmas.{closed_once, ready_of}
 use Rattle.im_serial.proofs.ScriptedLemmas.{as_of}

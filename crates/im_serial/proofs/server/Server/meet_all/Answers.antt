@@ -1,9 +1,8 @@
-use Rattle.std.proofs.Common.{◌∙◌, [], refl}
-use Rattle.std.specs.Option.{option_map_or}
+use Rattle.std.proofs.Common.{◌∙◌}
 use Rattle.im_script.specs.Script.{draft_of, lines_of}
 use Rattle.im_serial.specs.Asked.{wanted_in, wanted_of}
 use Rattle.im_serial.specs.Serving.{server_of}
-use Rattle.im_serial.proofs.OnceLemmas.{breaks_here, line_breaks, line_meets, line_names, meets_none, meets_refl}
+use Rattle.im_serial.proofs.OnceLemmas.{breaks_here, line_breaks, line_meets, line_names, meets_none}
 use Rattle.im_serial.proofs.OnceLemmas.{meets_some, names_none, names_some}
 use Rattle.im_serial.proofs.server.Server.meet_all.Goals as goal
 

@@ -1,5 +1,4 @@
 use Rattle.std.proofs.Common.{◌∙◌, List, ℕ, ap}
-use Rattle.im_types.specs.Contents.{Contents}
 use Rattle.im_engine.specs.State.{EngineState}
 use Rattle.im_serial.specs.Asked.{wanted_of}
 use Rattle.im_serial.specs.Once.{news, numbers_had}

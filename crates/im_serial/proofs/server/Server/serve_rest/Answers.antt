@@ -1,7 +1,5 @@
-use Rattle.std.proofs.Common.{[]}
-use Rattle.std.specs.Option.{option_map_or}
 use Rattle.im_script.specs.Script.{draft_of, lines_of}
-use Rattle.im_serial.specs.Asked.{wanted_in, wanted_of}
+use Rattle.im_serial.specs.Asked.{wanted_in}
 use Rattle.im_serial.specs.Once.{news}
 use Rattle.im_serial.specs.Serving.{server_of}
 use Rattle.im_serial.proofs.OnceLemmas.{left_some, left_none, news_line, part_ends, part_serves}

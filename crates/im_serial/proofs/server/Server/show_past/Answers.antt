@@ -1,5 +1,4 @@
 use Rattle.std.proofs.Common.{◌∙◌, [], List, ℕ, ap, subst}
-use Rattle.im_types.specs.Contents.{Contents}
 use Rattle.im_serial.specs.Asked.{wanted_of}
 use Rattle.im_serial.specs.Once.{Breaks, Meets, Names, numbers_had}
 use Rattle.im_serial.specs.Serving.{server_of}
