@@ -43,6 +43,10 @@ format_app = with_rule (with_rule (with_rule (with_rule (file_app (codes "format
 abbrev pub script_app : Text → App
 script_app name = with_rule (file_app name (codes "IMAGE")) (path_rule (codes "SCRIPT"))
 
+-- serial IMAGE SCRIPT [--once] [--statuses] [--wait SECONDS]
+abbrev pub serial_app : App
+serial_app = with_rule (script_app (codes "serial")) (flag_rule (codes "once"))
+
 -- run IMAGE SCRIPT [--planned] [--trace FILE] [--statuses] [--wait SECONDS]
 abbrev pub run_app : App
 run_app = with_rule (with_rule (script_app (codes "run")) (flag_rule (codes "planned"))) (option_rule (codes "trace"))
@@ -87,7 +91,7 @@ top_app = with_version (new_app (codes "imem"))
 -- imem, alone or with one of its first six subcommands
 abbrev pub earlier_app : App
 earlier_app = with_subcommand (with_subcommand (with_subcommand (with_subcommand (with_subcommand
-    (with_subcommand top_app format_app.top) (script_app (codes "serial")).top) run_app.top) serve_app.top)
+    (with_subcommand top_app format_app.top) serial_app.top) run_app.top) serve_app.top)
     inspect_app.top) migrate_app.top
 
 -- imem, alone or with one of its subcommands
@@ -100,7 +104,7 @@ imem_app = with_subcommand (with_subcommand (with_subcommand earlier_app copy_ap
 pub data Task : Type 0 where
   demonstration : Task
   format : (image : List ℕ) (cells elements slots : ℕ) (is_new : Bool) → Task
-  serial : (image script : List ℕ) → Task
+  serial : (image script : List ℕ) (once : Bool) → Task
   run : (image script : List ℕ) (planned : Bool) (trace : Option (List ℕ)) → Task
   serve : (image : List ℕ) (watch : Bool) → Task
   inspect : (image : List ℕ) → Task
@@ -113,7 +117,7 @@ pub data Task : Type 0 where
 abbrev pub task_of_job : Job → Task
 task_of_job Demonstration = demonstration
 task_of_job (Format image cells elements slots is_new) = format image.now cells elements slots is_new
-task_of_job (Serial image script) = serial image.now script.now
+task_of_job (Serial image script once) = serial image.now script.now once
 task_of_job (Serve image watch) = serve image.now watch
 task_of_job (Inspect image) = inspect image.now
 task_of_job (Dump image) = dump image.now
@@ -158,9 +162,9 @@ format_task rows =
     option_and_then (λ cells. option_and_then (λ elements. option_map (λ slots. format (path_in rows (codes "IMAGE")) cells elements slots (is_given rows (codes "new")))
     (number_in rows (codes "slots") 256)) (number_in rows (codes "elements") 16)) (number_in rows (codes "cells") 4096)
 
--- the task of serial, by its two paths
+-- the task of serial, by its two paths and whether it is done once
 abbrev pub serial_task : List Row → Task
-serial_task rows = serial (path_in rows (codes "IMAGE")) (path_in rows (codes "SCRIPT"))
+serial_task rows = serial (path_in rows (codes "IMAGE")) (path_in rows (codes "SCRIPT")) (is_given rows (codes "once"))
 
 -- the task of run, by its two paths, whether it is planned, and the path of its trace
 abbrev pub run_task : List Row → Task

@@ -1,10 +1,11 @@
 -- The result of each kind of work. (Own.)
-use Rattle.std.specs.Prelude.{◌≡◌, ℕ, List, [], Option, None, Some}
+use Rattle.std.specs.Prelude.{◌≡◌, ℕ, Bool, true, false, List, [], Option, None, Some}
 use Rattle.im_types.specs.Sizes.{AreLimits}
 use Rattle.im_disk.specs.Moment.{Moment}
 use Rattle.im_disk.specs.Since.{LeavesNow, ReadsOnly}
 use Rattle.im_image.specs.Fresh.{new_image}
 use Rattle.im_report.specs.Inspecting.{Tells}
+use Rattle.im_serial.specs.Once.{ServedOnceFrom}
 use Rattle.im_serial.specs.Serving.{ServedFrom}
 use Rattle.im_dialogue.specs.Dialogue.{TalkedFrom}
 use Rattle.im_run.specs.Running.{RanFrom}
@@ -16,6 +17,11 @@ use Rattle.im_program.specs.Loading.{LoadedFrom}
 use Rattle.im_program.specs.Moving.{CopiedFrom, MigratedFrom}
 use Rattle.im_program.specs.Words.{Task, demonstration, format, serial, run, serve, inspect, migrate, copy, dump, load}
 
+-- a script was served on this disk, once or anew
+abbrev pub WasServed : {D : Type 0} → Bool → (D → Moment) → (D → List Moment) → (D → ℕ) → Moment → D → Option (List ℕ) → Option (List ℕ) → ℕ → Type 0
+WasServed true now past failures first disk was is status = ServedOnceFrom now past failures first disk was is status
+WasServed false now past failures first disk was is status = ServedFrom now past failures first disk was is status
+
 -- A task was done on this disk, with this status. The disk's file held the first moment when it was opened. The writer
 -- held the first bytes before, and holds the others now. The demonstration opens no file. The result of a migration or
 -- a copy is stated below, because they open two files.
@@ -23,7 +29,7 @@ abbrev pub DoneOn : {D : Type 0} → (D → Moment) → (D → List Moment) → 
 DoneOn now past failures first demonstration was is status disk = ⊥
 DoneOn now past failures first (format image cells elements slots is_new) was is status disk =
     (status ≡ 0) × AreLimits cells elements slots × LeavesNow (now disk) (λ file. file ≡ new_image 0xA5 (record { cells = cells; elements = elements; slots = slots }))
-DoneOn now past failures first (serial image script) was is status disk = ServedFrom now past failures first disk was is status
+DoneOn now past failures first (serial image script once) was is status disk = WasServed once now past failures first disk was is status
 DoneOn now past failures first (run image script planned trace) was is status disk =
     (calls : TraceState) × RanFrom now past failures first disk was is calls status
 DoneOn now past failures first (serve image watch) was is status disk = TalkedFrom watch now past first disk was is status
@@ -37,7 +43,7 @@ DoneOn now past failures first (load text new asked) was is status disk = Loaded
 abbrev pub IsOfTwo : Task → Type 0
 IsOfTwo demonstration = ⊥
 IsOfTwo (format image cells elements slots is_new) = ⊥
-IsOfTwo (serial image script) = ⊥
+IsOfTwo (serial image script once) = ⊥
 IsOfTwo (run image script planned trace) = ⊥
 IsOfTwo (serve image watch) = ⊥
 IsOfTwo (inspect image) = ⊥
@@ -51,7 +57,7 @@ module _ {S T : Type 0} (start : Ghosts S) (other : Ghosts T) where
   abbrev pub MovedBy : Task → Option (List ℕ) → Option (List ℕ) → ℕ → FileDisk T other → FileDisk S start → Type 0
   MovedBy demonstration was is status old new = ⊥
   MovedBy (format image cells elements slots is_new) was is status old new = ⊥
-  MovedBy (serial image script) was is status old new = ⊥
+  MovedBy (serial image script once) was is status old new = ⊥
   MovedBy (run image script planned trace) was is status old new = ⊥
   MovedBy (serve image watch) was is status old new = ⊥
   MovedBy (inspect image) was is status old new = ⊥

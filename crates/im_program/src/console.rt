@@ -83,7 +83,7 @@ impl<'a, R: Eprint + AllocGlobal> Console<'a, R> {
             Work::Alone(Job::Format { image, .. })
             | Work::Alone(Job::Inspect { image })
             | Work::Alone(Job::Dump { image }) => (image, ""),
-            Work::Alone(Job::Serial { image, script }) | Work::Run { image, script, .. } => {
+            Work::Alone(Job::Serial { image, script, .. }) | Work::Run { image, script, .. } => {
                 (image, script)
             }
             Work::Alone(Job::Serve { image, .. }) => (image, "-"),
@@ -150,6 +150,14 @@ impl<'a, R: Eprint + AllocGlobal> Console<'a, R> {
             }
             Reason::File(PathFault::EmptyPath) | Reason::NewFile(PathFault::EmptyPath) => {
                 eprintln!(self.rt; "imem: {reason}")
+            }
+            Reason::Request(_, Refusal::Mismatch) => {
+                eprintln!(self.rt; "imem: {path}: {reason}: another script used this image")
+            }
+            Reason::Request(element, Refusal::BadScript) => {
+                eprintln!(self.rt;
+                    "imem: {path}: element {element} confirmed requests that the script doesn't have: another script used this image"
+                )
             }
             Reason::Output(_) if self.held.stands_for(1) => {
                 eprintln!(self.rt; "imem: standard output is closed")

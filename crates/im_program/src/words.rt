@@ -7,7 +7,7 @@ ghost use Rattle.clap.specs.declared.builder.command.Command.TheViews.{out-Comma
 ghost use Rattle.im_script.specs.Grammar.{texts};
 ghost use Rattle.im_program.specs.Words.{asked, asks_statuses, file_app, flag_rule, format_app, format_task, has_statuses, imem_app, inspect_app, inspect_task};
 ghost use Rattle.im_program.specs.Words.{is_given, migrate_app, migrate_task, number_in, option_rule, path_in, path_rule, run_app, run_task, script_app};
-ghost use Rattle.im_program.specs.Words.{serial_task, serve_app, serve_task, task_in, task_of, top_app};
+ghost use Rattle.im_program.specs.Words.{serial_app, serial_task, serve_app, serve_task, task_in, task_of, top_app};
 ghost use Rattle.im_program.specs.Words.{asks_wait, behind_plus, seconds_of, wait_in, wait_rule};
 
 use crate::copy_words::{
@@ -90,6 +90,8 @@ pub enum Job<'a> {
         image: &'a str,
         /// The script's path.
         script: &'a str,
+        /// Whether what the image has of it isn't asked anew.
+        once: bool,
     },
     /// Serve a dialogue on standard input.
     Serve {
@@ -208,9 +210,14 @@ A script has one line for each request. A line whose first word begins with '#' 
   alloc KIND LEN        make a block
 PLACE is an address, NAME or NAME+OFFSET.
 
+With --once, the n-th request of an element in the script has number n. What the image has of the script
+isn't asked again: it prints 'K.N REPLY', or 'K.N done' if it was confirmed. So a script that was stopped is
+continued by the same command. An image that another script used is refused.
+
 Example: the lines 'setup', 'alloc x i 1', 'element 1', 'fetch x', 'element 2', 'store x 5' in the
-file fetch.script, served on the image a.img
-  imem serial a.img fetch.script
+file fetch.script, served on the image a.img, and then the rest of it after a stop
+  imem serial a.img fetch.script --once
+  imem serial a.img fetch.script --once
 
 Exit status: 0 all was served; 1 something was refused, with 'refused N NAME' as the last line, or the
 output can't be written; 2 a bad command line. A refusal also has a line on standard error, which says why.";
@@ -466,6 +473,21 @@ fn script_command<'a>(
     Ok(one)
 }
 
+/// The subcommand `serial`.
+fn serial_command<'a>(alloc: Global) -> Result<Command<'a>, AllocError>
+    ensures app { IfOk result (λ c. app_of c ≡ serial_app) }
+    ensures local { IfOk result (λ c. (out-Command c).has_globals ≡ false) }
+{
+    let script = script_command(alloc, "serial", SERIAL, SERIAL_EXAMPLES)?;
+    let once = flag_option(
+        alloc,
+        "once",
+        "Continue a script that was stopped: what the image has of it isn't asked for again",
+    );
+    let one = script.arg(once)?;
+    Ok(one)
+}
+
 /// The subcommand `run`.
 fn run_command<'a>(alloc: Global) -> Result<Command<'a>, AllocError>
     ensures app { IfOk result (λ c. app_of c ≡ run_app) }
@@ -545,7 +567,7 @@ fn imem_command<'a>(alloc: Global) -> Result<Command<'a>, AllocError>
 {
     let empty = top_command(alloc);
     let format = format_command(alloc)?;
-    let serial = script_command(alloc, "serial", SERIAL, SERIAL_EXAMPLES)?;
+    let serial = serial_command(alloc)?;
     let run = run_command(alloc)?;
     let serve = serve_command(alloc)?;
     let inspect = inspect_command(alloc)?;
@@ -631,7 +653,12 @@ fn serial_work<'a>(found: &ArgMatches<'a>) -> Work<'a>
     ensures { task_of result ≡ serial_task (rows_of (found_of found.now)) }
 {
     let (image, script) = two_paths(found);
-    Work::Alone(Job::Serial { image, script })
+    let once = is_given(found, "once");
+    Work::Alone(Job::Serial {
+        image,
+        script,
+        once,
+    })
 }
 
 /// What `run` is asked for.

@@ -8,12 +8,11 @@ ghost use Rattle.im_disk.specs.Since.{LeavesNow, ReadsOnly};
 ghost use Rattle.im_image.specs.Fresh.{new_image};
 ghost use Rattle.im_report.specs.Inspecting.{Tells};
 ghost use Rattle.im_text.specs.Printing.{Begins, IsLast};
-ghost use Rattle.im_serial.specs.Serving.{ServedFrom};
 ghost use Rattle.im_dialogue.specs.Dialogue.{NotOpened, Talked, TalkedFrom};
 ghost use Rattle.im_run.specs.Running.{RanFrom};
 ghost use Rattle.im_run.specs.Tracing.{TraceState};
 ghost use Rattle.im_program.specs.Words.{copy, demonstration, migrate, task_of, task_of_job};
-ghost use Rattle.im_program.specs.Working.{DoneOn, HasMoved, IsOfTwo};
+ghost use Rattle.im_program.specs.Working.{DoneOn, HasMoved, IsOfTwo, WasServed};
 
 use crate::console::{Console, Watch};
 use crate::copying::{Copying, copy_file};
@@ -38,7 +37,7 @@ use im_migration::Follower;
 use im_report::inspect_on;
 use im_run::{STALLED, Trace, run_on};
 use im_script::{Script, ScriptFault, TextFault, read_script, read_script_with_glances, read_text};
-use im_serial::serial_on;
+use im_serial::{serial_on, serial_once_on};
 use im_serving::{Open, Watcher};
 use im_text::{Observer, PathFault, Reason, Warning, put_refusal};
 use im_types::{Limits, MAX_CELLS, MAX_ELEMENTS, Refusal};
@@ -228,7 +227,8 @@ fn script_in<'a, N: Observer>(
 
 /// Serves the script of one file on the image of another. Returns the status of [`serial_on`] and the image's disk;
 /// [`serial_on`] also says which lines are printed. The script is read first. The path `-` stands for `input`, which is
-/// read to its end.
+/// read to its end. With `once`, what the image has of the script isn't asked anew: then [`serial_once_on`] stands for
+/// [`serial_on`] here.
 ///
 /// The clauses hold for whatever the image held when it was opened (`S`), as long as the file was honest. A crash at
 /// any moment since then leaves what [`serial_on`] says.
@@ -247,6 +247,7 @@ pub fn serve_file<R: Files<File = File> + AllocGlobal, S: Start, I: Read, W: Wri
     held: &Descriptors,
     image: &str,
     script: &str,
+    once: bool,
     input: &mut I,
     out: &mut W,
     observer: &mut N,
@@ -254,7 +255,7 @@ pub fn serve_file<R: Files<File = File> + AllocGlobal, S: Start, I: Read, W: Wri
 ) -> Result<(u8, FileDisk<S>), Refusal>
     ensures status { IfOk result (λ r. r.0 ≤ 1) }
     ensures served { IfOk result (λ r. ⟦<FileDisk<S> as Disk>⟧.honest r.1 →
-        ServedFrom ⟦<FileDisk<S> as Disk>⟧.now ⟦<FileDisk<S> as Disk>⟧.past ⟦<FileDisk<S> as Disk>⟧.failures
+        WasServed once ⟦<FileDisk<S> as Disk>⟧.now ⟦<FileDisk<S> as Disk>⟧.past ⟦<FileDisk<S> as Disk>⟧.failures
         S.first r.1 (W.contents out.old) (W.contents out.new) r.0) }
     ensures refused { IfErr result (λ refusal. (refusal ≡ BadScript) ⊎ (refusal ≡ NoMemory) ⊎ (refusal ≡ Device)) }
     ensures same { OnErr result (Keeps (W.contents out.old) (W.contents out.new)) }
@@ -268,7 +269,13 @@ pub fn serve_file<R: Files<File = File> + AllocGlobal, S: Start, I: Read, W: Wri
         Err(refusal) => return Err(refusal),
     };
     match open_image(rt, image, start) {
-        Ok(disk) => Ok(serial_on(rt.alloc(), disk, &script, out, observer)),
+        Ok(disk) => {
+            if once {
+                Ok(serial_once_on(rt.alloc(), disk, &script, out, observer))
+            } else {
+                Ok(serial_on(rt.alloc(), disk, &script, out, observer))
+            }
+        }
         Err(fault) => Err(refusal_of(rt, image, fault, observer)),
     }
 }
@@ -525,9 +532,11 @@ fn do_job<
             Ok(disk) => Ok((0, Some(disk))),
             Err(refusal) => Err(refusal),
         },
-        Job::Serial { image, script } => match serve_file(
-            rt, held, image, script, input, out, observer, start,
-        ) {
+        Job::Serial {
+            image,
+            script,
+            once,
+        } => match serve_file(rt, held, image, script, once, input, out, observer, start) {
             Ok((status, disk)) => Ok((status, Some(disk))),
             Err(refusal) => Err(refusal),
         },

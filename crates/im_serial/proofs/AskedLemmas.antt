@@ -16,7 +16,7 @@ use Rattle.im_script.specs.declared.script.Said.{Said}
 use Rattle.im_script.specs.Places.{op_of}
 use Rattle.im_script.specs.Script.{Draft, counted}
 use Rattle.im_text.proofs.WindowLemmas.{bounds_found}
-use Rattle.im_serial.specs.Asked.{Wanted, Leads, LeadsIf, Standing, HasReached, bases_by, number_next, request_in}
+use Rattle.im_serial.specs.Asked.{Course, Wanted, Leads, LeadsIf, Standing, HasReached, bases_by, number_next, request_in}
 use Rattle.im_serial.specs.Asked.{standing, wanted_by, wanted_in}
 
 -- ---- one request
@@ -52,7 +52,7 @@ stands_confirmed m s put element upto it = λ more last leads.
     put (Confirm element upto ∷ [])) leads))
 
 -- a request more
-pub stands_asked : (m : Contents) (script : Option (List Wanted)) (bases added : List ℕ) (w : Wanted) (left : List
+pub stands_asked : (m : Contents) (script : Option Course) (bases added : List ℕ) (w : Wanted) (left : List
     Wanted) (put : List Command) (r : Request) → HasReached m (standing script bases (w ∷ left)) put
     → request_in (after m put) bases w ≡ Some r → bases_by w (step (after m put) (Asks r)).answer ≡ Some added →
     HasReached m (standing script (bases ++ added) left) (put ++ Asks r ∷ [])
@@ -76,7 +76,7 @@ pub stands_here : (m : Contents) (s : Standing) (put : List Command) → HasReac
 stands_here m s put it = subst (λ (l : List Command). LeadsIf m s.script l s.left) (append-nil put) (it [] s.left refl)
 
 -- a request more, and then nothing
-pub stands_last : (m : Contents) (script : Option (List Wanted)) (bases : List ℕ) (w : Wanted) (left : List Wanted)
+pub stands_last : (m : Contents) (script : Option Course) (bases : List ℕ) (w : Wanted) (left : List Wanted)
     (put : List Command) (r : Request) → HasReached m (standing script bases (w ∷ left)) put
     → request_in (after m put) bases w ≡ Some r → (last : List Wanted) × LeadsIf m script (put ++ Asks r ∷ []) last
 stands_last m script bases w left put r it is = by_made (bases_by w (step (after m put) (Asks r)).answer) refl
@@ -91,8 +91,8 @@ stands_last m script bases w left put r it is = by_made (bases_by w (step (after
     by_made None e = (w ∷ left, it (Asks r ∷ []) (w ∷ left) (is, inr (e, (refl, refl))))
 
 -- nothing of a script was put
-pub stands_first : (m : Contents) (script : List Wanted) → HasReached m (standing (Some script) [] script) []
-stands_first m script = λ more last leads. leads
+pub stands_first : (m : Contents) (c : Course) → HasReached m (standing (Some c) c.first c.wanted) []
+stands_first m c = λ more last leads. leads
 
 -- nothing is said of it
 pub stands_anywhere : (m : Contents) (bases : List ℕ) (left : List Wanted) (put : List Command) → HasReached m

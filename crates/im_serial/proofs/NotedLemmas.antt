@@ -96,7 +96,7 @@ kept_within windows who k w at is =
     (from, omega arith)
 
 -- two kept requests have one place only if they are the same
-apart : (windows : List Window) (a b : Waiter) (i j : Kept) → ((element : ℕ) (w : Window)
+pub apart : (windows : List Window) (a b : Waiter) (i j : Kept) → ((element : ℕ) (w : Window)
     → slice_get windows element ≡ Some w → IsWindow w) → kept_for windows a ≡ Some i → kept_for windows b ≡ Some j
     → mark_place a ≡ mark_place b → (a.element ≡ b.element) × (a.number ≡ b.number)
 apart windows a b i j few is js same =
@@ -283,7 +283,7 @@ drops_below element upto who below =
     ap (λ (t : Bool). t && nat_lt who.number upto) (eq-eqb who.element element below.0) ∙ test
 
 -- the last one, or one before it
-last_or_before : (waited : List Waited) (last : Waited) (at : ℕ) (w : Waited) → slice_get (waited ++ last ∷ []) at
+pub last_or_before : (waited : List Waited) (last : Waited) (at : ℕ) (w : Waited) → slice_get (waited ++ last ∷ []) at
     ≡ Some w → (slice_get waited at ≡ Some w) ⊎ ((at ≡ length waited) × (w ≡ last))
 last_or_before [] last zero w is = inr (refl, same_Some w last (sym is))
 last_or_before [] last (suc at) w is = absurd (cc)

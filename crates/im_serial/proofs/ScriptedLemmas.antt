@@ -15,6 +15,7 @@ use Rattle.im_types.specs.declared.commands.Outcome.TheVariants.{Entry as Tells,
 use Rattle.im_types.specs.declared.operations.Entry.{Entry}
 use Rattle.im_types.specs.declared.operations.Entry.TheVariants.{Waiting, Answered as Replied}
 use Rattle.im_types.specs.declared.operations.Op.{Op}
+use Rattle.im_types.specs.declared.operations.Waiter.{Waiter}
 use Rattle.im_types.specs.declared.refusals.Refusal.{Refusal}
 use Rattle.im_types.specs.declared.refusals.Refusal.TheVariants.{Device}
 use Rattle.im_types.specs.Contents.{Contents, Window}
@@ -41,11 +42,11 @@ use Rattle.im_text.proofs.PrintingLemmas.{prints_begins, prints_none, true_false
 use Rattle.im_serial.specs.declared.waits.Mark.{Mark}
 use Rattle.im_serial.specs.declared.waits.Mark.TheVariants.{Here}
 use Rattle.im_serial.specs.Noted.{AreKnown, AreLast, AreNoted, Notes, learnt, noted_if, notes, mark_place}
-use Rattle.im_serial.specs.Asked.{Wanted, LeadsIf, Standing, HasReached, bases_by, standing, wanted_by, wanted_in}
-use Rattle.im_serial.specs.Asked.{wanted_of}
+use Rattle.im_serial.specs.Asked.{Course, Wanted, LeadsIf, Standing, HasReached, bases_by, earlier_in, standing}
+use Rattle.im_serial.specs.Asked.{wanted_by, wanted_in, wanted_of, whole_course}
 use Rattle.im_serial.specs.Serving.{GoesWith, HaltsWith, GoesAt, HaltsAt, GoesOn, Halts, Keeps, Drops, Prepares}
 use Rattle.im_serial.specs.Serving.{at, ScriptServer, server_of, Going, Serves, Ends}
-use Rattle.im_serial.specs.Serving.{IsOver, IsRecorded, IsServing}
+use Rattle.im_serial.specs.Serving.{AreWaited, IsOver, IsRecorded, IsServing}
 use Rattle.im_serial.specs.Serving.{GoingAt, EndedAt, Passes, EndsAt, HasAsked, HasServed, Closed}
 use Rattle.im_serial.proofs.AskedLemmas.{put_or_not, request_is, stands_anywhere, stands_asked, stands_confirmed}
 use Rattle.im_serial.proofs.AskedLemmas.{stands_first, stands_here, stands_last, wanted_line}
@@ -210,25 +211,32 @@ module _ {D : Type 0} (disk : Ghosts D) where
   halted_at start engine s text n goes = λ h.
       let it = goes h in
       let put = it.1.0 in
-      let g = it.1.1.0 in
-      let u = it.1.1.1 in (
+      let names = it.1.1.0 in
+      let g = it.1.1.1.1.0 in
+      let u = it.1.1.1.1.1 in (
         it.0,
         (
           put,
           (
-            halts disk.now disk.past disk.failures start engine put text (map who_of n.waited) g,
-            record {
-              left = s.left;
-              leads = stands_here start.memory s put u.reached;
-              done = put;
-              doubt = [];
-              split = sym (append-nil put);
-              few = omega arith;
-              sure = λ works. refl;
-              memory = g.has.memory g.works;
-              known = if_any s.script (IsRecorded start.memory put n) (AreKnown start.memory put n.waited) (λ r.
-                  noted_known start.memory put n.element n.upto n.marks n.waited r.noted) u.recorded;
-            },
+            names,
+            (
+              it.1.1.1.0,
+              (
+                halts disk.now disk.past disk.failures start engine put text names g,
+                record {
+                  left = s.left;
+                  leads = stands_here start.memory s put u.reached;
+                  done = put;
+                  doubt = [];
+                  split = sym (append-nil put);
+                  few = omega arith;
+                  sure = λ works. refl;
+                  memory = g.has.memory g.works;
+                  known = if_any s.script (IsRecorded start.memory put n) (AreKnown start.memory put n.waited) (λ r.
+                      noted_known start.memory put n.element n.upto n.marks n.waited r.noted) u.recorded;
+                },
+              ),
+            ),
           ),
         ),
       )
@@ -255,8 +263,9 @@ module _ {D : Type 0} (disk : Ghosts D) where
   refused_halts mid new c e it start s text n one goes = λ h.
       let before = goes (it.was h) in
       let put = before.1.0 in
-      let g = before.1.1.0 in
-      let u = before.1.1.1 in
+      let names = before.1.1.0 in
+      let g = before.1.1.1.1.0 in
+      let u = before.1.1.1.1.1 in
       let m = after start.memory put in
       let same : mid.memory ≡ m = g.has.memory g.works in
       let stays = err_stays mid new c e it.answered g.works in
@@ -270,21 +279,27 @@ module _ {D : Type 0} (disk : Ghosts D) where
         (
           put ++ put_by_command m c (Err e),
           (
-            served_halts disk.now disk.past disk.failures start mid new put text (map who_of n.waited) c (Err e) g
-                it.answered (it.leaves h) (it.doubt h) (it.means h) it.cause,
-            record {
-              left = leads.0;
-              leads = leads.1;
-              done = put;
-              doubt = put_by_command m c (Err e);
-              split = refl;
-              few = put_or_not (λ (more : List Command). length more ≤ 1) c (is_accepted m c && is_put (Err e)) (omega
-                  arith) (omega arith);
-              sure = λ works. subst (λ (x : Contents). put_by_command x c (Err e) ≡ []) same (stays.1 works);
-              memory = stays.0 ∙ same;
-              known = if_any s.script (IsRecorded start.memory put n) (AreKnown start.memory put n.waited) (λ r.
-                  noted_known start.memory put n.element n.upto n.marks n.waited r.noted) u.recorded;
-            },
+            names,
+            (
+              before.1.1.1.0,
+              (
+                served_halts disk.now disk.past disk.failures start mid new put text names c (Err e) g
+                    it.answered (it.leaves h) (it.doubt h) (it.means h) it.cause,
+                record {
+                  left = leads.0;
+                  leads = leads.1;
+                  done = put;
+                  doubt = put_by_command m c (Err e);
+                  split = refl;
+                  few = put_or_not (λ (more : List Command). length more ≤ 1) c (is_accepted m c && is_put (Err e)) (omega
+                      arith) (omega arith);
+                  sure = λ works. subst (λ (x : Contents). put_by_command x c (Err e) ≡ []) same (stays.1 works);
+                  memory = stays.0 ∙ same;
+                  known = if_any s.script (IsRecorded start.memory put n) (AreKnown start.memory put n.waited) (λ r.
+                      noted_known start.memory put n.element n.upto n.marks n.waited r.noted) u.recorded;
+                },
+              ),
+            ),
           ),
         ),
       )
@@ -307,8 +322,9 @@ module _ {D : Type 0} (disk : Ghosts D) where
   confirm_goes mid new element upto a o is it start s text waited marks goes = λ h.
       let before = goes (it.was h) in
       let put = before.1.0 in
-      let g = before.1.1.0 in
-      let u = before.1.1.1 in
+      let names = before.1.1.0 in
+      let g = before.1.1.1.1.0 in
+      let u = before.1.1.1.1.1 in
       let c = Confirm element upto in
       let m = after start.memory put in
       let went = answered disk.now disk.past disk.failures mid new c a o it.answered g.works is in
@@ -318,17 +334,23 @@ module _ {D : Type 0} (disk : Ghosts D) where
         (
           put ++ put_by_command m c a,
           (
-            confirmed disk.now disk.past disk.failures start mid new put text (map who_of waited) element upto a o g
-                it.answered (it.leaves h) (it.doubt h) (it.means h) it.cause is,
-            record {
-              reached = put_or_not (λ (more : List Command). HasReached start.memory s (put ++ more)) c (is_accepted m c &&
-                  is_put a)
-                  (subst (HasReached start.memory s) (sym (append-nil put)) u.reached) (stands_confirmed start.memory s put
-                  element upto u.reached);
-              recorded = if_any s.script (IsRecorded start.memory put (learnt waited marks element upto)) (IsRecorded
-                  start.memory (put ++ put_by_command m c a) (notes waited marks))
-                  (confirm_recorded start.memory put element upto waited marks a o is answer) u.recorded;
-            },
+            names,
+            (
+              before.1.1.1.0,
+              (
+                confirmed disk.now disk.past disk.failures start mid new put text names element upto a o g
+                    it.answered (it.leaves h) (it.doubt h) (it.means h) it.cause is,
+                record {
+                  reached = put_or_not (λ (more : List Command). HasReached start.memory s (put ++ more)) c (is_accepted m c &&
+                      is_put a)
+                      (subst (HasReached start.memory s) (sym (append-nil put)) u.reached) (stands_confirmed start.memory s put
+                      element upto u.reached);
+                  recorded = if_any s.script (IsRecorded start.memory put (learnt waited marks element upto)) (IsRecorded
+                      start.memory (put ++ put_by_command m c a) (notes waited marks))
+                      (confirm_recorded start.memory put element upto waited marks a o is answer) u.recorded;
+                },
+              ),
+            ),
           ),
         ),
       )
@@ -348,9 +370,15 @@ module _ {D : Type 0} (disk : Ghosts D) where
           (
             before.1.0,
             (
-              turned disk.now disk.past disk.failures start mid new before.1.0 text (map who_of
-                  n.waited) a done before.1.1.0 it (leaves h) (means h) (works h) cause is,
-              before.1.1.1,
+              before.1.1.0,
+              (
+                before.1.1.1.0,
+                (
+                  turned disk.now disk.past disk.failures start mid new before.1.0 text before.1.1.0 a done
+                      before.1.1.1.1.0 it (leaves h) (means h) (works h) cause is,
+                  before.1.1.1.1.1,
+                ),
+              ),
             ),
           ),
         )
@@ -359,26 +387,33 @@ module _ {D : Type 0} (disk : Ghosts D) where
     turn_ends = λ start s text n goes. λ h.
         let before = goes (was h) in
         let put = before.1.0 in
-        let g = before.1.1.0 in
-        let u = before.1.1.1 in (
+        let names = before.1.1.0 in
+        let g = before.1.1.1.1.0 in
+        let u = before.1.1.1.1.1 in (
           before.0,
           (
             put,
             (
-              turn_halts disk.now disk.past disk.failures start mid new put text (map who_of n.waited) a g it
-                  (leaves h) (means h) (works h) cause,
-              record {
-                left = s.left;
-                leads = stands_here start.memory s put u.reached;
-                done = put;
-                doubt = [];
-                split = sym (append-nil put);
-                few = omega arith;
-                sure = λ works. refl;
-                memory = turn_stays mid new a it g.works ∙ g.has.memory g.works;
-                known = if_any s.script (IsRecorded start.memory put n) (AreKnown start.memory put n.waited) (λ r.
-                    noted_known start.memory put n.element n.upto n.marks n.waited r.noted) u.recorded;
-              },
+              names,
+              (
+                before.1.1.1.0,
+                (
+                  turn_halts disk.now disk.past disk.failures start mid new put text names a g it
+                      (leaves h) (means h) (works h) cause,
+                  record {
+                    left = s.left;
+                    leads = stands_here start.memory s put u.reached;
+                    done = put;
+                    doubt = [];
+                    split = sym (append-nil put);
+                    few = omega arith;
+                    sure = λ works. refl;
+                    memory = turn_stays mid new a it g.works ∙ g.has.memory g.works;
+                    known = if_any s.script (IsRecorded start.memory put n) (AreKnown start.memory put n.waited) (λ r.
+                        noted_known start.memory put n.element n.upto n.marks n.waited r.noted) u.recorded;
+                  },
+                ),
+              ),
             ),
           ),
         )
@@ -417,24 +452,30 @@ module _ {D : Type 0} (disk : Ghosts D) where
   learns engine element upto base next waited learned marks later names found learn start s text goes = λ h.
       let it = goes h in
       let put = it.1.0 in
-      let g = it.1.1.0 in
-      let u = it.1.1.1 in
+      let g = it.1.1.1.1.0 in
+      let u = it.1.1.1.1.1 in
       let same : engine.memory ≡ after start.memory put = g.has.memory g.works in (
         it.0,
         (
           put,
           (
-            subst (GoesWith disk.now disk.past disk.failures start engine put text) (sym names) g,
-            record {
-              reached = u.reached;
-              recorded = if_any s.script (IsRecorded start.memory put (notes waited marks)) (IsRecorded start.memory put
-                  (learnt learned later element upto))
-                  (λ r. record {
-                    memory = r.memory;
-                    noted = learn start.memory put same r.memory (subst (λ (m : Contents).
-                        bounds m.windows element ≡ Ok (base, next)) same (found g.works)) r.noted;
-                  }) u.recorded;
-            },
+            it.1.1.0,
+            (
+              names ∙ it.1.1.1.0,
+              (
+                g,
+                record {
+                  reached = u.reached;
+                  recorded = if_any s.script (IsRecorded start.memory put (notes waited marks)) (IsRecorded start.memory put
+                      (learnt learned later element upto))
+                      (λ r. record {
+                        memory = r.memory;
+                        noted = learn start.memory put same r.memory (subst (λ (m : Contents).
+                            bounds m.windows element ≡ Ok (base, next)) same (found g.works)) r.noted;
+                      }) u.recorded;
+                },
+              ),
+            ),
           ),
         ),
       )
@@ -563,12 +604,18 @@ module _ {D : Type 0} (disk : Ghosts D) where
             (
               g.1.0,
               (
-                g.1.1,
-                record {
-                  reached = stands_anywhere start.memory before
-                      (wanted ++ []) g.1.0;
-                  recorded = tt;
-                },
+                map who_of old.waited,
+                (
+                  refl,
+                  (
+                    g.1.1,
+                    record {
+                      reached = stands_anywhere start.memory before
+                          (wanted ++ []) g.1.0;
+                      recorded = tt;
+                    },
+                  ),
+                ),
               ),
             ),
           )),
@@ -583,11 +630,11 @@ module _ {D : Type 0} (disk : Ghosts D) where
           new.engine new.held new.lines new.waited))
       by_result (Ok x) serves = λ start held going. let g = serves start held None [] (any start held going) in (
         g.0,
-        ((λ h. let i = g.1.0 h in (i.0, (i.1.0, i.1.1.0))), g.1.1),
+        ((λ h. let i = g.1.0 h in (i.0, (i.1.0, subst (GoesWith disk.now disk.past disk.failures start new.engine i.1.0 g.0) (sym i.1.1.1.0) i.1.1.1.1.0))), g.1.1),
       )
       by_result (Err e) serves = λ start held going. let g = it.ends start held None [] (any start held going) in (
         g.0,
-        ((λ h. let i = g.1.0 h in (i.0, (i.1.0, i.1.1.0))), g.1.1),
+        ((λ h. let i = g.1.0 h in (i.0, (i.1.0, subst (HaltsWith disk.now disk.past disk.failures start new.engine i.1.0 g.0) (sym i.1.1.1.0) i.1.1.1.1.0))), g.1.1),
       )
 
   -- what is kept back is written
@@ -621,7 +668,7 @@ module _ {D : Type 0} (disk : Ghosts D) where
   module _ (mid new : EngineState D) (r : Request) (next : mid.failed ≡ false
       → (base : ℕ) × (bounds mid.memory.windows r.element ≡ Ok (base, r.number))) (w : Wanted) (bases : List ℕ)
       (element : w.element ≡ r.element) (op : op_of bases w.action ≡ Some r.op) where
-    last_leads : (start : EngineState D) (script : Option (List Wanted)) (rest : List Wanted) (put : List Command)
+    last_leads : (start : EngineState D) (script : Option Course) (rest : List Wanted) (put : List Command)
         → mid.failed ≡ false → mid.memory ≡ after start.memory put
         → HasReached start.memory (standing script bases (w ∷ rest)) put
         → (last : List Wanted) × LeadsIf start.memory script (put ++ Asks r ∷ []) last
@@ -649,9 +696,11 @@ module _ {D : Type 0} (disk : Ghosts D) where
       -- what was put then, what it was answered, and what was known before it
       pub record HasTold (start : EngineState D) (s : Standing) (text : List ℕ) : Type 0 where
         pub put : List Command
+        pub names : List Waiter
+        pub waited_is : AreWaited s.script waited names
         pub goes : GoesWith disk.now disk.past disk.failures start new (put ++ Asks r ∷ []) (text ++ told_line
-            r.element r.number entry) (map who_of waited ++ waits_if (asker r) entry)
-        pub halts : HaltsWith disk.now disk.past disk.failures start new (put ++ Asks r ∷ []) text (map who_of waited)
+            r.element r.number entry) (names ++ waits_if (asker r) entry)
+        pub halts : HaltsWith disk.now disk.past disk.failures start new (put ++ Asks r ∷ []) text names
         pub under_way : IsServing start.memory s put (notes waited marks)
         pub base : ℕ
         pub next_is : bounds (after start.memory put).windows r.element ≡ Ok (base, r.number)
@@ -663,10 +712,10 @@ module _ {D : Type 0} (disk : Ghosts D) where
       told start s text goes h =
           let before = goes (it.was h) in
           let put = before.1.0 in
-          let g = before.1.1.0 in
+          let names = before.1.1.0 in
+          let g = before.1.1.1.1.0 in
           let n = next g.works in
           let c = Asks r in
-          let names = map who_of waited in
           let m = after start.memory put in
           let same : mid.memory ≡ m = g.has.memory g.works in
           let went = answered disk.now disk.past disk.failures mid new c a (Tells entry) it.answered g.works is in
@@ -677,13 +726,15 @@ module _ {D : Type 0} (disk : Ghosts D) where
             before.0,
             record {
               put = put;
+              names = names;
+              waited_is = before.1.1.1.0;
               goes = asked disk.now disk.past disk.failures start mid new put text names r entry a g it.answered
                   (it.leaves h) (it.doubt h) (it.means h) it.cause is (next_is_new mid.memory r n.0 (Tells entry) n.1);
               halts = subst (λ (more : List Command). HaltsWith disk.now disk.past disk.failures start new (put ++
                   more) text names) one
                   (served_halts disk.now disk.past disk.failures start mid new put text names c a g it.answered
                   (it.leaves h) (it.doubt h) (it.means h) it.cause);
-              under_way = before.1.1.1;
+              under_way = before.1.1.1.1.1;
               base = n.0;
               next_is = subst (λ (x : Contents). bounds x.windows r.element ≡ Ok (n.0, r.number)) same n.1;
               answer = subst (λ (x : Contents). (step x c).answer ≡ Ok (Tells entry)) same went.1;
@@ -691,7 +742,7 @@ module _ {D : Type 0} (disk : Ghosts D) where
           )
 
       -- it is over after that
-      over : (start : EngineState D) (script : Option (List Wanted)) (rest : List Wanted) (text : List ℕ) (t : HasTold
+      over : (start : EngineState D) (script : Option Course) (rest : List Wanted) (text : List ℕ) (t : HasTold
           start (standing script bases (w ∷ rest)) text) (noted : List Waited)
           → IfSome script (λ x. AreKnown start.memory (t.put ++ Asks r ∷ []) noted)
           → IsOver start.memory script new (t.put ++ Asks r ∷ []) noted
@@ -710,7 +761,7 @@ module _ {D : Type 0} (disk : Ghosts D) where
             known = known;
           }
 
-      before_over : (start : EngineState D) (script : Option (List Wanted)) (rest : List Wanted) (text : List ℕ) (t :
+      before_over : (start : EngineState D) (script : Option Course) (rest : List Wanted) (text : List ℕ) (t :
           HasTold start (standing script bases (w ∷ rest)) text)
           → IsOver start.memory script new (t.put ++ Asks r ∷ []) waited
       before_over start script rest text t = over start script rest text t waited
@@ -731,7 +782,7 @@ module _ {D : Type 0} (disk : Ghosts D) where
             (
               t.1.put ++ Asks r ∷
                   [],
-              (t.1.halts, before_over start script rest going.0 t.1),
+              (t.1.names, (t.1.waited_is, (t.1.halts, before_over start script rest going.0 t.1))),
             ),
           )),
           prints from going.0 going.1.1,
@@ -752,9 +803,15 @@ module _ {D : Type 0} (disk : Ghosts D) where
                   (
                     t.1.put ++ Asks r ∷ [],
                     (
-                      unnoted disk.now disk.past disk.failures start new (t.1.put ++ Asks r ∷ []) text (map who_of waited)
-                          (waits_if (asker r) entry) t.1.goes,
-                      before_over start script rest going.0 t.1,
+                      t.1.names,
+                      (
+                        t.1.waited_is,
+                        (
+                          unnoted disk.now disk.past disk.failures start new (t.1.put ++ Asks r ∷ []) text t.1.names
+                              (waits_if (asker r) entry) t.1.goes,
+                          before_over start script rest going.0 t.1,
+                        ),
+                      ),
                     ),
                   ),
                 )),
@@ -775,6 +832,12 @@ module _ {D : Type 0} (disk : Ghosts D) where
               (λ rec. asked_recorded start.memory t.put r t.base entry waited marks t.next_is t.answer rec noted marked
               pushed others mark) t.under_way.recorded
 
+          -- those that had to wait, with it
+          waited_more : (start : EngineState D) (s : Standing) (text : List ℕ) (t : HasTold start s text)
+              → AreWaited s.script noted (t.names ++ waits_if (asker r) entry)
+          waited_more start s text t = names ∙ ap (λ (l : List Waiter). l ++ waits_if (asker r) entry) t.waited_is
+              ∙ append_assoc (earlier_in s.script) t.names (waits_if (asker r) entry)
+
           -- its line is printed, and it is noted if it has to wait
           pub ask_serves : (added : List ℕ) → bases_by w (Ok (Tells entry)) ≡ Some added
               → Passes disk (w ∷ []) bases [] (bases ++ added) (server_of mid held before waited marks) (server_of new later last
@@ -789,14 +852,19 @@ module _ {D : Type 0} (disk : Ghosts D) where
                     (
                       t.1.put ++ Asks r ∷ [],
                       (
-                        subst (GoesWith disk.now disk.past disk.failures start new (t.1.put ++ Asks r ∷ []) text) (sym
-                            names) t.1.goes,
-                        record {
-                          reached = stands_asked start.memory script bases added w rest t.1.put r t.1.under_way.reached
-                              (request_is (after start.memory t.1.put) bases w r t.1.base element op t.1.next_is) (ap
-                              (bases_by w) t.1.answer ∙ made);
-                          recorded = recorded start s going.0 t.1;
-                        },
+                        t.1.names ++ waits_if (asker r) entry,
+                        (
+                          waited_more start s going.0 t.1,
+                          (
+                            t.1.goes,
+                            record {
+                              reached = stands_asked start.memory script bases added w rest t.1.put r t.1.under_way.reached
+                                  (request_is (after start.memory t.1.put) bases w r t.1.base element op t.1.next_is) (ap
+                                  (bases_by w) t.1.answer ∙ made);
+                              recorded = recorded start s going.0 t.1;
+                            },
+                          ),
+                        ),
                       ),
                     ),
                   )),
@@ -817,13 +885,18 @@ module _ {D : Type 0} (disk : Ghosts D) where
                     (
                       t.1.put ++ Asks r ∷ [],
                       (
-                        halts disk.now disk.past disk.failures start new (t.1.put ++ Asks r ∷ []) text (map who_of noted)
-                            (subst (GoesWith disk.now disk.past disk.failures start new (t.1.put ++ Asks r ∷ []) text) (sym
-                            names) t.1.goes),
-                        over start script rest going.0 t.1 noted (if_any script (IsRecorded start.memory (t.1.put ++ Asks r ∷
-                            []) (notes noted marked)) (AreKnown start.memory (t.1.put ++ Asks r ∷ []) noted)
-                            (λ rec. noted_known start.memory (t.1.put ++ Asks r ∷ []) 0 0 marked noted rec.noted) (recorded start
-                            s going.0 t.1)),
+                        t.1.names ++ waits_if (asker r) entry,
+                        (
+                          waited_more start s going.0 t.1,
+                          (
+                            halts disk.now disk.past disk.failures start new (t.1.put ++ Asks r ∷ []) text (t.1.names ++
+                                waits_if (asker r) entry) t.1.goes,
+                            over start script rest going.0 t.1 noted (if_any script (IsRecorded start.memory (t.1.put ++ Asks r ∷
+                                []) (notes noted marked)) (AreKnown start.memory (t.1.put ++ Asks r ∷ []) noted)
+                                (λ rec. noted_known start.memory (t.1.put ++ Asks r ∷ []) 0 0 marked noted rec.noted) (recorded start
+                                s going.0 t.1)),
+                          ),
+                        ),
                       ),
                     ),
                   )),
@@ -840,7 +913,7 @@ module _ {D : Type 0} (disk : Ghosts D) where
     abbrev left : List Wanted
     left = option_map_or (λ rest. wanted_in next (lines_of rest.now)) behind []
 
-    there : (start : EngineState D) (held : Option (List ℕ)) (script : Option (List Wanted)) (rest : List Wanted) →
+    there : (start : EngineState D) (held : Option (List ℕ)) (script : Option Course) (rest : List Wanted) →
         GoingAt disk start held (standing script first (all ++ rest)) old
         → GoingAt disk start held (standing script before (wanted_by said ++ (left ++ rest))) mid
     there start held script rest going =
@@ -875,40 +948,56 @@ module _ {D : Type 0} (disk : Ghosts D) where
 
   -- ---- the beginning and the end
 
+  -- nothing of a script was put yet
+  pub going_from : (c : Course) (start : EngineState D) (held : Option (List ℕ)) (lines : Lines) (waited : List Waited)
+      (marks : List Mark) → start.failed ≡ false
+      → (disk.honest start.disk → LeavesNow (disk.now start.disk) (MeansState start))
+      → IsRecorded start.memory [] (notes waited marks) → map who_of waited ≡ c.earlier → lines.pending.items ≡ []
+      → GoingAt disk start held (standing (Some c) c.first (c.wanted ++ [])) (server_of start held lines waited marks)
+  going_from c start held lines waited marks works means recorded names pending = (
+    [],
+    (
+      (λ h. (
+        h,
+        (
+          [],
+          (
+            [],
+            (
+              names ∙ sym (append-nil c.earlier),
+              (
+                goes_none disk.now disk.past disk.failures start works (means h),
+                record {
+                  reached = subst (λ (l : List Wanted). HasReached start.memory (standing (Some c) c.first l) []) (sym
+                      (append-nil c.wanted)) (stands_first start.memory c);
+                  recorded = recorded;
+                },
+              ),
+            ),
+          ),
+        ),
+      )),
+      prints_none held lines pending,
+    ),
+  )
+
   -- a server of this engine that has served nothing of a script yet
   pub going_first : (script : List Wanted) (start engine : EngineState D) (held : Option (List ℕ)) (before lines :
       Lines) (waited : List Waited) (marks : List Mark) (bases : List ℕ) → start.failed ≡ false
       → (disk.honest start.disk → LeavesNow (disk.now start.disk) (MeansState start))
       → IsMemory (length start.memory.cells) (length start.memory.windows) start.memory
       → before.pending.items ≡ [] → waited ≡ [] → bases ≡ [] → engine ≡ start → lines ≡ before
-      → GoingAt disk start held (standing (Some script) bases (script ++ [])) (server_of engine held lines waited marks)
+      → GoingAt disk start held (standing (Some (whole_course script)) bases (script ++ [])) (server_of engine held
+      lines waited marks)
   going_first script start engine held before lines waited marks bases works means memory pending none no_bases engines
       line =
-      subst (λ (b : List ℕ). GoingAt disk start held (standing (Some script) b (script ++ [])) (server_of engine held lines
-      waited marks)) (sym no_bases)
-      (as_of (λ (e : EngineState D) (l : Lines). GoingAt disk start held (standing (Some script) [] (script ++ []))
-      (server_of e held l waited marks)) start engine before lines engines line
-      (subst (λ (l : List Waited). GoingAt disk start held (standing (Some script) [] (script ++ [])) (server_of start held
-      before l marks)) (sym none) (
-        [],
-        (
-          (λ h. (
-            h,
-            (
-              [],
-              (
-                goes_none disk.now disk.past disk.failures start works (means h),
-                record {
-                  reached = subst (λ (l : List Wanted). HasReached start.memory (standing (Some script) [] l) []) (sym
-                      (append-nil script)) (stands_first start.memory script);
-                  recorded = record { memory = memory; noted = λ at w is. absurd (no_item w is) };
-                },
-              ),
-            ),
-          )),
-          prints_none held before pending,
-        ),
-      )))
+      subst (λ (b : List ℕ). GoingAt disk start held (standing (Some (whole_course script)) b (script ++ []))
+      (server_of engine held lines waited marks)) (sym no_bases)
+      (as_of (λ (e : EngineState D) (l : Lines). GoingAt disk start held (standing (Some (whole_course script)) []
+      (script ++ [])) (server_of e held l waited marks)) start engine before lines engines line
+      (subst (λ (l : List Waited). GoingAt disk start held (standing (Some (whole_course script)) [] (script ++ []))
+      (server_of start held before l marks)) (sym none) (going_from (whole_course script) start held before [] marks
+      works means (record { memory = memory; noted = λ at w is. absurd (no_item w is) }) refl pending)))
     where
       no_item : (w : Waited) → ◌≡◌ {A = Option Waited} None (Some w) → ⊥
       no_item w is = cc
@@ -920,8 +1009,8 @@ module _ {D : Type 0} (disk : Ghosts D) where
 
   pub closed : (script : List ℕ) (bases : List ℕ) (start engine : EngineState D) (end : D) (status : ℕ) (held mid is
       was : Option (List ℕ)) (before later final : Lines) (noted waited : List Waited) (marks : List Mark)
-      → EndedAt disk start was (Some (wanted_of script)) (server_of engine held before noted marks) → (status ≡ 0
-      → GoingAt disk start was (standing (Some (wanted_of script)) bases []) (server_of engine held before noted marks))
+      → EndedAt disk start was (Some (whole_course (wanted_of script))) (server_of engine held before noted marks) → (status ≡ 0
+      → GoingAt disk start was (standing (Some (whole_course (wanted_of script))) bases []) (server_of engine held before noted marks))
       → map who_of waited ≡ map who_of noted → ((m : Contents) (put : List Command) → engine.memory ≡ after m put
       → AreKnown m put noted → AreLast m put waited)
       → PrintsNows held before mid later waited → (status ≡ 0
@@ -944,44 +1033,48 @@ module _ {D : Type 0} (disk : Ghosts D) where
           let g = going zero_is in
           let it = g.1.0 there in
           let put = it.1.0 in
-          let u = it.1.1.1 in
-          let on = halts disk.now disk.past disk.failures start engine put g.0 (map who_of noted) it.1.1.0 in
+          let names = it.1.1.0 in
+          let goes = it.1.1.1.1.0 in
+          let u = it.1.1.1.1.1 in
+          let on = halts disk.now disk.past disk.failures start engine put g.0 names goes in
           let told = some.2 was g.0 g.1.1 in
           let end = last was (g.0 ++ nows waited some.0) told in
           let full = whole zero_is was (g.0 ++ nows waited (length waited)) (all zero_is was g.0 g.1.1) in (
             it.0,
-            closed_by disk.now disk.past disk.failures script start engine put g.0 (map who_of noted) status was is on
+            closed_by disk.now disk.past disk.failures script start engine put g.0 names status was is on
                 works (means there)
                 (record {
                   left = [];
-                  leads = stands_here start.memory (standing (Some (wanted_of script)) bases []) put
+                  leads = stands_here start.memory (standing (Some (whole_course (wanted_of script))) bases []) put
                       u.reached;
                   all = λ z. refl;
                 })
-                (told_by disk.now disk.past disk.failures start engine put g.0 (map who_of noted) status was is waited
-                some.0 end.0 put [] on same (sym (append-nil put)) (omega arith)
-                (learn start.memory put (it.1.1.0.has.memory it.1.1.0.works) (noted_known start.memory put 0 0 marks
+                (told_by disk.now disk.past disk.failures start engine put g.0 names status was is waited
+                some.0 end.0 put [] on (same ∙ it.1.1.1.0) (sym (append-nil put)) (omega arith)
+                (learn start.memory put (goes.has.memory goes.works) (noted_known start.memory put 0 0 marks
                 noted u.recorded.noted)) end.1.0 (prints_begins was is final ((g.0 ++ nows waited some.0) ++ end.0)
                 end.1.1)
                 (λ z. (
                   refl,
-                  it.1.1.0.waiting,
+                  goes.waiting,
                   subst (λ (t : List ℕ). Appends was is (t ++ nows waited (length
-                      waited))) it.1.1.0.lines full,
+                      waited))) goes.lines full,
                 ))),
           )
       by_status there (suc n) more =
           let it = reached.1.0 there in
           let put = it.1.0 in
-          let o = it.1.1.1 in
+          let names = it.1.1.0 in
+          let halted = it.1.1.1.1.0 in
+          let o = it.1.1.1.1.1 in
           let told = some.2 was reached.0 reached.1.1 in
           let end = last was (reached.0 ++ nows waited some.0) told in (
             it.0,
-            closed_by disk.now disk.past disk.failures script start engine put reached.0 (map who_of noted) status was
-                is it.1.1.0 works (means there)
+            closed_by disk.now disk.past disk.failures script start engine put reached.0 names status was
+                is halted works (means there)
                 (record { left = o.left; leads = o.leads; all = λ z. absurd (omega arith) })
-                (told_by disk.now disk.past disk.failures start engine put reached.0 (map who_of noted) status was is
-                waited some.0 end.0 o.done o.doubt it.1.1.0 same o.split o.few (learn start.memory o.done o.memory
+                (told_by disk.now disk.past disk.failures start engine put reached.0 names status was is
+                waited some.0 end.0 o.done o.doubt halted (same ∙ it.1.1.1.0) o.split o.few (learn start.memory o.done o.memory
                 o.known)
                 end.1.0 (prints_begins was is final ((reached.0 ++ nows waited some.0) ++ end.0) end.1.1)
                 (λ z. absurd (omega arith))),

@@ -147,7 +147,7 @@ module _ {D : Type 0} (now : D → Moment) (past : D → List Moment) (failures 
       }
 
   -- all that was put is there while the disk hasn't failed
-  put_all : (start engine : EngineState D) (put : List Command) → HasPut now past failures start engine put → engine.failed ≡ false → (file : List ℕ) → MeansState engine file → MeansAfter start put (length put) file
+  pub put_all : (start engine : EngineState D) (put : List Command) → HasPut now past failures start engine put → engine.failed ≡ false → (file : List ℕ) → MeansState engine file → MeansAfter start put (length put) file
   put_all start engine put it f file means = means_all start engine put (record { memory = it.memory; count = it.count }) f file means
 
   -- ---- it goes on, or it is ended
@@ -341,7 +341,7 @@ module _ {D : Type 0} (now : D → Moment) (past : D → List Moment) (failures 
 
   -- the end, by what was put and told
   pub closed_by : (script : List ℕ) (start engine : EngineState D) (put : List Command) (text : List ℕ) (names : List Waiter) (status : ℕ) (was is : Option (List ℕ)) → HaltsWith now past failures start engine put text names → (status ≡ 0 → engine.failed ≡ false)
-      → (engine.failed ≡ false → LeavesNow (now engine.disk) (MeansState engine)) → IsAsked start.memory (wanted_of script) put status → Told now start put engine.disk was is status → Closed now past failures script start engine.disk was is status
+      → (engine.failed ≡ false → LeavesNow (now engine.disk) (MeansState engine)) → IsAsked start.memory [] (wanted_of script) put status → Told now start put engine.disk was is status → Closed now past failures script start engine.disk was is status
   closed_by script start engine put text names status was is it works means asked told = record {
     put = put;
     asked = asked;

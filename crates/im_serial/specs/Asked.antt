@@ -8,6 +8,7 @@ use Rattle.im_types.specs.declared.commands.Request.{Request}
 use Rattle.im_types.specs.declared.commands.Outcome.{Outcome}
 use Rattle.im_types.specs.declared.commands.Outcome.TheVariants.{Entry as Tells}
 use Rattle.im_types.specs.declared.operations.Entry.TheVariants.{Answered}
+use Rattle.im_types.specs.declared.operations.Waiter.{Waiter}
 use Rattle.im_types.specs.declared.operations.Reply.TheVariants.{Base}
 use Rattle.im_types.specs.declared.refusals.Refusal.{Refusal}
 use Rattle.im_types.specs.Contents.{Contents}
@@ -81,29 +82,45 @@ Leads m bases (w ∷ wanted) (Asks r ∷ put) left = (request_in m bases w ≡ S
     ++ more) wanted put left))
     ⊎ ((bases_by w (step m (Asks r)).answer ≡ None) × ((put ≡ []) × (left ≡ w ∷ wanted))))
 
--- The commands that were put are, confirmations aside, the first requests of this script, in their order. If the status
--- is 0, they are all of them.
-pub record IsAsked (m : Contents) (script : List Wanted) (put : List Command) (status : ℕ) : Type 0 where
+-- The commands that were put are, confirmations aside, the first of these requests, in their order, with these bases at
+-- first. If the status is 0, they are all of them.
+pub record IsAsked (m : Contents) (bases : List ℕ) (wanted : List Wanted) (put : List Command) (status : ℕ) : Type 0 where
   pub left : List Wanted
-  pub leads : Leads m [] script put left
+  pub leads : Leads m bases wanted put left
   pub all : status ≡ 0 → left ≡ []
 
 -- ---- where a script stands
 
--- the script, if there is one; the bases of the blocks that have names so far; and the requests that are left
+-- what a script had to do when it began: the bases that were known, its requests, and those that waited already
+pub record Course : Type 0 where
+  pub first : List ℕ
+  pub wanted : List Wanted
+  pub earlier : List Waiter
+
+-- the course of a script of which nothing was done before
+abbrev pub whole_course : List Wanted → Course
+whole_course wanted = record { first = []; wanted = wanted; earlier = [] }
+
+-- those that waited before it, if there is a script
+abbrev pub earlier_in : Option Course → List Waiter
+earlier_in None = []
+earlier_in (Some c) = c.earlier
+
+-- the course of the script, if there is one; the bases of the blocks that have names so far; and the requests that are
+-- left
 pub record Standing : Type 0 where
-  pub script : Option (List Wanted)
+  pub script : Option Course
   pub bases : List ℕ
   pub left : List Wanted
 
 -- a standing of these
-abbrev pub standing : Option (List Wanted) → List ℕ → List Wanted → Standing
+abbrev pub standing : Option Course → List ℕ → List Wanted → Standing
 standing script bases left = record { script = script; bases = bases; left = left }
 
 -- the commands are the first requests of the script, if there is one, and these are left
-abbrev pub LeadsIf : Contents → Option (List Wanted) → List Command → List Wanted → Type 0
+abbrev pub LeadsIf : Contents → Option Course → List Command → List Wanted → Type 0
 LeadsIf m None put left = Unit {0}
-LeadsIf m (Some script) put left = Leads m [] script put left
+LeadsIf m (Some c) put left = Leads m c.first c.wanted put left
 
 -- after these commands the script stands there: what comes of the rest comes of all
 abbrev pub HasReached : Contents → Standing → List Command → Type 0

@@ -1,3 +1,4 @@
 pub mod Asked
 pub mod Noted
 pub mod Serving
+pub mod Once

@@ -22,7 +22,8 @@ use Rattle.im_text.specs.Printing.{Begins, IsLast, Prints, nows, replies, waits,
 use Rattle.im_script.specs.Places.{op_of}
 use Rattle.im_serial.specs.declared.waits.Mark.{Mark}
 use Rattle.im_serial.specs.Noted.{AreKnown, AreLast, AreNoted, Notes, learnt, notes}
-use Rattle.im_serial.specs.Asked.{IsAsked, LeadsIf, Standing, HasReached, Wanted, bases_by, standing, wanted_of}
+use Rattle.im_serial.specs.Asked.{Course, IsAsked, LeadsIf, Standing, HasReached, Wanted, bases_by, earlier_in, standing}
+use Rattle.im_serial.specs.Asked.{wanted_of}
 
 -- ---- while it is served
 
@@ -117,7 +118,7 @@ pub record IsServing (m : Contents) (s : Standing) (put : List Command) (n : Not
 -- What is known when it has ended. The commands that were put are the first requests of the script, and confirmations.
 -- The memory is the one after those that were done, which are all of them if the engine works. Of each request that had
 -- to wait, the last entry is noted, or it is kept.
-pub record IsOver {D : Type 0} (m : Contents) (script : Option (List Wanted)) (engine : EngineState D) (put : List Command) (waited : List Waited) : Type 0 where
+pub record IsOver {D : Type 0} (m : Contents) (script : Option Course) (engine : EngineState D) (put : List Command) (waited : List Waited) : Type 0 where
   pub left : List Wanted
   pub leads : LeadsIf m script put left
   pub done : List Command
@@ -141,16 +142,20 @@ pub record ScriptServer (D : Type 0) : Type 0 where
 abbrev pub server_of : {D : Type 0} → EngineState D → Option (List ℕ) → Lines → List Waited → List Mark → ScriptServer D
 server_of engine held lines waited marks = record { engine = engine; held = held; lines = lines; waited = waited; marks = marks }
 
+-- those that had to wait are these, behind those that waited when the script began
+abbrev pub AreWaited : Option Course → List Waited → List Waiter → Type 0
+AreWaited script waited names = map who_of waited ≡ earlier_in script ++ names
+
 module _ {D : Type 0} (disk : Ghosts D) where
   -- it goes on
   abbrev pub GoesAt : EngineState D → Standing → EngineState D → List ℕ → Notes → Type 0
   GoesAt start s engine text n = disk.honest engine.disk → disk.honest start.disk
-      × ((put : List Command) × (GoesWith disk.now disk.past disk.failures start engine put text (map who_of n.waited) × IsServing start.memory s put n))
+      × ((put : List Command) × ((names : List Waiter) × (AreWaited s.script n.waited names × (GoesWith disk.now disk.past disk.failures start engine put text names × IsServing start.memory s put n))))
 
   -- it goes on or was ended
-  abbrev pub HaltsAt : EngineState D → Option (List Wanted) → EngineState D → List ℕ → List Waited → Type 0
+  abbrev pub HaltsAt : EngineState D → Option Course → EngineState D → List ℕ → List Waited → Type 0
   HaltsAt start script engine text waited = disk.honest engine.disk → disk.honest start.disk
-      × ((put : List Command) × (HaltsWith disk.now disk.past disk.failures start engine put text (map who_of waited) × IsOver start.memory script engine put waited))
+      × ((put : List Command) × ((names : List Waiter) × (AreWaited script waited names × (HaltsWith disk.now disk.past disk.failures start engine put text names × IsOver start.memory script engine put waited))))
 
   -- between the two engines nothing was put on the disk but commands that have no line
   abbrev pub GoesOn : EngineState D → EngineState D → Type 0
@@ -181,17 +186,17 @@ module _ {D : Type 0} (disk : Ghosts D) where
   GoingAt start held s t = (text : List ℕ) × (GoesAt start s t.engine text (notes t.waited t.marks) × Prints held t.held t.lines text)
 
   -- the same, or it was ended
-  abbrev pub EndedAt : EngineState D → Option (List ℕ) → Option (List Wanted) → ScriptServer D → Type 0
+  abbrev pub EndedAt : EngineState D → Option (List ℕ) → Option Course → ScriptServer D → Type 0
   EndedAt start held script t = (text : List ℕ) × (HaltsAt start script t.engine text t.waited × Prints held t.held t.lines text)
 
   -- the script goes on from these requests, with these bases, to those
   abbrev pub Passes : List Wanted → List ℕ → List Wanted → List ℕ → ScriptServer D → ScriptServer D → Type 0
-  Passes wanted before later after old new = (start : EngineState D) (held : Option (List ℕ)) (script : Option (List Wanted)) (rest : List Wanted)
+  Passes wanted before later after old new = (start : EngineState D) (held : Option (List ℕ)) (script : Option Course) (rest : List Wanted)
       → GoingAt start held (standing script before (wanted ++ rest)) old → GoingAt start held (standing script after (later ++ rest)) new
 
   -- it goes on from these requests or is ended, at the last of them at the latest
   abbrev pub EndsAt : List Wanted → List ℕ → ScriptServer D → ScriptServer D → Type 0
-  EndsAt wanted before old new = (start : EngineState D) (held : Option (List ℕ)) (script : Option (List Wanted)) (rest : List Wanted)
+  EndsAt wanted before old new = (start : EngineState D) (held : Option (List ℕ)) (script : Option Course) (rest : List Wanted)
       → GoingAt start held (standing script before (wanted ++ rest)) old → EndedAt start held script new
 
   -- An element asked for an operation, and was answered: a request of the script was served.
@@ -232,7 +237,7 @@ pub record Told {D : Type 0} (now : D → Moment) (start : EngineState D) (put :
 -- An engine was closed, and this status was given, after these commands of a script were put on its disk.
 pub record Closed {D : Type 0} (now : D → Moment) (past : D → List Moment) (failures : D → ℕ) (text : List ℕ) (start : EngineState D) (disk : D) (was is : Option (List ℕ)) (status : ℕ) : Type 0 where
   pub put : List Command
-  pub asked : IsAsked start.memory (wanted_of text) put status
+  pub asked : IsAsked start.memory [] (wanted_of text) put status
   pub accepted : accept_each start.memory put ≡ Some (after start.memory put)
   pub leaves : Leaves (now start.disk) (now disk) (past start.disk) (past disk) (MeansBeginning start put)
   pub doubt : LeavesNow (now disk) (MeansAllOrInDoubt (Rises (failures start.disk) (failures disk)) start put)
@@ -246,7 +251,7 @@ pub record Closed {D : Type 0} (now : D → Moment) (past : D → List Moment) (
 pub record Served {D : Type 0} (now : D → Moment) (past : D → List Moment) (failures : D → ℕ) (text : List ℕ) (old new : D) (was is : Option (List ℕ)) (status : ℕ) : Type 0 where
   pub start : EngineState D
   pub put : List Command
-  pub asked : IsAsked start.memory (wanted_of text) put status
+  pub asked : IsAsked start.memory [] (wanted_of text) put status
   pub found : (file : List ℕ) × Left (now old) file × MeansState start file
   pub accepted : accept_each start.memory put ≡ Some (after start.memory put)
   pub leaves : Leaves (now old) (now new) (past old) (past new) (MeansBeginning start put)

@@ -1,10 +1,13 @@
 //! Serves a script's requests one after another on the image of a disk.
 #![tactic(auto)]
 
+mod meeting;
+mod once;
+mod past;
 mod room;
 mod serial;
 mod server;
 mod waits;
 
-pub use serial::serial_on;
+pub use serial::{serial_on, serial_once_on};
 pub use server::{Desk, Paper, Server};

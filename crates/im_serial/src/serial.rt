@@ -2,6 +2,7 @@
 ghost use Rattle.std.specs.Prelude.{◌≡◌, ◌≤◌, [], false, IsOk};
 ghost use Rattle.im_disk.specs.Since.{LeavesNow};
 ghost use Rattle.im_engine.specs.State.{MeansState};
+ghost use Rattle.im_serial.specs.Once.{ClosedOnce, SerialOnceOn};
 ghost use Rattle.im_serial.specs.Serving.{Closed, SerialOn};
 
 use crate::server::{Desk, Server};
@@ -87,6 +88,87 @@ fn serve_on<D: Disk, W: Write, N: Observer>(
 {
     let mut server = Server::new(alloc, engine, desk);
     let served = server.serve(alloc, script, out, observer);
+    server.learn_all(observer);
+    let told = server.tell(out);
+    let (engine, mut paper) = server.leave();
+    let status = finish(
+        alloc,
+        both(served, told),
+        &mut paper.lines,
+        &mut paper.line,
+        out,
+        observer,
+    );
+    // If the disk failed, a refusal was printed: the status is 1 already.
+    let failed = engine.failed();
+    (status_at(failed, status), engine.close())
+}
+
+/// Serves what the image of a disk doesn't have of a script, and gives the disk back: the n-th request of an element in
+/// the script has number n. So a script that was stopped is gone on with by the same call. What it prints goes to `out`,
+/// in this order:
+///
+/// - For each request that the image has, in order: `K.N REPLY`, what is kept for it, or `K.N done` if it was
+///   confirmed. These lines are written out before anything is served.
+/// - The line `K.N REPLY` for each other request, in order.
+/// - `K.N now REPLY` for each request whose line says that it waits, with its entry as last kept.
+/// - At last `refused N NAME`, if something was refused. That ends the script.
+///
+/// In the setup of a new image a block stands behind those before it. So a name stands for the sum of their lengths if
+/// the image has its block.
+///
+/// Before anything is printed, the script is compared with what the image has of it, and refused if another script used
+/// the image: with `Mismatch` if under one of its numbers another operation is kept, or for a block of the setup another
+/// base; with `BadScript` if the window of an element begins behind all its requests. What was confirmed can't be
+/// compared.
+///
+/// All else is as [`serial_on`] says: what it refuses, what is confirmed, when lines are written, what a crash leaves,
+/// and the status. The commands that were put are those requests of the script that the image didn't have, in their
+/// order, each with its element's next number, and confirmations. If the status is 0, they are all of those.
+pub fn serial_once_on<D: Disk, W: Write, N: Observer>(
+    alloc: Global,
+    disk: D,
+    script: &Script<'_>,
+    out: &mut W,
+    observer: &mut N,
+) -> (u8, D)
+    ensures status { result.0 ≤ 1 }
+    ensures served { D.honest result.1
+        → SerialOnceOn D.Disk script.now disk result.1 (W.contents out.old) (W.contents out.new) result.0 }
+    ensures honest { D.honest result.1 → D.honest disk }
+{
+    let desk = match Desk::new(alloc) {
+        Ok(desk) => desk,
+        Err(_) => return (end(alloc, Err(Reason::Memory), out, observer), disk),
+    };
+    match Engine::open(alloc, disk) {
+        Ok(engine) => serve_once_on(alloc, engine, desk, script, out, observer),
+        Err((refusal, mut disk)) => {
+            let why = diagnose(alloc, &mut disk, refusal);
+            (end(alloc, Err(why), out, observer), disk)
+        }
+    }
+}
+
+// Serves what an engine doesn't have of a script. Returns the status and the engine's disk.
+fn serve_once_on<D: Disk, W: Write, N: Observer>(
+    alloc: Global,
+    engine: Engine<D>,
+    desk: Desk,
+    script: &Script<'_>,
+    out: &mut W,
+    observer: &mut N,
+) -> (u8, D)
+    requires works { engine.failed ≡ false }
+    requires means { D.honest engine.disk → LeavesNow (D.now engine.disk) (MeansState engine) }
+    requires pending { desk.lines.pending.items ≡ [] }
+    ensures status { result.0 ≤ 1 }
+    ensures closed { D.honest result.1 → ClosedOnce D.now D.past D.failures script.now engine result.1
+        (W.contents out.old) (W.contents out.new) result.0 }
+    ensures honest { D.honest result.1 → D.honest engine.disk }
+{
+    let mut server = Server::new(alloc, engine, desk);
+    let served = server.serve_once(alloc, script, out, observer);
     server.learn_all(observer);
     let told = server.tell(out);
     let (engine, mut paper) = server.leave();

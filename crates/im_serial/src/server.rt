@@ -13,8 +13,10 @@ ghost use Rattle.im_text.specs.Printing.{who_of};
 ghost use Rattle.im_serial.specs.declared.waits.Mark.TheVariants.{Here};
 ghost use Rattle.im_serial.specs.Noted.{AreKnown, AreLast, noted_if, mark_place};
 ghost use Rattle.im_serial.specs.Asked.{wanted_by, wanted_of};
+ghost use Rattle.im_serial.specs.Once.{done_line};
 ghost use Rattle.im_serial.specs.Serving.{Ends, HasAsked, HasServed, Prepares, Serves, at, server_of};
 
+use crate::past::make_done;
 use crate::room::{confirm, first_waiting, make_room, next_number, reason_of};
 use crate::waits::{Places, learn, learn_all, note, tell_earlier, waited_at};
 use im_disk::Disk;
@@ -162,7 +164,12 @@ impl<D: Disk> Server<D> {
     }
 
     // Prints a request's entry.
-    fn print<W: Write>(&mut self, who: (u16, u64), entry: Entry, out: &mut W) -> Result<(), Reason>
+    pub(crate) fn print<W: Write>(
+        &mut self,
+        who: (u16, u64),
+        entry: Entry,
+        out: &mut W,
+    ) -> Result<(), Reason>
         ensures engine { self.new.engine ≡ self.old.engine }
         ensures names { self.new.waited.items ≡ self.old.waited.items }
         ensures marks { self.new.places.marks.items ≡ self.old.places.marks.items }
@@ -180,7 +187,7 @@ impl<D: Disk> Server<D> {
     }
 
     // Notes a request that has to wait.
-    fn note(&mut self, who: (u16, u64), entry: Entry) -> Result<(), Reason>
+    pub(crate) fn note(&mut self, who: (u16, u64), entry: Entry) -> Result<(), Reason>
         ensures engine { self.new.engine ≡ self.old.engine }
         ensures lines { self.new.lines ≡ self.old.lines }
         ensures bases { self.new.bases.items ≡ self.old.bases.items }
@@ -349,6 +356,27 @@ impl<D: Disk> Server<D> {
         }
     }
 
+    // Prints that a request is done.
+    pub(crate) fn print_done<W: Write>(
+        &mut self,
+        who: (u16, u64),
+        out: &mut W,
+    ) -> Result<(), Reason>
+        ensures engine { self.new.engine ≡ self.old.engine }
+        ensures names { self.new.waited.items ≡ self.old.waited.items }
+        ensures marks { self.new.places.marks.items ≡ self.old.places.marks.items }
+        ensures bases { self.new.bases.items ≡ self.old.bases.items }
+        ensures more { MatchResult result
+            (λ _. PrintsMore (W.contents out.old) self.old.lines (W.contents out.new) self.new.lines
+            (done_line (record { element = who.0; number = who.1 })))
+            (λ _. PrintsOn (W.contents out.old) self.old.lines (W.contents out.new) self.new.lines) }
+    {
+        match make_done(&mut self.line, who.0, who.1) {
+            Ok(()) => self.lines.push(out, self.line.as_str()),
+            Err(_) => Err(Reason::Memory),
+        }
+    }
+
     // Writes what is kept back, if each line is wanted as soon as it is true.
     fn show<W: Write, N: Observer>(&mut self, out: &mut W, observer: &N) -> Result<(), Reason>
         ensures served { HasServed D.Disk [] self.old.bases.items self.new.bases.items result
@@ -363,7 +391,7 @@ impl<D: Disk> Server<D> {
     }
 
     // Serves what a line says, and writes it if that is wanted.
-    fn serve_and_show<W: Write, N: Observer>(
+    pub(crate) fn serve_and_show<W: Write, N: Observer>(
         &mut self,
         said: Said,
         out: &mut W,

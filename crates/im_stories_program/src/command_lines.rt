@@ -41,7 +41,14 @@ fn add_job(said: &mut String, job: &Job) -> Result<(), AllocError> {
                 "make {image} of {cells} cells, {elements} elements, {slots} slots{how}"
             )
         }
-        Job::Serial { image, script } => write!(said, "serve {script} on {image}"),
+        Job::Serial {
+            image,
+            script,
+            once,
+        } => {
+            let how = if once { ", once" } else { "" };
+            write!(said, "serve {script} on {image}{how}")
+        }
         Job::Serve { image, watch } => {
             let how = if watch { "watched" } else { "unwatched" };
             write!(said, "talk on {image}, {how}")

@@ -71,6 +71,7 @@ fn attempt(desk: &mut Desk, words: &[&str], said: &mut String) -> Result<bool> {
                 held,
                 image,
                 script,
+                false,
                 &mut nothing,
                 &mut out,
                 &mut notes,

@@ -2,6 +2,7 @@
 //! command lines, and work on files.
 #![tactic(auto)]
 
+mod again;
 mod command_lines;
 mod dialogues;
 mod files;
@@ -57,6 +58,7 @@ impl<'a> Scene for Desk<'a> {
             || self.printed.tell(alloc, words, said)?
             || self.command_line.tell(alloc, words, said)?
             || serving::tell(alloc, self, words, said)?
+            || again::tell(alloc, self, words, said)?
             || dialogues::tell(alloc, self, words, said)?
             || files::tell(self, words, said)?;
         if is_told {

@@ -4,7 +4,7 @@ use Rattle.im_engine.specs.State.{EngineState}
 use Rattle.im_text.specs.declared.lines.Lines.{Lines}
 use Rattle.im_text.specs.Printing.{PrintsMore, PrintsNows, nows}
 use Rattle.im_text.proofs.PrintingLemmas.{on_ok_by}
-use Rattle.im_serial.specs.Asked.{standing, wanted_of}
+use Rattle.im_serial.specs.Asked.{standing, wanted_of, whole_course}
 use Rattle.im_serial.specs.Serving.{EndedAt, GoingAt, server_of}
 use Rattle.im_serial.proofs.ScriptedLemmas.{as_of, closed, ends_served, going_first}
 use Rattle.im_serial.proofs.serial.serve_on.Goals as goal
@@ -14,6 +14,7 @@ returns-clause-closed g c = λ honest.
     let start = c.args.engine in
     let held = g.W.Write.contents c.args.out.now in
     let script = wanted_of c.args.script.now in
+    let course = whole_course script in
     let n = c.new-server in
     let first = going_first g.D.Disk script start n.result.engine held c.args.desk.lines n.result.lines
     n.result.waited.items n.result.places.marks.items n.result.bases.items c.requires.works c.requires.means
@@ -30,14 +31,14 @@ returns-clause-closed g c = λ honest.
     (closed g.D.Disk c.args.script.now bases start v.result.0 c.close.result c.status_at.result from mid
     (g.W.Write.contents c.finish-status.new.out) held
     l.new.self.lines v.result.1.lines c.finish-status.new.lines w l.new.self.waited.items marks
-    (as_of (λ (e : EngineState g.row.D.Denot) (l : Lines). EndedAt g.D.Disk start held (Some script) (server_of e from
+    (as_of (λ (e : EngineState g.row.D.Denot) (l : Lines). EndedAt g.D.Disk start held (Some course) (server_of e from
     l w marks)) s.new.self.engine v.result.0 s.new.self.lines l.new.self.lines engines l.ensures.lines
-    (s.ensures.served.ends start held (Some script) [] first))
-    (λ zero. as_of (λ (e : EngineState g.row.D.Denot) (l : Lines). GoingAt g.D.Disk start held (standing (Some script)
+    (s.ensures.served.ends start held (Some course) [] first))
+    (λ zero. as_of (λ (e : EngineState g.row.D.Denot) (l : Lines). GoingAt g.D.Disk start held (standing (Some course)
     bases []) (server_of e from l w marks)) s.new.self.engine v.result.0 s.new.self.lines l.new.self.lines engines
     l.ensures.lines
     (ends_served g.D.Disk s.result script _ _ _ _ s.ensures.served (c.both.ensures.served
-    (c.finish-status.ensures.whole (c.status_at.ensures.status zero)).0) start held (Some script) [] first))
+    (c.finish-status.ensures.whole (c.status_at.ensures.status zero)).0) start held (Some course) [] first))
     l.ensures.names (λ m put same known. l.ensures.last m put (ap (λ (e : EngineState g.row.D.Denot). e.memory) (sym
     engines) ∙ same) known) (subst (λ (x : Lines). PrintsNows from l.new.self.lines mid x l.new.self.waited.items)
     (sym v.ensures.lines) c.tell-told.ensures.some)
@@ -53,12 +54,13 @@ returns-clause-honest g c = λ honest.
     let start = c.args.engine in
     let held = g.W.Write.contents c.args.out.now in
     let script = wanted_of c.args.script.now in
+    let course = whole_course script in
     let n = c.new-server in
     let first = going_first g.D.Disk script start n.result.engine held c.args.desk.lines n.result.lines
     n.result.waited.items n.result.places.marks.items n.result.bases.items c.requires.works c.requires.means
     n.ensures.memory c.requires.pending n.ensures.waited n.ensures.bases n.ensures.engine n.ensures.lines in
     let engines = c.leave-engine.ensures.engine ∙ c.tell-told.ensures.engine ∙ c.learn_all.ensures.engine in
-    let ends = c.serve-served.ensures.served.ends start held (Some script) [] first in
+    let ends = c.serve-served.ensures.served.ends start held (Some course) [] first in
     let there = subst g.D.Disk.honest (c.close.ensures.disk ∙ ap (λ (e : EngineState g.row.D.Denot). e.disk) engines)
     honest in
     (ends.1.0 there).0

@@ -1,0 +1,1012 @@
+-- A script that is served once: what a memory has of it. (Own.)
+use Rattle.std.proofs.Common.{◌≡◌, ◌⊎◌, ◌∙◌, inl, inr, ⊎_elim, ℕ, ◌+◌, ◌-◌, ◌<◌, ◌≤◌, zero, suc, Bool, true, false, List}
+use Rattle.std.proofs.Common.{[], ◌∷◌, ◌++◌, length, map, set, get_or, take, Some, None, refl, sym, ap, ap₂, subst, arith}
+use Rattle.std.proofs.Common.{append_assoc}
+use Rattle.std.specs.Borrow.{Bor}
+use Rattle.std.specs.Prelude.{Option, Result, Ok, Err, IsOk, OnOk, MatchResult, ◌==◌, ◌&&◌, nat_lt, slice_get, if◌then◌else◌}
+use Rattle.std.specs.Io.KnownBytes.{Appends}
+use Rattle.std.specs.Option.{option_map_or}
+use Rattle.std.proofs.KnownBytes.{Appends-trans}
+use Rattle.std.proofs.lemmas.Bool.Decides.{nat_tests}
+use Rattle.std.proofs.lemmas.List.{append-nil, get_or-set_same, get_or-set_other, length-map, map-append, take_all, take_more}
+use Rattle.im_types.specs.declared.operations.Entry.{Entry}
+use Rattle.im_types.specs.declared.operations.Entry.TheVariants.{Waiting, Answered}
+use Rattle.im_types.specs.declared.operations.Kept.{Kept}
+use Rattle.im_types.specs.declared.operations.Waiter.{Waiter}
+use Rattle.im_types.specs.Contents.{Contents, Window, kept_for}
+use Rattle.im_types.specs.Memory.{IsMemory, IsWindow}
+use Rattle.im_types.specs.Window.{bounds, next_number}
+use Rattle.im_types.specs.declared.commands.Command.{Command}
+use Rattle.im_types.specs.Run.{after}
+use Rattle.im_disk.specs.declared.disk.Disk.{Ghosts}
+use Rattle.im_disk.specs.Moment.{Left, Rises}
+use Rattle.im_disk.specs.Since.{Leaves, LeavesNow}
+use Rattle.im_disk.proofs.SinceLemmas.{left_now, leaves_now, leaves_then}
+use Rattle.im_engine.specs.State.{EngineState, MeansState}
+use Rattle.im_engine.specs.Run.{MeansBeginning}
+use Rattle.im_engine.proofs.Running.{doubt_by}
+use Rattle.im_laws.proofs.Tests.{eq_by_test}
+use Rattle.im_laws.proofs.WindowLemmas.{kept_for-window}
+use Rattle.im_text.specs.declared.lines.Lines.{Lines}
+use Rattle.im_text.specs.declared.replies.Waited.{Waited}
+use Rattle.im_text.specs.Printing.{Begins, IsLast, Prints, PrintsMore, PrintsNows, PrintsOn, nows, replies, waits}
+use Rattle.im_text.specs.Printing.{waits_if, who_of}
+use Rattle.im_text.proofs.PrintingLemmas.{prints_all, prints_begins, prints_none, true_false}
+use Rattle.im_text.proofs.WindowLemmas.{bounds_found}
+use Rattle.im_serial.specs.declared.waits.Mark.{Mark}
+use Rattle.im_serial.specs.declared.waits.Mark.TheVariants.{Here}
+use Rattle.im_serial.specs.Noted.{AreKnown, AreLast, IsMarked, mark_place, noted_if}
+use Rattle.im_script.specs.declared.script.Said.{Said}
+use Rattle.im_script.specs.Script.{Draft, counted, lines_of}
+use Rattle.im_serial.specs.Asked.{Course, Leads, Wanted, standing, wanted_by, wanted_in, wanted_of}
+use Rattle.im_serial.specs.Serving.{EndsAt, GoingAt, HaltsAt, HaltsWith, HasServed, Passes, ScriptServer, server_of}
+use Rattle.im_serial.specs.Once.{Breaks, BrokenAt, HasBroken, HasMet, HasPassed, HasShown, IsPrefix, Meets, MetAt, Names}
+use Rattle.im_serial.specs.Once.{bases_had, has_block, has_next, left_of, length_asked}
+use Rattle.im_serial.specs.Once.{if_new, line_of, lines_had, met, met_all, news, next_had, noted_of, numbers_had, waits_had}
+use Rattle.im_serial.specs.Once.{waits_of, who_next, ClosedOnce, DoneOnce, EndedOnce, HasServedOnce, IsAskedOnce}
+use Rattle.im_serial.specs.Once.{IsReady, ServedOnce, ToldOnce, course_of, new_of}
+use Rattle.im_serial.proofs.AskedLemmas.{stands_here, wanted_line}
+use Rattle.im_serial.proofs.NotedLemmas.{apart, last_or_before, noted_known}
+use Rattle.im_serial.proofs.ScriptedLemmas.{going_from}
+use Rattle.im_serial.proofs.ServingLemmas.{goes_none, halts, put_all}
+
+-- what a line asks for, and those behind it
+pub line_wanted : (d next : Draft) (said : Said) (text line : List ℕ) (behind : Option (Bor (List ℕ))) → lines_of text ≡
+    line ∷ option_map_or (λ rest. lines_of rest.now) behind [] → counted d line ≡ Some (next, said)
+    → wanted_in d (lines_of text) ≡ wanted_by said ++ option_map_or (λ rest. wanted_in next (lines_of rest.now)) behind
+    []
+line_wanted d next said text line behind lines read = ap (wanted_in d) lines
+    ∙ wanted_line d next said line (option_map_or (λ rest. lines_of rest.now) behind []) read
+    ∙ ap (λ (l : List Wanted). wanted_by said ++ l) (by_behind behind)
+  where
+    by_behind : (behind : Option (Bor (List ℕ))) → wanted_in next (option_map_or (λ rest. lines_of rest.now) behind [])
+        ≡ option_map_or (λ rest. wanted_in next (lines_of rest.now)) behind []
+    by_behind (Some rest) = refl
+    by_behind None = refl
+
+-- ---- what is left of an element's requests
+
+some_within : (xs : List ℕ) (i : ℕ) → 0 < get_or xs i 0 → i < length xs
+some_within [] i some = absurd (omega arith)
+some_within (x ∷ xs) zero some = omega arith
+some_within (x ∷ xs) (suc i) some = let it = some_within xs i some in omega arith
+
+some_by : (n : ℕ) → nat_lt 0 n ≡ true → 0 < n
+some_by n is = grind (arith, nat_tests)
+
+-- one less is left of that element's
+met_here : (many : List ℕ) (e : ℕ) → has_next many e ≡ true → left_of (met many e) e + 1 ≡ left_of many e
+met_here many e has =
+    let some : 0 < left_of many e = some_by (left_of many e) has in
+    let is : left_of (met many e) e ≡ left_of many e - 1 = ap (λ (b : Bool). left_of (if b then set many e (left_of many
+    e - 1) else many) e) has ∙ get_or-set_same many e (left_of many e - 1) 0 (some_within many e some) in
+    omega arith
+
+-- no more is left of any
+met_less : (many : List ℕ) (e f : ℕ) → left_of (met many e) f ≤ left_of many f
+met_less many e f = by_test (has_next many e) refl
+  where
+    by_same : has_next many e ≡ true → (t : Bool) → (f == e) ≡ t → left_of (met many e) f ≤ left_of many f
+    by_same has true t =
+        let same : f ≡ e = eq_by_test f e t in
+        subst (λ (x : ℕ). left_of (met many e) x ≤ left_of many x) (sym same) (let it = met_here many e has in omega arith)
+    by_same has false t =
+        let is : left_of (met many e) f ≡ left_of many f = ap (λ (b : Bool). left_of (if b then set many e (left_of many
+        e - 1) else many) f) has ∙ get_or-set_other many e f (left_of many e - 1) 0 (λ same. true_false (f == e)
+        (eq_same f e same) t) in
+        omega arith
+      where
+        eq_same : (a b : ℕ) → a ≡ b → (a == b) ≡ true
+        eq_same a b same = grind (arith, nat_tests)
+
+    by_test : (b : Bool) → has_next many e ≡ b → left_of (met many e) f ≤ left_of many f
+    by_test true has = by_same has (f == e) refl
+    by_test false has =
+        let is : left_of (met many e) f ≡ left_of many f = ap (λ (b : Bool). left_of (if b then set many e (left_of many
+        e - 1) else many) f) has in
+        omega arith
+
+-- something is left
+pub has_some : (many : List ℕ) (e f left : ℕ) → f ≡ e → left ≡ left_of many e → (left ≡ 0 → ⊥) → has_next many f ≡ true
+has_some many e f left same is some = ap (has_next many) same ∙ by_left (left_of many e) (λ none. some (is ∙ none))
+  where
+    by_some : (n : ℕ) → 0 < n → nat_lt 0 n ≡ true
+    by_some n less = grind (arith, nat_tests)
+
+    by_left : (n : ℕ) → (n ≡ 0 → ⊥) → nat_lt 0 n ≡ true
+    by_left zero some = absurd (some refl)
+    by_left (suc n) some = by_some (suc n) (omega arith)
+
+-- the next request of an element, by its window
+pub who_is_next : (m : Contents) (many : List ℕ) (e f base next left number : ℕ) → f ≡ e → bounds m.windows e ≡ Ok (
+  base,
+  next,
+) → left ≡ left_of many e → number ≡ next - left → ◌≡◌ {A = Waiter} (record { element = e; number = number }) (who_next
+    m many f)
+who_is_next m many e f base next left number same found is number_is =
+    let it = bounds_found (slice_get m.windows e) base next found in
+    let next_is : next_had m e ≡ next = ap (λ (o : Option Window). option_map_or next_number o 0) it.found_is
+    ∙ sym it.next_is in
+    let number_same : number ≡ next_had m e - left_of many e = number_is ∙ ap₂ (λ (a b : ℕ). a - b) (sym next_is) is in
+    ap (λ (n : ℕ). record { element = e; number = n }) number_same
+    ∙ ap (λ (x : ℕ). who_next m many x) (sym same)
+
+-- nothing is met if nothing is left
+met_none : (many : List ℕ) (e : ℕ) → has_next many e ≡ false → met many e ≡ many
+met_none many e none = ap (λ (b : Bool). if b then set many e (left_of many e - 1) else many) none
+
+-- ---- how many requests a memory has
+
+had_at : (windows : List Window) (k : ℕ) → get_or (map (λ (w : Window). next_number w - 1) windows) k 0
+    ≡ option_map_or (λ (w : Window). next_number w - 1) (slice_get windows k) 0
+had_at [] k = refl
+had_at (w ∷ windows) zero = refl
+had_at (w ∷ windows) (suc k) = had_at windows k
+
+-- one element more
+pub had_more : (m : Contents) (k count : ℕ) (many : List ℕ) → many ≡ take k (numbers_had m) → k < length m.windows
+    → count ≡ option_map_or (λ (w : Window). next_number w - 1) (slice_get m.windows k) 0
+    → many ++ count ∷ [] ≡ take (k + 1) (numbers_had m)
+had_more m k count many so_far inside is =
+    let same = length-map m.windows (λ (w : Window). next_number w - 1) in
+    ap₂ (λ (l : List ℕ) (n : ℕ). l ++ n ∷ []) so_far (is ∙ sym (had_at m.windows k))
+    ∙ sym (take_more (numbers_had m) k 0 (omega arith))
+
+-- all of them
+pub had_all : (m : Contents) (k : ℕ) → length m.windows ≤ k → take k (numbers_had m) ≡ numbers_had m
+had_all m k past =
+    let same = length-map m.windows (λ (w : Window). next_number w - 1) in
+    take_all k (numbers_had m) (omega arith)
+
+-- ---- a request that the memory has
+
+if_true : {A : Type 0} (b : Bool) (x y : A) → b ≡ true → (if b then x else y) ≡ x
+if_true true x y is = refl
+if_true false x y is = absurd (true_false false is refl)
+
+if_false : {A : Type 0} (b : Bool) (x y : A) → b ≡ false → (if b then x else y) ≡ y
+if_false false x y is = refl
+if_false true x y is = absurd (true_false true refl is)
+
+names_of : (m : Contents) (who : Waiter) → map who_of (noted_of m who) ≡ waits_of m who
+names_of m who = by_kept (kept_for m.windows who)
+  where
+    by_kept : (found : Option Kept) → map who_of (option_map_or (λ (k : Kept). noted_if who k.entry) found [])
+        ≡ option_map_or (λ (k : Kept). waits_if who k.entry) found []
+    by_kept None = refl
+    by_kept (Some k) = by_entry k.entry
+      where
+        by_entry : (e : Entry) → map who_of (noted_if who e) ≡ waits_if who e
+        by_entry Waiting = refl
+        by_entry (Answered reply) = refl
+
+-- the number of a kept request and what is left come to the next number
+number_left : (m : Contents) (many : List ℕ) (e : ℕ) (k : Kept) → ((element : ℕ) (w : Window)
+    → slice_get m.windows element ≡ Some w → IsWindow w) → kept_for m.windows (who_next m many e) ≡ Some k
+    → (next_had m e - left_of many e) + left_of many e ≡ next_had m e
+number_left m many e k windows is =
+    let there = kept_for-window m.windows (who_next m many e) k is in
+    let one : 1 ≤ there.0.base = (windows e there.0 there.1).from_one in
+    let from : there.0.base ≤ next_had m e - left_of many e = there.2 in
+    omega arith
+
+nothing_below : (n : ℕ) → n < 0 → ⊥
+nothing_below n less = omega arith
+
+module _ (m : Contents) (script rest : List Wanted) (many : List ℕ) (w : Wanted) (text : List ℕ) (waited : List Waited)
+    (marks : List Mark) (it : HasMet m script many (w ∷ rest) text waited marks) where
+  abbrev who : Waiter
+  who = who_next m many w.element
+
+  -- the memory doesn't have it
+  pub met_new : has_next many w.element ≡ false → HasMet m script (met many w.element) rest text waited marks
+  met_new none =
+      let same : met many w.element ≡ many = met_none many w.element none in
+      record {
+        memory = it.memory;
+        lines = it.lines ∙ ap (λ (l : List ℕ). text ++ (l ++ lines_had m (met many w.element) rest)) (if_false
+            (has_next many w.element) (line_of m who) [] none);
+        names = it.names ∙ ap (λ (l : List Waiter). map who_of waited ++ (l ++ waits_had m (met many w.element) rest))
+            (if_false (has_next many w.element) (waits_of m who) [] none);
+        marked = it.marked;
+        passed = λ at v is. subst (λ (l : List ℕ). v.number + left_of l v.element < next_had m v.element) (sym same)
+            (it.passed at v is);
+      }
+
+  -- it has it
+  module _ (has : has_next many w.element ≡ true) where
+    lines_more : lines_had m (numbers_had m) script ≡ (text ++ line_of m who) ++ lines_had m (met many w.element) rest
+    lines_more = it.lines ∙ ap (λ (l : List ℕ). text ++ (l ++ lines_had m (met many w.element) rest)) (if_true
+        (has_next many w.element) (line_of m who) [] has)
+        ∙ sym (append_assoc text (line_of m who) (lines_had m (met many w.element) rest))
+
+    passed_less : (at : ℕ) (v : Waited) → slice_get waited at ≡ Some v → v.number + left_of (met many w.element)
+        v.element < next_had m v.element
+    passed_less at v is =
+        let before = it.passed at v is in
+        let less = met_less many w.element v.element in
+        omega arith
+
+    -- its line was made, and then it was ended
+    pub met_line_broken : HasBroken m script (text ++ line_of m who) waited
+    met_line_broken = record {
+      lines = (lines_had m (met many w.element) rest, lines_more);
+      names = (waits_had m many (w ∷ rest), it.names);
+      known = λ at v is. inr ((it.marked at v is).kept, (it.marked at v is).kept_is);
+    }
+
+    module _ (noted : List Waited) (later : List Mark) (pushed : noted ≡ waited ++ noted_of m who)
+        (others : (i : ℕ) → (i ≡ mark_place who → ⊥) → slice_get later i ≡ slice_get marks i)
+        (unmarked : kept_for m.windows who ≡ None → later ≡ marks)
+        (mark : (k : Kept) → kept_for m.windows who ≡ Some k → k.entry ≡ Waiting
+        → slice_get later (mark_place who) ≡ Some (Here (length waited))) where
+      -- an earlier one stays marked
+      stays_marked : (found : Option Kept) → kept_for m.windows who ≡ found → (at : ℕ) (v : Waited)
+          → slice_get waited at ≡ Some v → IsMarked m 0 0 later at v
+      stays_marked None none at v is = subst (λ (l : List Mark). IsMarked m 0 0 l at v) (sym (unmarked none)) (it.marked
+          at v is)
+      stays_marked (Some k) kept at v is =
+          let before = it.marked at v is in
+          record {
+            kept = before.kept;
+            kept_is = before.kept_is;
+            learnt = before.learnt;
+            marked = λ no. others (mark_place (who_of v)) (λ same. differ before same) ∙ before.marked no;
+          }
+        where
+          differ : IsMarked m 0 0 marks at v → mark_place (who_of v) ≡ mark_place who → ⊥
+          differ before same =
+              let a = apart m.windows (who_of v) who before.kept k it.memory.windows before.kept_is kept same in
+              let below : v.number + left_of many v.element < next_had m v.element = it.passed at v is in
+              let here : v.number + left_of many w.element < next_had m w.element = subst (λ (e : ℕ).
+              v.number + left_of many e < next_had m e) a.0 below in
+              let number : v.number ≡ next_had m w.element - left_of many w.element = a.1 in
+              absurd (omega arith)
+
+      by_kept : (found : Option Kept) → kept_for m.windows who ≡ found → noted ≡ waited ++ option_map_or (λ (k : Kept).
+          noted_if who k.entry) found [] → (at : ℕ) (v : Waited) → slice_get noted at ≡ Some v
+          → IsMarked m 0 0 later at v × (v.number + left_of (met many w.element) v.element < next_had m v.element)
+      by_kept None none is at v found =
+          let old : slice_get waited at ≡ Some v = ap (λ (l : List Waited). slice_get l at) (sym (is ∙ append-nil
+          waited)) ∙ found in
+          (stays_marked None none at v old, passed_less at v old)
+      by_kept (Some k) kept is at v found = by_entry k.entry refl is
+        where
+          by_entry : (e : Entry) → k.entry ≡ e → noted ≡ waited ++ noted_if who e
+              → IsMarked m 0 0 later at v × (v.number + left_of (met many w.element) v.element < next_had m v.element)
+          by_entry (Answered reply) e is =
+              let old : slice_get waited at ≡ Some v = ap (λ (l : List Waited). slice_get l at) (sym (is ∙ append-nil
+              waited)) ∙ found in
+              (stays_marked (Some k) kept at v old, passed_less at v old)
+          by_entry Waiting e is = ⊎_elim (λ old. (stays_marked (Some k) kept at v old, passed_less at v old)) (λ last.
+              let at_is : at ≡ length waited = last.0 in
+              let v_is : v ≡ record { element = who.element; number = who.number; entry = Waiting } = last.1 in
+              subst (λ (x : Waited). IsMarked m 0 0 later at x × (x.number + left_of (met many w.element) x.element
+              < next_had m x.element)) (sym v_is) (
+                record {
+                  kept = k;
+                  kept_is = kept;
+                  learnt = λ below. absurd (nothing_below (next_had m w.element - left_of many w.element) below.1);
+                  marked = λ no. mark k kept e ∙ ap (λ (n : ℕ). Some (Here n)) (sym at_is);
+                },
+                new_passed,
+              ))
+              (last_or_before waited (record { element = who.element; number = who.number; entry = Waiting }) at v (ap
+              (λ (l : List Waited). slice_get l at) (sym is) ∙ found))
+            where
+              new_passed : (next_had m w.element - left_of many w.element) + left_of (met many w.element) w.element
+                  < next_had m w.element
+              new_passed =
+                  let whole = number_left m many w.element k it.memory.windows kept in
+                  let one = met_here many w.element has in
+                  omega arith
+
+      -- its line was made, and it is noted if it waits
+      pub met_more : HasMet m script (met many w.element) rest (text ++ line_of m who) noted later
+      met_more = record {
+        memory = it.memory;
+        lines = lines_more;
+        names = it.names ∙ ap (λ (l : List Waiter). map who_of waited ++ (l ++ waits_had m (met many w.element) rest))
+            (if_true (has_next many w.element) (waits_of m who) [] has ∙ sym (names_of m who))
+            ∙ sym (append_assoc (map who_of waited) (map who_of (noted_of m who)) (waits_had m (met many w.element)
+            rest))
+            ∙ ap (λ (l : List Waiter). l ++ waits_had m (met many w.element) rest) (sym (map-append who_of waited
+            (noted_of m who)) ∙ ap (map who_of) (sym pushed));
+        marked = λ at v is. (by_kept (kept_for m.windows who) refl pushed at v is).0;
+        passed = λ at v is. (by_kept (kept_for m.windows who) refl pushed at v is).1;
+      }
+
+-- it was ended there
+pub met_broken : (m : Contents) (script : List Wanted) (many : List ℕ) (left : List Wanted) (text : List ℕ) (waited :
+    List Waited) (marks : List Mark) → HasMet m script many left text waited marks → HasBroken m script text waited
+met_broken m script many left text waited marks it = record {
+  lines = (lines_had m many left, it.lines);
+  names = (waits_had m many left, it.names);
+  known = λ at v is. inr ((it.marked at v is).kept, (it.marked at v is).kept_is);
+}
+
+-- ---- names
+
+module _ (many : List ℕ) (end : ℕ) (w : Wanted) (before : List ℕ) where
+  -- the memory has its block
+  pub names_had : has_next many w.element ≡ true → w.named ≡ true → (after : List ℕ) (behind : ℕ)
+      → after ≡ before ++ end ∷ [] → behind ≡ end + length_asked w.action
+      → Names many end (w ∷ []) (met many w.element) behind [] before after
+  names_had has named after behind pushed moved = λ all rest is.
+      is ∙ ap (λ (b : Bool). before ++ ((if b then end ∷ [] else []) ++ bases_had (met many w.element) (if b then end +
+      length_asked w.action else end) rest)) (ap₂ (λ (a b : Bool). a && b) has named)
+      ∙ sym (append_assoc before (end ∷ []) (bases_had (met many w.element) (end + length_asked w.action) rest))
+      ∙ ap₂ (λ (l : List ℕ) (n : ℕ). l ++ bases_had (met many w.element) n rest) (sym pushed) (sym moved)
+
+  -- it has no block of this name
+  pub names_same : has_block many w ≡ false → Names many end (w ∷ []) (met many w.element) end [] before before
+  names_same none = λ all rest is.
+      is ∙ ap (λ (b : Bool). before ++ ((if b then end ∷ [] else []) ++ bases_had (met many w.element) (if b then end +
+      length_asked w.action else end) rest)) none
+
+-- a name was kept, if the memory has its block
+pub names_kept : {T E : Type 0} (r : Result T E) (many : List ℕ) (end : ℕ) (w : Wanted) (before between after between_many
+    later : List ℕ) (between_end behind : ℕ) → w.named ≡ true → later ≡ between_many → between_many ≡ met many w.element
+    → between ≡ before → between_end ≡ end → (had : Bool) → had ≡ has_next many w.element
+    → OnOk r (had ≡ false → (after ≡ between) × (behind ≡ between_end))
+    → OnOk r (had ≡ true → (after ≡ between ++ between_end ∷ []) × (behind ≡ between_end + length_asked w.action))
+    → OnOk r (Names many end (w ∷ []) later behind [] before after)
+names_kept (Err e) many end w before between after between_many later between_end behind named same is bases ends had
+    had_is none some = tt
+names_kept (Ok x) many end w before between after between_many later between_end behind named same is bases ends had
+    had_is none some = by_had had refl
+  where
+    by_had : (b : Bool) → had ≡ b → Names many end (w ∷ []) later behind [] before after
+    by_had true h =
+        let it = some h in
+        subst (λ (l : List ℕ). Names many end (w ∷ []) l behind [] before after) (sym (same ∙ is))
+        (names_had many end w before (sym had_is ∙ h) named after behind (it.0 ∙ ap₂ (λ (l : List ℕ) (n : ℕ). l ++ n ∷
+        []) bases ends) (it.1 ∙ ap (λ (n : ℕ). n + length_asked w.action) ends))
+    by_had false h =
+        let it = none h in
+        subst (λ (l : List ℕ). Names many end (w ∷ []) l behind [] before after) (sym (same ∙ is))
+        (subst (λ (n : ℕ). Names many end (w ∷ []) (met many w.element) n [] before after) (sym (it.1 ∙ ends))
+        (subst (λ (l : List ℕ). Names many end (w ∷ []) (met many w.element) end [] before l) (sym (it.0 ∙ bases))
+        (names_same many end w before (ap (λ (b : Bool). b && w.named) (sym had_is ∙ h)))))
+
+-- ---- servers
+
+module _ {D : Type 0} where
+  pub meets_refl : (many : List ℕ) (wanted : List Wanted) (t : ScriptServer D) → Meets many wanted many wanted t t
+  meets_refl many wanted t = λ script rest held at. at
+
+  pub broken_at : (script : List Wanted) (many : List ℕ) (left : List Wanted) (held : Option (List ℕ)) (t :
+      ScriptServer D) → MetAt script many left held t → BrokenAt script held t
+  broken_at script many left held t it = (
+    it.0,
+    (met_broken t.engine.memory script many left it.0 t.waited t.marks it.1.0, it.1.1),
+  )
+
+  -- it is ended there
+  pub breaks_here : (many later : List ℕ) (wanted left : List Wanted) (old new : ScriptServer D)
+      → Meets many wanted later left old new → Breaks many wanted old new
+  breaks_here many later wanted left old new meets = λ script rest held at. broken_at script later (left ++ rest)
+      held new (meets script rest held at)
+
+  -- the memory doesn't have the request
+  pub meets_new : (many : List ℕ) (w : Wanted) (t : ScriptServer D) → has_next many w.element ≡ false
+      → Meets many (w ∷ []) (met many w.element) [] t t
+  meets_new many w t none = λ script rest held at. (
+    at.0,
+    (met_new t.engine.memory script rest many w at.0 t.waited t.marks at.1.0 none, at.1.1),
+  )
+
+  -- it has the request
+  module _ (engine same : EngineState D) (held later : Option (List ℕ)) (before last : Lines) (waited noted : List
+      Waited) (marks marked : List Mark) (many : List ℕ) (w : Wanted) (it : Waiter) (engines : same ≡ engine)
+      (has : has_next many w.element ≡ true) (it_is : it ≡ who_next engine.memory many w.element)
+      (others : (i : ℕ) → (i ≡ mark_place it → ⊥) → slice_get marked i ≡ slice_get marks i)
+      (unmarked : kept_for engine.memory.windows it ≡ None → marked ≡ marks) where
+    meets_more : noted ≡ waited ++ noted_of engine.memory it → ((k : Kept) → kept_for engine.memory.windows it ≡ Some k
+        → k.entry ≡ Waiting → slice_get marked (mark_place it) ≡ Some (Here (length waited)))
+        → PrintsMore held before later last (line_of engine.memory it)
+        → Meets many (w ∷ []) (met many w.element) [] (server_of engine held before waited marks) (server_of same later
+        last noted marked)
+    meets_more pushed mark prints = λ script rest from at.
+        let m = engine.memory in
+        let there : Waiter = who_next m many w.element in
+        subst (λ (e : EngineState D). MetAt script (met many w.element) rest from (server_of e later last noted marked))
+        (sym engines) (
+          at.0 ++ line_of m there,
+          (
+            met_more m script rest many w at.0 waited marks at.1.0 has noted marked
+                (subst (λ (x : Waiter). noted ≡ waited ++ noted_of m x) it_is pushed)
+                (subst (λ (x : Waiter). (i : ℕ) → (i ≡ mark_place x → ⊥) → slice_get marked i ≡ slice_get marks i) it_is
+                others)
+                (subst (λ (x : Waiter). kept_for m.windows x ≡ None → marked ≡ marks) it_is unmarked)
+                (subst (λ (x : Waiter). (k : Kept) → kept_for m.windows x ≡ Some k → k.entry ≡ Waiting
+                → slice_get marked (mark_place x) ≡ Some (Here (length waited))) it_is mark),
+            subst (λ (x : Waiter). Prints from later last (at.0 ++ line_of m x)) it_is (prints from at.0 at.1.1),
+          ),
+        )
+
+    breaks_before : noted ≡ waited → PrintsOn held before later last ⊎ PrintsMore held before later last (line_of
+        engine.memory it)
+        → Breaks many (w ∷ []) (server_of engine held before waited marks) (server_of same later last noted marked)
+    breaks_before nothing prints = λ script rest from at.
+        subst (λ (e : EngineState D). BrokenAt script from (server_of e later last noted marked)) (sym engines)
+        (subst (λ (l : List Waited). BrokenAt script from (server_of engine later last l marked)) (sym nothing)
+        (by_prints script rest from at prints))
+      where
+        by_prints : (script rest : List Wanted) (from : Option (List ℕ)) → MetAt script many (w ∷ rest) from (server_of
+            engine held before waited marks)
+            → PrintsOn held before later last ⊎ PrintsMore held before later last (line_of engine.memory it)
+            → BrokenAt script from (server_of engine later last waited marked)
+        by_prints script rest from at (inl on) = (
+          at.0,
+          (met_broken engine.memory script many (w ∷ rest) at.0 waited marks at.1.0, on from at.0 at.1.1),
+        )
+        by_prints script rest from at (inr more) = (
+          at.0 ++ line_of engine.memory (who_next engine.memory many w.element),
+          (
+            met_line_broken engine.memory script rest many w at.0 waited marks at.1.0 has,
+            subst (λ (x : Waiter). Prints from later last (at.0 ++ line_of engine.memory x)) it_is (more from at.0
+                at.1.1),
+          ),
+        )
+
+    pub passed_had : {T E : Type 0} (r : Result T E) → MatchResult r (λ x. noted ≡ waited ++ noted_of engine.memory it)
+        (λ e. noted ≡ waited)
+        → OnOk r ((k : Kept) → kept_for engine.memory.windows it ≡ Some k → k.entry ≡ Waiting → slice_get marked
+        (mark_place it) ≡ Some (Here (length waited)))
+        → MatchResult r (λ x. PrintsMore held before later last (line_of engine.memory it)) (λ e. PrintsOn held before
+        later last ⊎ PrintsMore held before later last (line_of engine.memory it))
+        → HasPassed many (w ∷ []) (met many w.element) r (server_of engine held before waited marks) (server_of same
+        later last noted marked)
+    passed_had (Ok x) pushed mark prints = meets_more pushed mark prints
+    passed_had (Err e) nothing mark prints = breaks_before nothing prints
+
+  -- the same, with another success
+  pub passed_as : {T U E F : Type 0} (r : Result T E) (s : Result U F) (many later : List ℕ) (wanted : List Wanted) (old
+      new : ScriptServer D) → (IsOk r → IsOk s) → (IsOk s → IsOk r) → HasPassed many wanted later r old new
+      → HasPassed many wanted later s old new
+  passed_as (Ok x) (Ok y) many later wanted old new a b it = it
+  passed_as (Err e) (Err f) many later wanted old new a b it = it
+  passed_as (Ok x) (Err f) many later wanted old new a b it = absurd (true_false false (a refl) refl)
+  passed_as (Err e) (Ok y) many later wanted old new a b it = absurd (true_false false (b refl) refl)
+
+  -- ---- lines
+
+  module _ (all : List Wanted) (first many : List ℕ) (old mid : ScriptServer D) (d next : Draft) (said : Said) (text
+      line : List ℕ) (behind : Option (Bor (List ℕ)))
+      (lines : lines_of text ≡ line ∷ option_map_or (λ rest. lines_of rest.now) behind []) (read : counted d line ≡
+      Some (next, said)) where
+    module _ (so_far : Meets first all many (wanted_in d (lines_of text)) old mid) where
+      meets_there : (script rest : List Wanted) (held : Option (List ℕ)) → MetAt script first (all ++ rest) held old
+          → MetAt script many (wanted_by said ++ (option_map_or (λ rest. wanted_in next (lines_of rest.now)) behind []
+          ++ rest)) held mid
+      meets_there script rest held at =
+          let left = option_map_or (λ rest. wanted_in next (lines_of rest.now)) behind [] in
+          subst (λ (l : List Wanted). MetAt script many l held mid) (ap (λ (l : List Wanted). l ++ rest) (line_wanted d
+          next said text line behind lines read) ∙ append_assoc (wanted_by said) left rest)
+          (so_far script rest held at)
+
+      pub line_meets : (later : List ℕ) (new : ScriptServer D) → Meets many (wanted_by said) later [] mid new → Meets
+          first all later (option_map_or (λ rest. wanted_in next (lines_of rest.now)) behind []) old new
+      line_meets later new meets = λ script rest held at. meets script (option_map_or (λ rest. wanted_in next (lines_of
+          rest.now)) behind [] ++ rest) held (meets_there script rest held at)
+
+      pub line_breaks : (new : ScriptServer D) → Breaks many (wanted_by said) mid new → Breaks first all old new
+      line_breaks new breaks = λ script rest held at. breaks script (option_map_or (λ rest. wanted_in next (lines_of
+          rest.now)) behind [] ++ rest) held (meets_there script rest held at)
+
+    pub line_names : (start end : ℕ) (begun before : List ℕ) → Names first start all many end (wanted_in d (lines_of
+        text)) begun before → (later : List ℕ) (after : ℕ) (bases : List ℕ) → Names many end (wanted_by said) later
+        after [] before bases → Names first start all later after (option_map_or (λ rest. wanted_in next (lines_of
+        rest.now)) behind []) begun bases
+    line_names start end begun before so_far later after bases names = λ total rest is.
+        let left = option_map_or (λ rest. wanted_in next (lines_of rest.now)) behind [] in
+        names total (left ++ rest) (so_far total rest is ∙ ap (λ (l : List Wanted). before ++ bases_had many end l) (ap
+        (λ (l : List Wanted). l ++ rest) (line_wanted d next said text line behind lines read)
+        ∙ append_assoc (wanted_by said) left rest))
+
+  -- what is kept back is written
+  pub meets_printed : (first later : List ℕ) (all left : List Wanted) (old : ScriptServer D) (engine : EngineState D)
+      (held after : Option (List ℕ)) (before last : Lines) (waited : List Waited) (marks : List Mark)
+      → Meets first all later left old (server_of engine held before waited marks) → PrintsOn held before after last
+      → Meets first all later left old (server_of engine after last waited marks)
+  meets_printed first later all left old engine held after before last waited marks meets prints = λ script rest from
+      at. let it = meets script rest from at in (it.0, (it.1.0, prints from it.0 it.1.1))
+
+  -- the requests were met, whatever comes then
+  pub passed_named : {T E : Type 0} (r : Result T E) (many later : List ℕ) (wanted : List Wanted) (old new :
+      ScriptServer D) → Meets many wanted later [] old new → HasPassed many wanted later r old new
+  passed_named (Ok x) many later wanted old new meets = meets
+  passed_named (Err e) many later wanted old new meets = breaks_here many later wanted [] old new meets
+
+  -- the lines that are left
+  pub meets_none : (F : Bor (List ℕ) → List Wanted) (first later : List ℕ) (all : List Wanted) (old new : ScriptServer
+      D) (rest : Option (Bor (List ℕ))) → rest ≡ None → Meets first all later (option_map_or F rest []) old new → Meets
+      first all later [] old new
+  meets_none F first later all old new rest none meets = subst (λ (o : Option (Bor (List ℕ))). Meets first all later
+      (option_map_or F o []) old new) none meets
+
+  pub meets_some : (F : Bor (List ℕ) → List Wanted) (first later : List ℕ) (all : List Wanted) (old new : ScriptServer
+      D) (rest : Option (Bor (List ℕ))) (text : Bor (List ℕ)) → rest ≡ Some text → Meets first all later (option_map_or
+      F rest []) old new → Meets first all later (F text) old new
+  meets_some F first later all old new rest text some meets = subst (λ (o : Option (Bor (List ℕ))). Meets first all later
+      (option_map_or F o []) old new) some meets
+
+  -- all of it is written
+  pub shown_by : {T E : Type 0} (r : Result T E) (script : List Wanted) (bases known later : List ℕ) (behind : ℕ) (old :
+      ScriptServer D) (engine : EngineState D) (held after : Option (List ℕ)) (before last : Lines) (waited : List
+      Waited) (marks : List Mark) → engine ≡ old.engine
+      → Meets (numbers_had old.engine.memory) script later [] old (server_of engine held before waited marks)
+      → Names (numbers_had old.engine.memory) 0 script later behind [] bases known → PrintsOn held before after last
+      → OnOk r (last.pending.items ≡ []) → OnOk r (last.broken ≡ false)
+      → MatchResult r (λ x. HasShown script bases known old (server_of engine after last waited marks))
+      (λ e. Breaks (numbers_had old.engine.memory) script old (server_of engine after last waited marks))
+  shown_by (Ok x) script bases known later behind old engine held after before last waited marks same meets names prints
+      pending works = record {
+        engine = same;
+        later = later;
+        meets = meets_printed (numbers_had old.engine.memory) later script [] old engine held after before last waited marks
+            meets prints;
+        names = sym (append-nil known) ∙ sym (names (bases ++ bases_had (numbers_had old.engine.memory) 0 (script ++ [])) []
+            refl) ∙ ap (λ (l : List Wanted). bases ++ bases_had (numbers_had old.engine.memory) 0 l) (append-nil script);
+        pending = pending;
+        works = works;
+      }
+  shown_by (Err e) script bases known later behind old engine held after before last waited marks same meets names
+      prints pending works = breaks_here (numbers_had old.engine.memory) later script [] old (server_of engine after
+      last waited marks) (meets_printed (numbers_had old.engine.memory) later script [] old engine held after before
+      last waited marks meets prints)
+
+pub names_none : (F : Bor (List ℕ) → List Wanted) (many later : List ℕ) (end behind : ℕ) (all : List Wanted) (before
+    after : List ℕ) (rest : Option (Bor (List ℕ))) → rest ≡ None → Names many end all later behind (option_map_or F rest
+    []) before after → Names many end all later behind [] before after
+names_none F many later end behind all before after rest none names = subst (λ (o : Option (Bor (List ℕ))). Names many
+    end all later behind (option_map_or F o []) before after) none names
+
+pub names_some : (F : Bor (List ℕ) → List Wanted) (many later : List ℕ) (end behind : ℕ) (all : List Wanted) (before
+    after : List ℕ) (rest : Option (Bor (List ℕ))) (text : Bor (List ℕ)) → rest ≡ Some text → Names many end all later
+    behind (option_map_or F rest []) before after → Names many end all later behind (F text) before after
+names_some F many later end behind all before after rest text some names = subst (λ (o : Option (Bor (List ℕ))). Names
+    many end all later behind (option_map_or F o []) before after) some names
+
+-- ---- what is new
+
+pub news_append : (many : List ℕ) (some more : List Wanted) → news many (some ++ more) ≡ news many some ++ news (met_all
+    many some) more
+news_append many [] more = refl
+news_append many (w ∷ some) more = ap (λ (l : List Wanted). if_new many w ++ l) (news_append (met many w.element) some
+    more) ∙ sym (append_assoc (if_new many w) (news (met many w.element) some) (news (met_all (met many w.element) some)
+    more))
+
+news_behind : (many : List ℕ) (d : Draft) (behind : Option (Bor (List ℕ))) → news many (option_map_or (λ rest.
+    wanted_in d (lines_of rest.now)) behind []) ≡ option_map_or (λ rest. news many (wanted_in d (lines_of rest.now)))
+    behind []
+news_behind many d (Some rest) = refl
+news_behind many d None = refl
+
+-- what is new of a line, and of those behind it
+pub news_line : (many later : List ℕ) (d next : Draft) (said : Said) (text line : List ℕ) (behind : Option (Bor (List
+    ℕ))) → lines_of text ≡ line ∷ option_map_or (λ rest. lines_of rest.now) behind [] → counted d line ≡ Some (
+      next,
+      said,
+    ) → later ≡ met_all many (wanted_by said) → news many (wanted_in d (lines_of text)) ≡ news many (wanted_by said) ++
+    option_map_or (λ rest. news later (wanted_in next (lines_of rest.now))) behind []
+news_line many later d next said text line behind lines read same =
+    ap (news many) (line_wanted d next said text line behind lines read)
+    ∙ news_append many (wanted_by said) (option_map_or (λ rest. wanted_in next (lines_of rest.now)) behind [])
+    ∙ ap (λ (l : List Wanted). news many (wanted_by said) ++ l) (news_behind (met_all many (wanted_by said)) next behind
+    ∙ ap (λ (l : List ℕ). option_map_or (λ rest. news l (wanted_in next (lines_of rest.now))) behind []) (sym same))
+
+module _ {D : Type 0} (disk : Ghosts D) where
+  -- these requests, and those behind them
+  module _ (all whole some left : List Wanted) (is : whole ≡ some ++ left) (first before : List ℕ) (old mid :
+      ScriptServer D) (so_far : Passes disk all first whole before old mid) where
+    part_there : (start : EngineState D) (held : Option (List ℕ)) (script : Option Course) (rest : List Wanted) →
+        GoingAt disk start held (standing script first (all ++ rest)) old
+        → GoingAt disk start held (standing script before (some ++ (left ++ rest))) mid
+    part_there start held script rest going = subst (λ (l : List Wanted). GoingAt disk start held (standing script
+        before l) mid) (ap (λ (l : List Wanted). l ++ rest) is ∙ append_assoc some left rest) (so_far start held script
+        rest going)
+
+    pub part_serves : (after : List ℕ) (new : ScriptServer D) → Passes disk some before [] after mid new → Passes disk
+        all first left after old new
+    part_serves after new serves = λ start held script rest going. serves start held script (left ++ rest) (part_there
+        start held script rest going)
+
+    pub part_ends : (new : ScriptServer D) → EndsAt disk some before mid new → EndsAt disk all first old new
+    part_ends new ends = λ start held script rest going. ends start held script (left ++ rest) (part_there start held
+        script rest going)
+
+  pub left_none : (F : Bor (List ℕ) → List Wanted) (all : List Wanted) (first before : List ℕ) (old mid : ScriptServer
+      D) (rest : Option (Bor (List ℕ))) → rest ≡ None → Passes disk all first (option_map_or F rest []) before old mid
+      → Passes disk all first [] before old mid
+  left_none F all first before old mid rest none passes = subst (λ (o : Option (Bor (List ℕ))). Passes disk all first
+      (option_map_or F o []) before old mid) none passes
+
+  pub left_some : (F : Bor (List ℕ) → List Wanted) (all : List Wanted) (first before : List ℕ) (old mid : ScriptServer
+      D) (rest : Option (Bor (List ℕ))) (text : Bor (List ℕ)) → rest ≡ Some text → Passes disk all first (option_map_or
+      F rest []) before old mid → Passes disk all first (F text) before old mid
+  left_some F all first before old mid rest text some passes = subst (λ (o : Option (Bor (List ℕ))). Passes disk all
+      first (option_map_or F o []) before old mid) some passes
+
+-- ---- from the beginning to the end
+
+prints_after : (was mid is : Option (List ℕ)) (lines : Lines) (had text : List ℕ) → Appends was mid had → Prints mid is
+    lines text → Prints was is lines (had ++ text)
+prints_after was mid is lines had text first it = record {
+  written = had ++ it.written;
+  rest = it.rest;
+  split = ap (λ (l : List ℕ). had ++ l) it.split ∙ sym (append_assoc had it.written it.rest);
+  there = Appends-trans was mid is had it.written first it.there;
+  back = it.back;
+}
+
+no_item : (w : Waited) → ◌≡◌ {A = Option Waited} None (Some w) → ⊥
+no_item w is = cc
+
+module _ {D : Type 0} (disk : Ghosts D) where
+  -- nothing was met yet
+  pub met_start : (script : List Wanted) (t : ScriptServer D) (bases : List ℕ) → IsReady disk t bases
+      → MetAt script (numbers_had t.engine.memory) (script ++ []) t.held t
+  met_start script t bases ready = (
+    [],
+    (
+      record {
+        memory = ready.memory;
+        lines = ap (lines_had t.engine.memory (numbers_had t.engine.memory)) (sym (append-nil script));
+        names = ap (waits_had t.engine.memory (numbers_had t.engine.memory)) (sym (append-nil script))
+            ∙ ap (λ (l : List Waited). map who_of l ++ waits_had t.engine.memory (numbers_had t.engine.memory) (script
+            ++ [])) (sym ready.waited);
+        marked = λ at w is. absurd (no_item w (ap (λ (l : List Waited). slice_get l at) (sym ready.waited) ∙ is));
+        passed = λ at w is. absurd (no_item w (ap (λ (l : List Waited). slice_get l at) (sym ready.waited) ∙ is));
+      },
+      prints_none t.held t.lines ready.pending,
+    ),
+  )
+
+  -- a server that was made of this engine
+  pub ready_of : (start engine : EngineState D) (held : Option (List ℕ)) (before lines : Lines) (waited : List Waited)
+      (marks : List Mark) (bases : List ℕ) → start.failed ≡ false
+      → (disk.honest start.disk → LeavesNow (disk.now start.disk) (MeansState start))
+      → IsMemory (length start.memory.cells) (length start.memory.windows) start.memory
+      → before.pending.items ≡ [] → waited ≡ [] → bases ≡ [] → engine ≡ start → lines ≡ before
+      → IsReady disk (server_of engine held lines waited marks) bases
+  ready_of start engine held before lines waited marks bases works means memory pending none no_bases engines line = record {
+    works = ap (λ (e : EngineState D). e.failed) engines ∙ works;
+    means = subst (λ (e : EngineState D). disk.honest e.disk → LeavesNow (disk.now e.disk) (MeansState e)) (sym engines)
+        means;
+    memory = subst (λ (e : EngineState D). IsMemory (length e.memory.cells) (length e.memory.windows) e.memory) (sym
+        engines) memory;
+    waited = none;
+    bases_is = no_bases;
+    pending = ap (λ (l : Lines). l.pending.items) line ∙ pending;
+  }
+
+  -- it was ended before the first request
+  unbegun : (script : List Wanted) (old new : ScriptServer D) (bases : List ℕ) → IsReady disk old bases
+      → new.engine ≡ old.engine → BrokenAt script old.held new → EndedOnce disk old.engine script old.held new
+  unbegun script old new bases ready same it =
+      let c : Course = record {
+        first = bases_had (numbers_had old.engine.memory) 0 script;
+        wanted = new_of old.engine.memory script;
+        earlier = map who_of new.waited;
+      } in
+      let broken = subst (λ (e : EngineState D). HasBroken e.memory script it.0 new.waited) same it.1.0 in (
+        c,
+        (
+          it.0,
+          (
+            record { first = refl; wanted = refl; had_is = broken.lines; earlier_is = broken.names },
+            (
+              [],
+              (
+                subst (λ (e : EngineState D). HaltsAt disk old.engine (Some c) e [] new.waited) (sym same) (λ h. (
+                  h,
+                  (
+                    [],
+                    (
+                      [],
+                      (
+                        sym (append-nil (map who_of new.waited)),
+                        (
+                          halts disk.now disk.past disk.failures old.engine old.engine [] [] [] (goes_none disk.now
+                              disk.past disk.failures old.engine ready.works (ready.means h)),
+                          record {
+                            left = c.wanted;
+                            leads = refl;
+                            done = [];
+                            doubt = [];
+                            split = refl;
+                            few = omega arith;
+                            sure = λ works. refl;
+                            memory = refl;
+                            known = broken.known;
+                          },
+                        ),
+                      ),
+                    ),
+                  ),
+                )),
+                subst (Prints old.held new.held new.lines) (sym (append-nil it.0)) it.1.1,
+              ),
+            ),
+          ),
+        ),
+      )
+
+  -- it failed before the first request
+  pub once_unbegun : (T : Type 0) {E : Type 0} (e : E) (script : List Wanted) (old new : ScriptServer D) (bases : List ℕ)
+      → new.engine ≡ old.engine → Breaks (numbers_had old.engine.memory) script old new
+      → HasServedOnce disk {T = T} script bases (Err e) old new
+  once_unbegun T e script old new bases same breaks = λ ready. (
+    unbegun script old new bases ready same (breaks script [] old.held (met_start script old bases ready)),
+    tt,
+  )
+
+  module _ (script : List Wanted) (bases known : List ℕ) (old mid : ScriptServer D) (it : HasShown script bases known
+      old mid) where
+    -- and then it was ended
+    pub shown_ends : (T : Type 0) {E : Type 0} (e : E) → HasServedOnce disk {T = T} script bases (Err e) old mid
+    shown_ends T e = once_unbegun T e script old mid bases it.engine (breaks_here (numbers_had old.engine.memory) it.later
+        script [] old mid it.meets)
+
+    shown_at : IsReady disk old bases → MetAt script it.later [] old.held mid
+    shown_at ready = it.meets script [] old.held (met_start script old bases ready)
+
+    abbrev course : Course
+    course = course_of old.engine.memory script
+
+    -- the text of what the image has, as it was printed
+    shown_text : (ready : IsReady disk old bases) → (shown_at ready).0 ≡ lines_had old.engine.memory (numbers_had
+        old.engine.memory) script
+    shown_text ready = sym ((subst (λ (e : EngineState D). HasMet e.memory script it.later [] (shown_at ready).0
+        mid.waited mid.marks) it.engine (shown_at ready).1.0).lines ∙ append-nil (shown_at ready).0)
+
+    shown_written : IsReady disk old bases → Appends old.held mid.held (lines_had old.engine.memory (numbers_had
+        old.engine.memory) script)
+    shown_written ready = subst (Appends old.held mid.held) (shown_text ready) (prints_all old.held mid.held mid.lines
+        (shown_at ready).0 it.works it.pending (shown_at ready).1.1)
+
+    shown_going : IsReady disk old bases → GoingAt disk old.engine mid.held (standing (Some course) known (course.wanted
+        ++ [])) mid
+    shown_going ready =
+        let met = subst (λ (e : EngineState D). HasMet e.memory script it.later [] (shown_at ready).0 mid.waited
+        mid.marks) it.engine (shown_at ready).1.0 in
+        let names : known ≡ course.first = it.names ∙ ap (λ (l : List ℕ). l ++ course.first) ready.bases_is in
+        subst (λ (b : List ℕ). GoingAt disk old.engine mid.held (standing (Some course) b (course.wanted ++ [])) mid)
+        (sym names)
+        (subst (λ (e : EngineState D). GoingAt disk old.engine mid.held (standing (Some course) course.first
+        (course.wanted ++ [])) (server_of e mid.held mid.lines mid.waited mid.marks)) (sym it.engine)
+        (going_from disk course old.engine mid.held mid.lines mid.waited mid.marks ready.works ready.means (record {
+          memory = ready.memory;
+          noted = λ at w is. inr (met.marked at w is);
+        }) (sym (met.names ∙ append-nil (map who_of mid.waited))) it.pending))
+
+    -- and the rest was served
+    pub shown_serves : {T E : Type 0} (r : Result T E) (last : List ℕ) (new : ScriptServer D) (wanted : List Wanted)
+        → wanted ≡ new_of old.engine.memory script → HasServed disk wanted known last r mid new
+        → HasServedOnce disk script bases r old new
+    shown_serves r last new wanted same served = λ ready.
+        let served_now = subst (λ (l : List Wanted). HasServed disk l known last r mid new) same served in
+        let going = shown_going ready in
+        let ends = served_now.ends old.engine mid.held (Some course) [] going in (
+          (
+            course,
+            (
+              lines_had old.engine.memory (numbers_had old.engine.memory) script,
+              (
+                record {
+                  first = refl;
+                  wanted = refl;
+                  had_is = ([], sym (append-nil (lines_had old.engine.memory (numbers_had old.engine.memory) script)));
+                  earlier_is = (
+                    [],
+                    sym (append-nil (waits_had old.engine.memory (numbers_had old.engine.memory)
+                        script)),
+                  );
+                },
+                (
+                  ends.0,
+                  (
+                    ends.1.0,
+                    prints_after old.held mid.held new.held new.lines _ ends.0 (shown_written ready)
+                        ends.1.1,
+                  ),
+                ),
+              ),
+            ),
+          ),
+          by_result r served_now.serves going (shown_written ready),
+        )
+      where
+        by_result : {T E : Type 0} (r : Result T E) → OnOk r (Passes disk course.wanted known [] last mid new)
+            → GoingAt disk old.engine mid.held (standing (Some course) known (course.wanted ++ [])) mid
+            → Appends old.held mid.held (lines_had old.engine.memory (numbers_had old.engine.memory) script)
+            → OnOk r (DoneOnce disk old.engine script old.held new)
+        by_result (Ok x) serves going written =
+            let done = serves old.engine mid.held (Some course) [] going in (
+              last,
+              (
+                done.0,
+                (done.1.0, prints_after old.held mid.held new.held new.lines _ done.0 written done.1.1),
+              ),
+            )
+        by_result (Err e) serves going written = tt
+
+  -- ---- the end
+
+  -- what was told, by what was put and printed
+  told_once : (start engine : EngineState D) (script : List Wanted) (put : List Command) (text : List ℕ) (names : List
+      Waiter) (status : ℕ) (was is : Option (List ℕ)) (waited : List Waited) (many : ℕ) (last : List ℕ) (done doubt :
+      List Command) (had : List ℕ) (earlier : List Waiter)
+      → HaltsWith disk.now disk.past disk.failures start engine put text names
+      → IsPrefix had (lines_had start.memory (numbers_had start.memory) script)
+      → IsPrefix earlier (waits_had start.memory (numbers_had start.memory) script)
+      → map who_of waited ≡ earlier ++ names → put ≡ done ++ doubt → length doubt ≤ 1 → AreLast start.memory done waited
+      → IsLast last → Begins was is (((had ++ text) ++ nows waited many) ++ last)
+      → (status ≡ 0 → (doubt ≡ []) × (had ≡ lines_had start.memory (numbers_had start.memory) script)
+      × (map who_of waited ≡ waits_had start.memory (numbers_had start.memory) script ++ waits start.memory put)
+      × Appends was is (had ++ replies start.memory put ++ nows waited (length waited)))
+      → ToldOnce disk.now start script put engine.disk was is status
+  told_once start engine script put text names status was is waited many last done doubt had earlier it had_is
+      earlier_is same parts few entries last_is begins whole = record {
+        had = had;
+        had_is = had_is;
+        told = it.told;
+        others = it.others;
+        split = it.split;
+        kept = it.kept;
+        earlier = earlier;
+        earlier_is = earlier_is;
+        waited = waited;
+        waiting = (it.many, same ∙ ap (λ (l : List Waiter). earlier ++ l) it.waiting);
+        done = done;
+        doubt = doubt;
+        apart = parts;
+        few = few;
+        last_entries = entries;
+        many = many;
+        last = last;
+        last_is = last_is;
+        begins = subst (λ (t : List ℕ). Begins was is (((had ++ t) ++ nows waited many) ++ last)) it.lines begins;
+        whole = whole;
+      }
+
+  closed_with : (script : List ℕ) (start engine : EngineState D) (put : List Command) (text : List ℕ) (names : List
+      Waiter) (status : ℕ) (was is : Option (List ℕ)) → HaltsWith disk.now disk.past disk.failures start engine put text
+      names → (status ≡ 0 → engine.failed ≡ false)
+      → (engine.failed ≡ false → LeavesNow (disk.now engine.disk) (MeansState engine))
+      → IsAskedOnce start.memory (wanted_of script) put status
+      → ToldOnce disk.now start (wanted_of script) put engine.disk was is status
+      → ClosedOnce disk.now disk.past disk.failures script start engine.disk was is status
+  closed_with script start engine put text names status was is it works means asked told = record {
+    put = put;
+    asked = asked;
+    accepted = it.has.accepted;
+    leaves = it.has.leaves;
+    doubt = λ file left. doubt_by (engine.failed ≡ true) (Rises (disk.failures start.disk) (disk.failures engine.disk))
+        start put file it.has.rose (it.has.doubt file left);
+    done = λ zero file left. put_all disk.now disk.past disk.failures start engine put it.has (works zero) file (means
+        (works zero) file left);
+    printed = told;
+  }
+
+  pub closed_once : (script : List ℕ) (start engine : EngineState D) (end : D) (status : ℕ) (held mid is was : Option
+      (List ℕ)) (before later final : Lines) (noted waited : List Waited) (marks : List Mark)
+      → EndedOnce disk start (wanted_of script) was (server_of engine held before noted marks) → (status ≡ 0
+      → DoneOnce disk start (wanted_of script) was (server_of engine held before noted marks))
+      → map who_of waited ≡ map who_of noted → ((m : Contents) (put : List Command) → engine.memory ≡ after m put
+      → AreKnown m put noted → AreLast m put waited)
+      → PrintsNows held before mid later waited → (status ≡ 0
+      → PrintsMore held before mid later (nows waited (length waited)))
+      → ((from : Option (List ℕ)) (text : List ℕ) → Prints from mid later text
+      → (last : List ℕ) × (IsLast last × Prints from is final (text ++ last)))
+      → (status ≡ 0 → (from : Option (List ℕ)) (text : List ℕ) → Prints from mid later text → Appends from is text)
+      → end ≡ engine.disk → (status ≡ 0 → engine.failed ≡ false) → (disk.honest engine.disk → engine.failed ≡ false
+      → LeavesNow (disk.now engine.disk) (MeansState engine)) → disk.honest end
+      → disk.honest start.disk × ClosedOnce disk.now disk.past disk.failures script start end was is status
+  closed_once script start engine end status held mid is was before later final noted waited marks reached going same
+      learn some all last whole at_end works means h =
+      let there : disk.honest engine.disk = subst disk.honest at_end h in
+      subst (λ (d : D). disk.honest start.disk × ClosedOnce disk.now disk.past disk.failures script start d was is
+      status) (sym at_end) (by_status there status refl)
+    where
+      by_status : disk.honest engine.disk → (n : ℕ) → status ≡ n
+          → disk.honest start.disk × ClosedOnce disk.now disk.past disk.failures script start engine.disk was is status
+      by_status there zero zero_is =
+          let g = going zero_is in
+          let text = g.1.0 in
+          let it = g.1.1.0 there in
+          let put = it.1.0 in
+          let names = it.1.1.0 in
+          let goes = it.1.1.1.1.0 in
+          let u = it.1.1.1.1.1 in
+          let m = start.memory in
+          let lines = lines_had m (numbers_had m) (wanted_of script) in
+          let early = waits_had m (numbers_had m) (wanted_of script) in
+          let on = halts disk.now disk.past disk.failures start engine put text names goes in
+          let told = some.2 was (lines ++ text) g.1.1.1 in
+          let end = last was ((lines ++ text) ++ nows waited some.0) told in
+          let full = whole zero_is was ((lines ++ text) ++ nows waited (length waited)) (all zero_is was (lines ++ text)
+          g.1.1.1) in (
+            it.0,
+            closed_with script start engine put text names status was is on works (means there)
+                (record {
+                  left = [];
+                  leads = stands_here m (standing (Some (course_of m (wanted_of script))) g.0 []) put u.reached;
+                  all = λ z. refl;
+                })
+                (told_once start engine (wanted_of script) put text names status was is waited some.0 end.0 put []
+                lines early on ([], sym (append-nil lines)) ([], sym (append-nil early)) (same ∙ it.1.1.1.0) (sym
+                (append-nil put)) (omega arith) (learn m put (goes.has.memory goes.works) (noted_known m put 0 0 marks
+                noted u.recorded.noted)) end.1.0 (prints_begins was is final (((lines ++ text) ++ nows waited some.0) ++
+                end.0) end.1.1)
+                (λ z. (
+                  refl,
+                  refl,
+                  same ∙ it.1.1.1.0 ∙ ap (λ (l : List Waiter). early ++ l) goes.waiting,
+                  subst (λ (t : List ℕ). Appends was is ((lines ++ t) ++ nows waited (length waited))) goes.lines full,
+                ))),
+          )
+      by_status there (suc n) more =
+          let c = reached.0 in
+          let had = reached.1.0 in
+          let is_course = reached.1.1.0 in
+          let text = reached.1.1.1.0 in
+          let it = reached.1.1.1.1.0 there in
+          let put = it.1.0 in
+          let names = it.1.1.0 in
+          let halted = it.1.1.1.1.0 in
+          let o = it.1.1.1.1.1 in
+          let m = start.memory in
+          let told = some.2 was (had ++ text) reached.1.1.1.1.1 in
+          let end = last was ((had ++ text) ++ nows waited some.0) told in (
+            it.0,
+            closed_with script start engine put text names status was is halted works (means there)
+                (record {
+                  left = o.left;
+                  leads = subst (λ (b : List ℕ). Leads m b (new_of m (wanted_of script)) put o.left) is_course.first
+                      (subst (λ (w : List Wanted). Leads m c.first w put o.left) is_course.wanted o.leads);
+                  all = λ z. absurd (omega arith);
+                })
+                (told_once start engine (wanted_of script) put text names status was is waited some.0 end.0 o.done
+                o.doubt had c.earlier halted is_course.had_is is_course.earlier_is (same ∙ it.1.1.1.0) o.split o.few
+                (learn m o.done o.memory o.known) end.1.0 (prints_begins was is final (((had ++ text) ++ nows waited
+                some.0) ++ end.0) end.1.1) (λ z. absurd (omega arith))),
+          )
+
+  -- an opening leaves nothing new, and what it found was there
+  pub opened_once : (text : List ℕ) (old : D) (start : EngineState D) (new : D) (was is : Option (List ℕ)) (status : ℕ)
+      → Leaves (disk.now old) (disk.now start.disk) (disk.past old) (disk.past start.disk) (Left (disk.now old))
+      → LeavesNow (disk.now start.disk) (MeansState start) → disk.failures start.disk ≡ disk.failures old
+      → ClosedOnce disk.now disk.past disk.failures text start new was is status
+      → ServedOnce disk.now disk.past disk.failures text old new was is status
+  opened_once text old start new was is status opened means same it =
+      let now = disk.now in
+      let past = disk.past in
+      let failures = disk.failures in
+      record {
+        start = start;
+        put = it.put;
+        asked = it.asked;
+        found = (
+          (now start.disk).bytes,
+          ⊎_elim (λ left. left) (λ left. left) (leaves_now (now old) (now start.disk) (past old) (past start.disk) (Left
+              (now old)) opened (now start.disk).bytes (left_now (now start.disk))),
+          means (now start.disk).bytes (left_now (now start.disk)),
+        );
+        accepted = it.accepted;
+        leaves = leaves_then (now old) (now start.disk) (now new) (past old) (past start.disk) (past new) (λ file. ⊥)
+            (MeansBeginning start it.put) (MeansBeginning start it.put)
+            (record {
+              later = opened.later;
+              each = λ t c le left. ⊎_elim (λ before. inl before) (λ here. inl (inl (
+                le,
+                here,
+              ))) (opened.each t c le left);
+            }) it.leaves (λ file no. absurd no) (λ file is. is);
+        doubt = λ file left. doubt_by (Rises (failures start.disk) (failures new)) (Rises (failures old) (failures new))
+            start it.put file (λ rose. subst (λ (n : ℕ). Rises n (failures new)) same rose) (it.doubt file left);
+        done = it.done;
+        printed = it.printed;
+      }

@@ -1,0 +1,37 @@
+use Rattle.std.proofs.Common.{◌∙◌, [], ◌∷◌, List, ℕ, ap, arith, subst, sym}
+use Rattle.im_types.specs.Contents.{Contents}
+use Rattle.im_types.specs.Window.{bounds}
+use Rattle.im_serial.specs.Once.{HasPassed, met}
+use Rattle.im_serial.specs.Serving.{server_of}
+use Rattle.im_serial.proofs.OnceLemmas.{breaks_here, has_some, meets_refl, passed_had, who_is_next}
+use Rattle.im_serial.proofs.server.Server.meet.Goals as goal
+
+pub returns-in-Ok-clause-passed : goal.returns-in-Ok-clause-passed
+returns-in-Ok-clause-passed g c = λ w element.
+    let was = c.args.self.now in
+    let t = c.tell_past in
+    let many = c.args.past.now.many.items in
+    let held = g.W.Write.contents c.args.out.now in
+    let later = g.W.Write.contents t.new.out in
+    let left = c.meet-left.result in
+    subst (λ (l : List ℕ). HasPassed many (w ∷ []) l t.result (server_of was.engine held was.lines was.waited.items
+    was.places.marks.items) (server_of t.new.self.engine later t.new.self.lines t.new.self.waited.items
+    t.new.self.places.marks.items)) (ap (met many) element ∙ sym c.meet-left.ensures.many)
+    (passed_had was.engine t.new.self.engine held later was.lines t.new.self.lines was.waited.items
+    t.new.self.waited.items was.places.marks.items t.new.self.places.marks.items many w (record {
+      element = c.args.element;
+      number = c.saturating_sub-number.result;
+    }) t.ensures.engine (has_some many c.args.element w.element left element c.meet-left.ensures.left
+    c.if-left-eq0.false)
+    (who_is_next was.engine.memory many c.args.element w.element _ c.in-Ok.next left c.saturating_sub-number.result
+    element (ap (λ (x : Contents). bounds x.windows c.args.element) (sym c.memory.ensures) ∙ sym c.window.ensures
+    ∙ c.in-Ok.is) c.meet-left.ensures.left (omega (arith, c.saturating_sub-number.ensures)))
+    t.ensures.others t.ensures.unmarked t.result t.ensures.pushed t.ensures.mark t.ensures.more)
+
+pub returns-in-Err-clause-passed : goal.returns-in-Err-clause-passed
+returns-in-Err-clause-passed g c = λ w element.
+    let was = c.args.self.now in
+    let old = server_of was.engine (g.W.Write.contents c.args.out.now) was.lines was.waited.items was.places.marks.items
+    in
+    let many = c.args.past.now.many.items in
+    breaks_here many many (w ∷ []) (w ∷ []) old old (meets_refl many (w ∷ []) old)

@@ -1,0 +1,35 @@
+use Rattle.std.proofs.Common.{[], ◌∷◌, List, ℕ, refl, subst, sym}
+use Rattle.std.specs.Prelude.{true}
+use Rattle.im_script.specs.declared.places.Action.TheVariants.{Alloc}
+use Rattle.im_serial.specs.Asked.{Wanted}
+use Rattle.im_serial.specs.Once.{HasPassed, is_had}
+use Rattle.im_serial.specs.Serving.{server_of}
+use Rattle.im_serial.proofs.OnceLemmas.{names_kept, passed_named}
+use Rattle.im_serial.proofs.server.Server.meet_block.Goals as goal
+
+pub returns-in-Err-clause-passed : goal.returns-in-Err-clause-passed
+returns-in-Err-clause-passed g c = c.in-Err.ensures.passed (record {
+  element = 0;
+  action = Alloc c.args.block.kind c.args.block.length;
+  named = true;
+}) refl
+
+pub returns-clause-names : goal.returns-clause-names
+returns-clause-names g c = names_kept c.name_past.result c.args.past.now.many.items c.args.past.now.end (record {
+  element = 0;
+  action = Alloc c.args.block.kind c.args.block.length;
+  named = true;
+}) c.args.self.now.bases.items _ _ _ _ _ _ refl c.name_past.ensures.many c.in-Ok.ensures.many c.in-Ok.ensures.bases
+    c.in-Ok.ensures.end (is_had c.in-Ok.met) c.in-Ok.ensures.had c.name_past.ensures.new c.name_past.ensures.had
+
+pub returns-clause-passed : goal.returns-clause-passed
+returns-clause-passed g c =
+    let was = c.args.self.now in
+    let old = server_of was.engine (g.W.Write.contents c.args.out.now) was.lines was.waited.items was.places.marks.items
+    in
+    let s = c.meet.new.self in
+    let mid = server_of s.engine (g.W.Write.contents c.meet.new.out) s.lines s.waited.items s.places.marks.items in
+    let many = c.args.past.now.many.items in
+    let w : Wanted = record { element = 0; action = Alloc c.args.block.kind c.args.block.length; named = true } in
+    subst (λ (l : List ℕ). HasPassed many (w ∷ []) l c.name_past.result old mid) (sym c.name_past.ensures.many)
+    (passed_named c.name_past.result many c.meet.new.past.many.items (w ∷ []) old mid (c.in-Ok.ensures.passed w refl))

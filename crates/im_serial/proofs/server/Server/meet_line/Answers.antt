@@ -1,0 +1,17 @@
+use Rattle.std.proofs.Common.{refl}
+use Rattle.std.specs.Prelude.{false}
+use Rattle.im_serial.proofs.server.Server.meet_line.Goals as goal
+
+pub returns-in-Ok-clause-passed : goal.returns-in-Ok-clause-passed
+returns-in-Ok-clause-passed g c = c.in-Ok.ensures.passed (record {
+  element = c.args.line.element;
+  action = c.args.line.action;
+  named = false;
+}) refl
+
+pub returns-in-Err-clause-passed : goal.returns-in-Err-clause-passed
+returns-in-Err-clause-passed g c = c.in-Err.ensures.passed (record {
+  element = c.args.line.element;
+  action = c.args.line.action;
+  named = false;
+}) refl

@@ -1,0 +1,135 @@
+//! A script's requests, each served once, whatever stopped before.
+ghost use Rattle.std.specs.Prelude.{◌≡◌, MatchResult};
+ghost use Rattle.im_serial.specs.Asked.{wanted_by, wanted_of};
+ghost use Rattle.im_serial.specs.Once.{Breaks, HasServedOnce, HasShown, met_all, news, numbers_had};
+ghost use Rattle.im_serial.specs.Serving.{HasServed, server_of};
+
+use crate::past::{Past, compare_script};
+use crate::server::Server;
+use im_disk::Disk;
+use im_script::{Reader, Said, Script, ScriptFault, split_line};
+use im_text::{Observer, Reason};
+use std::alloc::Global;
+use std::io::Write;
+
+impl<D: Disk> Server<D> {
+    // Serves what a line says, if the image doesn't have it.
+    fn serve_new<W: Write, N: Observer>(
+        &mut self,
+        said: Said,
+        past: &mut Past,
+        out: &mut W,
+        observer: &mut N,
+    ) -> Result<(), Reason>
+        ensures many { past.new.many.items ≡ met_all past.old.many.items (wanted_by said) }
+        ensures served { HasServed D.Disk (news past.old.many.items (wanted_by said)) self.old.bases.items
+            self.new.bases.items result
+            (server_of self.old.engine (W.contents out.old) self.old.lines self.old.waited.items
+            self.old.places.marks.items)
+            (server_of self.new.engine (W.contents out.new) self.new.lines self.new.waited.items
+            self.new.places.marks.items) }
+    {
+        if past.has(said) {
+            Ok(())
+        } else {
+            self.serve_and_show(said, out, observer)
+        }
+    }
+
+    // Serves what the image doesn't have of a script, line by line, until a request is refused.
+    fn serve_rest<W: Write, N: Observer>(
+        &mut self,
+        alloc: Global,
+        script: &Script<'_>,
+        past: &mut Past,
+        out: &mut W,
+        observer: &mut N,
+    ) -> Result<(), Reason>
+        ensures served { HasServed D.Disk (news past.old.many.items (wanted_of script.now)) self.old.bases.items
+            self.new.bases.items result
+            (server_of self.old.engine (W.contents out.old) self.old.lines self.old.waited.items
+            self.old.places.marks.items)
+            (server_of self.new.engine (W.contents out.new) self.new.lines self.new.waited.items
+            self.new.places.marks.items) }
+    {
+        let mut reader = Reader::new(alloc);
+        let mut rest = Some(script.text());
+        for number in 1..usize::MAX {
+            let text = match rest {
+                Some(text) => text,
+                None => return Ok(()),
+            };
+            let (line, behind) = split_line(text);
+            rest = behind;
+            let said = match reader.read(alloc, number, line) {
+                Ok(said) => said,
+                Err(fault) => return Err(Reason::Script(fault)), // There was no memory for it.
+            };
+            match self.serve_new(said, past, out, observer) {
+                Ok(()) => {}
+                Err(reason) => return Err(reason),
+            }
+        }
+        Err(Reason::Script(ScriptFault::TooLarge)) // No script has so many lines.
+    }
+
+    // Compares a script with what the image has of it, and prints that. Writes it out, so that nothing is kept back
+    // before the first request.
+    fn show_past<W: Write>(
+        &mut self,
+        alloc: Global,
+        script: &Script<'_>,
+        out: &mut W,
+    ) -> Result<(), Reason>
+        ensures shown { MatchResult result
+            (λ _. HasShown (wanted_of script.now) self.old.bases.items self.new.bases.items
+            (server_of self.old.engine (W.contents out.old) self.old.lines self.old.waited.items
+            self.old.places.marks.items)
+            (server_of self.new.engine (W.contents out.new) self.new.lines self.new.waited.items
+            self.new.places.marks.items))
+            (λ _. Breaks (numbers_had self.old.engine.memory) (wanted_of script.now)
+            (server_of self.old.engine (W.contents out.old) self.old.lines self.old.waited.items
+            self.old.places.marks.items)
+            (server_of self.new.engine (W.contents out.new) self.new.lines self.new.waited.items
+            self.new.places.marks.items)) }
+        ensures engine { self.new.engine ≡ self.old.engine }
+    {
+        match compare_script(alloc, self.engine.memory(), script) {
+            Ok(()) => {}
+            Err(reason) => return Err(reason),
+        }
+        let mut past = match Past::new(alloc, self.engine.memory()) {
+            Ok(past) => past,
+            Err(_) => return Err(Reason::Memory),
+        };
+        match self.meet_all(alloc, script, &mut past, out) {
+            Ok(()) => self.lines.flush(out),
+            Err(reason) => Err(reason),
+        }
+    }
+
+    // Prints what the image has of a script, and then serves the rest of it, until a request is refused.
+    pub(crate) fn serve_once<W: Write, N: Observer>(
+        &mut self,
+        alloc: Global,
+        script: &Script<'_>,
+        out: &mut W,
+        observer: &mut N,
+    ) -> Result<(), Reason>
+        ensures served { HasServedOnce D.Disk (wanted_of script.now) self.old.bases.items result
+            (server_of self.old.engine (W.contents out.old) self.old.lines self.old.waited.items
+            self.old.places.marks.items)
+            (server_of self.new.engine (W.contents out.new) self.new.lines self.new.waited.items
+            self.new.places.marks.items) }
+    {
+        match self.show_past(alloc, script, out) {
+            Ok(()) => {}
+            Err(reason) => return Err(reason),
+        }
+        let mut past = match Past::new(alloc, self.engine.memory()) {
+            Ok(past) => past,
+            Err(_) => return Err(Reason::Memory),
+        };
+        self.serve_rest(alloc, script, &mut past, out, observer)
+    }
+}
