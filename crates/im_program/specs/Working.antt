@@ -18,9 +18,9 @@ use Rattle.im_program.specs.Moving.{CopiedFrom, MigratedFrom}
 use Rattle.im_program.specs.Words.{Task, demonstration, format, serial, run, serve, inspect, migrate, copy, dump, load}
 
 -- a script was served on this disk, once or anew
-abbrev pub WasServed : {D : Type 0} → Bool → (D → Moment) → (D → List Moment) → (D → ℕ) → Moment → D → Option (List ℕ) → Option (List ℕ) → ℕ → Type 0
-WasServed true now past failures first disk was is status = ServedOnceFrom now past failures first disk was is status
-WasServed false now past failures first disk was is status = ServedFrom now past failures first disk was is status
+abbrev pub ScriptServed : {D : Type 0} → Bool → (D → Moment) → (D → List Moment) → (D → ℕ) → Moment → D → Option (List ℕ) → Option (List ℕ) → ℕ → Type 0
+ScriptServed true now past failures first disk was is status = ServedOnceFrom now past failures first disk was is status
+ScriptServed false now past failures first disk was is status = ServedFrom now past failures first disk was is status
 
 -- A task was done on this disk, with this status. The disk's file held the first moment when it was opened. The writer
 -- held the first bytes before, and holds the others now. The demonstration opens no file. The result of a migration or
@@ -29,7 +29,7 @@ abbrev pub DoneOn : {D : Type 0} → (D → Moment) → (D → List Moment) → 
 DoneOn now past failures first demonstration was is status disk = ⊥
 DoneOn now past failures first (format image cells elements slots is_new) was is status disk =
     (status ≡ 0) × AreLimits cells elements slots × LeavesNow (now disk) (λ file. file ≡ new_image 0xA5 (record { cells = cells; elements = elements; slots = slots }))
-DoneOn now past failures first (serial image script once) was is status disk = WasServed once now past failures first disk was is status
+DoneOn now past failures first (serial image script once) was is status disk = ScriptServed once now past failures first disk was is status
 DoneOn now past failures first (run image script planned trace) was is status disk =
     (calls : TraceState) × RanFrom now past failures first disk was is calls status
 DoneOn now past failures first (serve image watch) was is status disk = TalkedFrom watch now past first disk was is status

@@ -5,8 +5,10 @@ ghost use Rattle.clap.specs.Words.{app_of, fault_of, first_of, found_of, kind_of
 ghost use Rattle.clap.specs.Words.{subcommand_rows_of, takes};
 ghost use Rattle.clap.specs.declared.builder.command.Command.TheViews.{out-Command};
 ghost use Rattle.im_script.specs.Grammar.{texts};
-ghost use Rattle.im_program.specs.Words.{asked, asks_statuses, file_app, flag_rule, format_app, format_task, has_statuses, imem_app, inspect_app, inspect_task};
-ghost use Rattle.im_program.specs.Words.{is_given, migrate_app, migrate_task, number_in, option_rule, path_in, path_rule, run_app, run_task, script_app};
+ghost use Rattle.im_program.specs.Words.{asked, asks_statuses, file_app, flag_rule, format_app, format_task};
+ghost use Rattle.im_program.specs.Words.{has_statuses, imem_app, inspect_app, inspect_task};
+ghost use Rattle.im_program.specs.Words.{is_given, migrate_app, migrate_task, number_in, option_rule, path_in};
+ghost use Rattle.im_program.specs.Words.{path_rule, run_app, run_task, script_app};
 ghost use Rattle.im_program.specs.Words.{serial_app, serial_task, serve_app, serve_task, task_in, task_of, top_app};
 ghost use Rattle.im_program.specs.Words.{asks_wait, behind_plus, seconds_of, wait_in, wait_rule};
 

@@ -1,5 +1,6 @@
 //! The work that the program does.
-ghost use Rattle.std.specs.Prelude.{◌≡◌, ◌⊎◌, ◌↔◌, ◌≤◌, ℕ, List, [], IsOk, IfOk, IfErr, OnErr, IfSome, IfNone, IsSome};
+ghost use Rattle.std.specs.Prelude.{◌≡◌, ◌⊎◌, ◌↔◌, ◌≤◌, ℕ, List, [], IsOk, IfOk, IfErr, OnErr};
+ghost use Rattle.std.specs.Prelude.{IfSome, IfNone, IsSome};
 ghost use Rattle.std.specs.Io.KnownBytes.{Keeps};
 ghost use Rattle.im_types.specs.declared.refusals.Refusal.TheVariants.{BadScript, Device, NoMemory, WrongLength};
 ghost use Rattle.im_types.specs.Layout.{sizes_of};
@@ -12,7 +13,7 @@ ghost use Rattle.im_dialogue.specs.Dialogue.{NotOpened, Talked, TalkedFrom};
 ghost use Rattle.im_run.specs.Running.{RanFrom};
 ghost use Rattle.im_run.specs.Tracing.{TraceState};
 ghost use Rattle.im_program.specs.Words.{copy, demonstration, migrate, task_of, task_of_job};
-ghost use Rattle.im_program.specs.Working.{DoneOn, HasMoved, IsOfTwo, WasServed};
+ghost use Rattle.im_program.specs.Working.{DoneOn, HasMoved, IsOfTwo, ScriptServed};
 
 use crate::console::{Console, Watch};
 use crate::copying::{Copying, copy_file};
@@ -255,7 +256,7 @@ pub fn serve_file<R: Files<File = File> + AllocGlobal, S: Start, I: Read, W: Wri
 ) -> Result<(u8, FileDisk<S>), Refusal>
     ensures status { IfOk result (λ r. r.0 ≤ 1) }
     ensures served { IfOk result (λ r. ⟦<FileDisk<S> as Disk>⟧.honest r.1 →
-        WasServed once ⟦<FileDisk<S> as Disk>⟧.now ⟦<FileDisk<S> as Disk>⟧.past ⟦<FileDisk<S> as Disk>⟧.failures
+        ScriptServed once ⟦<FileDisk<S> as Disk>⟧.now ⟦<FileDisk<S> as Disk>⟧.past ⟦<FileDisk<S> as Disk>⟧.failures
         S.first r.1 (W.contents out.old) (W.contents out.new) r.0) }
     ensures refused { IfErr result (λ refusal. (refusal ≡ BadScript) ⊎ (refusal ≡ NoMemory) ⊎ (refusal ≡ Device)) }
     ensures same { OnErr result (Keeps (W.contents out.old) (W.contents out.new)) }
@@ -281,8 +282,9 @@ pub fn serve_file<R: Files<File = File> + AllocGlobal, S: Start, I: Read, W: Wri
 }
 
 /// Runs the script of one file on the image of another, each element's requests by threads of its own. The script may
-/// have glances, and is a plan if `planned`. Returns the status of [`run_on`], the image's disk and the trace; [`run_on`]
-/// also says which lines are printed. The script is read first. The path `-` stands for `input`, which is read to its end.
+/// have glances, and is a plan if `planned`. Returns the status of [`run_on`], the image's disk and the trace;
+/// [`run_on`] also says which lines are printed. The script is read first. The path `-` stands for `input`, which is
+/// read to its end.
 ///
 /// The clauses hold for whatever the image held when it was opened (`S`), as long as the file was honest. A crash at
 /// any moment since then leaves what [`run_on`] says.
@@ -845,8 +847,8 @@ fn act_copying<R: Files<File = File> + AllocGlobal + Eprint, S: Start, T: Start,
 /// run (3 if its elements wait for each other), of [`migrate_file`] for a migration, or of [`copy_file`] for a copy.
 /// These functions also say what is printed and refused.
 ///
-/// The trace of a run is written to a new file, if one is asked for. If that can't be made, nothing is run, and the work
-/// is refused with `Device`. If it can't be written, a person is told, and the status is that of the run.
+/// The trace of a run is written to a new file, if one is asked for. If that can't be made, nothing is run, and the
+/// work is refused with `Device`. If it can't be written, a person is told, and the status is that of the run.
 ///
 /// Also returns the disk of the image, if its file was made or opened. For a migration or a copy, returns the disk of
 /// the new file and that of the old one, if both were opened.

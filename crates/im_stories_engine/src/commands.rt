@@ -7,8 +7,8 @@ use arrayvec::ArrayVec;
 use im_story::{command, told};
 use im_types::Command;
 
-// Reads commands that are written with `with` between them.
-fn members(words: &[&str]) -> Result<ArrayVec<Command, 16>> {
+/// Reads commands that are written with `with` between them.
+pub fn commands_of(words: &[&str]) -> Result<ArrayVec<Command, 16>> {
     let mut members = ArrayVec::new();
     for part in words.split(|word| *word == "with") {
         if members.try_push(command(part)?).is_err() {
@@ -23,7 +23,7 @@ fn serve_commands(engines: &mut Engines, words: &[&str], said: &mut String) -> R
     let Some(engine) = &mut engines.engine else {
         return Err(anyhow!("no engine"));
     };
-    let members = members(words)?;
+    let members = commands_of(words)?;
     let mut served = ArrayVec::new();
     engine.serve_commands(&members, &mut served);
     add_served(said, served.as_slice())

@@ -1,20 +1,22 @@
 //! Requests that are served together.
 
+use crate::commands::commands_of;
 use crate::engines::Engines;
 use crate::scripts::Script;
 use anyhow::{Result, anyhow};
 use arrayvec::ArrayVec;
 use im_engine::are_apart;
-use im_story::{add_outcome, request, told};
+use im_story::{add_outcome, told};
 use im_types::{Command, Outcome, Refusal, Request, Served};
 
 /// Reads requests that are written with `with` between them.
 pub fn members(words: &[&str]) -> Result<ArrayVec<Request, 16>> {
     let mut members = ArrayVec::new();
-    for part in words.split(|word| *word == "with") {
-        if members.try_push(request(part)?).is_err() {
-            return Err(anyhow!("more than sixteen requests"));
-        }
+    for member in commands_of(words)?.iter() {
+        let Command::Request(request) = *member else {
+            return Err(anyhow!("a confirmation is no request"));
+        };
+        let _room = members.try_push(request);
     }
     Ok(members)
 }

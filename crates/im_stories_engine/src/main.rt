@@ -11,7 +11,7 @@
 //! old image 4096 16 256 in 327680 bytes = closed   a new image of the first version, laid down
 //! 16 times 1.1 fetch 0 = 16 nocell    sixteen requests, 1.1 to 1.16
 //! together 0.1 alloc i 2 with 1.1 fetch 0 = base 0, waiting    requests of different elements as one group
-//! commands confirm 0 2 with 1.2 fetch 0 = confirmed, waiting   any commands as one group, which may end before the last
+//! commands confirm 0 2 with 1.2 fetch 0 = confirmed, waiting   any commands as one group, which may end early
 //! turns 3 = began, page 0 to 1; room 3x0
 //! sweep 64 = 16; room 16          closes at most 64 slots with one sync
 //! plan 1.1 fetch 0 = 1 events     what the next run does: commands, groups, turns, sweeps, or all commands as told

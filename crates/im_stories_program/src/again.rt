@@ -1,11 +1,10 @@
 //! Scripts that are served once, on disks that stop before they are done.
 
 use crate::Desk;
-use crate::images::Image;
+use crate::serving::opening_calls;
 use crate::writers::{Notes, Paper};
-use anyhow::{Result, anyhow};
+use anyhow::Result;
 use im_disk::{FuseDisk, Mode};
-use im_script::{Script, read_script};
 use im_serial::serial_once_on;
 use im_story::number;
 use im_types::LAST;
@@ -14,49 +13,16 @@ use std::alloc::Global;
 // The most calls of the program.
 const MOST: u64 = 100;
 
-// Serves a script once on a disk that stops after this many calls. Returns the status, and how many calls the disk got.
-fn serve_on(
-    alloc: Global,
-    image: &mut Image,
-    script: &Script<'_>,
-    passes: u64,
-    out: &mut Paper,
-    notes: &mut Notes,
-) -> Result<(u8, u64)> {
-    let disk = FuseDisk::new(image.take()?, passes, Mode::Stop);
-    let (status, disk) = serial_once_on(alloc, disk, script, out, notes);
-    let calls = disk.calls();
-    image.set(disk.into_inner());
-    Ok((status, calls))
-}
-
 // Serves the script once, and keeps what was printed. Returns the status.
 fn serve(alloc: Global, desk: &mut Desk, passes: u64) -> Result<u8> {
     let script = desk.scripts.script(alloc)?;
     let mut out = Paper::new(alloc, usize::MAX);
     let mut notes = Notes::new(alloc);
-    let (status, _) = serve_on(
-        alloc,
-        &mut desk.image,
-        &script,
-        passes,
-        &mut out,
-        &mut notes,
-    )?;
+    let disk = FuseDisk::new(desk.image.take()?, passes, Mode::Stop);
+    let (status, disk) = serial_once_on(alloc, disk, &script, &mut out, &mut notes);
+    desk.image.set(disk.into_inner());
     desk.printed.set(out.into_text()?, notes);
     Ok(status)
-}
-
-// Returns how many calls an opening makes.
-fn opening_calls(alloc: Global, image: &mut Image) -> Result<u64> {
-    let script = match read_script(alloc, "".as_bytes()) {
-        Ok(script) => script,
-        Err(_) => return Err(anyhow!("the empty script is refused")),
-    };
-    let mut out = Paper::new(alloc, 0);
-    let mut notes = Notes::new(alloc);
-    let (_, calls) = serve_on(alloc, image, &script, LAST, &mut out, &mut notes)?;
-    Ok(calls)
 }
 
 // Serves the script once, again and again until its status is 0. The disk stops each time after this many calls past

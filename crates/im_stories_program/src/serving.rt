@@ -56,8 +56,8 @@ fn serve(alloc: Global, desk: &mut Desk, ends: Ends, said: &mut String) -> Resul
     Ok(write!(said, "{status}")?)
 }
 
-// Returns how many calls an opening of an image makes: those of a script with no request.
-fn opening_calls(alloc: Global, image: &mut Image) -> Result<u64> {
+/// Returns how many calls an opening of an image makes: those of a script with no request.
+pub fn opening_calls(alloc: Global, image: &mut Image) -> Result<u64> {
     let script = match read_script(alloc, "".as_bytes()) {
         Ok(script) => script,
         Err(_) => return Err(anyhow!("the empty script is refused")),

@@ -1,5 +1,5 @@
 use Rattle.std.proofs.Common.{sym}
-use Rattle.im_program.specs.Working.{WasServed}
+use Rattle.im_program.specs.Working.{ScriptServed}
 use Rattle.im_program.proofs.work.serve_file.Goals as goal
 
 pub returns-then-once-clause-served : goal.returns-then-once-clause-served
