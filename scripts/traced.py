@@ -4,6 +4,7 @@ A line is `K.N OPERATION -> REPLY`, `confirm K UPTO -> confirmed` or `collect K.
 dialogue.
 """
 import re
+import subprocess
 from dataclasses import dataclass
 
 import images
@@ -67,3 +68,27 @@ def replay(memory, calls):
             reply = "confirmed" if call.op[0] == images.CONFIRM else kept(memory, call.element, call.number)
         need(reply == call.reply, f"{call.asked} -> {call.reply}: the plain memory says {reply}")
     return dropped
+
+
+def call(program, *words, **more):
+    return subprocess.run([program, *map(str, words)], capture_output=True, text=True, **more)
+
+
+def report(program, image):
+    """What an image means, and how many commands it counts."""
+    said = call(program, "inspect", image)
+    need(said.returncode == 0, f"{image.name} isn't opened: {said.stdout[-60:]!r}")
+    words = [it.split() for it in said.stdout.splitlines()]
+    count = sum(int(it[7]) if it[0] == "header" else int(it[1]) for it in words if it[0] in ("header", "journal"))
+    return [it for it in words if it[0] not in ("header", "journal")], count
+
+
+def judge_served(program, before, after, calls):
+    """Serves the calls on the image as it was before, and compares the replies, and then the images if there is one to compare with."""
+    said = call(program, "serve", before, input="".join(f"{it.asked}\n" for it in calls))
+    answers = [" ".join(it.split()[:3]) if " refused " in it else it for it in said.stdout.splitlines()]
+    need(said.returncode == 0 and len(answers) == len(calls), f"{len(calls)} calls were served with status {said.returncode}, and {len(answers)} answered")
+    for it, answer in zip(calls, answers):
+        need(it.answer == answer, f"{it.asked} -> {it.reply}: served again it is answered {answer}")
+    if after:
+        need(report(program, before) == report(program, after), "the image isn't as the one on which the trace was served again")
