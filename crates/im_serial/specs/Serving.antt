@@ -23,8 +23,8 @@ use Rattle.im_script.specs.Places.{op_of}
 use Rattle.im_serial.specs.declared.server.Server.{Server as Whole}
 use Rattle.im_serial.specs.declared.waits.Mark.{Mark}
 use Rattle.im_serial.specs.Noted.{AreKnown, AreLast, AreNoted, Notes, learnt, notes}
-use Rattle.im_serial.specs.Asked.{Course, IsAsked, LeadsIf, Standing, HasReached, Wanted, bases_by, earlier_in, standing}
-use Rattle.im_serial.specs.Asked.{wanted_of}
+use Rattle.im_serial.specs.Asked.{Course, IsAsked, LeadsIf, Standing, HasReached, Wanted, bases_by, earlier_in}
+use Rattle.im_serial.specs.Asked.{standing, wanted_of}
 
 -- ---- while it is served
 

@@ -9,7 +9,7 @@ ghost use Rattle.im_text.specs.Printing.{PrintsMore, PrintsOn};
 ghost use Rattle.im_serial.specs.declared.waits.Mark.TheVariants.{Here};
 ghost use Rattle.im_serial.specs.Noted.{mark_place};
 ghost use Rattle.im_serial.specs.Asked.{Wanted, wanted_by, wanted_of};
-ghost use Rattle.im_serial.specs.Once.{HasPassed, Names, has_next, is_had, line_of, met, noted_of};
+ghost use Rattle.im_serial.specs.Once.{HasPassed, Names, has_next, is_had, met, noted_of, past_line};
 ghost use Rattle.im_serial.specs.Serving.{seen_by};
 
 use crate::past::Past;
@@ -96,7 +96,7 @@ impl<D: Disk> Server<D> {
             → slice_get self.new.places.marks.items i ≡ slice_get self.old.places.marks.items i }
         ensures unmarked { kept_for self.old.engine.memory.windows (record { element = who.0; number = who.1 }) ≡ None
             → self.new.places.marks.items ≡ self.old.places.marks.items }
-        ensures more { let line = line_of self.old.engine.memory (record { element = who.0; number = who.1 }) in
+        ensures more { let line = past_line self.old.engine.memory (record { element = who.0; number = who.1 }) in
             MatchResult result
             (λ _. PrintsMore (W.contents out.old) self.old.lines (W.contents out.new) self.new.lines line)
             (λ _. PrintsOn (W.contents out.old) self.old.lines (W.contents out.new) self.new.lines

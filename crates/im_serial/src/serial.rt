@@ -41,9 +41,9 @@ use std::io::Write;
 /// the status is 0, they are all the script's requests.
 ///
 /// Each command whose line was written is in every file that a crash leaves. A request's line tells its answer, and a
-/// `now` line the entry that is kept for it at the end or that it had when it was confirmed. What was written is at each return a
-/// prefix of this text: the lines of such commands, then those of requests that had to wait, then that of the refusal.
-/// If the status is 0, it is all of it.
+/// `now` line the entry that is kept for it at the end or that it had when it was confirmed. What was written is at
+/// each return a prefix of this text: the lines of such commands, then those of requests that had to wait, then that of
+/// the refusal. If the status is 0, it is all of it.
 pub fn serial_on<D: Disk, W: Write, N: Observer>(
     alloc: Global,
     disk: D,
@@ -105,8 +105,8 @@ fn serve_on<D: Disk, W: Write, N: Observer>(
 }
 
 /// Serves what the image of a disk doesn't have of a script, and gives the disk back: the n-th request of an element in
-/// the script has number n. So a script that was stopped is gone on with by the same call. What it prints goes to `out`,
-/// in this order:
+/// the script has number n. So a script that was stopped is gone on with by the same call. What it prints goes to
+/// `out`, in this order:
 ///
 /// - For each request that the image has, in order: `K.N REPLY`, what is kept for it, or `K.N done` if it was
 ///   confirmed. These lines are written out before anything is served.
@@ -118,8 +118,8 @@ fn serve_on<D: Disk, W: Write, N: Observer>(
 /// the image has its block.
 ///
 /// Before anything is printed, the script is compared with what the image has of it, and refused if another script used
-/// the image: with `Mismatch` if under one of its numbers another operation is kept, or for a block of the setup another
-/// base; with `BadScript` if the window of an element begins behind all its requests. What was confirmed can't be
+/// the image: with `Mismatch` if under one of its numbers another operation is kept, or for a block of the setup
+/// another base; with `BadScript` if the window of an element begins behind all its requests. What was confirmed can't be
 /// compared.
 ///
 /// All else is as [`serial_on`] says: what it refuses, what is confirmed, when lines are written, what a crash leaves,

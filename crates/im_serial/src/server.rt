@@ -274,8 +274,8 @@ impl<D: Disk> Server<D> {
         out: &mut W,
         observer: &mut N,
     ) -> Result<(), Reason>
-        ensures served { HasServed D.Disk (wanted_by (Said.Block block)) self.old.bases.items self.new.bases.items result
-            (seen_by self.old (W.contents out.old)) (seen_by self.new (W.contents out.new)) }
+        ensures served { HasServed D.Disk (wanted_by (Said.Block block)) self.old.bases.items self.new.bases.items
+            result (seen_by self.old (W.contents out.old)) (seen_by self.new (W.contents out.new)) }
     {
         let entry = match self.request(0, Op::Alloc(block.kind, block.length), out, observer) {
             Ok(entry) => entry,
