@@ -46,8 +46,8 @@ use Rattle.im_serial.specs.Serving.{EndsAt, GoingAt, HaltsAt, HaltsWith, HasServ
 use Rattle.im_serial.specs.Once.{Breaks, BrokenAt, HasBroken, HasMet, HasPassed, HasShown, IsPrefix, Meets, MetAt}
 use Rattle.im_serial.specs.Once.{Names, bases_had, has_block, has_next, left_of, length_asked}
 use Rattle.im_serial.specs.Once.{if_new, lines_had, met, met_all, news, next_had, noted_of, numbers_had, past_line}
-use Rattle.im_serial.specs.Once.{waits_had, waits_of, who_next, ClosedOnce, DoneOnce, EndedOnce, HasServedOnce, IsAskedOnce}
-use Rattle.im_serial.specs.Once.{HasServedNothing, ServedOnce, ToldOnce, course_of, new_of}
+use Rattle.im_serial.specs.Once.{waits_had, waits_of, who_next, ClosedOnce, DoneOnce, EndedOnce, HasServedOnce}
+use Rattle.im_serial.specs.Once.{HasServedNothing, IsAskedOnce, ServedOnce, ToldOnce, course_of, new_of}
 use Rattle.im_serial.proofs.AskedLemmas.{stands_here, wanted_line}
 use Rattle.im_serial.proofs.NotedLemmas.{apart, last_or_before, noted_known}
 use Rattle.im_serial.proofs.ScriptedLemmas.{going_from}
@@ -663,15 +663,15 @@ module _ {D : Type 0} (disk : Ghosts D) where
       → HasServedNothing disk (server_of engine held lines waited marks) bases
   ready_of start engine held before lines waited marks bases works means memory pending none no_bases engines line =
       record {
-    works = ap (λ (e : EngineState D). e.failed) engines ∙ works;
-    means = subst (λ (e : EngineState D). disk.honest e.disk → LeavesNow (disk.now e.disk) (MeansState e)) (sym engines)
-        means;
-    memory = subst (λ (e : EngineState D). IsMemory (length e.memory.cells) (length e.memory.windows) e.memory) (sym
-        engines) memory;
-    waited = none;
-    bases_is = no_bases;
-    pending = ap (λ (l : Lines). l.pending.items) line ∙ pending;
-  }
+        works = ap (λ (e : EngineState D). e.failed) engines ∙ works;
+        means = subst (λ (e : EngineState D). disk.honest e.disk → LeavesNow (disk.now e.disk) (MeansState e)) (sym
+            engines) means;
+        memory = subst (λ (e : EngineState D). IsMemory (length e.memory.cells) (length e.memory.windows) e.memory) (sym
+            engines) memory;
+        waited = none;
+        bases_is = no_bases;
+        pending = ap (λ (l : Lines). l.pending.items) line ∙ pending;
+      }
 
   -- it was ended before the first request
   unbegun : (script : List Wanted) (old new : ScriptServer D) (bases : List ℕ) → HasServedNothing disk old bases
@@ -750,18 +750,18 @@ module _ {D : Type 0} (disk : Ghosts D) where
     course = course_of old.engine.memory script
 
     -- the text of what the image has, as it was printed
-    shown_text : (ready : HasServedNothing disk old bases) → (shown_at ready).0 ≡ lines_had old.engine.memory (numbers_had
-        old.engine.memory) script
+    shown_text : (ready : HasServedNothing disk old bases) → (shown_at ready).0
+        ≡ lines_had old.engine.memory (numbers_had old.engine.memory) script
     shown_text ready = sym ((subst (λ (e : EngineState D). HasMet e.memory script it.later [] (shown_at ready).0
         mid.waited mid.marks) it.engine (shown_at ready).1.0).lines ∙ append-nil (shown_at ready).0)
 
-    shown_written : HasServedNothing disk old bases → Appends old.held mid.held (lines_had old.engine.memory (numbers_had
-        old.engine.memory) script)
+    shown_written : HasServedNothing disk old bases
+        → Appends old.held mid.held (lines_had old.engine.memory (numbers_had old.engine.memory) script)
     shown_written ready = subst (Appends old.held mid.held) (shown_text ready) (prints_all old.held mid.held mid.lines
         (shown_at ready).0 it.works it.pending (shown_at ready).1.1)
 
-    shown_going : HasServedNothing disk old bases → GoingAt disk old.engine mid.held (standing (Some course) known (course.wanted
-        ++ [])) mid
+    shown_going : HasServedNothing disk old bases
+        → GoingAt disk old.engine mid.held (standing (Some course) known (course.wanted ++ [])) mid
     shown_going ready =
         let met = subst (λ (e : EngineState D). HasMet e.memory script it.later [] (shown_at ready).0 mid.waited
         mid.marks) it.engine (shown_at ready).1.0 in
