@@ -90,7 +90,7 @@ met_less many e f = by_test (has_next many e) refl
     by_same has true t =
         let same : f ≡ e = eq_by_test f e t in
         subst (λ (x : ℕ). left_of (met many e) x ≤ left_of many x) (sym same)
-            (let it = met_here many e has in omega arith)
+        (let it = met_here many e has in omega arith)
     by_same has false t =
         let is : left_of (met many e) f ≡ left_of many f = ap (λ (b : Bool). left_of (if b then set many e (left_of many
         e - 1) else many) f) has ∙ get_or-set_other many e f (left_of many e - 1) 0 (λ same. true_false (f == e)

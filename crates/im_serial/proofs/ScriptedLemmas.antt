@@ -630,13 +630,31 @@ module _ {D : Type 0} (disk : Ghosts D) where
           new.engine new.held new.lines new.waited))
       by_result (Ok x) serves = λ start held going. let g = serves start held None [] (any start held going) in (
         g.0,
-        ((λ h. let i = g.1.0 h in (i.0, (i.1.0, subst (GoesWith disk.now disk.past disk.failures start new.engine i.1.0
-        g.0) (sym i.1.1.1.0) i.1.1.1.1.0))), g.1.1),
+        (
+          (λ h. let i = g.1.0 h in (
+            i.0,
+            (
+              i.1.0,
+              subst (GoesWith disk.now disk.past disk.failures start new.engine i.1.0
+                  g.0) (sym i.1.1.1.0) i.1.1.1.1.0,
+            ),
+          )),
+          g.1.1,
+        ),
       )
       by_result (Err e) serves = λ start held going. let g = it.ends start held None [] (any start held going) in (
         g.0,
-        ((λ h. let i = g.1.0 h in (i.0, (i.1.0, subst (HaltsWith disk.now disk.past disk.failures start new.engine i.1.0
-        g.0) (sym i.1.1.1.0) i.1.1.1.1.0))), g.1.1),
+        (
+          (λ h. let i = g.1.0 h in (
+            i.0,
+            (
+              i.1.0,
+              subst (HaltsWith disk.now disk.past disk.failures start new.engine i.1.0
+                  g.0) (sym i.1.1.1.0) i.1.1.1.1.0,
+            ),
+          )),
+          g.1.1,
+        ),
       )
 
   -- what is kept back is written

@@ -9,8 +9,9 @@ serve_once_on-requires g c =
     let n = c.new-server in
     let e = c.in-Ok-open.ensures in
     record {
-      works = ready_of g.D.Disk c.in-Ok-open.engine n.result.engine (g.W.Write.contents c.args.out.now) c.in-Ok.desk.lines n.result.lines
-          n.result.waited.items n.result.places.marks.items n.result.bases.items e.works e.means
+      works = ready_of g.D.Disk c.in-Ok-open.engine n.result.engine (g.W.Write.contents c.args.out.now)
+          c.in-Ok.desk.lines n.result.lines n.result.waited.items n.result.places.marks.items n.result.bases.items
+          e.works e.means
           n.ensures.memory c.in-Ok.ensures.pending n.ensures.waited n.ensures.bases n.ensures.engine n.ensures.lines;
     }
 
