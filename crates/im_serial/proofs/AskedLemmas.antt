@@ -16,8 +16,8 @@ use Rattle.im_script.specs.declared.script.Said.{Said}
 use Rattle.im_script.specs.Places.{op_of}
 use Rattle.im_script.specs.Script.{Draft, counted}
 use Rattle.im_text.proofs.WindowLemmas.{bounds_found}
-use Rattle.im_serial.specs.Asked.{Course, Wanted, Leads, LeadsIf, Standing, HasReached, bases_by, number_next, request_in}
-use Rattle.im_serial.specs.Asked.{standing, wanted_by, wanted_in}
+use Rattle.im_serial.specs.Asked.{Course, Wanted, Leads, LeadsIf, Standing, HasReached, bases_by, number_next}
+use Rattle.im_serial.specs.Asked.{request_in, standing, wanted_by, wanted_in}
 
 -- ---- one request
 

@@ -1,14 +1,16 @@
 -- A script that is served once: what a memory has of it. (Own.)
-use Rattle.std.proofs.Common.{◌≡◌, ◌⊎◌, ◌∙◌, inl, inr, ⊎_elim, ℕ, ◌+◌, ◌-◌, ◌<◌, ◌≤◌, zero, suc, Bool, true, false, List}
-use Rattle.std.proofs.Common.{[], ◌∷◌, ◌++◌, length, map, set, get_or, take, Some, None, refl, sym, ap, ap₂, subst, arith}
-use Rattle.std.proofs.Common.{append_assoc}
+use Rattle.std.proofs.Common.{◌≡◌, ◌⊎◌, ◌∙◌, inl, inr, ⊎_elim, ℕ, ◌+◌, ◌-◌, ◌<◌, ◌≤◌, zero, suc, Bool, true, false}
+use Rattle.std.proofs.Common.{List, [], ◌∷◌, ◌++◌, length, map, set, get_or, take, Some, None, refl, sym, ap, ap₂}
+use Rattle.std.proofs.Common.{append_assoc, arith, subst}
 use Rattle.std.specs.Borrow.{Bor}
-use Rattle.std.specs.Prelude.{Option, Result, Ok, Err, IsOk, OnOk, MatchResult, ◌==◌, ◌&&◌, nat_lt, slice_get, if◌then◌else◌}
+use Rattle.std.specs.Prelude.{Option, Result, Ok, Err, IsOk, OnOk, MatchResult, ◌==◌, ◌&&◌, nat_lt, slice_get}
+use Rattle.std.specs.Prelude.{if◌then◌else◌}
 use Rattle.std.specs.Io.KnownBytes.{Appends}
 use Rattle.std.specs.Option.{option_map_or}
 use Rattle.std.proofs.KnownBytes.{Appends-trans}
 use Rattle.std.proofs.lemmas.Bool.Decides.{nat_tests}
-use Rattle.std.proofs.lemmas.List.{append-nil, get_or-set_same, get_or-set_other, length-map, map-append, take_all, take_more}
+use Rattle.std.proofs.lemmas.List.{append-nil, get_or-set_same, get_or-set_other, length-map, map-append}
+use Rattle.std.proofs.lemmas.List.{take_all, take_more}
 use Rattle.im_types.specs.declared.operations.Entry.{Entry}
 use Rattle.im_types.specs.declared.operations.Entry.TheVariants.{Waiting, Answered}
 use Rattle.im_types.specs.declared.operations.Kept.{Kept}
@@ -25,6 +27,7 @@ use Rattle.im_disk.proofs.SinceLemmas.{left_now, leaves_now, leaves_then}
 use Rattle.im_engine.specs.State.{EngineState, MeansState}
 use Rattle.im_engine.specs.Run.{MeansBeginning}
 use Rattle.im_engine.proofs.Running.{doubt_by}
+use Rattle.im_laws.proofs.GroupLemmas.{above_zero}
 use Rattle.im_laws.proofs.Tests.{eq_by_test}
 use Rattle.im_laws.proofs.WindowLemmas.{kept_for-window}
 use Rattle.im_text.specs.declared.lines.Lines.{Lines}
@@ -40,11 +43,11 @@ use Rattle.im_script.specs.declared.script.Said.{Said}
 use Rattle.im_script.specs.Script.{Draft, counted, lines_of}
 use Rattle.im_serial.specs.Asked.{Course, Leads, Wanted, standing, wanted_by, wanted_in, wanted_of}
 use Rattle.im_serial.specs.Serving.{EndsAt, GoingAt, HaltsAt, HaltsWith, HasServed, Passes, ScriptServer, server_of}
-use Rattle.im_serial.specs.Once.{Breaks, BrokenAt, HasBroken, HasMet, HasPassed, HasShown, IsPrefix, Meets, MetAt, Names}
-use Rattle.im_serial.specs.Once.{bases_had, has_block, has_next, left_of, length_asked}
-use Rattle.im_serial.specs.Once.{if_new, line_of, lines_had, met, met_all, news, next_had, noted_of, numbers_had, waits_had}
-use Rattle.im_serial.specs.Once.{waits_of, who_next, ClosedOnce, DoneOnce, EndedOnce, HasServedOnce, IsAskedOnce}
-use Rattle.im_serial.specs.Once.{IsReady, ServedOnce, ToldOnce, course_of, new_of}
+use Rattle.im_serial.specs.Once.{Breaks, BrokenAt, HasBroken, HasMet, HasPassed, HasShown, IsPrefix, Meets, MetAt}
+use Rattle.im_serial.specs.Once.{Names, bases_had, has_block, has_next, left_of, length_asked}
+use Rattle.im_serial.specs.Once.{if_new, lines_had, met, met_all, news, next_had, noted_of, numbers_had, past_line}
+use Rattle.im_serial.specs.Once.{waits_had, waits_of, who_next, ClosedOnce, DoneOnce, EndedOnce, HasServedOnce}
+use Rattle.im_serial.specs.Once.{HasServedNothing, IsAskedOnce, ServedOnce, ToldOnce, course_of, new_of}
 use Rattle.im_serial.proofs.AskedLemmas.{stands_here, wanted_line}
 use Rattle.im_serial.proofs.NotedLemmas.{apart, last_or_before, noted_known}
 use Rattle.im_serial.proofs.ScriptedLemmas.{going_from}
@@ -71,13 +74,10 @@ some_within [] i some = absurd (omega arith)
 some_within (x ∷ xs) zero some = omega arith
 some_within (x ∷ xs) (suc i) some = let it = some_within xs i some in omega arith
 
-some_by : (n : ℕ) → nat_lt 0 n ≡ true → 0 < n
-some_by n is = grind (arith, nat_tests)
-
 -- one less is left of that element's
 met_here : (many : List ℕ) (e : ℕ) → has_next many e ≡ true → left_of (met many e) e + 1 ≡ left_of many e
 met_here many e has =
-    let some : 0 < left_of many e = some_by (left_of many e) has in
+    let some : 0 < left_of many e = above_zero (left_of many e) has in
     let is : left_of (met many e) e ≡ left_of many e - 1 = ap (λ (b : Bool). left_of (if b then set many e (left_of many
     e - 1) else many) e) has ∙ get_or-set_same many e (left_of many e - 1) 0 (some_within many e some) in
     omega arith
@@ -89,7 +89,8 @@ met_less many e f = by_test (has_next many e) refl
     by_same : has_next many e ≡ true → (t : Bool) → (f == e) ≡ t → left_of (met many e) f ≤ left_of many f
     by_same has true t =
         let same : f ≡ e = eq_by_test f e t in
-        subst (λ (x : ℕ). left_of (met many e) x ≤ left_of many x) (sym same) (let it = met_here many e has in omega arith)
+        subst (λ (x : ℕ). left_of (met many e) x ≤ left_of many x) (sym same)
+        (let it = met_here many e has in omega arith)
     by_same has false t =
         let is : left_of (met many e) f ≡ left_of many f = ap (λ (b : Bool). left_of (if b then set many e (left_of many
         e - 1) else many) f) has ∙ get_or-set_other many e f (left_of many e - 1) 0 (λ same. true_false (f == e)
@@ -205,7 +206,7 @@ module _ (m : Contents) (script rest : List Wanted) (many : List ℕ) (w : Wante
       record {
         memory = it.memory;
         lines = it.lines ∙ ap (λ (l : List ℕ). text ++ (l ++ lines_had m (met many w.element) rest)) (if_false
-            (has_next many w.element) (line_of m who) [] none);
+            (has_next many w.element) (past_line m who) [] none);
         names = it.names ∙ ap (λ (l : List Waiter). map who_of waited ++ (l ++ waits_had m (met many w.element) rest))
             (if_false (has_next many w.element) (waits_of m who) [] none);
         marked = it.marked;
@@ -215,10 +216,10 @@ module _ (m : Contents) (script rest : List Wanted) (many : List ℕ) (w : Wante
 
   -- it has it
   module _ (has : has_next many w.element ≡ true) where
-    lines_more : lines_had m (numbers_had m) script ≡ (text ++ line_of m who) ++ lines_had m (met many w.element) rest
+    lines_more : lines_had m (numbers_had m) script ≡ (text ++ past_line m who) ++ lines_had m (met many w.element) rest
     lines_more = it.lines ∙ ap (λ (l : List ℕ). text ++ (l ++ lines_had m (met many w.element) rest)) (if_true
-        (has_next many w.element) (line_of m who) [] has)
-        ∙ sym (append_assoc text (line_of m who) (lines_had m (met many w.element) rest))
+        (has_next many w.element) (past_line m who) [] has)
+        ∙ sym (append_assoc text (past_line m who) (lines_had m (met many w.element) rest))
 
     passed_less : (at : ℕ) (v : Waited) → slice_get waited at ≡ Some v → v.number + left_of (met many w.element)
         v.element < next_had m v.element
@@ -228,7 +229,7 @@ module _ (m : Contents) (script rest : List Wanted) (many : List ℕ) (w : Wante
         omega arith
 
     -- its line was made, and then it was ended
-    pub met_line_broken : HasBroken m script (text ++ line_of m who) waited
+    pub met_line_broken : HasBroken m script (text ++ past_line m who) waited
     met_line_broken = record {
       lines = (lines_had m (met many w.element) rest, lines_more);
       names = (waits_had m many (w ∷ rest), it.names);
@@ -302,7 +303,7 @@ module _ (m : Contents) (script rest : List Wanted) (many : List ℕ) (w : Wante
                   omega arith
 
       -- its line was made, and it is noted if it waits
-      pub met_more : HasMet m script (met many w.element) rest (text ++ line_of m who) noted later
+      pub met_more : HasMet m script (met many w.element) rest (text ++ past_line m who) noted later
       met_more = record {
         memory = it.memory;
         lines = lines_more;
@@ -345,7 +346,8 @@ module _ (many : List ℕ) (end : ℕ) (w : Wanted) (before : List ℕ) where
       length_asked w.action else end) rest)) none
 
 -- a name was kept, if the memory has its block
-pub names_kept : {T E : Type 0} (r : Result T E) (many : List ℕ) (end : ℕ) (w : Wanted) (before between after between_many
+pub names_kept : {T E : Type 0} (r : Result T E) (many : List ℕ) (end : ℕ) (w : Wanted) (before between after
+    between_many
     later : List ℕ) (between_end behind : ℕ) → w.named ≡ true → later ≡ between_many → between_many ≡ met many w.element
     → between ≡ before → between_end ≡ end → (had : Bool) → had ≡ has_next many w.element
     → OnOk r (had ≡ false → (after ≡ between) × (behind ≡ between_end))
@@ -388,14 +390,6 @@ module _ {D : Type 0} where
   breaks_here many later wanted left old new meets = λ script rest held at. broken_at script later (left ++ rest)
       held new (meets script rest held at)
 
-  -- the memory doesn't have the request
-  pub meets_new : (many : List ℕ) (w : Wanted) (t : ScriptServer D) → has_next many w.element ≡ false
-      → Meets many (w ∷ []) (met many w.element) [] t t
-  meets_new many w t none = λ script rest held at. (
-    at.0,
-    (met_new t.engine.memory script rest many w at.0 t.waited t.marks at.1.0 none, at.1.1),
-  )
-
   -- it has the request
   module _ (engine same : EngineState D) (held later : Option (List ℕ)) (before last : Lines) (waited noted : List
       Waited) (marks marked : List Mark) (many : List ℕ) (w : Wanted) (it : Waiter) (engines : same ≡ engine)
@@ -404,7 +398,7 @@ module _ {D : Type 0} where
       (unmarked : kept_for engine.memory.windows it ≡ None → marked ≡ marks) where
     meets_more : noted ≡ waited ++ noted_of engine.memory it → ((k : Kept) → kept_for engine.memory.windows it ≡ Some k
         → k.entry ≡ Waiting → slice_get marked (mark_place it) ≡ Some (Here (length waited)))
-        → PrintsMore held before later last (line_of engine.memory it)
+        → PrintsMore held before later last (past_line engine.memory it)
         → Meets many (w ∷ []) (met many w.element) [] (server_of engine held before waited marks) (server_of same later
         last noted marked)
     meets_more pushed mark prints = λ script rest from at.
@@ -412,7 +406,7 @@ module _ {D : Type 0} where
         let there : Waiter = who_next m many w.element in
         subst (λ (e : EngineState D). MetAt script (met many w.element) rest from (server_of e later last noted marked))
         (sym engines) (
-          at.0 ++ line_of m there,
+          at.0 ++ past_line m there,
           (
             met_more m script rest many w at.0 waited marks at.1.0 has noted marked
                 (subst (λ (x : Waiter). noted ≡ waited ++ noted_of m x) it_is pushed)
@@ -421,11 +415,11 @@ module _ {D : Type 0} where
                 (subst (λ (x : Waiter). kept_for m.windows x ≡ None → marked ≡ marks) it_is unmarked)
                 (subst (λ (x : Waiter). (k : Kept) → kept_for m.windows x ≡ Some k → k.entry ≡ Waiting
                 → slice_get marked (mark_place x) ≡ Some (Here (length waited))) it_is mark),
-            subst (λ (x : Waiter). Prints from later last (at.0 ++ line_of m x)) it_is (prints from at.0 at.1.1),
+            subst (λ (x : Waiter). Prints from later last (at.0 ++ past_line m x)) it_is (prints from at.0 at.1.1),
           ),
         )
 
-    breaks_before : noted ≡ waited → PrintsOn held before later last ⊎ PrintsMore held before later last (line_of
+    breaks_before : noted ≡ waited → PrintsOn held before later last ⊎ PrintsMore held before later last (past_line
         engine.memory it)
         → Breaks many (w ∷ []) (server_of engine held before waited marks) (server_of same later last noted marked)
     breaks_before nothing prints = λ script rest from at.
@@ -435,17 +429,17 @@ module _ {D : Type 0} where
       where
         by_prints : (script rest : List Wanted) (from : Option (List ℕ)) → MetAt script many (w ∷ rest) from (server_of
             engine held before waited marks)
-            → PrintsOn held before later last ⊎ PrintsMore held before later last (line_of engine.memory it)
+            → PrintsOn held before later last ⊎ PrintsMore held before later last (past_line engine.memory it)
             → BrokenAt script from (server_of engine later last waited marked)
         by_prints script rest from at (inl on) = (
           at.0,
           (met_broken engine.memory script many (w ∷ rest) at.0 waited marks at.1.0, on from at.0 at.1.1),
         )
         by_prints script rest from at (inr more) = (
-          at.0 ++ line_of engine.memory (who_next engine.memory many w.element),
+          at.0 ++ past_line engine.memory (who_next engine.memory many w.element),
           (
             met_line_broken engine.memory script rest many w at.0 waited marks at.1.0 has,
-            subst (λ (x : Waiter). Prints from later last (at.0 ++ line_of engine.memory x)) it_is (more from at.0
+            subst (λ (x : Waiter). Prints from later last (at.0 ++ past_line engine.memory x)) it_is (more from at.0
                 at.1.1),
           ),
         )
@@ -454,21 +448,12 @@ module _ {D : Type 0} where
         (λ e. noted ≡ waited)
         → OnOk r ((k : Kept) → kept_for engine.memory.windows it ≡ Some k → k.entry ≡ Waiting → slice_get marked
         (mark_place it) ≡ Some (Here (length waited)))
-        → MatchResult r (λ x. PrintsMore held before later last (line_of engine.memory it)) (λ e. PrintsOn held before
-        later last ⊎ PrintsMore held before later last (line_of engine.memory it))
+        → MatchResult r (λ x. PrintsMore held before later last (past_line engine.memory it)) (λ e. PrintsOn held before
+        later last ⊎ PrintsMore held before later last (past_line engine.memory it))
         → HasPassed many (w ∷ []) (met many w.element) r (server_of engine held before waited marks) (server_of same
         later last noted marked)
     passed_had (Ok x) pushed mark prints = meets_more pushed mark prints
     passed_had (Err e) nothing mark prints = breaks_before nothing prints
-
-  -- the same, with another success
-  pub passed_as : {T U E F : Type 0} (r : Result T E) (s : Result U F) (many later : List ℕ) (wanted : List Wanted) (old
-      new : ScriptServer D) → (IsOk r → IsOk s) → (IsOk s → IsOk r) → HasPassed many wanted later r old new
-      → HasPassed many wanted later s old new
-  passed_as (Ok x) (Ok y) many later wanted old new a b it = it
-  passed_as (Err e) (Err f) many later wanted old new a b it = it
-  passed_as (Ok x) (Err f) many later wanted old new a b it = absurd (true_false false (a refl) refl)
-  passed_as (Err e) (Ok y) many later wanted old new a b it = absurd (true_false false (b refl) refl)
 
   -- ---- lines
 
@@ -523,13 +508,15 @@ module _ {D : Type 0} where
   pub meets_none : (F : Bor (List ℕ) → List Wanted) (first later : List ℕ) (all : List Wanted) (old new : ScriptServer
       D) (rest : Option (Bor (List ℕ))) → rest ≡ None → Meets first all later (option_map_or F rest []) old new → Meets
       first all later [] old new
-  meets_none F first later all old new rest none meets = subst (λ (o : Option (Bor (List ℕ))). Meets first all later
+  meets_none F first later all old new rest none meets =
+      subst (λ (o : Option (Bor (List ℕ))). Meets first all later
       (option_map_or F o []) old new) none meets
 
   pub meets_some : (F : Bor (List ℕ) → List Wanted) (first later : List ℕ) (all : List Wanted) (old new : ScriptServer
       D) (rest : Option (Bor (List ℕ))) (text : Bor (List ℕ)) → rest ≡ Some text → Meets first all later (option_map_or
       F rest []) old new → Meets first all later (F text) old new
-  meets_some F first later all old new rest text some meets = subst (λ (o : Option (Bor (List ℕ))). Meets first all later
+  meets_some F first later all old new rest text some meets =
+      subst (λ (o : Option (Bor (List ℕ))). Meets first all later
       (option_map_or F o []) old new) some meets
 
   -- all of it is written
@@ -545,10 +532,13 @@ module _ {D : Type 0} where
       pending works = record {
         engine = same;
         later = later;
-        meets = meets_printed (numbers_had old.engine.memory) later script [] old engine held after before last waited marks
+        meets = meets_printed (numbers_had old.engine.memory) later script [] old engine held after before last waited
+            marks
             meets prints;
-        names = sym (append-nil known) ∙ sym (names (bases ++ bases_had (numbers_had old.engine.memory) 0 (script ++ [])) []
-            refl) ∙ ap (λ (l : List Wanted). bases ++ bases_had (numbers_had old.engine.memory) 0 l) (append-nil script);
+        names = sym (append-nil known)
+            ∙ sym (names (bases ++ bases_had (numbers_had old.engine.memory) 0 (script ++ [])) []
+            refl)
+            ∙ ap (λ (l : List Wanted). bases ++ bases_had (numbers_had old.engine.memory) 0 l) (append-nil script);
         pending = pending;
         works = works;
       }
@@ -646,7 +636,7 @@ no_item w is = cc
 
 module _ {D : Type 0} (disk : Ghosts D) where
   -- nothing was met yet
-  pub met_start : (script : List Wanted) (t : ScriptServer D) (bases : List ℕ) → IsReady disk t bases
+  pub met_start : (script : List Wanted) (t : ScriptServer D) (bases : List ℕ) → HasServedNothing disk t bases
       → MetAt script (numbers_had t.engine.memory) (script ++ []) t.held t
   met_start script t bases ready = (
     [],
@@ -670,20 +660,21 @@ module _ {D : Type 0} (disk : Ghosts D) where
       → (disk.honest start.disk → LeavesNow (disk.now start.disk) (MeansState start))
       → IsMemory (length start.memory.cells) (length start.memory.windows) start.memory
       → before.pending.items ≡ [] → waited ≡ [] → bases ≡ [] → engine ≡ start → lines ≡ before
-      → IsReady disk (server_of engine held lines waited marks) bases
-  ready_of start engine held before lines waited marks bases works means memory pending none no_bases engines line = record {
-    works = ap (λ (e : EngineState D). e.failed) engines ∙ works;
-    means = subst (λ (e : EngineState D). disk.honest e.disk → LeavesNow (disk.now e.disk) (MeansState e)) (sym engines)
-        means;
-    memory = subst (λ (e : EngineState D). IsMemory (length e.memory.cells) (length e.memory.windows) e.memory) (sym
-        engines) memory;
-    waited = none;
-    bases_is = no_bases;
-    pending = ap (λ (l : Lines). l.pending.items) line ∙ pending;
-  }
+      → HasServedNothing disk (server_of engine held lines waited marks) bases
+  ready_of start engine held before lines waited marks bases works means memory pending none no_bases engines line =
+      record {
+        works = ap (λ (e : EngineState D). e.failed) engines ∙ works;
+        means = subst (λ (e : EngineState D). disk.honest e.disk → LeavesNow (disk.now e.disk) (MeansState e)) (sym
+            engines) means;
+        memory = subst (λ (e : EngineState D). IsMemory (length e.memory.cells) (length e.memory.windows) e.memory) (sym
+            engines) memory;
+        waited = none;
+        bases_is = no_bases;
+        pending = ap (λ (l : Lines). l.pending.items) line ∙ pending;
+      }
 
   -- it was ended before the first request
-  unbegun : (script : List Wanted) (old new : ScriptServer D) (bases : List ℕ) → IsReady disk old bases
+  unbegun : (script : List Wanted) (old new : ScriptServer D) (bases : List ℕ) → HasServedNothing disk old bases
       → new.engine ≡ old.engine → BrokenAt script old.held new → EndedOnce disk old.engine script old.held new
   unbegun script old new bases ready same it =
       let c : Course = record {
@@ -735,7 +726,8 @@ module _ {D : Type 0} (disk : Ghosts D) where
       )
 
   -- it failed before the first request
-  pub once_unbegun : (T : Type 0) {E : Type 0} (e : E) (script : List Wanted) (old new : ScriptServer D) (bases : List ℕ)
+  pub once_unbegun : (T : Type 0) {E : Type 0} (e : E) (script : List Wanted) (old new : ScriptServer D)
+      (bases : List ℕ)
       → new.engine ≡ old.engine → Breaks (numbers_had old.engine.memory) script old new
       → HasServedOnce disk {T = T} script bases (Err e) old new
   once_unbegun T e script old new bases same breaks = λ ready. (
@@ -747,28 +739,29 @@ module _ {D : Type 0} (disk : Ghosts D) where
       old mid) where
     -- and then it was ended
     pub shown_ends : (T : Type 0) {E : Type 0} (e : E) → HasServedOnce disk {T = T} script bases (Err e) old mid
-    shown_ends T e = once_unbegun T e script old mid bases it.engine (breaks_here (numbers_had old.engine.memory) it.later
+    shown_ends T e = once_unbegun T e script old mid bases it.engine (breaks_here (numbers_had old.engine.memory)
+        it.later
         script [] old mid it.meets)
 
-    shown_at : IsReady disk old bases → MetAt script it.later [] old.held mid
+    shown_at : HasServedNothing disk old bases → MetAt script it.later [] old.held mid
     shown_at ready = it.meets script [] old.held (met_start script old bases ready)
 
     abbrev course : Course
     course = course_of old.engine.memory script
 
     -- the text of what the image has, as it was printed
-    shown_text : (ready : IsReady disk old bases) → (shown_at ready).0 ≡ lines_had old.engine.memory (numbers_had
-        old.engine.memory) script
+    shown_text : (ready : HasServedNothing disk old bases) → (shown_at ready).0
+        ≡ lines_had old.engine.memory (numbers_had old.engine.memory) script
     shown_text ready = sym ((subst (λ (e : EngineState D). HasMet e.memory script it.later [] (shown_at ready).0
         mid.waited mid.marks) it.engine (shown_at ready).1.0).lines ∙ append-nil (shown_at ready).0)
 
-    shown_written : IsReady disk old bases → Appends old.held mid.held (lines_had old.engine.memory (numbers_had
-        old.engine.memory) script)
+    shown_written : HasServedNothing disk old bases
+        → Appends old.held mid.held (lines_had old.engine.memory (numbers_had old.engine.memory) script)
     shown_written ready = subst (Appends old.held mid.held) (shown_text ready) (prints_all old.held mid.held mid.lines
         (shown_at ready).0 it.works it.pending (shown_at ready).1.1)
 
-    shown_going : IsReady disk old bases → GoingAt disk old.engine mid.held (standing (Some course) known (course.wanted
-        ++ [])) mid
+    shown_going : HasServedNothing disk old bases
+        → GoingAt disk old.engine mid.held (standing (Some course) known (course.wanted ++ [])) mid
     shown_going ready =
         let met = subst (λ (e : EngineState D). HasMet e.memory script it.later [] (shown_at ready).0 mid.waited
         mid.marks) it.engine (shown_at ready).1.0 in

@@ -291,8 +291,8 @@ module _ {D : Type 0} (disk : Ghosts D) where
                   done = put;
                   doubt = put_by_command m c (Err e);
                   split = refl;
-                  few = put_or_not (λ (more : List Command). length more ≤ 1) c (is_accepted m c && is_put (Err e)) (omega
-                      arith) (omega arith);
+                  few = put_or_not (λ (more : List Command). length more ≤ 1) c (is_accepted m c && is_put (Err e))
+                      (omega arith) (omega arith);
                   sure = λ works. subst (λ (x : Contents). put_by_command x c (Err e) ≡ []) same (stays.1 works);
                   memory = stays.0 ∙ same;
                   known = if_any s.script (IsRecorded start.memory put n) (AreKnown start.memory put n.waited) (λ r.
@@ -341,12 +341,12 @@ module _ {D : Type 0} (disk : Ghosts D) where
                 confirmed disk.now disk.past disk.failures start mid new put text names element upto a o g
                     it.answered (it.leaves h) (it.doubt h) (it.means h) it.cause is,
                 record {
-                  reached = put_or_not (λ (more : List Command). HasReached start.memory s (put ++ more)) c (is_accepted m c &&
-                      is_put a)
-                      (subst (HasReached start.memory s) (sym (append-nil put)) u.reached) (stands_confirmed start.memory s put
-                      element upto u.reached);
-                  recorded = if_any s.script (IsRecorded start.memory put (learnt waited marks element upto)) (IsRecorded
-                      start.memory (put ++ put_by_command m c a) (notes waited marks))
+                  reached = put_or_not (λ (more : List Command). HasReached start.memory s (put ++ more)) c
+                      (is_accepted m c && is_put a)
+                      (subst (HasReached start.memory s) (sym (append-nil put)) u.reached)
+                      (stands_confirmed start.memory s put element upto u.reached);
+                  recorded = if_any s.script (IsRecorded start.memory put (learnt waited marks element upto))
+                      (IsRecorded start.memory (put ++ put_by_command m c a) (notes waited marks))
                       (confirm_recorded start.memory put element upto waited marks a o is answer) u.recorded;
                 },
               ),
@@ -466,8 +466,8 @@ module _ {D : Type 0} (disk : Ghosts D) where
                 g,
                 record {
                   reached = u.reached;
-                  recorded = if_any s.script (IsRecorded start.memory put (notes waited marks)) (IsRecorded start.memory put
-                      (learnt learned later element upto))
+                  recorded = if_any s.script (IsRecorded start.memory put (notes waited marks))
+                      (IsRecorded start.memory put (learnt learned later element upto))
                       (λ r. record {
                         memory = r.memory;
                         noted = learn start.memory put same r.memory (subst (λ (m : Contents).
@@ -630,11 +630,31 @@ module _ {D : Type 0} (disk : Ghosts D) where
           new.engine new.held new.lines new.waited))
       by_result (Ok x) serves = λ start held going. let g = serves start held None [] (any start held going) in (
         g.0,
-        ((λ h. let i = g.1.0 h in (i.0, (i.1.0, subst (GoesWith disk.now disk.past disk.failures start new.engine i.1.0 g.0) (sym i.1.1.1.0) i.1.1.1.1.0))), g.1.1),
+        (
+          (λ h. let i = g.1.0 h in (
+            i.0,
+            (
+              i.1.0,
+              subst (GoesWith disk.now disk.past disk.failures start new.engine i.1.0
+                  g.0) (sym i.1.1.1.0) i.1.1.1.1.0,
+            ),
+          )),
+          g.1.1,
+        ),
       )
       by_result (Err e) serves = λ start held going. let g = it.ends start held None [] (any start held going) in (
         g.0,
-        ((λ h. let i = g.1.0 h in (i.0, (i.1.0, subst (HaltsWith disk.now disk.past disk.failures start new.engine i.1.0 g.0) (sym i.1.1.1.0) i.1.1.1.1.0))), g.1.1),
+        (
+          (λ h. let i = g.1.0 h in (
+            i.0,
+            (
+              i.1.0,
+              subst (HaltsWith disk.now disk.past disk.failures start new.engine i.1.0
+                  g.0) (sym i.1.1.1.0) i.1.1.1.1.0,
+            ),
+          )),
+          g.1.1,
+        ),
       )
 
   -- what is kept back is written

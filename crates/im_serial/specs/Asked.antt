@@ -84,7 +84,8 @@ Leads m bases (w ∷ wanted) (Asks r ∷ put) left = (request_in m bases w ≡ S
 
 -- The commands that were put are, confirmations aside, the first of these requests, in their order, with these bases at
 -- first. If the status is 0, they are all of them.
-pub record IsAsked (m : Contents) (bases : List ℕ) (wanted : List Wanted) (put : List Command) (status : ℕ) : Type 0 where
+pub record IsAsked (m : Contents) (bases : List ℕ) (wanted : List Wanted) (put : List Command)
+    (status : ℕ) : Type 0 where
   pub left : List Wanted
   pub leads : Leads m bases wanted put left
   pub all : status ≡ 0 → left ≡ []

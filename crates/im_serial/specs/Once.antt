@@ -1,6 +1,7 @@
 -- A script that is served once: what a memory has of its requests, and which of them are new. (Own.)
-use Rattle.std.specs.Prelude.{◌≡◌, ◌⊎◌, ℕ, ◌+◌, ◌-◌, ◌<◌, ◌≤◌, ◌&&◌, Bool, nat_lt, List, [], ◌∷◌, ◌++◌, length, map, take}
-use Rattle.std.specs.Prelude.{true, false, codes, decimal, Result, MatchResult, OnOk, Option, Some, slice_get, slice_index_or, slice_set, if◌then◌else◌}
+use Rattle.std.specs.Prelude.{◌≡◌, ◌⊎◌, ℕ, ◌+◌, ◌-◌, ◌<◌, ◌≤◌, ◌&&◌, Bool, nat_lt, List, [], ◌∷◌, ◌++◌, length, map}
+use Rattle.std.specs.Prelude.{take, true, false, codes, decimal, Result, MatchResult, OnOk, Option, Some, slice_get}
+use Rattle.std.specs.Prelude.{slice_index_or, slice_set, if◌then◌else◌}
 use Rattle.std.specs.Option.{option_map_or}
 use Rattle.std.specs.Io.KnownBytes.{Appends}
 use Rattle.im_types.specs.declared.commands.Command.{Command}
@@ -98,8 +99,8 @@ abbrev pub who_next : Contents → List ℕ → ℕ → Waiter
 who_next m many element = record { element = element; number = next_had m element - left_of many element }
 
 -- the line of a request that the memory has: what is kept for it, or that it was confirmed
-abbrev pub line_of : Contents → Waiter → List ℕ
-line_of m who = option_map_or (λ k. told_line who.element who.number k.entry) (kept_for m.windows who) (done_line who)
+abbrev pub past_line : Contents → Waiter → List ℕ
+past_line m who = option_map_or (λ k. told_line who.element who.number k.entry) (kept_for m.windows who) (done_line who)
 
 -- it waits
 abbrev pub waits_of : Contents → Waiter → List Waiter
@@ -107,7 +108,7 @@ waits_of m who = option_map_or (λ k. waits_if who k.entry) (kept_for m.windows 
 
 -- the line of a request, if the memory has it
 abbrev pub line_had : Contents → List ℕ → Wanted → List ℕ
-line_had m many w = if has_next many w.element then line_of m (who_next m many w.element) else []
+line_had m many w = if has_next many w.element then past_line m (who_next m many w.element) else []
 
 -- it waits, if the memory has it
 abbrev pub wait_had : Contents → List ℕ → Wanted → List Waiter
@@ -135,12 +136,14 @@ IsPrefix {A} part all = (rest : List A) × (all ≡ part ++ rest)
 
 -- What is known when the first requests of a script were met, and these are left: the lines of those that the memory
 -- has were made, and those of them that wait are noted.
-pub record HasMet (m : Contents) (script : List Wanted) (many : List ℕ) (left : List Wanted) (text : List ℕ) (waited : List Waited) (marks : List Mark) : Type 0 where
+pub record HasMet (m : Contents) (script : List Wanted) (many : List ℕ) (left : List Wanted)
+    (text : List ℕ) (waited : List Waited) (marks : List Mark) : Type 0 where
   pub memory : IsMemory (length m.cells) (length m.windows) m
   pub lines : lines_had m (numbers_had m) script ≡ text ++ lines_had m many left
   pub names : waits_had m (numbers_had m) script ≡ map who_of waited ++ waits_had m many left
   pub marked : (at : ℕ) (w : Waited) → slice_get waited at ≡ Some w → IsMarked m 0 0 marks at w
-  pub passed : (at : ℕ) (w : Waited) → slice_get waited at ≡ Some w → w.number + left_of many w.element < next_had m w.element
+  pub passed : (at : ℕ) (w : Waited) → slice_get waited at ≡ Some w
+      → w.number + left_of many w.element < next_had m w.element
 
 -- what is known when it was ended in the middle
 pub record HasBroken (m : Contents) (script : List Wanted) (text : List ℕ) (waited : List Waited) : Type 0 where
@@ -151,11 +154,13 @@ pub record HasBroken (m : Contents) (script : List Wanted) (text : List ℕ) (wa
 module _ {D : Type 0} where
   -- these requests are left, and what was made of the others was printed
   abbrev pub MetAt : List Wanted → List ℕ → List Wanted → Option (List ℕ) → ScriptServer D → Type 0
-  MetAt script many left held t = (text : List ℕ) × (HasMet t.engine.memory script many left text t.waited t.marks × Prints held t.held t.lines text)
+  MetAt script many left held t = (text : List ℕ)
+      × (HasMet t.engine.memory script many left text t.waited t.marks × Prints held t.held t.lines text)
 
   -- it was ended, and what was made of them was printed
   abbrev pub BrokenAt : List Wanted → Option (List ℕ) → ScriptServer D → Type 0
-  BrokenAt script held t = (text : List ℕ) × (HasBroken t.engine.memory script text t.waited × Prints held t.held t.lines text)
+  BrokenAt script held t = (text : List ℕ)
+      × (HasBroken t.engine.memory script text t.waited × Prints held t.held t.lines text)
 
   -- from these requests it comes to those
   abbrev pub Meets : List ℕ → List Wanted → List ℕ → List Wanted → ScriptServer D → ScriptServer D → Type 0
@@ -168,8 +173,10 @@ module _ {D : Type 0} where
       → MetAt script many (wanted ++ rest) held old → BrokenAt script held new
 
   -- these requests were met, if the call succeeded
-  abbrev pub HasPassed : {T E : Type 0} → List ℕ → List Wanted → List ℕ → Result T E → ScriptServer D → ScriptServer D → Type 0
-  HasPassed many wanted later result old new = MatchResult result (λ _. Meets many wanted later [] old new) (λ _. Breaks many wanted old new)
+  abbrev pub HasPassed : {T E : Type 0} → List ℕ → List Wanted → List ℕ → Result T E
+      → ScriptServer D → ScriptServer D → Type 0
+  HasPassed many wanted later result old new = MatchResult result
+      (λ _. Meets many wanted later [] old new) (λ _. Breaks many wanted old new)
 
 -- From these requests it comes to those: the bases of the blocks among them were appended.
 abbrev pub Names : List ℕ → ℕ → List Wanted → List ℕ → ℕ → List Wanted → List ℕ → List ℕ → Type 0
@@ -213,7 +220,7 @@ pub record IsCourse (m : Contents) (script : List Wanted) (c : Course) (had : Li
   pub earlier_is : IsPrefix c.earlier (waits_had m (numbers_had m) script)
 
 -- a server that has served nothing
-pub record IsReady {D : Type 0} (disk : Ghosts D) (t : ScriptServer D) (bases : List ℕ) : Type 0 where
+pub record HasServedNothing {D : Type 0} (disk : Ghosts D) (t : ScriptServer D) (bases : List ℕ) : Type 0 where
   pub works : t.engine.failed ≡ false
   pub means : disk.honest t.engine.disk → LeavesNow (disk.now t.engine.disk) (MeansState t.engine)
   pub memory : IsMemory (length t.engine.memory.cells) (length t.engine.memory.windows) t.engine.memory
@@ -224,16 +231,21 @@ pub record IsReady {D : Type 0} (disk : Ghosts D) (t : ScriptServer D) (bases : 
 module _ {D : Type 0} (disk : Ghosts D) where
   -- the script was ended, and what was told of it was printed
   abbrev pub EndedOnce : EngineState D → List Wanted → Option (List ℕ) → ScriptServer D → Type 0
-  EndedOnce start script was t = (c : Course) × ((had : List ℕ) × (IsCourse start.memory script c had × ((text : List ℕ) × (HaltsAt disk start (Some c) t.engine text t.waited × Prints was t.held t.lines (had ++ text)))))
+  EndedOnce start script was t = (c : Course) × ((had : List ℕ) × (IsCourse start.memory script c had × ((text : List ℕ)
+      × (HaltsAt disk start (Some c) t.engine text t.waited × Prints was t.held t.lines (had ++ text)))))
 
   -- nothing is left of the script, and what was told of it was printed
   abbrev pub DoneOnce : EngineState D → List Wanted → Option (List ℕ) → ScriptServer D → Type 0
-  DoneOnce start script was t = (bases : List ℕ) × ((text : List ℕ) × (GoesAt disk start (standing (Some (course_of start.memory script)) bases []) t.engine text (notes t.waited t.marks)
+  DoneOnce start script was t = (bases : List ℕ) × ((text : List ℕ)
+      × (GoesAt disk start (standing (Some (course_of start.memory script)) bases []) t.engine text
+      (notes t.waited t.marks)
       × Prints was t.held t.lines (lines_had start.memory (numbers_had start.memory) script ++ text)))
 
   -- the script was served once, if the call succeeded
-  abbrev pub HasServedOnce : {T E : Type 0} → List Wanted → List ℕ → Result T E → ScriptServer D → ScriptServer D → Type 0
-  HasServedOnce script bases result old new = IsReady disk old bases → EndedOnce old.engine script old.held new × OnOk result (DoneOnce old.engine script old.held new)
+  abbrev pub HasServedOnce : {T E : Type 0} → List Wanted → List ℕ → Result T E → ScriptServer D → ScriptServer D
+      → Type 0
+  HasServedOnce script bases result old new = HasServedNothing disk old bases
+      → EndedOnce old.engine script old.held new × OnOk result (DoneOnce old.engine script old.held new)
 
 -- The commands that were put are, confirmations aside, the first of these, in their order, each with its element's next
 -- number. The names stand for the blocks that the memory has and for those that were made.
@@ -243,7 +255,8 @@ IsAskedOnce m script put status = IsAsked m (bases_had (numbers_had m) 0 script)
 -- What was printed at the end, a prefix of this text, and all of it if the status is 0: the lines of what the memory
 -- had of the script, as far as they were made; those of the first commands that were put, each of which is in every
 -- file that a crash leaves; those of requests that had to wait, with their last entries; and that of a refusal.
-pub record ToldOnce {D : Type 0} (now : D → Moment) (start : EngineState D) (script : List Wanted) (put : List Command) (disk : D) (was is : Option (List ℕ)) (status : ℕ) : Type 0 where
+pub record ToldOnce {D : Type 0} (now : D → Moment) (start : EngineState D) (script : List Wanted) (put : List Command)
+    (disk : D) (was is : Option (List ℕ)) (status : ℕ) : Type 0 where
   pub had : List ℕ
   pub had_is : IsPrefix had (lines_had start.memory (numbers_had start.memory) script)
   pub told : List Command
@@ -268,7 +281,8 @@ pub record ToldOnce {D : Type 0} (now : D → Moment) (start : EngineState D) (s
       × Appends was is (had ++ replies start.memory put ++ nows waited (length waited))
 
 -- An engine was closed, and this status was given, after these commands of a script were put on its disk.
-pub record ClosedOnce {D : Type 0} (now : D → Moment) (past : D → List Moment) (failures : D → ℕ) (text : List ℕ) (start : EngineState D) (disk : D) (was is : Option (List ℕ)) (status : ℕ) : Type 0 where
+pub record ClosedOnce {D : Type 0} (now : D → Moment) (past : D → List Moment) (failures : D → ℕ) (text : List ℕ)
+    (start : EngineState D) (disk : D) (was is : Option (List ℕ)) (status : ℕ) : Type 0 where
   pub put : List Command
   pub asked : IsAskedOnce start.memory (wanted_of text) put status
   pub accepted : accept_each start.memory put ≡ Some (after start.memory put)
@@ -281,7 +295,8 @@ pub record ClosedOnce {D : Type 0} (now : D → Moment) (past : D → List Momen
 -- those requests of this script that its memory didn't have, in their order, and confirmations. With status 0 they are
 -- all of those. From then on a crash leaves the memory after a prefix of them. At the end it leaves the memory after
 -- all of them, or after all but the last if a call of the disk failed. If the status is 0, it is after all of them.
-pub record ServedOnce {D : Type 0} (now : D → Moment) (past : D → List Moment) (failures : D → ℕ) (text : List ℕ) (old new : D) (was is : Option (List ℕ)) (status : ℕ) : Type 0 where
+pub record ServedOnce {D : Type 0} (now : D → Moment) (past : D → List Moment) (failures : D → ℕ) (text : List ℕ)
+    (old new : D) (was is : Option (List ℕ)) (status : ℕ) : Type 0 where
   pub start : EngineState D
   pub put : List Command
   pub asked : IsAskedOnce start.memory (wanted_of text) put status
@@ -298,9 +313,11 @@ SerialOnceOn disk text old new was is status = NotOpened disk.now disk.past old 
     ⊎ ServedOnce disk.now disk.past disk.failures text old new was is status
 
 -- The same of some script, and of a disk that is at this moment, and has no moment before it.
-pub record ServedOnceFrom {D : Type 0} (now : D → Moment) (past : D → List Moment) (failures : D → ℕ) (first : Moment) (new : D) (before after : Option (List ℕ)) (status : ℕ) : Type 0 where
+pub record ServedOnceFrom {D : Type 0} (now : D → Moment) (past : D → List Moment) (failures : D → ℕ) (first : Moment)
+    (new : D) (before after : Option (List ℕ)) (status : ℕ) : Type 0 where
   pub old : D
   pub was : now old ≡ first
   pub none : past old ≡ []
   pub text : List ℕ
-  pub served : NotOpened now past old new before after status ⊎ ServedOnce now past failures text old new before after status
+  pub served : NotOpened now past old new before after status
+      ⊎ ServedOnce now past failures text old new before after status

@@ -20,10 +20,11 @@ use Rattle.im_text.specs.declared.lines.Lines.{Lines}
 use Rattle.im_text.specs.declared.replies.Waited.{Waited}
 use Rattle.im_text.specs.Printing.{Begins, IsLast, Prints, nows, replies, waits, who_of}
 use Rattle.im_script.specs.Places.{op_of}
+use Rattle.im_serial.specs.declared.server.Server.{Server as Whole}
 use Rattle.im_serial.specs.declared.waits.Mark.{Mark}
 use Rattle.im_serial.specs.Noted.{AreKnown, AreLast, AreNoted, Notes, learnt, notes}
-use Rattle.im_serial.specs.Asked.{Course, IsAsked, LeadsIf, Standing, HasReached, Wanted, bases_by, earlier_in, standing}
-use Rattle.im_serial.specs.Asked.{wanted_of}
+use Rattle.im_serial.specs.Asked.{Course, IsAsked, LeadsIf, Standing, HasReached, Wanted, bases_by, earlier_in}
+use Rattle.im_serial.specs.Asked.{standing, wanted_of}
 
 -- ---- while it is served
 
@@ -138,9 +139,13 @@ pub record ScriptServer (D : Type 0) : Type 0 where
   pub waited : List Waited
   pub marks : List Mark
 
--- a server_of of these
+-- a server of these
 abbrev pub server_of : {D : Type 0} → EngineState D → Option (List ℕ) → Lines → List Waited → List Mark → ScriptServer D
 server_of engine held lines waited marks = record { engine = engine; held = held; lines = lines; waited = waited; marks = marks }
+
+-- a server of the program, and what the writer holds
+abbrev pub seen_by : {D : Type 0} → Whole D → Option (List ℕ) → ScriptServer D
+seen_by t held = server_of t.engine held t.lines t.waited.items t.places.marks.items
 
 -- those that had to wait are these, behind those that waited when the script began
 abbrev pub AreWaited : Option Course → List Waited → List Waiter → Type 0

@@ -9,8 +9,8 @@ ghost use Rattle.im_text.specs.Printing.{PrintsMore, PrintsOn};
 ghost use Rattle.im_serial.specs.declared.waits.Mark.TheVariants.{Here};
 ghost use Rattle.im_serial.specs.Noted.{mark_place};
 ghost use Rattle.im_serial.specs.Asked.{Wanted, wanted_by, wanted_of};
-ghost use Rattle.im_serial.specs.Once.{HasPassed, Names, has_next, is_had, line_of, met, noted_of};
-ghost use Rattle.im_serial.specs.Serving.{server_of};
+ghost use Rattle.im_serial.specs.Once.{HasPassed, Names, has_next, is_had, met, noted_of, past_line};
+ghost use Rattle.im_serial.specs.Serving.{seen_by};
 
 use crate::past::Past;
 use crate::server::Server;
@@ -96,7 +96,7 @@ impl<D: Disk> Server<D> {
             → slice_get self.new.places.marks.items i ≡ slice_get self.old.places.marks.items i }
         ensures unmarked { kept_for self.old.engine.memory.windows (record { element = who.0; number = who.1 }) ≡ None
             → self.new.places.marks.items ≡ self.old.places.marks.items }
-        ensures more { let line = line_of self.old.engine.memory (record { element = who.0; number = who.1 }) in
+        ensures more { let line = past_line self.old.engine.memory (record { element = who.0; number = who.1 }) in
             MatchResult result
             (λ _. PrintsMore (W.contents out.old) self.old.lines (W.contents out.new) self.new.lines line)
             (λ _. PrintsOn (W.contents out.old) self.old.lines (W.contents out.new) self.new.lines
@@ -126,10 +126,7 @@ impl<D: Disk> Server<D> {
         ensures had { IfOk result (λ it. is_had it ≡ has_next past.old.many.items element) }
         ensures passed { (w : Wanted) → w.element ≡ element
             → HasPassed past.old.many.items (w ∷ []) past.new.many.items result
-            (server_of self.old.engine (W.contents out.old) self.old.lines self.old.waited.items
-            self.old.places.marks.items)
-            (server_of self.new.engine (W.contents out.new) self.new.lines self.new.waited.items
-            self.new.places.marks.items) }
+            (seen_by self.old (W.contents out.old)) (seen_by self.new (W.contents out.new)) }
     {
         let left = past.meet(element);
         if left == 0 {
@@ -155,10 +152,7 @@ impl<D: Disk> Server<D> {
         ensures names { OnOk result (Names past.old.many.items past.old.end (wanted_by (Said.Block block))
             past.new.many.items past.new.end [] self.old.bases.items self.new.bases.items) }
         ensures passed { HasPassed past.old.many.items (wanted_by (Said.Block block)) past.new.many.items result
-            (server_of self.old.engine (W.contents out.old) self.old.lines self.old.waited.items
-            self.old.places.marks.items)
-            (server_of self.new.engine (W.contents out.new) self.new.lines self.new.waited.items
-            self.new.places.marks.items) }
+            (seen_by self.old (W.contents out.old)) (seen_by self.new (W.contents out.new)) }
     {
         let met = match self.meet(0, past, out) {
             Ok(met) => met,
@@ -178,10 +172,7 @@ impl<D: Disk> Server<D> {
         ensures names { OnOk result (Names past.old.many.items past.old.end (wanted_by (Said.Asks line))
             past.new.many.items past.new.end [] self.old.bases.items self.new.bases.items) }
         ensures passed { HasPassed past.old.many.items (wanted_by (Said.Asks line)) past.new.many.items result
-            (server_of self.old.engine (W.contents out.old) self.old.lines self.old.waited.items
-            self.old.places.marks.items)
-            (server_of self.new.engine (W.contents out.new) self.new.lines self.new.waited.items
-            self.new.places.marks.items) }
+            (seen_by self.old (W.contents out.old)) (seen_by self.new (W.contents out.new)) }
     {
         match self.meet(line.element, past, out) {
             Ok(_met) => Ok(()),
@@ -200,10 +191,7 @@ impl<D: Disk> Server<D> {
         ensures names { OnOk result (Names past.old.many.items past.old.end (wanted_by said)
             past.new.many.items past.new.end [] self.old.bases.items self.new.bases.items) }
         ensures passed { HasPassed past.old.many.items (wanted_by said) past.new.many.items result
-            (server_of self.old.engine (W.contents out.old) self.old.lines self.old.waited.items
-            self.old.places.marks.items)
-            (server_of self.new.engine (W.contents out.new) self.new.lines self.new.waited.items
-            self.new.places.marks.items) }
+            (seen_by self.old (W.contents out.old)) (seen_by self.new (W.contents out.new)) }
     {
         match said {
             Said::Nothing => Ok(()),
@@ -225,10 +213,7 @@ impl<D: Disk> Server<D> {
         ensures names { OnOk result (Names past.old.many.items past.old.end (wanted_of script.now)
             past.new.many.items past.new.end [] self.old.bases.items self.new.bases.items) }
         ensures passed { HasPassed past.old.many.items (wanted_of script.now) past.new.many.items result
-            (server_of self.old.engine (W.contents out.old) self.old.lines self.old.waited.items
-            self.old.places.marks.items)
-            (server_of self.new.engine (W.contents out.new) self.new.lines self.new.waited.items
-            self.new.places.marks.items) }
+            (seen_by self.old (W.contents out.old)) (seen_by self.new (W.contents out.new)) }
     {
         let mut reader = Reader::new(alloc);
         let mut rest = Some(script.text());

@@ -2,7 +2,7 @@
 ghost use Rattle.std.specs.Prelude.{◌≡◌, MatchResult};
 ghost use Rattle.im_serial.specs.Asked.{wanted_by, wanted_of};
 ghost use Rattle.im_serial.specs.Once.{Breaks, HasServedOnce, HasShown, met_all, news, numbers_had};
-ghost use Rattle.im_serial.specs.Serving.{HasServed, server_of};
+ghost use Rattle.im_serial.specs.Serving.{HasServed, seen_by};
 
 use crate::past::{Past, compare_script};
 use crate::server::Server;
@@ -24,10 +24,7 @@ impl<D: Disk> Server<D> {
         ensures many { past.new.many.items ≡ met_all past.old.many.items (wanted_by said) }
         ensures served { HasServed D.Disk (news past.old.many.items (wanted_by said)) self.old.bases.items
             self.new.bases.items result
-            (server_of self.old.engine (W.contents out.old) self.old.lines self.old.waited.items
-            self.old.places.marks.items)
-            (server_of self.new.engine (W.contents out.new) self.new.lines self.new.waited.items
-            self.new.places.marks.items) }
+            (seen_by self.old (W.contents out.old)) (seen_by self.new (W.contents out.new)) }
     {
         if past.has(said) {
             Ok(())
@@ -47,10 +44,7 @@ impl<D: Disk> Server<D> {
     ) -> Result<(), Reason>
         ensures served { HasServed D.Disk (news past.old.many.items (wanted_of script.now)) self.old.bases.items
             self.new.bases.items result
-            (server_of self.old.engine (W.contents out.old) self.old.lines self.old.waited.items
-            self.old.places.marks.items)
-            (server_of self.new.engine (W.contents out.new) self.new.lines self.new.waited.items
-            self.new.places.marks.items) }
+            (seen_by self.old (W.contents out.old)) (seen_by self.new (W.contents out.new)) }
     {
         let mut reader = Reader::new(alloc);
         let mut rest = Some(script.text());
@@ -83,15 +77,9 @@ impl<D: Disk> Server<D> {
     ) -> Result<(), Reason>
         ensures shown { MatchResult result
             (λ _. HasShown (wanted_of script.now) self.old.bases.items self.new.bases.items
-            (server_of self.old.engine (W.contents out.old) self.old.lines self.old.waited.items
-            self.old.places.marks.items)
-            (server_of self.new.engine (W.contents out.new) self.new.lines self.new.waited.items
-            self.new.places.marks.items))
+            (seen_by self.old (W.contents out.old)) (seen_by self.new (W.contents out.new)))
             (λ _. Breaks (numbers_had self.old.engine.memory) (wanted_of script.now)
-            (server_of self.old.engine (W.contents out.old) self.old.lines self.old.waited.items
-            self.old.places.marks.items)
-            (server_of self.new.engine (W.contents out.new) self.new.lines self.new.waited.items
-            self.new.places.marks.items)) }
+            (seen_by self.old (W.contents out.old)) (seen_by self.new (W.contents out.new))) }
         ensures engine { self.new.engine ≡ self.old.engine }
     {
         match compare_script(alloc, self.engine.memory(), script) {
@@ -117,10 +105,7 @@ impl<D: Disk> Server<D> {
         observer: &mut N,
     ) -> Result<(), Reason>
         ensures served { HasServedOnce D.Disk (wanted_of script.now) self.old.bases.items result
-            (server_of self.old.engine (W.contents out.old) self.old.lines self.old.waited.items
-            self.old.places.marks.items)
-            (server_of self.new.engine (W.contents out.new) self.new.lines self.new.waited.items
-            self.new.places.marks.items) }
+            (seen_by self.old (W.contents out.old)) (seen_by self.new (W.contents out.new)) }
     {
         match self.show_past(alloc, script, out) {
             Ok(()) => {}

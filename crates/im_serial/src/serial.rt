@@ -2,8 +2,8 @@
 ghost use Rattle.std.specs.Prelude.{◌≡◌, ◌≤◌, [], false, IsOk};
 ghost use Rattle.im_disk.specs.Since.{LeavesNow};
 ghost use Rattle.im_engine.specs.State.{MeansState};
-ghost use Rattle.im_serial.specs.Once.{ClosedOnce, SerialOnceOn};
-ghost use Rattle.im_serial.specs.Serving.{Closed, SerialOn};
+ghost use Rattle.im_serial.specs.Once.{ClosedOnce, HasServedNothing, SerialOnceOn};
+ghost use Rattle.im_serial.specs.Serving.{Closed, SerialOn, seen_by};
 
 use crate::server::{Desk, Server};
 use im_disk::Disk;
@@ -41,9 +41,9 @@ use std::io::Write;
 /// the status is 0, they are all the script's requests.
 ///
 /// Each command whose line was written is in every file that a crash leaves. A request's line tells its answer, and a
-/// `now` line the entry that is kept for it at the end or that it had when it was confirmed. What was written is at each return a
-/// prefix of this text: the lines of such commands, then those of requests that had to wait, then that of the refusal.
-/// If the status is 0, it is all of it.
+/// `now` line the entry that is kept for it at the end or that it had when it was confirmed. What was written is at
+/// each return a prefix of this text: the lines of such commands, then those of requests that had to wait, then that of
+/// the refusal. If the status is 0, it is all of it.
 pub fn serial_on<D: Disk, W: Write, N: Observer>(
     alloc: Global,
     disk: D,
@@ -105,8 +105,8 @@ fn serve_on<D: Disk, W: Write, N: Observer>(
 }
 
 /// Serves what the image of a disk doesn't have of a script, and gives the disk back: the n-th request of an element in
-/// the script has number n. So a script that was stopped is gone on with by the same call. What it prints goes to `out`,
-/// in this order:
+/// the script has number n. So a script that was stopped is gone on with by the same call. What it prints goes to
+/// `out`, in this order:
 ///
 /// - For each request that the image has, in order: `K.N REPLY`, what is kept for it, or `K.N done` if it was
 ///   confirmed. These lines are written out before anything is served.
@@ -118,9 +118,9 @@ fn serve_on<D: Disk, W: Write, N: Observer>(
 /// the image has its block.
 ///
 /// Before anything is printed, the script is compared with what the image has of it, and refused if another script used
-/// the image: with `Mismatch` if under one of its numbers another operation is kept, or for a block of the setup another
-/// base; with `BadScript` if the window of an element begins behind all its requests. What was confirmed can't be
-/// compared.
+/// the image: with `Mismatch` if under one of its numbers another operation is kept, or for a block of the setup
+/// another base; with `BadScript` if the window of an element begins behind all its requests. What was confirmed can't
+/// be compared.
 ///
 /// All else is as [`serial_on`] says: what it refuses, what is confirmed, when lines are written, what a crash leaves,
 /// and the status. The commands that were put are those requests of the script that the image didn't have, in their
@@ -142,7 +142,10 @@ pub fn serial_once_on<D: Disk, W: Write, N: Observer>(
         Err(_) => return (end(alloc, Err(Reason::Memory), out, observer), disk),
     };
     match Engine::open(alloc, disk) {
-        Ok(engine) => serve_once_on(alloc, engine, desk, script, out, observer),
+        Ok(engine) => {
+            let server = Server::new(alloc, engine, desk);
+            serve_once_on(alloc, server, script, out, observer)
+        }
         Err((refusal, mut disk)) => {
             let why = diagnose(alloc, &mut disk, refusal);
             (end(alloc, Err(why), out, observer), disk)
@@ -150,24 +153,20 @@ pub fn serial_once_on<D: Disk, W: Write, N: Observer>(
     }
 }
 
-// Serves what an engine doesn't have of a script. Returns the status and the engine's disk.
+// Serves what the engine of a server doesn't have of a script. Returns the status and the engine's disk.
 fn serve_once_on<D: Disk, W: Write, N: Observer>(
     alloc: Global,
-    engine: Engine<D>,
-    desk: Desk,
+    mut server: Server<D>,
     script: &Script<'_>,
     out: &mut W,
     observer: &mut N,
 ) -> (u8, D)
-    requires works { engine.failed ≡ false }
-    requires means { D.honest engine.disk → LeavesNow (D.now engine.disk) (MeansState engine) }
-    requires pending { desk.lines.pending.items ≡ [] }
+    requires works { HasServedNothing D.Disk (seen_by server (W.contents out.old)) server.bases.items }
     ensures status { result.0 ≤ 1 }
-    ensures closed { D.honest result.1 → ClosedOnce D.now D.past D.failures script.now engine result.1
+    ensures closed { D.honest result.1 → ClosedOnce D.now D.past D.failures script.now server.engine result.1
         (W.contents out.old) (W.contents out.new) result.0 }
-    ensures honest { D.honest result.1 → D.honest engine.disk }
+    ensures honest { D.honest result.1 → D.honest server.engine.disk }
 {
-    let mut server = Server::new(alloc, engine, desk);
     let served = server.serve_once(alloc, script, out, observer);
     server.learn_all(observer);
     let told = server.tell(out);

@@ -14,7 +14,7 @@ ghost use Rattle.im_serial.specs.declared.waits.Mark.TheVariants.{Here};
 ghost use Rattle.im_serial.specs.Noted.{AreKnown, AreLast, noted_if, mark_place};
 ghost use Rattle.im_serial.specs.Asked.{wanted_by, wanted_of};
 ghost use Rattle.im_serial.specs.Once.{done_line};
-ghost use Rattle.im_serial.specs.Serving.{Ends, HasAsked, HasServed, Prepares, Serves, at, server_of};
+ghost use Rattle.im_serial.specs.Serving.{Ends, HasAsked, HasServed, Prepares, Serves, at, seen_by};
 
 use crate::past::make_done;
 use crate::room::{confirm, first_waiting, make_room, next_number, reason_of};
@@ -210,8 +210,7 @@ impl<D: Disk> Server<D> {
         requires next { self.old.engine.failed ≡ false → (base : ℕ)
             × (bounds self.old.engine.memory.windows request.element ≡ Ok (base, request.number)) }
         ensures serves { HasAsked D.Disk request.element request.op result
-            (server_of self.old.engine (W.contents out.old) self.old.lines self.old.waited.items self.old.places.marks.items)
-            (server_of self.new.engine (W.contents out.new) self.new.lines self.new.waited.items self.new.places.marks.items) }
+            (seen_by self.old (W.contents out.old)) (seen_by self.new (W.contents out.new)) }
         ensures bases { self.new.bases.items ≡ self.old.bases.items }
     {
         let who = (request.element, request.number);
@@ -231,8 +230,7 @@ impl<D: Disk> Server<D> {
     // Serves an element's next request, for which there is room, and prints what is kept for it.
     fn ask_next<W: Write>(&mut self, element: u16, op: Op, out: &mut W) -> Result<Entry, Reason>
         ensures serves { HasAsked D.Disk element op result
-            (server_of self.old.engine (W.contents out.old) self.old.lines self.old.waited.items self.old.places.marks.items)
-            (server_of self.new.engine (W.contents out.new) self.new.lines self.new.waited.items self.new.places.marks.items) }
+            (seen_by self.old (W.contents out.old)) (seen_by self.new (W.contents out.new)) }
         ensures bases { self.new.bases.items ≡ self.old.bases.items }
     {
         match next_number(&self.engine, element) {
@@ -257,8 +255,7 @@ impl<D: Disk> Server<D> {
         observer: &mut N,
     ) -> Result<Entry, Reason>
         ensures serves { HasAsked D.Disk element op result
-            (server_of self.old.engine (W.contents out.old) self.old.lines self.old.waited.items self.old.places.marks.items)
-            (server_of self.new.engine (W.contents out.new) self.new.lines self.new.waited.items self.new.places.marks.items) }
+            (seen_by self.old (W.contents out.old)) (seen_by self.new (W.contents out.new)) }
         ensures bases { self.new.bases.items ≡ self.old.bases.items }
     {
         match self.prepare(element, observer) {
@@ -277,9 +274,8 @@ impl<D: Disk> Server<D> {
         out: &mut W,
         observer: &mut N,
     ) -> Result<(), Reason>
-        ensures served { HasServed D.Disk (wanted_by (Said.Block block)) self.old.bases.items self.new.bases.items result
-            (server_of self.old.engine (W.contents out.old) self.old.lines self.old.waited.items self.old.places.marks.items)
-            (server_of self.new.engine (W.contents out.new) self.new.lines self.new.waited.items self.new.places.marks.items) }
+        ensures served { HasServed D.Disk (wanted_by (Said.Block block)) self.old.bases.items self.new.bases.items
+            result (seen_by self.old (W.contents out.old)) (seen_by self.new (W.contents out.new)) }
     {
         let entry = match self.request(0, Op::Alloc(block.kind, block.length), out, observer) {
             Ok(entry) => entry,
@@ -325,8 +321,7 @@ impl<D: Disk> Server<D> {
         observer: &mut N,
     ) -> Result<(), Reason>
         ensures served { HasServed D.Disk (wanted_by (Said.Asks line)) self.old.bases.items self.new.bases.items result
-            (server_of self.old.engine (W.contents out.old) self.old.lines self.old.waited.items self.old.places.marks.items)
-            (server_of self.new.engine (W.contents out.new) self.new.lines self.new.waited.items self.new.places.marks.items) }
+            (seen_by self.old (W.contents out.old)) (seen_by self.new (W.contents out.new)) }
     {
         let Some(op) = line.action.op(self.bases.as_slice()) else {
             return Err(Reason::Place(line.element));
@@ -345,8 +340,7 @@ impl<D: Disk> Server<D> {
         observer: &mut N,
     ) -> Result<(), Reason>
         ensures served { HasServed D.Disk (wanted_by said) self.old.bases.items self.new.bases.items result
-            (server_of self.old.engine (W.contents out.old) self.old.lines self.old.waited.items self.old.places.marks.items)
-            (server_of self.new.engine (W.contents out.new) self.new.lines self.new.waited.items self.new.places.marks.items) }
+            (seen_by self.old (W.contents out.old)) (seen_by self.new (W.contents out.new)) }
     {
         match said {
             Said::Nothing => Ok(()),
@@ -380,8 +374,7 @@ impl<D: Disk> Server<D> {
     // Writes what is kept back, if each line is wanted as soon as it is true.
     fn show<W: Write, N: Observer>(&mut self, out: &mut W, observer: &N) -> Result<(), Reason>
         ensures served { HasServed D.Disk [] self.old.bases.items self.new.bases.items result
-            (server_of self.old.engine (W.contents out.old) self.old.lines self.old.waited.items self.old.places.marks.items)
-            (server_of self.new.engine (W.contents out.new) self.new.lines self.new.waited.items self.new.places.marks.items) }
+            (seen_by self.old (W.contents out.old)) (seen_by self.new (W.contents out.new)) }
     {
         if observer.wants_each_line() {
             self.lines.flush(out)
@@ -398,8 +391,7 @@ impl<D: Disk> Server<D> {
         observer: &mut N,
     ) -> Result<(), Reason>
         ensures served { HasServed D.Disk (wanted_by said) self.old.bases.items self.new.bases.items result
-            (server_of self.old.engine (W.contents out.old) self.old.lines self.old.waited.items self.old.places.marks.items)
-            (server_of self.new.engine (W.contents out.new) self.new.lines self.new.waited.items self.new.places.marks.items) }
+            (seen_by self.old (W.contents out.old)) (seen_by self.new (W.contents out.new)) }
     {
         match self.serve_said(said, out, observer) {
             Ok(()) => self.show(out, observer),
@@ -416,8 +408,7 @@ impl<D: Disk> Server<D> {
         observer: &mut N,
     ) -> Result<(), Reason>
         ensures served { HasServed D.Disk (wanted_of script.now) self.old.bases.items self.new.bases.items result
-            (server_of self.old.engine (W.contents out.old) self.old.lines self.old.waited.items self.old.places.marks.items)
-            (server_of self.new.engine (W.contents out.new) self.new.lines self.new.waited.items self.new.places.marks.items) }
+            (seen_by self.old (W.contents out.old)) (seen_by self.new (W.contents out.new)) }
     {
         let mut reader = Reader::new(alloc);
         let mut rest = Some(script.text());

@@ -1,5 +1,6 @@
 //! The requests that had to wait, and what is kept for them.
-ghost use Rattle.std.specs.Prelude.{◌≡◌, ◌≤◌, ◌+◌, ◌++◌, ℕ, List, Some, true, length, map, slice_get, OnOk, MatchResult};
+ghost use Rattle.std.specs.Prelude.{◌≡◌, ◌≤◌, ◌+◌, ◌++◌, ℕ, List, Some, true, length, map, slice_get, OnOk};
+ghost use Rattle.std.specs.Prelude.{MatchResult};
 ghost use Rattle.im_types.specs.declared.commands.Command.{Command};
 ghost use Rattle.im_types.specs.declared.operations.Entry.TheVariants.{Waiting};
 ghost use Rattle.im_types.specs.declared.operations.Waiter.{Waiter};

@@ -6,7 +6,7 @@ use Rattle.im_text.proofs.PrintingLemmas.{on_ok_by}
 use Rattle.im_serial.specs.Asked.{wanted_of}
 use Rattle.im_serial.specs.Once.{ClosedOnce, DoneOnce, EndedOnce}
 use Rattle.im_serial.specs.Serving.{server_of}
-use Rattle.im_serial.proofs.OnceLemmas.{closed_once, ready_of}
+use Rattle.im_serial.proofs.OnceLemmas.{closed_once}
 use Rattle.im_serial.proofs.ScriptedLemmas.{as_of}
 use Rattle.im_serial.proofs.serial.serve_once_on.Goals as goal
 
@@ -14,12 +14,9 @@ pub returns-clause-closed : goal.returns-clause-closed
 returns-clause-closed g c = λ honest.
     let held = g.W.Write.contents c.args.out.now in
     let script = wanted_of c.args.script.now in
-    let n = c.new-server in
-    let start = n.result.engine in
+    let start = c.args.server.engine in
     let s = c.serve_once-served in
-    let served = s.ensures.served (ready_of g.D.Disk c.args.engine start held c.args.desk.lines n.result.lines
-    n.result.waited.items n.result.places.marks.items n.result.bases.items c.requires.works c.requires.means
-    n.ensures.memory c.requires.pending n.ensures.waited n.ensures.bases n.ensures.engine n.ensures.lines) in
+    let served = s.ensures.served c.requires.works in
     let l = c.learn_all in
     let v = c.leave-engine in
     let engines = v.ensures.engine ∙ c.tell-told.ensures.engine ∙ l.ensures.engine in
@@ -27,9 +24,6 @@ returns-clause-closed g c = λ honest.
     let mid = g.W.Write.contents c.tell-told.new.out in
     let w = s.new.self.waited.items in
     let marks = s.new.self.places.marks.items in
-    subst (λ (e : EngineState g.row.D.Denot). ClosedOnce g.D.Disk.now g.D.Disk.past g.D.Disk.failures
-    c.args.script.now e c.close.result held (g.W.Write.contents c.finish-status.new.out) c.status_at.result)
-    n.ensures.engine
     (closed_once g.D.Disk c.args.script.now start v.result.0 c.close.result c.status_at.result from mid
     (g.W.Write.contents c.finish-status.new.out) held
     l.new.self.lines v.result.1.lines c.finish-status.new.lines w l.new.self.waited.items marks
@@ -51,13 +45,9 @@ returns-clause-closed g c = λ honest.
 
 pub returns-clause-honest : goal.returns-clause-honest
 returns-clause-honest g c = λ honest.
-    let held = g.W.Write.contents c.args.out.now in
-    let n = c.new-server in
     let s = c.serve_once-served in
-    let served = s.ensures.served (ready_of g.D.Disk c.args.engine n.result.engine held c.args.desk.lines n.result.lines
-    n.result.waited.items n.result.places.marks.items n.result.bases.items c.requires.works c.requires.means
-    n.ensures.memory c.requires.pending n.ensures.waited n.ensures.bases n.ensures.engine n.ensures.lines) in
+    let served = s.ensures.served c.requires.works in
     let engines = c.leave-engine.ensures.engine ∙ c.tell-told.ensures.engine ∙ c.learn_all.ensures.engine in
     let there = subst g.D.Disk.honest (c.close.ensures.disk ∙ ap (λ (e : EngineState g.row.D.Denot). e.disk) engines)
     honest in
-    subst (λ (e : EngineState g.row.D.Denot). g.D.Disk.honest e.disk) n.ensures.engine (served.0.1.1.1.1.0 there).0
+    (served.0.1.1.1.1.0 there).0

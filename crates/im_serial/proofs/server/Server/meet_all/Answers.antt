@@ -57,9 +57,11 @@ returns-in-Err-meet_said g c =
     record {
       engine = c.meet_said.ensures.engine ∙ c.loop-number.invariant.0;
       names = tt;
-      passed = line_breaks all first.many.items past.many.items old mid d (draft_of c.read.new.self) c.in-Ok.said c.in-Some.text.now
-          c.split_line.result.0.now c.split_line.result.1 c.split_line.ensures c.in-Ok.ensures.ok
-          (meets_some (λ text. wanted_in d (lines_of text.now)) first.many.items past.many.items all old mid c.loop-number.rest c.in-Some.text c.in-Some.is
+      passed = line_breaks all first.many.items past.many.items old mid d (draft_of c.read.new.self)
+          c.in-Ok.said c.in-Some.text.now c.split_line.result.0.now c.split_line.result.1 c.split_line.ensures
+          c.in-Ok.ensures.ok (meets_some (λ text. wanted_in d (lines_of text.now)) first.many.items past.many.items
+          all old mid
+          c.loop-number.rest c.in-Some.text c.in-Some.is
           c.loop-number.invariant.1.1) new c.in-Err-meet_said.ensures.passed;
     }
 
@@ -79,16 +81,19 @@ loop-number-preserved g c =
     let d = draft_of c.loop-number.reader in (
       c.meet_said.ensures.engine ∙ c.loop-number.invariant.0,
       (
-        line_names all first.many.items past.many.items old mid d (draft_of c.read.new.self) c.in-Ok.said c.in-Some.text.now c.split_line.result.0.now
-            c.split_line.result.1 c.split_line.ensures c.in-Ok.ensures.ok first.end past.end was.bases.items
-            now.bases.items (names_some (λ text. wanted_in d (lines_of text.now)) first.many.items past.many.items
+        line_names all first.many.items past.many.items old mid d (draft_of c.read.new.self)
+            c.in-Ok.said c.in-Some.text.now c.split_line.result.0.now c.split_line.result.1 c.split_line.ensures
+            c.in-Ok.ensures.ok first.end past.end was.bases.items now.bases.items (names_some (λ text. wanted_in d
+            (lines_of text.now)) first.many.items past.many.items
             first.end past.end all was.bases.items now.bases.items c.loop-number.rest c.in-Some.text
             c.in-Some.is c.loop-number.invariant.1.0) c.meet_said.new.past.many.items c.meet_said.new.past.end
             s.bases.items c.in-Ok-meet_said.ensures.names,
-        line_meets all first.many.items past.many.items old mid d (draft_of c.read.new.self) c.in-Ok.said c.in-Some.text.now c.split_line.result.0.now
-            c.split_line.result.1 c.split_line.ensures c.in-Ok.ensures.ok
-            (meets_some (λ text. wanted_in d (lines_of text.now)) first.many.items past.many.items all old mid c.loop-number.rest c.in-Some.text
-            c.in-Some.is c.loop-number.invariant.1.1) c.meet_said.new.past.many.items new
+        line_meets all first.many.items past.many.items old mid d (draft_of c.read.new.self)
+            c.in-Ok.said c.in-Some.text.now c.split_line.result.0.now c.split_line.result.1 c.split_line.ensures
+            c.in-Ok.ensures.ok (meets_some (λ text. wanted_in d (lines_of text.now)) first.many.items past.many.items
+            all old mid
+            c.loop-number.rest c.in-Some.text c.in-Some.is c.loop-number.invariant.1.1)
+            c.meet_said.new.past.many.items new
             c.in-Ok-meet_said.ensures.passed,
       ),
     )

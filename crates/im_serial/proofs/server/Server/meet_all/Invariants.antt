@@ -8,7 +8,11 @@ use Rattle.im_serial.proofs.server.Server.meet_all.Given as goal
 
 abbrev pub invariant-loop-number : goal.invariant-loop-number
 invariant-loop-number g l = (l.self.engine ≡ l.fn.self.engine)
-    × (Names l.fn.past.many.items l.fn.past.end (wanted_of l.script) l.past.many.items l.past.end (option_map_or (λ text. wanted_in (draft_of l.reader) (lines_of text.now)) l.rest []) l.fn.self.bases.items l.self.bases.items
-    × Meets l.fn.past.many.items (wanted_of l.script) l.past.many.items (option_map_or (λ text. wanted_in (draft_of l.reader) (lines_of text.now)) l.rest [])
-    (server_of l.fn.self.engine (g.W.Write.contents l.fn.out) l.fn.self.lines l.fn.self.waited.items l.fn.self.places.marks.items)
+    × (Names l.fn.past.many.items l.fn.past.end (wanted_of l.script) l.past.many.items l.past.end
+    (option_map_or (λ text. wanted_in (draft_of l.reader) (lines_of text.now)) l.rest [])
+    l.fn.self.bases.items l.self.bases.items
+    × Meets l.fn.past.many.items (wanted_of l.script) l.past.many.items
+    (option_map_or (λ text. wanted_in (draft_of l.reader) (lines_of text.now)) l.rest [])
+    (server_of l.fn.self.engine (g.W.Write.contents l.fn.out) l.fn.self.lines l.fn.self.waited.items
+    l.fn.self.places.marks.items)
     (server_of l.self.engine (g.W.Write.contents l.out) l.self.lines l.self.waited.items l.self.places.marks.items))
