@@ -334,8 +334,11 @@ pub fn run_on<
     ensures honest { D.honest result.1 → D.honest disk }
 {
     let Ok(desk) = Desk::new(alloc) else {
-        let status = end(alloc, Err(Reason::Memory), out, observer);
-        return (status, disk, Trace::new(alloc));
+        return (
+            end(alloc, Err(Reason::Memory), out, observer),
+            disk,
+            Trace::new(alloc),
+        );
     };
     match Engine::open(alloc, disk) {
         Ok(engine) => run_engine(
@@ -343,8 +346,11 @@ pub fn run_on<
         ),
         Err((refusal, mut disk)) => {
             let reason = diagnose(alloc, &mut disk, refusal);
-            let status = end(alloc, Err(reason), out, observer);
-            (status, disk, Trace::new(alloc))
+            (
+                end(alloc, Err(reason), out, observer),
+                disk,
+                Trace::new(alloc),
+            )
         }
     }
 }
