@@ -334,11 +334,8 @@ pub fn run_on<
     ensures honest { D.honest result.1 → D.honest disk }
 {
     let Ok(desk) = Desk::new(alloc) else {
-        return (
-            end(alloc, Err(Reason::Memory), out, observer),
-            disk,
-            Trace::new(alloc),
-        );
+        let status = end(alloc, Err(Reason::Memory), out, observer);
+        return (status, disk, Trace::new(alloc));
     };
     match Engine::open(alloc, disk) {
         Ok(engine) => run_engine(
@@ -346,11 +343,8 @@ pub fn run_on<
         ),
         Err((refusal, mut disk)) => {
             let reason = diagnose(alloc, &mut disk, refusal);
-            (
-                end(alloc, Err(reason), out, observer),
-                disk,
-                Trace::new(alloc),
-            )
+            let status = end(alloc, Err(reason), out, observer);
+            (status, disk, Trace::new(alloc))
         }
     }
 }
