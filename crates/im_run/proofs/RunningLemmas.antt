@@ -206,7 +206,7 @@ none_served {D} now past failures begun engine trace none same alive means =
     (subst (λ (t : List Line). ServedOn now past failures here engine.memory t engine) (sym none) (record {
       legal = tt;
       ends = refl;
-      kept = kept_start now past failures here engine.memory engine refl refl alive means;
+      kept = kept_start _ _ _ here engine.memory engine refl refl alive means;
     }))
 
 -- ---- what was printed

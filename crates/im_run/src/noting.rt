@@ -46,8 +46,8 @@ fn note_request(setup: &mut Vec<Line>, memory: &Memory, number: u64)
     }
 }
 
-/// Notes what was served for a block of the setup, given element 0's window before: entries may have been confirmed, and
-/// then a request may have been served.
+/// Notes what was served for a block of the setup, given element 0's window before: entries may have been confirmed,
+/// and then a request may have been served.
 pub fn note_block(setup: &mut Vec<Line>, memory: &Memory, window: Result<(u64, u64), Refusal>)
     requires room { vec_len setup.old + 2 ≤ vec_capacity setup.old }
 {

@@ -1,6 +1,6 @@
 //! What each element asks for in a script.
-ghost use Rattle.std.specs.Prelude.{MatchResult};
-ghost use Rattle.im_serial.specs.Serving.{Ends, Serves, at};
+ghost use Rattle.im_serial.specs.Serving.{at};
+ghost use Rattle.im_run.specs.Setup.{ServesOrEnds};
 
 use crate::noting::note_block;
 use im_disk::Disk;
@@ -87,13 +87,9 @@ fn make_block<D: Disk, W: Write, N: Observer>(
     out: &mut W,
     observer: &mut N,
 ) -> Result<(), Reason>
-    ensures serves { MatchResult result
-        (λ _. Serves D.now D.past D.failures D.honest
+    ensures serves { ServesOrEnds D.Disk result
         (at server.old.engine (W.contents out.old) server.old.lines server.old.waited.items)
-        (at server.new.engine (W.contents out.new) server.new.lines server.new.waited.items))
-        (λ _. Ends D.now D.past D.failures D.honest
-        (at server.old.engine (W.contents out.old) server.old.lines server.old.waited.items)
-        (at server.new.engine (W.contents out.new) server.new.lines server.new.waited.items)) }
+        (at server.new.engine (W.contents out.new) server.new.lines server.new.waited.items) }
 {
     if setup.reserve(2).is_err() {
         return Err(Reason::Memory);
@@ -112,13 +108,9 @@ fn take_heard<D: Disk, W: Write, N: Observer>(
     out: &mut W,
     observer: &mut N,
 ) -> Result<(), Reason>
-    ensures serves { MatchResult result
-        (λ _. Serves D.now D.past D.failures D.honest
+    ensures serves { ServesOrEnds D.Disk result
         (at server.old.engine (W.contents out.old) server.old.lines server.old.waited.items)
-        (at server.new.engine (W.contents out.new) server.new.lines server.new.waited.items))
-        (λ _. Ends D.now D.past D.failures D.honest
-        (at server.old.engine (W.contents out.old) server.old.lines server.old.waited.items)
-        (at server.new.engine (W.contents out.new) server.new.lines server.new.waited.items)) }
+        (at server.new.engine (W.contents out.new) server.new.lines server.new.waited.items) }
 {
     match heard {
         Heard::Says(Said::Nothing | Said::Begins(_)) => Ok(()),
@@ -144,13 +136,9 @@ fn take_lines<D: Disk, W: Write, N: Observer>(
     out: &mut W,
     observer: &mut N,
 ) -> Result<(), Reason>
-    ensures serves { MatchResult result
-        (λ _. Serves D.now D.past D.failures D.honest
+    ensures serves { ServesOrEnds D.Disk result
         (at server.old.engine (W.contents out.old) server.old.lines server.old.waited.items)
-        (at server.new.engine (W.contents out.new) server.new.lines server.new.waited.items))
-        (λ _. Ends D.now D.past D.failures D.honest
-        (at server.old.engine (W.contents out.old) server.old.lines server.old.waited.items)
-        (at server.new.engine (W.contents out.new) server.new.lines server.new.waited.items)) }
+        (at server.new.engine (W.contents out.new) server.new.lines server.new.waited.items) }
 {
     let mut reader = Reader::new(alloc);
     let mut rest = Some(script.text());
@@ -181,13 +169,9 @@ fn set_up<D: Disk, W: Write, N: Observer>(
     out: &mut W,
     observer: &mut N,
 ) -> Result<(), Reason>
-    ensures serves { MatchResult result
-        (λ _. Serves D.now D.past D.failures D.honest
+    ensures serves { ServesOrEnds D.Disk result
         (at server.old.engine (W.contents out.old) server.old.lines server.old.waited.items)
-        (at server.new.engine (W.contents out.new) server.new.lines server.new.waited.items))
-        (λ _. Ends D.now D.past D.failures D.honest
-        (at server.old.engine (W.contents out.old) server.old.lines server.old.waited.items)
-        (at server.new.engine (W.contents out.new) server.new.lines server.new.waited.items)) }
+        (at server.new.engine (W.contents out.new) server.new.lines server.new.waited.items) }
 {
     match take_lines(alloc, server, sheet, script, out, observer) {
         Ok(()) => server.lines.flush(out),
@@ -231,13 +215,9 @@ pub fn read_orders<D: Disk, W: Write, N: Observer>(
     out: &mut W,
     observer: &mut N,
 ) -> (Result<Vec<Order>, Reason>, Vec<Line>)
-    ensures serves { MatchResult result.0
-        (λ _. Serves D.now D.past D.failures D.honest
+    ensures serves { ServesOrEnds D.Disk result.0
         (at server.old.engine (W.contents out.old) server.old.lines server.old.waited.items)
-        (at server.new.engine (W.contents out.new) server.new.lines server.new.waited.items))
-        (λ _. Ends D.now D.past D.failures D.honest
-        (at server.old.engine (W.contents out.old) server.old.lines server.old.waited.items)
-        (at server.new.engine (W.contents out.new) server.new.lines server.new.waited.items)) }
+        (at server.new.engine (W.contents out.new) server.new.lines server.new.waited.items) }
 {
     let setup = Vec::new(alloc);
     let Ok(orders) = no_orders(alloc) else {

@@ -241,8 +241,7 @@ fn run_engine<
     requires pending { desk.lines.pending.items ≡ [] }
     ensures status { (result.0 ≤ 1) ⊎ (result.0 ≡ STALLED) }
     ensures run { D.honest result.1
-        → RunOn D.now D.past D.failures engine result.1 (W.contents out.old) (W.contents out.new) result.2
-        result.0 }
+        → RunOn D.now D.past D.failures engine result.1 (W.contents out.old) (W.contents out.new) result.2 result.0 }
     ensures honest { D.honest result.1 → D.honest engine.disk }
 {
     let none = Vec::new(alloc);
@@ -331,16 +330,12 @@ pub fn run_on<
         → Ran D.now result.1 (W.contents out.old) (W.contents out.new) result.0 }
     ensures run { D.honest result.1
         → NotOpened D.now D.past disk result.1 (W.contents out.old) (W.contents out.new) result.0
-        ⊎ RanOn D.now D.past D.failures disk result.1 (W.contents out.old) (W.contents out.new) result.2
-        result.0 }
+        ⊎ RanOn D.now D.past D.failures disk result.1 (W.contents out.old) (W.contents out.new) result.2 result.0 }
     ensures honest { D.honest result.1 → D.honest disk }
 {
-    let desk = match Desk::new(alloc) {
-        Ok(desk) => desk,
-        Err(_) => {
-            let status = end(alloc, Err(Reason::Memory), out, observer);
-            return (status, disk, Trace::new(alloc));
-        }
+    let Ok(desk) = Desk::new(alloc) else {
+        let status = end(alloc, Err(Reason::Memory), out, observer);
+        return (status, disk, Trace::new(alloc));
     };
     match Engine::open(alloc, disk) {
         Ok(engine) => run_engine(

@@ -176,8 +176,8 @@ fn print_lines<W: Write>(
     Ok(())
 }
 
-/// Writes a trace, a line for each call: what a line of a dialogue asks, ` -> `, and the reply. A dialogue that is asked
-/// the same on the image as it was before the run gives the same replies.
+/// Writes a trace, a line for each call: what a line of a dialogue asks, ` -> `, and the reply. A dialogue that is
+/// asked the same on the image as it was before the run gives the same replies.
 ///
 /// Returns `Output` if a write fails, and `Memory` if there is not enough memory. What was written is then a prefix of
 /// the lines.

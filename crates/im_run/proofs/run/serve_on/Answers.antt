@@ -8,6 +8,7 @@ use Rattle.im_run.proofs.run.serve_on.Goals as goal
 
 pub returns-in-Ok-clause-ended : goal.returns-in-Ok-clause-ended
 returns-in-Ok-clause-ended g c = λ honest alive.
+    let d = g.D.Disk in
     let s = c.serve_orders-engine in
     let k = c.close-status in
     let same = c.in-Ok.ensures.found.0 in
@@ -15,7 +16,8 @@ returns-in-Ok-clause-ended g c = λ honest alive.
     record {
       engine = s.result.engine;
       disk_is = k.ensures.disk;
-      served = subst (λ (e : EngineState g.row.D.Denot). ServedOn g.D.Disk.now g.D.Disk.past g.D.Disk.failures (begun_in g.D.Disk.now g.D.Disk.past g.D.Disk.failures e) e.memory s.result.trace.items s.result.engine) same
+      served = subst (λ (e : EngineState g.row.D.Denot). ServedOn d.now d.past d.failures
+          (begun_in d.now d.past d.failures e) e.memory s.result.trace.items s.result.engine) same
           (s.ensures.kept (subst g.D.Disk.honest k.ensures.disk honest) works);
       works = k.ensures.works;
       means = k.ensures.means honest;
@@ -36,7 +38,8 @@ returns-in-Err-clause-ended g c = λ honest alive.
     record {
       engine = e;
       disk_is = k.ensures.disk;
-      served = none_served g.D.Disk.now g.D.Disk.past g.D.Disk.failures c.args.engine e c.new-trace.result.items c.new-trace.ensures.items same works
+      served = none_served g.D.Disk.now g.D.Disk.past g.D.Disk.failures c.args.engine e
+          c.new-trace.result.items c.new-trace.ensures.items same works
           (subst (λ d. LeavesNow (g.D.Disk.now d) (MeansState e)) k.ensures.disk (k.ensures.means honest works));
       works = k.ensures.works;
       means = k.ensures.means honest;

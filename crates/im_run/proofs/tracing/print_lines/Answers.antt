@@ -7,7 +7,8 @@ use Rattle.im_run.proofs.TracingLemmas.{begins_on, begins_with, none_printed, on
 use Rattle.im_run.proofs.tracing.print_lines.Goals as goal
 
 pub loop-at-init : goal.loop-at-init
-loop-at-init g c = none_printed (g.W.Write.contents c.args.out.now) c.args.lines.now (c.args.setup.now ++ c.args.served.now)
+loop-at-init g c =
+    none_printed (g.W.Write.contents c.args.out.now) c.args.lines.now (c.args.setup.now ++ c.args.served.now)
 
 pub loop-at-preserved : goal.loop-at-preserved
 loop-at-preserved g c =
