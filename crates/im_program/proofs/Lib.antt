@@ -1,3 +1,4 @@
 pub mod Crosses
 pub mod Loads
 pub mod MovedLemmas
+pub mod RunLemmas

@@ -3,7 +3,7 @@ use Rattle.im_program.specs.Working.{ScriptServed}
 use Rattle.im_program.proofs.work.serve_file.Goals as goal
 
 pub returns-then-once-clause-served : goal.returns-then-once-clause-served
-returns-then-once-clause-served g c = λ honest. rw (sym c.if-once.true) (record {
+returns-then-once-clause-served g c = λ honest. rw c.if-once.true (record {
   old = c.in-Ok-open_image.disk;
   was = c.in-Ok-open_image.ensures.now;
   none = c.in-Ok-open_image.ensures.past;
@@ -11,8 +11,8 @@ returns-then-once-clause-served g c = λ honest. rw (sym c.if-once.true) (record
   served = c.serial_once_on.ensures.served honest;
 })
 
-pub returns-else-once-clause-served : goal.returns-else-once-clause-served
-returns-else-once-clause-served g c = λ honest. rw (sym c.if-once.false) (record {
+pub returns-in-Ok-open_image-clause-served : goal.returns-in-Ok-open_image-clause-served
+returns-in-Ok-open_image-clause-served g c = λ honest. rw c.if-once.false (record {
   old = c.in-Ok-open_image.disk;
   was = c.in-Ok-open_image.ensures.now;
   none = c.in-Ok-open_image.ensures.past;
