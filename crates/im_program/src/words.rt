@@ -323,7 +323,8 @@ fn value_option<'a>(alloc: Global, id: &'a str, value: &'a str, help: &'a str) -
     ensures rule { rule_of result ≡ option_rule id.entry.now }
     ensures local { result.global ≡ false }
 {
-    Arg::new(alloc, id).long(id).value_name(value).help(help)
+    let option = Arg::new(alloc, id).long(id);
+    option.value_name(value).help(help)
 }
 
 /// An option that takes a number.

@@ -3,7 +3,7 @@ use Rattle.std.proofs.Common.{◌≡◌, ◌⊎◌, ◌∙◌, inl, inr, ⊎_eli
 use Rattle.std.proofs.Common.{List, [], ◌∷◌, ◌++◌, length, map, set, get_or, take, Some, None, refl, sym, ap, ap₂}
 use Rattle.std.proofs.Common.{append_assoc, arith, subst}
 use Rattle.std.specs.Borrow.{Bor}
-use Rattle.std.specs.Prelude.{Option, Result, Ok, Err, IsOk, OnOk, MatchResult, ◌==◌, ◌&&◌, nat_lt, slice_get}
+use Rattle.std.specs.Prelude.{Option, Result, Ok, Err, OnOk, MatchResult, ◌==◌, ◌&&◌, nat_lt, slice_get}
 use Rattle.std.specs.Prelude.{if◌then◌else◌}
 use Rattle.std.specs.Io.KnownBytes.{Appends}
 use Rattle.std.specs.Option.{option_map_or}
@@ -132,10 +132,6 @@ who_is_next m many e f base next left number same found is number_is =
     ap (λ (n : ℕ). record { element = e; number = n }) number_same
     ∙ ap (λ (x : ℕ). who_next m many x) (sym same)
 
--- nothing is met if nothing is left
-met_none : (many : List ℕ) (e : ℕ) → has_next many e ≡ false → met many e ≡ many
-met_none many e none = ap (λ (b : Bool). if b then set many e (left_of many e - 1) else many) none
-
 -- ---- how many requests a memory has
 
 had_at : (windows : List Window) (k : ℕ) → get_or (map (λ (w : Window). next_number w - 1) windows) k 0
@@ -164,10 +160,6 @@ had_all m k past =
 if_true : {A : Type 0} (b : Bool) (x y : A) → b ≡ true → (if b then x else y) ≡ x
 if_true true x y is = refl
 if_true false x y is = absurd (true_false false is refl)
-
-if_false : {A : Type 0} (b : Bool) (x y : A) → b ≡ false → (if b then x else y) ≡ y
-if_false false x y is = refl
-if_false true x y is = absurd (true_false true refl is)
 
 names_of : (m : Contents) (who : Waiter) → map who_of (noted_of m who) ≡ waits_of m who
 names_of m who = by_kept (kept_for m.windows who)
@@ -198,21 +190,6 @@ module _ (m : Contents) (script rest : List Wanted) (many : List ℕ) (w : Wante
     (marks : List Mark) (it : HasMet m script many (w ∷ rest) text waited marks) where
   abbrev who : Waiter
   who = who_next m many w.element
-
-  -- the memory doesn't have it
-  pub met_new : has_next many w.element ≡ false → HasMet m script (met many w.element) rest text waited marks
-  met_new none =
-      let same : met many w.element ≡ many = met_none many w.element none in
-      record {
-        memory = it.memory;
-        lines = it.lines ∙ ap (λ (l : List ℕ). text ++ (l ++ lines_had m (met many w.element) rest)) (if_false
-            (has_next many w.element) (past_line m who) [] none);
-        names = it.names ∙ ap (λ (l : List Waiter). map who_of waited ++ (l ++ waits_had m (met many w.element) rest))
-            (if_false (has_next many w.element) (waits_of m who) [] none);
-        marked = it.marked;
-        passed = λ at v is. subst (λ (l : List ℕ). v.number + left_of l v.element < next_had m v.element) (sym same)
-            (it.passed at v is);
-      }
 
   -- it has it
   module _ (has : has_next many w.element ≡ true) where

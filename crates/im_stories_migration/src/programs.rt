@@ -5,9 +5,10 @@ use crate::disks::disk_of;
 use crate::writers::{Notes, Paper};
 use anyhow::{Result, anyhow};
 use im_disk::{MemDisk, Unknown};
+use im_migration::Asked;
 use im_program::{
-    Console, Copying, Order, Paths, Terminals, Work, act_alone, copy_file, migrate_file,
-    read_words, refuse,
+    Console, Copying, Job, Paths, Terminals, Work, act_alone, copy_file, migrate_file, read_words,
+    refuse,
 };
 use std::fs;
 
@@ -18,66 +19,61 @@ const NOBODY: Terminals = Terminals {
     errors: false,
 };
 
+// Does the work of one thread.
+fn act_by_itself(desk: &Desk, job: &Job<'_>, out: &mut Paper) -> u8 {
+    let mut console = Console::new(desk.rt, desk.held, &Work::Alone(*job), NOBODY);
+    let mut nothing = b"".as_slice();
+    let (status, _) = act_alone(
+        desk.rt,
+        desk.held,
+        job,
+        &mut nothing,
+        out,
+        &mut console,
+        Unknown,
+    );
+    status
+}
+
+// Copies an image.
+fn copy(
+    desk: &Desk,
+    paths: (&str, &str),
+    asked: Asked,
+    out: &mut Paper,
+    notes: &mut Notes,
+) -> u8 {
+    let copying = Copying {
+        held: desk.held,
+        old: paths.0,
+        new: paths.1,
+        asked,
+    };
+    match copy_file(desk.rt, &copying, out, notes, (Unknown, Unknown)) {
+        Ok((status, _, _)) => status,
+        Err(refusal) => refuse(desk.rt.alloc(), refusal, out),
+    }
+}
+
 // Does the work of a command line that takes one thread. Returns the status.
 fn act(desk: &mut Desk, words: &[&str]) -> Result<u8> {
-    let rt = desk.rt;
-    let alloc = rt.alloc();
-    let mut out = Paper::new(alloc);
-    let mut notes = Notes::new(alloc);
-    let mut nothing = b"".as_slice();
-    let status = match read_words(alloc, words) {
-        Ok(
-            Order {
-                work: Work::Alone(job),
-                ..
-            },
-        ) => {
-            let mut console = Console::new(rt, desk.held, &Work::Alone(job), NOBODY);
-            let (status, _) = act_alone(
-                rt,
-                desk.held,
-                &job,
-                &mut nothing,
-                &mut out,
-                &mut console,
-                Unknown,
-            );
-            status
-        }
-        Ok(
-            Order {
-                work: Work::Migrate { old, new },
-                ..
-            },
-        ) => {
-            let paths = Paths {
-                held: desk.held,
-                old,
-                new,
-            };
-            match migrate_file(rt, &paths, &mut out, &mut notes, (Unknown, Unknown)) {
+    let mut out = Paper::new(desk.rt.alloc());
+    let mut notes = Notes::new(desk.rt.alloc());
+    let Ok(order) = read_words(desk.rt.alloc(), words) else {
+        return Err(anyhow!("bad words"));
+    };
+    let held = desk.held;
+    let status = match order.work {
+        Work::Alone(job) => act_by_itself(desk, &job, &mut out),
+        Work::Migrate { old, new } => {
+            let paths = Paths { held, old, new };
+            match migrate_file(desk.rt, &paths, &mut out, &mut notes, (Unknown, Unknown)) {
                 Ok((status, _, _)) => status,
-                Err(refusal) => refuse(alloc, refusal, &mut out),
+                Err(refusal) => refuse(desk.rt.alloc(), refusal, &mut out),
             }
         }
-        Ok(
-            Order {
-                work: Work::Copy { old, new, asked },
-                ..
-            },
-        ) => {
-            let copying = Copying {
-                held: desk.held,
-                old,
-                new,
-                asked,
-            };
-            match copy_file(rt, &copying, &mut out, &mut notes, (Unknown, Unknown)) {
-                Ok((status, _, _)) => status,
-                Err(refusal) => refuse(alloc, refusal, &mut out),
-            }
-        }
-        _ => return Err(anyhow!("the words ask for no work of one thread")),
+        Work::Copy { old, new, asked } => copy(desk, (old, new), asked, &mut out, &mut notes),
+        Work::Run { .. } => return Err(anyhow!("the words ask for more than one thread")),
     };
     desk.printed = out.into_text()?;
     desk.notes = notes.text;

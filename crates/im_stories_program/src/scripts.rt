@@ -6,7 +6,8 @@ use im_script::{
     Action, Allocation, Place, Reader, Said, Script, ScriptLine, read_script, read_u32,
 };
 use im_story::{add_refusal, address, place};
-use im_types::{Kind, Op};
+use im_text::add_op;
+use im_types::Kind;
 use std::alloc::{AllocError, Global};
 use std::mem;
 
@@ -103,21 +104,6 @@ fn add_action(said: &mut String, action: Action) -> Result<(), AllocError> {
             add_asked(said, "put", place)?;
             write!(said, ", {value}")
         }
-    }
-}
-
-fn add_op(said: &mut String, op: Op) -> Result<(), AllocError> {
-    match op {
-        Op::Alloc(kind, length) => {
-            let kind = letter(kind);
-            write!(said, "alloc {kind} {length}")
-        }
-        Op::Release(a) => write!(said, "release {a}"),
-        Op::Reset(a) => write!(said, "reset {a}"),
-        Op::Fetch(a) => write!(said, "fetch {a}"),
-        Op::Store(a, value) => write!(said, "store {a} {value}"),
-        Op::Take(a) => write!(said, "take {a}"),
-        Op::Put(a, value) => write!(said, "put {a} {value}"),
     }
 }
 

@@ -178,13 +178,8 @@ pub fn tell(alloc: Global, desk: &mut Desk, words: &[&str], said: &mut String) -
             "the",
             "opening",
         ] => {
-            serve_past(
-                alloc,
-                desk,
-                number(call)?.saturating_sub(1),
-                Mode::Once,
-                said,
-            )?
+            let calls = number(call)?.saturating_sub(1);
+            serve_past(alloc, desk, calls, Mode::Once, said)?
         }
         ["inspect"] => inspect(alloc, desk, ENDLESS, said)?,
         ["inspect", calls, "calls"] => {

@@ -4,7 +4,7 @@ use Rattle.im_text.specs.declared.lines.Lines.{Lines}
 use Rattle.im_text.specs.Printing.{PrintsMore, PrintsNows, nows}
 use Rattle.im_text.proofs.PrintingLemmas.{on_ok_by}
 use Rattle.im_serial.specs.Asked.{wanted_of}
-use Rattle.im_serial.specs.Once.{ClosedOnce, DoneOnce, EndedOnce}
+use Rattle.im_serial.specs.Once.{DoneOnce, EndedOnce}
 use Rattle.im_serial.specs.Serving.{server_of}
 use Rattle.im_serial.proofs.OnceLemmas.{closed_once}
 use Rattle.im_serial.proofs.ScriptedLemmas.{as_of}
