@@ -102,12 +102,7 @@ pub fn copy_file<
     ensures refused { IfErr result (λ refusal. MayRefuseCopy refusal) }
     ensures same { OnErr result (Keeps (W.contents out.old) (W.contents out.new)) }
 {
-    let Copying {
-        old,
-        new,
-        asked,
-        ..
-    } = *copying;
+    let (old, new, asked) = (copying.old, copying.new, copying.asked);
     let (start, other) = starts;
     let mut from = source_at(rt, old, new, observer, other)?;
     let length = length_of(rt.alloc(), &mut from, asked, observer)?;

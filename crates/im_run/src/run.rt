@@ -342,7 +342,8 @@ pub fn run_on<
             rt, alloc, engine, desk, script, gate, watcher, out, observer, planned,
         ),
         Err((refusal, mut disk)) => {
-            let status = end(alloc, Err(diagnose(alloc, &mut disk, refusal)), out, observer);
+            let reason = diagnose(alloc, &mut disk, refusal);
+            let status = end(alloc, Err(reason), out, observer);
             (status, disk, Trace::new(alloc))
         }
     }

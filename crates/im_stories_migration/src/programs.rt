@@ -36,13 +36,7 @@ fn act_by_itself(desk: &Desk, job: &Job<'_>, out: &mut Paper) -> u8 {
 }
 
 // Copies an image.
-fn copy(
-    desk: &Desk,
-    paths: (&str, &str),
-    asked: Asked,
-    out: &mut Paper,
-    notes: &mut Notes,
-) -> u8 {
+fn copy(desk: &Desk, paths: (&str, &str), asked: Asked, out: &mut Paper, notes: &mut Notes) -> u8 {
     let copying = Copying {
         held: desk.held,
         old: paths.0,
