@@ -19,8 +19,8 @@ use Rattle.im_program.specs.Words.{Task, demonstration, format, serial, run, ser
 
 -- a script was served on this disk, once or anew
 abbrev pub ScriptServed : {D : Type 0} → Bool → (D → Moment) → (D → List Moment) → (D → ℕ) → Moment → D → Option (List ℕ) → Option (List ℕ) → ℕ → Type 0
-ScriptServed {D} true = ServedOnceFrom {D}
-ScriptServed {D} false = ServedFrom {D}
+ScriptServed {D} true = ServedOnceFrom {D = D}
+ScriptServed {D} false = ServedFrom {D = D}
 
 -- A task was done on this disk, with this status. The disk's file held the first moment when it was opened. The writer
 -- held the first bytes before, and holds the others now. The demonstration opens no file. The result of a migration or
