@@ -1,0 +1,34 @@
+-- What a new file means if it was made of the dump of an old one. (Own.)
+use Rattle.std.specs.Prelude.{◌≡◌, ◌⊎◌, List, ℕ, Ok}
+use Rattle.im_types.specs.Contents.{Contents}
+use Rattle.im_types.specs.Header.{header_of, layout_in}
+use Rattle.im_types.specs.Layout.{sizes_of}
+use Rattle.im_types.specs.Meaning.{Reached, Reads}
+use Rattle.im_disk.specs.declared.disk.Disk.{Ghosts}
+use Rattle.im_disk.specs.Since.{LeavesWithin}
+use Rattle.im_dump.specs.declared.loading.Loaded.{Loaded}
+use Rattle.im_migration.specs.declared.asked.Asked.{Asked}
+use Rattle.im_migration.specs.declared.resized.Resized.{Resized}
+use Rattle.im_migration.specs.Migration.{IsBlank, IsLaidDown, moved_header}
+use Rattle.im_migration.specs.Resizing.{IsResized, sizes_asked}
+
+-- the file is an image of the sizes that are asked for, and means the old one's memory in them, after as many commands
+pub record MeansMoved (asked : Asked) (old file : List ℕ) : Type 0 where
+  pub reached : Reached
+  pub contents : Contents
+  pub was : Reads (layout_in old) old (Ok reached)
+  pub resized : IsResized (sizes_asked asked (header_of old).sizes) reached.contents contents
+  pub is : IsLaidDown (moved_header (sizes_asked asked (header_of old).sizes) reached.count) contents file
+
+-- each file left of the new disk, honest from the start on if it is at the end, is no image, or, if this holds, means
+-- what the old file means
+abbrev pub LeavesBlankOrMoved : {D : Type 0} → Ghosts D → D → D → Asked → Type 0 → List ℕ → Type 0
+LeavesBlankOrMoved disk from to asked H old =
+    disk.honest to → disk.honest from
+    × LeavesWithin disk.now disk.past from to (λ file. IsBlank file ⊎ (H → MeansMoved asked old file))
+
+-- the memory and the header of a new image are those of what was loaded, in the sizes that are asked for
+pub record IsReadied (asked : Asked) (l : Loaded) (r : Resized) : Type 0 where
+  pub sizes : sizes_of r.header.limits ≡ sizes_asked asked (sizes_of l.limits)
+  pub count : r.header.count ≡ l.count
+  pub memory : IsResized (sizes_of r.header.limits) l.memory.contents r.memory.contents
