@@ -13,7 +13,7 @@ use Rattle.im_migration.specs.declared.resized.Resized.{Resized}
 use Rattle.im_migration.specs.Copying.{IsWhole}
 use Rattle.im_migration.specs.Migration.{BlankOrLaid, IsBlank, IsLaidDown, LeavesBlankOrLaid, moved_header}
 use Rattle.im_migration.specs.Resizing.{IsResized, sizes_asked}
-use Rattle.im_moves.specs.Moving.{IsReadied, LeavesBlankOrMoved, MeansMoved}
+use Rattle.im_moves.specs.Moving.{LeavesBlankOrMoved, MeansMoved}
 
 -- what holds of a value, by what holds of a result
 pub if_ok : {A E : Type 0} (r : Result A E) (P R : A → Type 0) (Q : E → Type 0) → ((a : A) → P a → R a)
@@ -28,18 +28,20 @@ pub loaded_again : ((file text : List ℕ) (l : Loaded) → Dumps file (Some [])
 loaded_again law file before text slice l none same dumps is =
     law file text l (subst (λ (b : List ℕ). Dumps file (Some b) (Some text)) none dumps) (subst (IsDumpOf l) same is)
 
-module _ (asked : Asked) (l : Loaded) (r : Resized) (whole : IsWhole r) (ready : IsReadied asked l r) (old : List ℕ) where
+module _ (asked : Asked) (l : Loaded) (r : Resized) (whole : IsWhole r)
+    (sized : sizes_of r.header.limits ≡ sizes_asked asked (sizes_of l.limits)) (counted : r.header.count ≡ l.count)
+    (held : IsResized (sizes_of r.header.limits) l.memory.contents r.memory.contents) (old : List ℕ) where
   -- what was laid down means what was dumped
   pub means_moved : MeansLoaded old l → (file : List ℕ) → IsLaidDown (seen r.header) r.memory.contents file
       → MeansMoved asked old file
   means_moved loaded file laid =
       let s : Sizes = sizes_asked asked (header_of old).sizes in
-      let sizes : sizes_of r.header.limits ≡ s = ready.sizes ∙ ap (sizes_asked asked) loaded.sizes in
+      let sizes : sizes_of r.header.limits ≡ s = sized ∙ ap (sizes_asked asked) loaded.sizes in
       let is : seen r.header ≡ moved_header s loaded.reached.count = whole.header
       ∙ ap (λ (t : Sizes). moved_header t r.header.count) sizes
-      ∙ ap (moved_header s) (ready.count ∙ loaded.counted) in
+      ∙ ap (moved_header s) (counted ∙ loaded.counted) in
       let in_old : IsResized (sizes_of r.header.limits) loaded.reached.contents r.memory.contents =
-      subst (λ (m : Contents). IsResized (sizes_of r.header.limits) m r.memory.contents) loaded.contents ready.memory in
+      subst (λ (m : Contents). IsResized (sizes_of r.header.limits) m r.memory.contents) loaded.contents held in
       record {
         reached = loaded.reached;
         contents = r.memory.contents;

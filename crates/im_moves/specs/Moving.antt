@@ -1,14 +1,13 @@
 -- What a new file means if it was made of the dump of an old one. (Own.)
-use Rattle.std.specs.Prelude.{◌≡◌, ◌⊎◌, List, ℕ, Ok}
+use Rattle.std.specs.Prelude.{◌⊎◌, List, ℕ, Ok}
 use Rattle.im_types.specs.Contents.{Contents}
 use Rattle.im_types.specs.Header.{header_of, layout_in}
-use Rattle.im_types.specs.Layout.{sizes_of}
 use Rattle.im_types.specs.Meaning.{Reached, Reads}
 use Rattle.im_disk.specs.declared.disk.Disk.{Ghosts}
-use Rattle.im_disk.specs.Since.{LeavesWithin}
+use Rattle.im_disk.specs.Since.{LeavesNow, LeavesWithin}
 use Rattle.im_dump.specs.declared.loading.Loaded.{Loaded}
+use Rattle.im_dump.specs.Dumping.{MeansLoaded}
 use Rattle.im_migration.specs.declared.asked.Asked.{Asked}
-use Rattle.im_migration.specs.declared.resized.Resized.{Resized}
 use Rattle.im_migration.specs.Migration.{IsBlank, IsLaidDown, moved_header}
 use Rattle.im_migration.specs.Resizing.{IsResized, sizes_asked}
 
@@ -27,8 +26,10 @@ LeavesBlankOrMoved disk from to asked H old =
     disk.honest to → disk.honest from
     × LeavesWithin disk.now disk.past from to (λ file. IsBlank file ⊎ (H → MeansMoved asked old file))
 
--- the memory and the header of a new image are those of what was loaded, in the sizes that are asked for
-pub record IsReadied (asked : Asked) (l : Loaded) (r : Resized) : Type 0 where
-  pub sizes : sizes_of r.header.limits ≡ sizes_asked asked (sizes_of l.limits)
-  pub count : r.header.count ≡ l.count
-  pub memory : IsResized (sizes_of r.header.limits) l.memory.contents r.memory.contents
+-- if this holds, and the new disk is honest, each file left of it means what the old file means
+abbrev pub LeavesMoved : {D : Type 0} → Ghosts D → D → Asked → Type 0 → List ℕ → Type 0
+LeavesMoved disk to asked H old = H → disk.honest to → LeavesNow (disk.now to) (MeansMoved asked old)
+
+-- if this holds, what was loaded is what the file means
+abbrev pub MayMeanLoaded : Type 0 → List ℕ → Loaded → Type 0
+MayMeanLoaded H old l = H → MeansLoaded old l

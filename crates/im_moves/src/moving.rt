@@ -1,21 +1,17 @@
 //! Dumps an image, and loads the text into a new file.
-ghost use Rattle.std.specs.Prelude.{◌≡◌, IfOk};
-ghost use Rattle.im_disk.specs.Since.{LeavesNow};
+ghost use Rattle.std.specs.Prelude.{IfOk};
 ghost use Rattle.im_disk.specs.Runs.{ReadsAlone};
-ghost use Rattle.im_types.specs.Layout.{sizes_of};
-ghost use Rattle.im_dump.specs.Dumping.{MeansLoaded};
-ghost use Rattle.im_migration.specs.Copying.{IsWhole};
-ghost use Rattle.im_moves.specs.Moving.{IsReadied, LeavesBlankOrMoved, MeansMoved};
+ghost use Rattle.im_moves.specs.Moving.{LeavesBlankOrMoved, LeavesMoved, MayMeanLoaded};
 
 use im_disk::Disk;
 use im_dump::{Loaded, dump, read_dump, what_was_dumped_is_loaded};
-use im_migration::{Asked, Follower, Original, Resized, prepare, put_new};
+use im_migration::{Asked, Follower, Original, prepare, put_new};
 use im_types::Refusal;
 use std::alloc::Global;
 
 // Returns what the dump of the image on a disk is loaded as.
 fn reread<D: Disk>(alloc: Global, old: &mut D) -> Result<Loaded, Refusal>
-    ensures means { IfOk result (λ l. D.honest old.new → MeansLoaded (D.now old.old).bytes l) }
+    ensures means { IfOk result (MayMeanLoaded (D.honest old.new) (D.now old.old).bytes) }
     ensures reads { ReadsAlone D.Disk old.old old.new }
 {
     what_was_dumped_is_loaded();
@@ -26,27 +22,6 @@ fn reread<D: Disk>(alloc: Global, old: &mut D) -> Result<Loaded, Refusal>
             Err(fault) => Err(fault.refusal()),
         },
         Err(reason) => Err(reason.refusal().unwrap_or(Refusal::Device)),
-    }
-}
-
-// Prepares what was loaded for an image of the sizes that are asked for.
-fn ready<F: Follower>(
-    alloc: Global,
-    loaded: &Loaded,
-    asked: Asked,
-    follower: &F,
-) -> Result<Resized, Refusal>
-    ensures whole { IfOk result (λ r. IsWhole r) }
-    ensures ready { IfOk result (λ r. IsReadied asked loaded.now r) }
-{
-    let original = Original {
-        memory: &loaded.memory,
-        limits: loaded.limits,
-        count: loaded.count,
-    };
-    match prepare(alloc, &original, asked, follower) {
-        Ok(resized) => Ok(resized),
-        Err(refusal) => Err(refusal),
     }
 }
 
@@ -66,8 +41,7 @@ pub fn move_by_dump<O: Disk, N: Disk, F: Follower>(
     asked: Asked,
     follower: &F,
 ) -> Result<N, (Refusal, N)>
-    ensures moved { IfOk result (λ to. O.honest old.new → N.honest to
-        → LeavesNow (N.now to) (MeansMoved asked (O.now old.old).bytes)) }
+    ensures moved { IfOk result (λ to. LeavesMoved N.Disk to asked (O.honest old.new) (O.now old.old).bytes) }
     ensures leaves { IfOk result (λ to. LeavesBlankOrMoved N.Disk new to asked (O.honest old.new)
         (O.now old.old).bytes) }
     ensures reads { ReadsAlone O.Disk old.old old.new }
@@ -76,7 +50,12 @@ pub fn move_by_dump<O: Disk, N: Disk, F: Follower>(
         Ok(loaded) => loaded,
         Err(refusal) => return Err((refusal, new)),
     };
-    match ready(alloc, &loaded, asked, follower) {
+    let original = Original {
+        memory: &loaded.memory,
+        limits: loaded.limits,
+        count: loaded.count,
+    };
+    match prepare(alloc, &original, asked, follower) {
         Ok(resized) => put_new(new, &resized, follower),
         Err(refusal) => Err((refusal, new)),
     }
