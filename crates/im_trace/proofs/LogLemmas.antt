@@ -218,11 +218,6 @@ marked-few marks (p ∷ places) = omega (
   sum_by-append (λ q. length (unclaimed_lines q)) (p ∷ []) places,
 )
 
--- what isn't false
-pub must-hold : (b : Bool) → (b ≡ false → ⊥) → b ≡ true
-must-hold true not = refl
-must-hold false not = absurd (not refl)
-
 -- where no line waits, the books count all lines
 pub log-claimed : (m : Contents) (marks : Line → Bool) (l : LogState) (books : Counts) → IsLog m marks l books
     → AreClaimed l.places → (books.lines ≡ length l.trace) × (books.marked ≡ count_by marks l.trace)

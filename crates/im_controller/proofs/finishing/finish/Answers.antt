@@ -13,15 +13,37 @@ returns-clause-lines g c = λ came claimed.
     let m = c.take_all_back.ensures in let l = c.left-left.ensures in
     let same = eqb-true c.len-came.result (c.ports-all.result - c.left-left.result) came in
     let counted = c.close-trace.ensures.counted
-    (omega (arith, same, m.back, c.of-log.ensures.back, l.left, l.few, c.ports-all.ensures, c.len-came.ensures, c.args.ports.ok)) in
+    (omega (
+      arith,
+      same,
+      m.back,
+      c.of-log.ensures.back,
+      l.left,
+      l.few,
+      c.ports-all.ensures,
+      c.len-came.ensures,
+      c.args.ports.ok,
+    )) in
     let told = ap (λ (b : Counts). b.lines) c.of-log.ensures.told in
-    omega (arith, counted.lines (sym c.close-trace.ensures.claimed ∙ claimed), m.lines, told, ap length c.close-trace.ensures.trace)
+    let all = counted.lines (sym c.close-trace.ensures.claimed ∙ claimed) in
+    omega (arith, all, m.lines, told, ap length c.close-trace.ensures.trace)
 
 pub returns-clause-whole : goal.returns-clause-whole
 returns-clause-whole g c = λ all.
     let m = c.take_all_back.ensures in let l = c.left-left.ensures in
     eq-eqb c.len-came.result (c.ports-all.result - c.left-left.result)
-    (omega (arith, all, m.back, m.bound, c.of-log.ensures.back, l.left, l.few, c.ports-all.ensures, c.len-came.ensures, c.args.ports.ok))
+    (omega (
+      arith,
+      all,
+      m.back,
+      m.bound,
+      c.of-log.ensures.back,
+      l.left,
+      l.few,
+      c.ports-all.ensures,
+      c.len-came.ensures,
+      c.args.ports.ok,
+    ))
 
 pub returns-clause-came : goal.returns-clause-came
 returns-clause-came g c =
@@ -40,4 +62,6 @@ returns-clause-seen g c =
     (sym (c.close-trace.ensures.trace ∙ m.trace)) m.seen
 
 pub returns-clause-planned : goal.returns-clause-planned
-returns-clause-planned g c = ends-by g.K.Name.memory g.K.Name.plan c.engine.inside.log.trace c.engine.inside.engine.memory c.engine.invariant.8 c.engine.invariant.0
+returns-clause-planned g c =
+    let s = c.engine.inside in let i = c.engine.invariant in
+    ends-by g.K.Name.memory g.K.Name.plan s.log.trace s.engine.memory i.8 i.0

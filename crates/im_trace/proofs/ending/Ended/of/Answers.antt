@@ -8,10 +8,12 @@ invariant_of-result g c =
     let r = c.reserve.invariant in
     let is = c.log.invariant.0 in
     let same = c.as_slice.ensures.value in
-    let told = c.are_claimed-claimed.ensures in (
+    let told = c.are_claimed-claimed.ensures in
+    let m = g.K.Name.memory in
+    let marks = g.K.Name.marks in (
       record {
-        lines = λ claimed. (log-claimed g.K.Name.memory g.K.Name.marks _ _ is (subst AreClaimed same (told.claimed claimed))).0;
-        marked = λ claimed. (log-claimed g.K.Name.memory g.K.Name.marks _ _ is (subst AreClaimed same (told.claimed claimed))).1;
+        lines = λ claimed. (log-claimed m marks _ _ is (subst AreClaimed same (told.claimed claimed))).0;
+        marked = λ claimed. (log-claimed m marks _ _ is (subst AreClaimed same (told.claimed claimed))).1;
         fewer = λ waits.
             let more = subst (λ (places : List (Option UnclaimedState)).
             0 < sum_by (λ place. length (unclaimed_lines place)) places) same (told.waits waits) in
