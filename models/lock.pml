@@ -80,7 +80,7 @@ byte i, j, k, any, did;                                  /* Used within a step, 
 #define IS_LET_PAST(place) (place < N && (answered & ~together & (1 << place)) != 0)
 #endif
 /* Out of the queue, and called.
-   of im_controller::Turns::call 3625e446725f */
+   of im_queue::Turns::call 3625e446725f */
 inline take(at) {
   k = waiting[at];
   if :: k < N -> let_past[k] = any :: else fi;
@@ -93,17 +93,17 @@ inline take(at) {
   i = at; do :: i < many -> waiting[i] = waiting[i + 1]; i++ :: else -> break od;
   waiting[many] = 0; k = 0; i = 0
 }
-/* of im_controller::Queue::next_of 9db6b6427ff3: into j. */
+/* of im_queue::Queue::next_of 9db6b6427ff3: into j. */
 inline next_of() {
   if :: waiting[0] != KEEPER -> j = 0
      :: waiting[0] == KEEPER && many > 1 && bypassed < PATIENCE -> bypassed++; j = 1
      :: else -> bypassed = 0; j = 0 fi
 }
-/* of im_controller::Turns::pass_on d92f725ef33c
-   of im_controller::Queue::take_next d98cedbf6716
-   of im_controller::Queue::is_let_past 78aabf60833d
-   of im_controller::is_among b6616fcdf154
-   of im_controller::is_one_of a5aecfe605c3 */
+/* of im_queue::Turns::pass_on d92f725ef33c
+   of im_queue::Queue::take_next d98cedbf6716
+   of im_queue::Queue::is_let_past 78aabf60833d
+   of im_queue::is_among b6616fcdf154
+   of im_queue::is_one_of a5aecfe605c3 */
 inline pass_on(answered) {
   d_step {
     within--; past--;
@@ -124,18 +124,18 @@ inline pass_on(answered) {
     answered = 0
   }
 }
-/* of im_controller::Turns::wait 65fcb198c2d4
-   of im_controller::Turns::wait_to_keep 3e3500866a98
-   of im_controller::Turns::keeper 66384cdc0d6d */
+/* of im_queue::Turns::wait 65fcb198c2d4
+   of im_queue::Turns::wait_to_keep 3e3500866a98
+   of im_queue::Turns::keeper 66384cdc0d6d */
 inline wait_turn(place) {
   if :: atomic { within == 0 -> within = 1; together = 0; assert(past == 0); past = 1 }
      :: atomic { within != 0 -> waiting[many] = place; many++ }; atomic { called[place] > 0 -> called[place]-- }
   fi
 }
 
-/* of im_controller::Bell::ring 94c2d9f659e6
-   of im_controller::Bells::ring d32343ebf3f1
-   of im_controller::Bells::ring_all e718d72712c2: the bells of `to_ports`, by bits, one after another. */
+/* of im_queue::Bell::ring 94c2d9f659e6
+   of im_queue::Bells::ring d32343ebf3f1
+   of im_queue::Bells::ring_all e718d72712c2: the bells of `to_ports`, by bits, one after another. */
 inline count_answer(e) { rung[e] = true }
 inline wake_answer(e) { parked[e] = false }
 inline ring_ports(to_ports) {
@@ -151,8 +151,8 @@ inline ring_ports(to_ports) {
   at = 0
 }
 inline ring_work() { work_rung = true; work_parked = false }
-/* of im_controller::Bell::wait_past 5bd1c1bc8883
-   of im_controller::Bell::read 26601f99c85c: the reading is a false in `rung`. */
+/* of im_queue::Bell::wait_past 5bd1c1bc8883
+   of im_queue::Bell::read 26601f99c85c: the reading is a false in `rung`. */
 inline wait_past_answers(e) {
   do :: rung[e] -> break
      :: atomic { !rung[e] -> parked[e] = true }; !parked[e] || over; if :: over -> break :: else fi
@@ -165,10 +165,10 @@ inline wait_past_work() {
 }
 /* of im_controller::who_sleeps a81b6dfec630
    of im_controller::wake_keeper 4f718459f48f
-   of im_controller::Servers::answered 843e04db3eb9
-   of im_controller::Servers::awaited 0e9cdfabcf73
-   of im_controller::Servers::asleep 11a69be06739
-   of im_controller::is_answered faf50e23f896 */
+   of im_queue::Servers::answered 843e04db3eb9
+   of im_queue::Servers::awaited 0e9cdfabcf73
+   of im_queue::Servers::asleep 11a69be06739
+   of im_queue::is_answered faf50e23f896 */
 inline who_sleeps() {
   to_keeper = (keeper == Sleeps);
   if :: to_keeper -> keeper = Works :: else fi;
@@ -191,8 +191,8 @@ inline wake(call) {
   ring_ports(to_ports)
 }
 
-/* of im_controller::Servers::change d38f95d1cd67
-   of im_controller::Servers::note 39448ea66991
+/* of im_queue::Servers::change d38f95d1cd67
+   of im_queue::Servers::note 39448ea66991
    of im_controller::note_sleep dc175c06a3df: who is told to wait is noted, whether it has retired or not. */
 inline change(e, state) { if :: server[e] != Retired -> server[e] = state :: else fi }
 inline note(e, sleeps) {
@@ -202,9 +202,9 @@ inline note(e, sleeps) {
   sleeper[e] = sleeps
 #endif
 }
-/* of im_controller::is_stuck 1d9e9a66cdf7
-   of im_controller::is_past 32715c23789f
-   of im_controller::are_stuck cefccf9160d0 */
+/* of im_queue::is_stuck 1d9e9a66cdf7
+   of im_queue::is_past 32715c23789f
+   of im_queue::are_stuck cefccf9160d0 */
 inline are_stuck(e) {
   any = true; i = 0;
   do :: i < N ->
@@ -271,9 +271,9 @@ inline serve_member(m) {
 }
 /* of im_controller::hold 35c3d7c5c91d
    of im_controller::serve_asked 9d0732c5dba0
-   of im_controller::Inbox::next_group e08c6e94a090
-   of im_controller::Inbox::gather a3fa78f93397
-   of im_controller::Log::claim 66c75ff3e422 */
+   of im_queue::Inbox::next_group e08c6e94a090
+   of im_queue::Inbox::gather a3fa78f93397
+   of im_trace::Log::claim 66c75ff3e422 */
 inline hold(e) {
   if :: unclaimed[e] != Nothing -> skip
      :: else ->
@@ -288,7 +288,7 @@ inline hold(e) {
   let_past[e] = false; got = unclaimed[e]; unclaimed[e] = Nothing
 }
 /* of im_controller::who_is_answered 8eb3a0142884
-   of im_controller::Log::answered aaae3520f553 */
+   of im_trace::Log::answered aaae3520f553 */
 inline who_is_answered() {
   answered = 0; i = 0;
   do :: i < N -> if :: unclaimed[i] != Nothing -> answered = answered | (1 << i) :: else fi; i++ :: else -> break od;
@@ -296,7 +296,7 @@ inline who_is_answered() {
 }
 /* of im_controller::Port::submit 17ace1e7fabb
    of im_controller::Controller::serve 78bd7c75275c
-   of im_controller::Inbox::ask 23fb3d79a544
+   of im_queue::Inbox::ask 23fb3d79a544
    of im_controller::Controller::serve_all a8a7d26820b6 */
 inline submit(e, op) {
   d_step { asked[e] = op; got = Nothing };

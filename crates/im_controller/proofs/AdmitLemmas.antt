@@ -19,10 +19,11 @@ use Rattle.im_types.specs.Contents.{Contents}
 use Rattle.im_laws.proofs.Tests.{true_false}
 use Rattle.im_engine.specs.State.{EngineState}
 use Rattle.im_engine.specs.Commands.{each_refused}
-use Rattle.im_controller.specs.Lines.{leaves_line, lines_of}
-use Rattle.im_controller.specs.Log.{sender_of, UnclaimedState, LogState, with_unclaimed}
+use Rattle.im_trace.specs.Lines.{leaves_line, lines_of}
+use Rattle.im_trace.specs.Log.{sender_of, UnclaimedState, LogState, with_unclaimed}
 use Rattle.im_controller.specs.State.{SharedState}
-use Rattle.im_controller.specs.Groups.{AreOfOthers, AreOneOfEach, AreSureBehind, those, IsCut, AreFreeFor, AreAnswersTo}
+use Rattle.im_queue.specs.Members.{AreOfOthers, AreOneOfEach, AreSureBehind, IsCut, AreFreeFor}
+use Rattle.im_controller.specs.Groups.{those, AreAnswersTo}
 use Rattle.im_controller.specs.Groups.{answer_in, with_all_unclaimed}
 use Rattle.im_controller.specs.Groups.{lines_left, MembersAnswered}
 use Rattle.im_controller.specs.Planned.{has_command, IsOnPlan, AreOnPlan, StartsBy, KeepsTo}

@@ -14,11 +14,12 @@ use Rattle.im_laws.proofs.Tests.{true_false}
 use Rattle.im_groups.specs.Commands.{places_behind}
 use Rattle.im_glass.specs.Panes.{PaneView}
 use Rattle.im_controller.specs.Groups.{those, AreRoomless, changes_put_all, next_answer, answers_left, spread}
-use Rattle.im_controller.specs.Log.{sender_of}
-use Rattle.im_controller.specs.Groups.{AreOneOfEach, AreSureBehind, IsSure, answer_in, are_joined, IsCut}
+use Rattle.im_trace.specs.Log.{sender_of}
+use Rattle.im_queue.specs.Members.{AreOneOfEach, AreSureBehind, IsSure, are_joined, IsCut}
+use Rattle.im_controller.specs.Groups.{answer_in}
 use Rattle.im_controller.specs.Groups.{lines_left}
 use Rattle.im_controller.proofs.SureLemmas.{sure-behind}
-use Rattle.im_controller.specs.Lines.{lines_of}
+use Rattle.im_trace.specs.Lines.{lines_of}
 use Rattle.im_controller.specs.Lends.{is_taken}
 use Rattle.im_controller.proofs.GroupLemmas.{Fits, few_lines}
 use Rattle.im_controller.proofs.PutLemmas.{lines_all, taken-none, left-none}

@@ -19,7 +19,7 @@ use Rattle.im_engine.specs.State.{EngineState}
 use Rattle.im_groups.specs.Commands.{places, answer_with, contents_with, places_behind, answers_with, contents_after}
 use Rattle.im_groups.proofs.CommandLemmas.{at-after}
 use Rattle.im_engine.specs.Commands.{commands_put, after_commands, each_refused, answers_in_turn, CommandsAnswered}
-use Rattle.im_controller.specs.Lines.{leaves_line, memory_after}
+use Rattle.im_trace.specs.Lines.{leaves_line, memory_after}
 use Rattle.im_controller.specs.Groups.{answer_in, IsAnswerTo, AreAnswersTo, memory_after_all, lines_left}
 use Rattle.im_controller.specs.Groups.{MembersAnswered}
 use Rattle.im_controller.proofs.LendLemmas.{ok-leaves, same_by}

@@ -11,11 +11,12 @@ use Rattle.im_types.specs.declared.commands.Call.TheVariants.{Command as Command
 use Rattle.im_types.specs.declared.refusals.Refusal.{Refusal}
 use Rattle.im_types.specs.Contents.{Contents}
 use Rattle.im_types.specs.Trace.{end_of}
-use Rattle.im_controller.specs.Lines.{leaves_line, lines_of}
-use Rattle.im_controller.specs.Log.{sender_of, UnclaimedState, LogState, with_unclaimed}
-use Rattle.im_controller.specs.Groups.{AreOfOthers, AreOneOfEach, AreFreeFor, with_all_unclaimed, AreAnswersTo}
+use Rattle.im_trace.specs.Lines.{leaves_line, lines_of}
+use Rattle.im_trace.specs.Log.{sender_of, UnclaimedState, LogState, with_unclaimed}
+use Rattle.im_queue.specs.Members.{AreOfOthers, AreOneOfEach, AreFreeFor}
+use Rattle.im_controller.specs.Groups.{with_all_unclaimed, AreAnswersTo}
 use Rattle.im_controller.specs.Groups.{memory_after_all, lines_left}
-use Rattle.im_controller.proofs.LogLemmas.{lines_by, end-lines}
+use Rattle.im_trace.proofs.LogLemmas.{lines_by, end-lines}
 
 get-set_other : {X : Type 0} (xs : List X) (i j : ℕ) (x y : X) → i ≢ j → slice_get xs j ≡ Some y
     → slice_get (slice_set xs i x) j ≡ Some y

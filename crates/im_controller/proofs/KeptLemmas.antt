@@ -38,7 +38,7 @@ use Rattle.im_groups.specs.Commands.{commands_at}
 use Rattle.im_groups.proofs.CommandLemmas.{at-after, at-accepted}
 use Rattle.im_engine.proofs.Keeping.{accept_both, accept_one}
 use Rattle.im_engine.proofs.Running.{Failures, failures_more, failures_turned}
-use Rattle.im_controller.specs.Lines.{leaves_line, line_of, lines_of}
+use Rattle.im_trace.specs.Lines.{leaves_line, line_of, lines_of}
 use Rattle.im_controller.specs.Groups.{answer_in, MembersAnswered}
 use Rattle.im_controller.specs.Lends.{IsTurnFault, told_turn}
 use Rattle.im_controller.specs.Kept.{Begun, begun_in, accepted_in, MeansSome, MeansAll, HasKept}

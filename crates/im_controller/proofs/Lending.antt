@@ -12,9 +12,10 @@ use Rattle.im_laws.proofs.Tests.{true_false}
 use Rattle.im_engine.specs.State.{EngineState}
 use Rattle.im_engine.specs.Commands.{each_refused, CommandsAnswered}
 use Rattle.im_glass.specs.Panes.{PaneView}
-use Rattle.im_controller.specs.Log.{LogState}
+use Rattle.im_trace.specs.Log.{LogState}
 use Rattle.im_controller.specs.State.{SharedState}
-use Rattle.im_controller.specs.Groups.{AreOneOfEach, AreSureBehind, IsCut, answer_in, with_all_unclaimed, lines_left}
+use Rattle.im_queue.specs.Members.{AreOneOfEach, AreSureBehind, IsCut}
+use Rattle.im_controller.specs.Groups.{answer_in, with_all_unclaimed, lines_left}
 use Rattle.im_controller.specs.Groups.{MembersAnswered, places_with}
 use Rattle.im_controller.specs.Groups.{those, AreRoomless, changes_put_all, spread, LendsGroup}
 use Rattle.im_controller.proofs.GroupLemmas.{Fits, members-fit, members-room}

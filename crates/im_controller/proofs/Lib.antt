@@ -1,13 +1,9 @@
-pub mod ChainLemmas
 pub mod SeenLemmas
-pub mod LogLemmas
-pub mod StuckLemmas
 pub mod LendLemmas
 pub mod ShownLemmas
 pub mod PutLemmas
 pub mod WaitLemmas
 pub mod SureLemmas
-pub mod Gathering
 pub mod Keeping
 pub mod GroupLemmas
 pub mod Choosing

@@ -17,11 +17,11 @@ use Rattle.im_types.specs.Trace.{IsLegal, end_of}
 use Rattle.im_plans.specs.Runs.{IsPlannedCall, IsPlannedRun}
 use Rattle.im_plans.proofs.Laws.{planned-last, planned-kept, planned-waits, planned-served, planned-grows}
 use Rattle.im_planning.proofs.MakingLemmas.{in_plan}
-use Rattle.im_controller.specs.Lines.{leaves_line, line_of, lines_of}
-use Rattle.im_controller.specs.Log.{ReceiptState, IsProof, IsOfTrace}
+use Rattle.im_trace.specs.Lines.{leaves_line, line_of, lines_of}
+use Rattle.im_trace.specs.Log.{ReceiptState, IsProof, IsOfTrace}
 use Rattle.im_controller.specs.Planned.{has_request, has_command, IsOnPlan, StartsBy, KeepsTo, TellsBy, TellsOf}
 use Rattle.im_controller.specs.Planned.{EndsAsPlanned, EndsBy}
-use Rattle.im_controller.proofs.LogLemmas.{lines_by}
+use Rattle.im_trace.proofs.LogLemmas.{lines_by}
 
 pub keeps-start : (m : Contents) (plan : Option (List Request)) → StartsBy m plan → KeepsTo m plan []
 keeps-start m None s = tt

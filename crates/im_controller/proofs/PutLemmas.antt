@@ -22,17 +22,19 @@ use Rattle.im_laws.proofs.AcceptLemmas.{accepted-ok}
 use Rattle.im_groups.specs.Commands.{places, takes_place, answer_with, contents_with, places_behind, answers_with}
 use Rattle.im_engine.specs.State.{EngineState}
 use Rattle.im_engine.specs.Commands.{commands_put, each_refused, answers_in_turn, CommandsAnswered}
-use Rattle.im_controller.specs.Lines.{leaves_line, line_of, lines_of}
-use Rattle.im_controller.specs.Log.{LogState, with_unclaimed}
-use Rattle.im_controller.specs.Groups.{AreOneOfEach, IsCut, AreSureBehind, answer_in, with_all_unclaimed}
+use Rattle.im_trace.specs.Lines.{leaves_line, line_of, lines_of}
+use Rattle.im_trace.specs.Log.{LogState, with_unclaimed}
+use Rattle.im_queue.specs.Members.{AreOneOfEach, IsCut, AreSureBehind}
+use Rattle.im_controller.specs.Groups.{answer_in, with_all_unclaimed}
 use Rattle.im_controller.specs.Groups.{MembersAnswered}
 use Rattle.im_controller.specs.Groups.{places_with, changes_put_all}
 use Rattle.im_controller.specs.Lends.{is_taken, changes_put}
 use Rattle.im_controller.proofs.LendLemmas.{ok-leaves}
-use Rattle.im_controller.proofs.LogLemmas.{end-lines}
+use Rattle.im_trace.proofs.LogLemmas.{end-lines}
 use Rattle.im_controller.proofs.SureLemmas.{IsLike, AreLike, like-self, like-after, with-agrees, sure-behind}
 use Rattle.im_controller.proofs.GroupLemmas.{member-after, answers_served}
-use Rattle.im_controller.proofs.ShownLemmas.{changes-append, unaccepted-lines, lineless-lines, lined-lines}
+use Rattle.im_trace.proofs.ToldLemmas.{changes-append}
+use Rattle.im_controller.proofs.ShownLemmas.{unaccepted-lines, lineless-lines, lined-lines}
 
 -- the lines of answers to commands
 abbrev pub lines_all : List Command → List (Result Outcome Refusal) → List Line

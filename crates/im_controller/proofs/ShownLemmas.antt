@@ -16,43 +16,20 @@ use Rattle.im_types.specs.declared.refusals.Refusal.{Refusal}
 use Rattle.im_types.specs.Contents.{Contents}
 use Rattle.im_types.specs.Step.{is_accepted}
 use Rattle.im_types.specs.Trace.{contents_after, end_of}
-use Rattle.im_types.specs.Changes.{change_by, changes_at, changes_in, changes_of, opening, shown_by}
+use Rattle.im_types.specs.Changes.{change_by, changes_at, changes_of, opening, shown_by}
 use Rattle.im_laws.proofs.Tests.{true_false}
 use Rattle.im_laws.proofs.AcceptLemmas.{accepted-ok}
 use Rattle.im_laws.proofs.MemoryLemmas.{step-cell_count}
 use Rattle.im_engine.specs.State.{EngineState}
 use Rattle.im_engine.specs.Run.{Answered}
 use Rattle.im_glass.specs.Panes.{PaneView}
-use Rattle.im_controller.specs.Lines.{Counts, leaves_line, line_of, lines_of, memory_after, counts_after}
-use Rattle.im_controller.specs.Log.{ReceiptState, IsToldOf, plain, receipt_for, with_line}
+use Rattle.im_trace.specs.Lines.{Counts, leaves_line, line_of, lines_of, memory_after, counts_after}
+use Rattle.im_trace.specs.Log.{ReceiptState, IsToldOf, plain, receipt_for, with_line}
+use Rattle.im_trace.proofs.ToldLemmas.{shown-append, plain-receipt}
 use Rattle.im_controller.specs.Planned.{has_command}
 use Rattle.im_controller.specs.State.{SharedState}
 use Rattle.im_controller.specs.Lends.{Lends, changes_put, shows}
 use Rattle.im_controller.proofs.LendLemmas.{ok-leaves}
-
-pub changes-append : (m : Contents) (earlier later : List Line) → changes_of m (earlier ++ later)
-    ≡ changes_of m earlier ++ changes_of (end_of m earlier) later
-changes-append m [] later = refl
-changes-append m (line ∷ earlier) later =
-    ap (λ l. changes_in m line.call ++ l) (changes-append (contents_after m line.call) earlier later)
-    ∙ sym (append_assoc (changes_in m line.call) (changes_of (contents_after m line.call) earlier)
-    (changes_of (end_of (contents_after m line.call) earlier) later))
-
-pub shown-append : (m : Contents) (earlier later : List Line) → shown_by m (earlier ++ later)
-    ≡ shown_by m earlier ++ changes_of (end_of m earlier) later
-shown-append m earlier later =
-    ap (λ l. opening m ++ l) (changes-append m earlier later)
-    ∙ sym (append_assoc (opening m) (changes_of m earlier) (changes_of (end_of m earlier) later))
-
--- what was told by the end of a trace was told by an earlier one
-pub told-earlier : (m : Contents) (history trace : List Line) (told : List Change) → IsPrefix history trace
-    → IsToldOf m trace told → IsToldOf m history told
-told-earlier m history trace told p all =
-    let more = changes_of (end_of m history) p.0 in (
-      more ++ all.0,
-      sym (append_assoc (shown_by m history) more all.0) ∙ ap (λ l. l ++ all.0) (sym (shown-append m history p.0))
-          ∙ ap (λ ls. shown_by m ls ++ all.0) p.1 ∙ all.1,
-    )
 
 pub end-cells : (m : Contents) (trace : List Line) → length (end_of m trace).cells ≡ length m.cells
 end-cells m [] = refl
@@ -196,11 +173,6 @@ module _ (old mid new : PaneView) (changes shown : List Change)
 -- what is shown is told of its trace
 pub told-all : (m : Contents) (trace : List Line) (told : List Change) → told ≡ shown_by m trace → IsToldOf m trace told
 told-all m trace told is = ([], append-nil (shown_by m trace) ∙ sym is)
-
-pub plain-receipt : (history : List Line) (shown : List Change) (command : Command) (a : Result Outcome Refusal)
-    → plain (receipt_for history shown command a) ≡ a
-plain-receipt history shown command (Ok outcome) = refl
-plain-receipt history shown command (Err refusal) = refl
 
 -- a command that the engine was lent to
 module _ {D : Type 0} (marks : Line → Bool) (plan : Option (List Request)) (s s' : SharedState D) (t t' : Counts)

@@ -33,10 +33,10 @@ use Rattle.im_groups.specs.Ahead.{AreAccepted, IsUnsure, ServesPrefix, bounds_be
 use Rattle.im_groups.specs.Ahead.{asks_at_once, is_answered_or}
 use Rattle.im_groups.specs.Commands.{contents_with}
 use Rattle.im_groups.proofs.AheadLemmas.{confirm-in}
-use Rattle.im_controller.specs.Log.{sender_of}
-use Rattle.im_controller.specs.Groups.{is_social, stored_at, are_apart_at, are_together, are_joined, AreOfOthers}
-use Rattle.im_controller.specs.Groups.{MayFollow}
-use Rattle.im_controller.specs.Groups.{IsSure, AreSure, AreSureBehind}
+use Rattle.im_trace.specs.Log.{sender_of}
+use Rattle.im_queue.specs.Members.{is_social, stored_at, are_apart_at, are_together, are_joined, AreOfOthers}
+use Rattle.im_queue.specs.Members.{MayFollow}
+use Rattle.im_queue.specs.Members.{IsSure, AreSure, AreSureBehind}
 
 -- ---- a confirmation that the memory accepts
 

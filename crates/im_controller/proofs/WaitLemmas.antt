@@ -6,12 +6,12 @@ use Rattle.im_types.specs.declared.commands.Line.{Line}
 use Rattle.im_types.specs.declared.refusals.Refusal.{Refusal}
 use Rattle.im_types.specs.declared.refusals.Refusal.TheVariants.{Failed, TraceFull, Stalled}
 use Rattle.im_laws.proofs.Tests.{true_false}
-use Rattle.im_controller.specs.declared.servers.Ask.{Ask}
-use Rattle.im_controller.specs.declared.servers.Ask.TheVariants.{Go, Wait}
-use Rattle.im_controller.specs.declared.servers.Server.TheVariants.{Active}
-use Rattle.im_controller.specs.Lines.{Counts}
-use Rattle.im_controller.specs.Log.{FoundState}
-use Rattle.im_controller.specs.Servers.{entry_at, is_answered, are_stuck}
+use Rattle.im_queue.specs.declared.servers.Ask.{Ask}
+use Rattle.im_queue.specs.declared.servers.Ask.TheVariants.{Go, Wait}
+use Rattle.im_queue.specs.declared.servers.Server.TheVariants.{Active}
+use Rattle.im_trace.specs.Lines.{Counts}
+use Rattle.im_trace.specs.Log.{FoundState}
+use Rattle.im_queue.specs.Servers.{entry_at, is_answered, are_stuck}
 use Rattle.im_controller.specs.State.{SharedState}
 use Rattle.im_controller.specs.Lends.{Looks, BeginsWait, with_server_at}
 use Rattle.im_controller.specs.Waits.{entry_of, IsTold}

@@ -4,7 +4,7 @@ use Rattle.im_types.specs.declared.commands.Request.{Request}
 use Rattle.im_types.specs.declared.commands.Command.{Command}
 use Rattle.im_types.specs.declared.refusals.Refusal.TheVariants.{OffPlan}
 use Rattle.im_engine.specs.Commands.{each_refused}
-use Rattle.im_controller.specs.Log.{LogState}
+use Rattle.im_trace.specs.Log.{LogState}
 use Rattle.im_controller.specs.State.{SharedState}
 use Rattle.im_controller.specs.Groups.{those, answer_in, with_all_unclaimed}
 use Rattle.im_controller.specs.Planned.{has_command}

@@ -1,12 +1,7 @@
--- Groups of commands under the lock: how they are taken out of the inbox, and what lending a group does. (Own.)
-use Rattle.std.specs.Prelude.{◌≡◌, ◌≢◌, ◌⊎◌, ℕ, ◌+◌, ◌-◌, ◌<◌, ◌≤◌, ◌==◌, List, [], ◌∷◌, ◌++◌, Bool, true, false}
-use Rattle.std.specs.List.{AllByRecursion}
-use Rattle.std.specs.Prelude.{Option}
-use Rattle.std.specs.Prelude.{None, Some, Result, Ok, Err, length, map, slice_get, if◌then◌else◌}
-use Rattle.im_types.specs.declared.operations.Op.{Op}
-use Rattle.im_types.specs.declared.operations.Op.TheVariants.{Alloc, Release, Reset, Fetch, Store, Take, Put}
+-- Groups of commands under the lock: what lending a group does. (Own.)
+use Rattle.std.specs.Prelude.{◌≡◌, ℕ, ◌+◌, ◌-◌, ◌<◌, ◌≤◌, ◌==◌, List, [], ◌∷◌, ◌++◌, Bool, true, false, Option}
+use Rattle.std.specs.Prelude.{None, Some, Result, Ok, Err, length, map, if◌then◌else◌}
 use Rattle.im_types.specs.declared.commands.Command.{Command}
-use Rattle.im_types.specs.declared.commands.Command.TheVariants.{Request as Asks, Confirm}
 use Rattle.im_types.specs.declared.commands.Outcome.{Outcome}
 use Rattle.im_types.specs.declared.commands.Call.TheVariants.{Command as Commands}
 use Rattle.im_types.specs.declared.commands.Line.{Line}
@@ -16,112 +11,14 @@ use Rattle.im_types.specs.declared.refusals.Refusal.{Refusal}
 use Rattle.im_types.specs.declared.refusals.Refusal.TheVariants.{NoMemory, TraceFull}
 use Rattle.im_types.specs.declared.changes.Change.{Change}
 use Rattle.im_types.specs.Contents.{Contents}
-use Rattle.im_types.specs.Step.{is_accepted}
 use Rattle.im_types.specs.Trace.{answer_to}
 use Rattle.im_groups.specs.Commands.{places, places_behind}
 use Rattle.im_engine.specs.State.{EngineState}
 use Rattle.im_engine.specs.Commands.{CommandsAnswered, each_refused}
-use Rattle.im_controller.specs.Lines.{Counts, leaves_line, lines_of, memory_after, counts_after}
-use Rattle.im_controller.specs.Log.{ReceiptState, UnclaimedState, LogState, sender_of, plain, IsOf, with_unclaimed}
+use Rattle.im_trace.specs.Lines.{Counts, leaves_line, lines_of, memory_after, counts_after}
+use Rattle.im_trace.specs.Log.{ReceiptState, LogState, plain, IsOf, with_unclaimed}
 use Rattle.im_controller.specs.State.{SharedState}
 use Rattle.im_controller.specs.Lends.{is_taken, changes_put}
-
--- ---- which commands may be one group
-
--- none of the commands is of this element
-abbrev pub AreOfOthers : ℕ → List Command → Type 0
-AreOfOthers element cs = AllByRecursion (λ (c : Command). element ≢ sender_of c) cs
-
--- each element has at most one of the commands
-abbrev pub AreOneOfEach : List Command → Type 0
-AreOneOfEach [] = Unit {0}
-AreOneOfEach (c ∷ cs) = AreOfOthers (sender_of c) cs × AreOneOfEach cs
-
--- whether an operation is served with others: one that makes, gives back or empties a block isn't
-abbrev pub is_social : Op → Bool
-is_social (Alloc kind n) = false
-is_social (Release base) = false
-is_social (Reset base) = false
-is_social (Fetch a) = true
-is_social (Store a v) = true
-is_social (Take a) = true
-is_social (Put a v) = true
-
--- the address that an operation stores at
-abbrev pub stored_at : Op → Option ℕ
-stored_at (Alloc kind n) = None
-stored_at (Release base) = None
-stored_at (Reset base) = None
-stored_at (Fetch a) = None
-stored_at (Store a v) = Some a
-stored_at (Take a) = None
-stored_at (Put a v) = None
-
--- these addresses, if both are there, differ
-abbrev pub are_apart_at : Option ℕ → Option ℕ → Bool
-are_apart_at None b = true
-are_apart_at (Some a) None = true
-are_apart_at (Some a) (Some b) = if a == b then false else true
-
--- whether the later of two operations may be served in one group with the earlier
-abbrev pub are_together : Op → Op → Bool
-are_together earlier later = if is_social earlier then (if is_social later then are_apart_at (stored_at earlier) (stored_at later) else false) else false
-
--- whether the later of two commands may be served in one group with the earlier: a confirmation may stand anywhere
-abbrev pub are_joined : Command → Command → Bool
-are_joined (Confirm element upto) later = true
-are_joined (Asks r) (Confirm element upto) = true
-are_joined (Asks r) (Asks q) = are_together r.op q.op
-
--- a command may stand in a group after these
-abbrev pub MayJoin : Command → List Command → Type 0
-MayJoin command [] = Unit {0}
-MayJoin command (c ∷ cs) = (are_joined c command ≡ true) × MayJoin command cs
-
--- these commands may stand in a group after this one
-abbrev pub MayFollow : Command → List Command → Type 0
-MayFollow command cs = AllByRecursion (λ (c : Command). are_joined command c ≡ true) cs
-
--- the commands may be one group: a request that makes, gives back or empties a block is the only request, and no two
--- store at one address
-abbrev pub IsCut : List Command → Type 0
-IsCut [] = Unit {0}
-IsCut (c ∷ cs) = MayFollow c cs × IsCut cs
-
--- A command is accepted after commands of other elements if and only if the memory before them accepts it. A
--- confirmation of what waits may not be so: the others may answer that.
-abbrev pub IsSure : Contents → Command → Type 0
-IsSure m (Asks r) = Unit {0}
-IsSure m (Confirm element upto) = is_accepted m (Confirm element upto) ≡ true
-
--- each of these is so
-abbrev pub AreSure : Contents → List Command → Type 0
-AreSure m cs = AllByRecursion (IsSure m) cs
-
--- each of these but the first is so; the first one is judged by the memory before it in any case
-abbrev pub AreSureBehind : Contents → List Command → Type 0
-AreSureBehind m [] = Unit {0}
-AreSureBehind m (c ∷ cs) = AreSure m cs
-
--- a command is the first one, or is so
-abbrev pub IsSureBehind : Contents → Command → List Command → Type 0
-IsSureBehind m command cs = (cs ≡ []) ⊎ IsSure m command
-
--- each of the commands is of an element below this one
-abbrev pub AreBelow : ℕ → List Command → Type 0
-AreBelow element cs = AllByRecursion (λ (c : Command). sender_of c < element) cs
-
--- the place of each command's element is free
-abbrev pub AreFreeFor : List (Option UnclaimedState) → List Command → Type 0
-AreFreeFor places cs = AllByRecursion (λ (c : Command). slice_get places (sender_of c) ≡ Some None) cs
-
--- a group of commands of elements below this one; their answers have free places
-pub record Gathers (places : List (Option UnclaimedState)) (m : Contents) (element : ℕ) (cs : List Command) : Type 0 where
-  pub apart : AreOneOfEach cs
-  pub free : AreFreeFor places cs
-  pub below : AreBelow element cs
-  pub cut : IsCut cs
-  pub sure : AreSureBehind m cs
 
 -- ---- what the members are answered
 

@@ -1,5 +1,5 @@
 -- What a crash leaves of an engine after a trace of its answers began. (Own.)
-use Rattle.std.specs.Prelude.{◌≡◌, ◌⊎◌, ℕ, ◌+◌, ◌≤◌, Bool, true, false, List, [], ◌++◌, length, take, Some}
+use Rattle.std.specs.Prelude.{◌≡◌, ◌⊎◌, ℕ, ◌+◌, ◌≤◌, true, false, List, [], ◌++◌, length, take, Some}
 use Rattle.im_types.specs.declared.commands.Command.{Command}
 use Rattle.im_types.specs.declared.commands.Line.{Line}
 use Rattle.im_types.specs.Contents.{Contents}
@@ -9,17 +9,9 @@ use Rattle.im_laws.specs.Traces.{commands_of}
 use Rattle.im_disk.specs.Moment.{Moment, Rises}
 use Rattle.im_disk.specs.Since.{Leaves, LeavesNow}
 use Rattle.im_engine.specs.State.{EngineState}
+pub use Rattle.im_trace.specs.Begun.{Begun}
 
--- an engine when its trace begins, without its memory: what is known of its disk, the count of all commands, and
--- whether it has failed
-pub record Begun : Type 0 where
-  pub now : Moment
-  pub past : List Moment
-  pub failures : ℕ
-  pub count : ℕ
-  pub failed : Bool
-
--- the same of an engine, given what is known of its disk
+-- an engine when its trace begins, given what is known of its disk
 abbrev pub begun_in : {D : Type 0} → (D → Moment) → (D → List Moment) → (D → ℕ) → EngineState D → Begun
 begun_in now past failures e = record { now = now e.disk; past = past e.disk; failures = failures e.disk; count = e.count; failed = e.failed }
 

@@ -20,14 +20,14 @@ use Rattle.im_types.specs.Changes.{change_by, changes_at}
 use Rattle.im_checkpoint.specs.declared.checkpoint.TurnDone.{TurnDone}
 use Rattle.im_checkpoint.specs.declared.checkpoint.TurnDone.TheVariants.{Idle}
 use Rattle.im_engine.specs.Run.{Answered, TurnAnswered}
-use Rattle.im_controller.specs.declared.servers.Ask.{Ask}
-use Rattle.im_controller.specs.declared.servers.Ask.TheVariants.{Go, Wait}
-use Rattle.im_controller.specs.declared.servers.Server.{Server}
-use Rattle.im_controller.specs.declared.servers.Server.TheVariants.{Unmade, Active, Waits}
+use Rattle.im_queue.specs.declared.servers.Ask.{Ask}
+use Rattle.im_queue.specs.declared.servers.Ask.TheVariants.{Go, Wait}
+use Rattle.im_queue.specs.declared.servers.Server.{Server}
+use Rattle.im_queue.specs.declared.servers.Server.TheVariants.{Unmade, Active, Waits}
 use Rattle.im_controller.specs.declared.tellers.Standing.{Standing}
-use Rattle.im_controller.specs.Lines.{Counts, lines_of, counts_after}
-use Rattle.im_controller.specs.Log.{ReceiptState, plain, receipt_for, with_line}
-use Rattle.im_controller.specs.Servers.{entry_at, is_answered, is_waiting, are_stuck, with_server}
+use Rattle.im_trace.specs.Lines.{Counts, lines_of, counts_after}
+use Rattle.im_trace.specs.Log.{ReceiptState, plain, receipt_for, with_line}
+use Rattle.im_queue.specs.Servers.{entry_at, is_answered, is_waiting, are_stuck, with_server}
 use Rattle.im_controller.specs.Planned.{has_command}
 use Rattle.im_controller.specs.State.{SharedState, PortState}
 

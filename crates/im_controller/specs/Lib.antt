@@ -1,9 +1,9 @@
-pub mod Lines
-pub mod Books
-pub mod Chains
-pub mod Traced
-pub mod Log
-pub mod Servers
+pub use Rattle.im_trace.specs.Lines
+pub use Rattle.im_trace.specs.Books
+pub use Rattle.im_trace.specs.Chains
+pub use Rattle.im_trace.specs.Traced
+pub use Rattle.im_trace.specs.Log
+pub use Rattle.im_queue.specs.Servers
 pub mod State
 pub mod Lends
 pub mod Waits

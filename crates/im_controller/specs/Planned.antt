@@ -18,8 +18,8 @@ use Rattle.im_types.specs.Plan.{result_of}
 use Rattle.im_plans.specs.Runs.{IsInPlan, IsPlannedCall, IsPlannedRun, IsResultOrWaits, TellsResults, HasServed}
 use Rattle.im_plans.specs.Runs.{entry_for, Starts}
 use Rattle.im_planning.specs.Making.{op_under, is_op}
-use Rattle.im_controller.specs.Lines.{line_of}
-use Rattle.im_controller.specs.Log.{ReceiptState, FoundState}
+use Rattle.im_trace.specs.Lines.{line_of}
+use Rattle.im_trace.specs.Log.{ReceiptState, FoundState}
 
 -- whether the plan has a request: this operation, under this number; without a plan any request may come
 abbrev pub has_request : Option (List Request) → Request → Bool

@@ -4,10 +4,10 @@ use Rattle.im_types.specs.declared.commands.Request.{Request}
 use Rattle.im_types.specs.declared.commands.Line.{Line}
 use Rattle.im_types.specs.declared.changes.Change.{Change}
 use Rattle.im_engine.specs.State.{EngineState}
-use Rattle.im_controller.specs.declared.servers.Server.{Server}
-use Rattle.im_controller.specs.Books.{BookNames}
-use Rattle.im_controller.specs.Lines.{Counts}
-use Rattle.im_controller.specs.Log.{LogState}
+use Rattle.im_queue.specs.declared.servers.Server.{Server}
+use Rattle.im_trace.specs.Books.{BookNames}
+use Rattle.im_trace.specs.Lines.{Counts}
+use Rattle.im_trace.specs.Log.{LogState}
 
 -- what lies under the lock: the engine, its log, what each element's server does, and the changes that are shown
 pub record SharedState (D : Type 0) : Type 0 where

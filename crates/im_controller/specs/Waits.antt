@@ -8,9 +8,9 @@ use Rattle.im_types.specs.declared.commands.Line.{Line}
 use Rattle.im_types.specs.declared.refusals.Refusal.{Refusal}
 use Rattle.im_types.specs.declared.refusals.Refusal.TheVariants.{Failed, TraceFull, Stalled}
 use Rattle.im_types.specs.Trace.{told}
-use Rattle.im_controller.specs.Lines.{Counts, GoesOnTo, lines_of, counts_after}
-use Rattle.im_controller.specs.Log.{FoundState}
-use Rattle.im_controller.specs.Servers.{entry_at, is_answered, are_stuck}
+use Rattle.im_trace.specs.Lines.{Counts, GoesOnTo, lines_of, counts_after}
+use Rattle.im_trace.specs.Log.{FoundState}
+use Rattle.im_queue.specs.Servers.{entry_at, is_answered, are_stuck}
 use Rattle.im_controller.specs.State.{SharedState}
 
 -- what was found, without the trace

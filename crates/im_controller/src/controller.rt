@@ -5,29 +5,23 @@ ghost use mathlib.Core.List.{IsPrefix};
 ghost use Rattle.im_types.specs.Trace.{IsLegal};
 ghost use Rattle.im_types.specs.Changes.{opening};
 ghost use Rattle.im_types.specs.declared.commands.Call.TheVariants.{Command as Commands};
-ghost use Rattle.im_controller.specs.Lines.{EndsIn, line_of, lines_of, counts_after};
-ghost use Rattle.im_controller.specs.Log.{SeesAnswer, SeesReceipt, plain};
+ghost use Rattle.im_trace.specs.Lines.{EndsIn, line_of, lines_of, counts_after};
+ghost use Rattle.im_trace.specs.Log.{SeesAnswer, SeesReceipt, plain};
 ghost use Rattle.im_controller.specs.Groups.{Holds};
 ghost use Rattle.im_controller.specs.Planned.{TellsOf};
 ghost use Rattle.im_controller.specs.Lends.{IsTurnFault};
 
-use crate::bell::{Bell, Bells};
-use crate::books::Tally;
-use crate::chain::Prefix;
 use crate::groups::hold;
-use crate::inbox::Inbox;
 use crate::keeper::{Kept, keep_once, mark_ended};
-use crate::log::element_of;
-use crate::name::{Name, Shown};
 use crate::ports::Port;
-use crate::receipts::Receipt;
 use crate::shared::{
     Shared, Sleepers, make_glance, make_port, stands_for, who_is_answered, who_sleeps,
 };
 use crate::tellers::{Silent, Teller};
-use crate::turns::Turns;
 use im_disk::Disk;
 use im_glass::Glance;
+use im_queue::{Bell, Bells, Inbox, Turns};
+use im_trace::{Name, Prefix, Receipt, Shown, Tally, element_of};
 use im_types::{Command, Refusal};
 use std::sync::{Mutex, MutexGuard, Wait};
 

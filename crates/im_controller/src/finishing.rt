@@ -6,18 +6,13 @@ ghost use Rattle.im_types.specs.Trace.{IsLegal, end_of};
 ghost use Rattle.im_controller.specs.Kept.{HasKept, accepted_in};
 ghost use Rattle.im_controller.specs.Planned.{EndsBy};
 
-use crate::books::{Books, Reserve, Tally};
-use crate::chain::Chain;
 use crate::controller::Controller;
-use crate::log::{Log, are_claimed};
-use crate::name::{Lines, Marked, Name};
 use crate::ports::Port;
 use crate::shared::Shared;
-use crate::traced::Traced;
 use im_disk::Disk;
 use im_engine::Engine;
+use im_trace::{Ended, Name, Traced};
 use std::sync::Wait;
-use std::sync::ledger::Share;
 
 /// What is left of a controller after its end.
 #[derive(Drop)]
@@ -89,28 +84,12 @@ pub fn finish<D: Disk, K: Name, R: Wait>(
         most_room: _,
     } = shared.into_inner();
     pane.end(rt);
-    let Log {
-        trace,
-        mut chain,
-        limit: _,
-        books,
-        places,
-    } = log;
-    let claimed = are_claimed(places.as_slice());
-    let Books {
-        lines: mut lines_book,
-        marked: mut marked_book,
-    } = books;
-    let Reserve {
-        mut lines,
-        mut marked,
-        left,
-        ports: all,
-    } = reserve;
+    let all = reserve.ports();
+    let left = reserve.left();
     let came = ports.len() as u64;
-    merge_all(&mut lines, &mut marked, &mut chain, ports);
-    lines_book.audit(&mut lines);
-    marked_book.audit(&mut marked);
+    let mut log = Ended::of(log, reserve);
+    take_all_back(&mut log, ports);
+    let (trace, claimed) = log.close();
     Finished {
         engine,
         trace,
@@ -120,20 +99,16 @@ pub fn finish<D: Disk, K: Name, R: Wait>(
     }
 }
 
-// Merges the shares of all ports into these.
-fn merge_all<K: Name>(
-    lines: &mut Share<Lines<K>>,
-    marked: &mut Share<Marked<K>>,
-    chain: &mut Chain<K>,
-    ports: Vec<Port<K>>,
-)
-    requires bound { lines.old.parts ≤ K.ports }
-    ensures lines { lines.new.parts ≡ lines.old.parts + length ports.items }
-    ensures marked { marked.new.parts ≡ marked.old.parts + length ports.items }
-    ensures lines_amount { lines.new.amount ≡ lines.old.amount + sum_by (λ p. p.told.lines) ports.items }
-    ensures marked_amount { marked.new.amount ≡ marked.old.amount + sum_by (λ p. p.told.marked) ports.items }
-    ensures bound { lines.new.parts ≤ K.ports }
-    ensures seen { AllByRecursion (λ p. IsPrefix p.history chain.old) ports.items }
+// Takes the shares of all ports back.
+fn take_all_back<K: Name>(log: &mut Ended<K>, ports: Vec<Port<K>>)
+    requires bound { log.old.back ≤ K.ports }
+    ensures back { log.new.back ≡ log.old.back + length ports.items }
+    ensures lines { log.new.told.lines ≡ log.old.told.lines + sum_by (λ p. p.told.lines) ports.items }
+    ensures marked { log.new.told.marked ≡ log.old.told.marked + sum_by (λ p. p.told.marked) ports.items }
+    ensures bound { log.new.back ≤ K.ports }
+    ensures trace { log.new.trace ≡ log.old.trace }
+    ensures claimed { log.new.claimed ≡ log.old.claimed }
+    ensures seen { AllByRecursion (λ p. IsPrefix p.history log.old.trace) ports.items }
 {
     for port in ports {
         let Port {
@@ -141,12 +116,6 @@ fn merge_all<K: Name>(
             tally,
             seen,
         } = port;
-        chain.knows(&seen);
-        let Tally {
-            lines: its_lines,
-            marked: its_marked,
-        } = tally;
-        lines.merge(its_lines);
-        marked.merge(its_marked);
+        log.take_back(tally, &seen);
     }
 }

@@ -2,10 +2,10 @@
 ghost use Rattle.std.specs.Prelude.{◌≡◌, IfErr};
 ghost use Rattle.im_controller.specs.Lends.{IsTurnFault};
 
-use crate::name::Name;
 use crate::shared::{Shared, lend_sweep, lend_turn};
 use im_checkpoint::TurnDone;
 use im_disk::Disk;
+use im_trace::Name;
 use im_types::Refusal;
 use std::cmp::{max, min};
 

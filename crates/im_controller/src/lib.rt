@@ -1,40 +1,27 @@
 //! One lock round the engine and its trace: the ports by which elements reach it, the thread that keeps checkpoints,
 //! and what a caller knows of the trace at the end.
 //!
-//! The crate stands on `im_engine`. Contracts see what lies under the lock by `specs/State.antt`, and traces by the
-//! definitions of `im_types`.
+//! The crate stands on `im_engine`, on `im_trace` (the trace, its books and receipts) and on `im_queue` (the queue
+//! before the lock, the inbox and the bells). Contracts see what lies under the lock by `specs/State.antt`, and traces by
+//! the definitions of `im_types`.
 #![tactic(auto)]
 
-mod bell;
-mod books;
-mod chain;
-mod controller;
-mod finishing;
-mod groups;
-mod inbox;
-mod keeper;
-mod log;
-mod name;
-mod opening;
-mod panes;
-mod plans;
-mod ports;
-mod receipts;
-mod servers;
-mod shared;
-mod tellers;
-mod traced;
-mod turns;
+mod controller; // The lock, and the loop of the keeper.
+mod finishing; // Its end.
+mod groups; // Groups of commands that the engine is lent to.
+mod keeper; // Checkpoints, and who makes room.
+mod opening; // An engine with room for a trace.
+mod panes; // Changes, put ahead and shown.
+mod plans; // Whether a plan has a command.
+mod ports; // The way of one element to the lock.
+mod shared; // What lies under the lock.
+mod tellers; // Who is told how things stand.
 
-pub use books::Tally;
-pub use chain::Prefix;
 pub use controller::Controller;
 pub use finishing::{Finished, finish};
-pub use name::{Lines, Marked, Name, Shown};
+pub use im_queue::{Ask, Server, stuck_is_each};
+pub use im_trace::{Found, Lines, Marked, Name, Prefix, Receipt, Shown, Tally, Traced};
 pub use opening::{Opening, start, start_planned};
 pub use ports::Port;
-pub use receipts::{Found, Receipt};
-pub use servers::{Ask, Server, stuck_is_each};
 pub use shared::{Shared, begin_wait, lend, lend_turn, look};
 pub use tellers::{Silent, Standing, Teller};
-pub use traced::Traced;

@@ -1,38 +1,28 @@
 //! An engine with room for a trace, before it has a name.
-ghost use Rattle.std.specs.Prelude.{◌≡◌, ◌↔◌, ◌⊎◌, ◌≤◌, ◌<◌, [], true, None, Some, IsTrue, IfOk, IfErr, OnOk, length};
-ghost use Rattle.std.specs.Prelude.{count_by, vec_capacity};
+ghost use Rattle.std.specs.Prelude.{◌≡◌, ◌↔◌, ◌⊎◌, true, None, Some, IsTrue, IfOk, IfErr, OnOk, length, count_by};
 ghost use Rattle.im_types.specs.declared.refusals.Refusal.TheVariants.{NoMemory, BadPlan};
 ghost use Rattle.im_types.specs.Plan.{FitsPlan};
 ghost use Rattle.im_plans.specs.Runs.{Starts};
 ghost use Rattle.im_types.specs.Changes.{opening};
-ghost use Rattle.im_controller.specs.Log.{AreFree};
 ghost use Rattle.im_controller.specs.Kept.{begun_in};
-ghost use Rattle.im_controller.specs.Servers.{is_unmade};
+ghost use Rattle.im_queue.specs.Servers.{is_unmade};
 
-use crate::bell::Bells;
-use crate::books::{Books, Reserve};
-use crate::chain::NewChain;
 use crate::controller::Controller;
-use crate::inbox::Inbox;
 use crate::keeper::Keeper;
-use crate::log::{Log, Unclaimed, free_places};
-use crate::name::{Lines, Marked, Name, Shown};
-use crate::servers::Servers;
 use crate::shared::Shared;
-use crate::traced::Traced;
-use crate::turns::Turns;
 use im_changes::full_cells;
 use im_disk::Disk;
 use im_engine::Engine;
 use im_glass::{Unnamed, open};
 use im_memory::Memory;
 use im_planning::{Plan, fits};
+use im_queue::{Bells, Inbox, Servers, Turns};
+use im_trace::{Name, NewLog, Shown};
 use im_types::Refusal;
 use std::alloc::{AllocError, Global};
 use std::cmp::max;
 use std::marker::Model;
 use std::sync::Wait;
-use std::sync::ledger::Blank;
 
 /// An engine with room for its trace, its servers and its ledgers, and with a pane that shows its full cells. It is a
 /// controller that has no name yet.
@@ -40,17 +30,13 @@ pub struct Opening<D: Disk> {
     engine: Engine<D>,
     parts: Parts,
     pane: Unnamed,
-    chain: NewChain,
     plan: Option<Plan>,
-    lines: Blank,
-    marked: Blank,
 }
 
 impl<D: Disk> Model for Opening<D> {
-    ghost use Rattle.std.specs.Prelude.{◌≡◌, ◌≤◌, [], length, count_by, vec_capacity};
+    ghost use Rattle.std.specs.Prelude.{◌≡◌, length, count_by};
     ghost use Rattle.im_types.specs.Changes.{opening};
-    ghost use Rattle.im_controller.specs.Log.{AreFree};
-    ghost use Rattle.im_controller.specs.Servers.{is_unmade};
+    ghost use Rattle.im_queue.specs.Servers.{is_unmade};
     ghost use Rattle.im_controller.specs.Planned.{StartsBy};
     ghost use Rattle.im_controller.specs.State.{OpeningState};
 
@@ -58,51 +44,42 @@ impl<D: Disk> Model for Opening<D> {
 
     ghost view = { λ o. record {
       engine = o.engine;
-      limit = o.parts.limit;
-      ports = o.parts.ports;
-      lines_name = o.lines.name;
-      marked_name = o.marked.name;
-      book = record { shown = o.pane.book; lines = o.chain };
+      limit = o.parts.log.limit;
+      ports = o.parts.log.ports;
+      lines_name = o.parts.log.lines_name;
+      marked_name = o.parts.log.marked_name;
+      book = record { shown = o.pane.book; lines = o.parts.log.book };
       plan = o.plan;
     } };
 
-    ghost invariant = { λ o. (o.lines.parts ≡ o.parts.ports) × (o.marked.parts ≡ o.parts.ports)
-        × (o.parts.trace.items ≡ []) × (o.parts.limit ≤ vec_capacity o.parts.trace) × AreFree o.parts.places.items
-        × (o.pane.shown ≡ opening o.engine.memory) × (o.pane.cells ≡ length o.engine.memory.cells)
-        × (o.parts.ports ≡ count_by is_unmade o.parts.servers) × StartsBy o.engine.memory o.plan };
+    ghost invariant = { λ o. (o.pane.shown ≡ opening o.engine.memory)
+        × (o.pane.cells ≡ length o.engine.memory.cells)
+        × (o.parts.log.ports ≡ count_by is_unmade o.parts.servers) × StartsBy o.engine.memory o.plan };
 }
 
 // What takes memory.
 #[derive(Drop)]
 struct Parts {
-    trace: Vec<Traced>,
-    limit: usize,
-    places: Vec<Option<Unclaimed>>,
+    log: NewLog,
     servers: Servers,
     inbox: Inbox,
     turns: Turns,
     answers: Bells,
     watched: Vec<bool>,
-    ports: u64,
 }
 
 // Makes room for the given numbers of lines and of elements.
 fn make_parts(alloc: Global, trace_room: usize, elements: u16) -> Result<Parts, AllocError>
-    ensures numbers { IfOk result (λ p. (p.limit ≡ trace_room) × (p.ports ≡ elements)) }
-    ensures unmade { IfOk result (λ p. p.ports ≡ count_by is_unmade p.servers) }
-    ensures empty { IfOk result (λ p. (p.trace.items ≡ []) × AreFree p.places.items) }
-    ensures room { IfOk result (λ p. p.limit ≤ vec_capacity p.trace) }
+    ensures numbers { IfOk result (λ p. (p.log.limit ≡ trace_room) × (p.log.ports ≡ elements)) }
+    ensures unmade { IfOk result (λ p. p.log.ports ≡ count_by is_unmade p.servers) }
 {
     Ok(Parts {
-        trace: Vec::with_capacity(alloc, trace_room)?,
-        limit: trace_room,
-        places: free_places(alloc, elements)?,
+        log: NewLog::new(alloc, trace_room, elements)?,
         servers: Servers::new(alloc, elements)?,
         inbox: Inbox::new(alloc, elements)?,
         turns: Turns::new(alloc, elements as usize + 1)?,
         answers: Bells::new(alloc, elements)?,
         watched: unwatched(alloc, elements)?,
-        ports: u64::from(elements),
     })
 }
 
@@ -144,18 +121,12 @@ pub fn start<D: Disk + Drop, R: Wait>(
 {
     match make_parts(alloc, trace_room, engine.memory().elements()) {
         Ok(parts) => match make_pane(rt, alloc, engine.memory()) {
-            Ok(pane) => {
-                let ports = parts.ports;
-                Ok(Opening {
-                    engine,
-                    parts,
-                    pane,
-                    chain: NewChain::new(),
-                    plan: None,
-                    lines: Blank::new(ports),
-                    marked: Blank::new(ports),
-                })
-            }
+            Ok(pane) => Ok(Opening {
+                engine,
+                parts,
+                pane,
+                plan: None,
+            }),
             Err(_) => Err((Refusal::NoMemory, engine)),
         },
         Err(_) => Err((Refusal::NoMemory, engine)),
@@ -209,19 +180,13 @@ impl<D: Disk> Opening<D> {
             engine,
             parts,
             pane,
-            chain,
             plan: _,
-            lines,
-            marked,
         } = self;
         Opening {
             engine,
             parts,
             pane,
-            chain,
             plan: Some(plan),
-            lines,
-            marked,
         }
     }
 
@@ -240,44 +205,21 @@ impl<D: Disk> Opening<D> {
             engine,
             parts,
             pane,
-            chain,
             plan,
-            lines,
-            marked,
         } = self;
         let Parts {
-            trace,
-            limit,
-            places,
+            log,
             servers,
             inbox,
             turns,
             answers,
             watched,
-            ports,
         } = parts;
         // So that it is known below that waiters and entries agree.
         let _cells = engine.memory().cells();
-        let (lines_book, lines) = lines.open::<Lines<K>>();
-        let (marked_book, marked) = marked.open::<Marked<K>>();
-        let log = Log {
-            trace,
-            chain: chain.named::<K>(),
-            limit,
-            books: Books {
-                lines: lines_book,
-                marked: marked_book,
-            },
-            places,
-        };
+        let (log, reserve) = log.named::<K>();
         // The call makes known what the files left at the start mean.
         let _failed = engine.failed();
-        let reserve = Reserve {
-            lines,
-            marked,
-            left: ports,
-            ports,
-        };
         let pane = pane.named::<Shown<K>>();
         let shared = Shared {
             engine,

@@ -5,22 +5,19 @@ ghost use Rattle.im_types.specs.declared.commands.Command.TheVariants.{Request a
 ghost use Rattle.im_types.specs.declared.commands.Outcome.TheVariants.{Entry as Tells};
 ghost use Rattle.im_types.specs.declared.refusals.Refusal.TheVariants.{JournalFull};
 ghost use Rattle.im_types.specs.Trace.{IsLegal, told};
-ghost use Rattle.im_controller.specs.Lines.{EndsIn, line_of, lines_of, counts_after};
-ghost use Rattle.im_controller.specs.Log.{SeesReceipt, plain};
+ghost use Rattle.im_trace.specs.Lines.{EndsIn, line_of, lines_of, counts_after};
+ghost use Rattle.im_trace.specs.Log.{SeesReceipt, plain};
 ghost use Rattle.im_controller.specs.Lends.{IsTurnFault};
 ghost use Rattle.im_controller.specs.Waits.{entry_of, IsFoundOf, IsAwaited, SeesEntry};
 ghost use Rattle.im_controller.specs.Planned.{TellsOf, TellsFound};
 
-use crate::books::Tally;
-use crate::chain::Prefix;
 use crate::controller::Controller;
-use crate::name::Name;
-use crate::receipts::{Found, Receipt};
 use crate::shared::{
     ask_once, find_seen, lend_turn, note_sleep, retire, who_may_be_stuck, who_sleeps,
 };
 use im_checkpoint::TurnDone;
 use im_disk::Disk;
+use im_trace::{Found, Name, Prefix, Receipt, Tally};
 use im_types::{Command, Op, Refusal, Request};
 use std::marker::Model;
 use std::sync::{MutexGuard, Wait};

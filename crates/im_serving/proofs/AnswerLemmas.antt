@@ -15,7 +15,7 @@ use Rattle.im_types.specs.declared.refusals.Refusal.{Refusal}
 use Rattle.im_controller.specs.Lines.{GoesOnTo, line_of}
 use Rattle.im_controller.specs.Log.{ReceiptState, FoundState, SeesReceipt}
 use Rattle.im_controller.specs.Waits.{SeesEntry}
-use Rattle.im_controller.proofs.ChainLemmas.{prefix-trans}
+use Rattle.im_trace.proofs.ChainLemmas.{prefix-trans}
 use Rattle.im_serving.specs.Numbers.{Noted}
 use Rattle.im_serving.specs.Serving.{HasAnswers, AreFound, HasAsked, Looked, StandIn, asked_line, asked_lines, found_line}
 

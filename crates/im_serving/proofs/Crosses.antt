@@ -4,25 +4,25 @@ use denote.Param.Send.{IsSend, IsSync, sendable}
 use Rattle.std.proofs.Crossing.{crosses}
 use Rattle.core.proofs.ledger.Sent.{book_send, share_send}
 use Rattle.im_disk.specs.declared.disk.Disk as disk
-use Rattle.im_controller.specs.declared.name.Name as name
+use Rattle.im_trace.specs.declared.name.Name as name
 use Rattle.im_memory.specs.contracts.memory.Memory as Memory
 use Rattle.im_checkpoint.specs.contracts.checkpoint.Checkpoint as Checkpoint
 use Rattle.im_engine.specs.contracts.engine.Engine as Engine
-use Rattle.im_controller.specs.contracts.books.Books as Books
-use Rattle.im_controller.specs.contracts.log.Unclaimed as Unclaimed
-use Rattle.im_controller.specs.contracts.traced.Traced as Traced
-use Rattle.im_controller.specs.contracts.chain.Prefix as Prefix
-use Rattle.im_controller.specs.contracts.log.Log as Log
-use Rattle.im_controller.specs.contracts.servers.Servers as Servers
-use Rattle.im_controller.specs.contracts.books.Reserve as Reserve
-use Rattle.im_controller.specs.contracts.books.Tally as Tally
+use Rattle.im_trace.specs.contracts.books.Books as Books
+use Rattle.im_trace.specs.contracts.log.Unclaimed as Unclaimed
+use Rattle.im_trace.specs.contracts.traced.Traced as Traced
+use Rattle.im_trace.specs.contracts.chain.Prefix as Prefix
+use Rattle.im_trace.specs.contracts.log.Log as Log
+use Rattle.im_queue.specs.contracts.servers.Servers as Servers
+use Rattle.im_trace.specs.contracts.books.Reserve as Reserve
+use Rattle.im_trace.specs.contracts.books.Tally as Tally
 use Rattle.im_controller.specs.contracts.ports.Port as Port
 use Rattle.logbook.proofs.tokens.Seen.TheSendSync.{the_send as seen_send}
-use Rattle.im_controller.proofs.chain.Chain.TheSendSync.{the_send as chain_send}
+use Rattle.im_trace.proofs.chain.Chain.TheSendSync.{the_send as chain_send}
 use Rattle.im_glass.proofs.pane.Pane.TheSendSync.{the_send as pane_send}
 use Rattle.im_planning.proofs.plan.Plan.TheSendSync.{the_send as plan_send}
 use Rattle.im_controller.specs.contracts.shared.Shared as Shared
-use Rattle.im_controller.specs.contracts.inbox.Inbox as Inbox
+use Rattle.im_queue.specs.contracts.inbox.Inbox as Inbox
 use Rattle.im_serving.specs.contracts.numbers.Served as Served
 use Rattle.im_pipes.specs.contracts.ends.Inlet as Inlet
 use Rattle.im_pipes.specs.contracts.ends.Outlet as Outlet
@@ -34,8 +34,8 @@ use Rattle.im_serving.specs.contracts.elements.Server as Server
 use Rattle.im_serving.specs.contracts.elements.Done as Done
 use Rattle.im_serving.specs.contracts.elements.Stopped as Stopped
 use Rattle.im_glass.proofs.glance.Glance.TheSendSync.{the_send as glance_send}
-use Rattle.im_controller.specs.contracts.turns.Turns as Turns
-use Rattle.im_controller.specs.contracts.bell.Bell as Bell
+use Rattle.im_queue.specs.contracts.turns.Turns as Turns
+use Rattle.im_queue.specs.contracts.bell.Bell as Bell
 use Rattle.im_controller.specs.contracts.controller.Controller as Controller
 
 pub Memory-send : IsSend Memory.the_field.row

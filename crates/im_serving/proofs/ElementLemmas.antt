@@ -9,7 +9,7 @@ use Rattle.im_pipes.specs.Ends.{PipeEnd, PipeId}
 use Rattle.im_serving.specs.declared.intent.Intent.{Intent}
 use Rattle.im_serving.specs.Serving.{AreDone, AreGlanced, HasBegun}
 use Rattle.im_serving.specs.Elements.{Deeds, Asked, End, HasServed, IsEnded, AreEnded, IsUnserved, HasStopped, HasSent}
-use Rattle.im_controller.proofs.ChainLemmas.{prefix-trans}
+use Rattle.im_trace.proofs.ChainLemmas.{prefix-trans}
 use Rattle.im_serving.proofs.GlanceLemmas.{begun_more}
 
 from_none : {T E : Type 0} (r : Result T E) (P : List Intent → Type 0) (Q : Type 0) (before : List Intent) → before

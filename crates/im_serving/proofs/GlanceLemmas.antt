@@ -19,7 +19,7 @@ use Rattle.im_types.specs.declared.commands.Command.TheVariants.{Request as Asks
 use Rattle.im_types.specs.declared.commands.Outcome.TheVariants.{Entry as Tells}
 use Rattle.im_controller.specs.Lines.{EndsIn, line_of}
 use Rattle.im_controller.specs.State.{PortState}
-use Rattle.im_controller.proofs.ChainLemmas.{prefix-trans}
+use Rattle.im_trace.proofs.ChainLemmas.{prefix-trans}
 use Rattle.im_serving.specs.declared.glances.Glanced.{Glanced}
 use Rattle.im_serving.specs.declared.numbers.Served.{Served}
 use Rattle.im_serving.specs.declared.intent.Intent.{Intent}

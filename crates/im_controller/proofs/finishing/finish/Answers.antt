@@ -1,70 +1,67 @@
-use Rattle.std.proofs.Common.{◌-◌, ◌<◌, ap, subst, arith, List, Option, length, sum_by}
+use Rattle.std.proofs.Common.{◌-◌, ◌∙◌, ap, sym, subst, arith, List, length}
 use Rattle.std.proofs.lemmas.Bool.{eqb-true, eq-eqb}
 use Rattle.std.specs.List.{AllByRecursion}
 use mathlib.Core.List.{IsPrefix}
 use Rattle.im_types.specs.declared.commands.Line.{Line}
-use Rattle.im_controller.specs.Lines.{Counts}
-use Rattle.im_controller.specs.Log.{UnclaimedState, AreClaimed, unclaimed_lines}
+use Rattle.im_trace.specs.Lines.{Counts}
 use Rattle.im_controller.specs.State.{PortState}
-use Rattle.im_controller.proofs.LogLemmas.{log-claimed, must-hold}
 use Rattle.im_controller.proofs.PlannedLemmas.{ends-by}
 use Rattle.im_controller.proofs.finishing.finish.Goals as goal
 
 pub returns-clause-lines : goal.returns-clause-lines
 returns-clause-lines g c = λ came claimed.
-    let m = c.merge_all.ensures in let r = c.reserve.invariant in
-    let same = eqb-true c.len-came.result (c.reserve.inside.ports - c.reserve.inside.left) came in
-    let amount = c.audit.ensures.whole
-    (omega (arith, same, m.lines, c.len-came.ensures, c.args.ports.ok, r.0, r.4, r.5)) in
-    let book = ap (λ (b : Counts). b.lines) c.books.view_is in
-    let none = subst AreClaimed c.as_slice.ensures.value (c.are_claimed-claimed.ensures.claimed claimed) in
-    let all = log-claimed g.K.Name.memory g.K.Name.marks _ _ c.log.invariant.0 none in
-    omega (arith, amount, book, all.0, m.lines_amount, r.2)
-
-pub returns-clause-marked : goal.returns-clause-marked
-returns-clause-marked g c = λ came claimed.
-    let m = c.merge_all.ensures in let r = c.reserve.invariant in
-    let same = eqb-true c.len-came.result (c.reserve.inside.ports - c.reserve.inside.left) came in
-    let amount = c.audit-2.ensures.whole
-    (omega (arith, same, m.marked, c.len-came.ensures, c.args.ports.ok, r.1, r.4, r.5)) in
-    let book = ap (λ (b : Counts). b.marked) c.books.view_is in
-    let none = subst AreClaimed c.as_slice.ensures.value (c.are_claimed-claimed.ensures.claimed claimed) in
-    let all = log-claimed g.K.Name.memory g.K.Name.marks _ _ c.log.invariant.0 none in
-    omega (arith, amount, book, all.1, m.marked_amount, r.3)
+    let m = c.take_all_back.ensures in let l = c.left-left.ensures in
+    let same = eqb-true c.len-came.result (c.ports-all.result - c.left-left.result) came in
+    let counted = c.close-trace.ensures.counted
+    (omega (
+      arith,
+      same,
+      m.back,
+      c.of-log.ensures.back,
+      l.left,
+      l.few,
+      c.ports-all.ensures,
+      c.len-came.ensures,
+      c.args.ports.ok,
+    )) in
+    let told = ap (λ (b : Counts). b.lines) c.of-log.ensures.told in
+    let all = counted.lines (sym c.close-trace.ensures.claimed ∙ claimed) in
+    omega (arith, all, m.lines, told, ap length c.close-trace.ensures.trace)
 
 pub returns-clause-whole : goal.returns-clause-whole
 returns-clause-whole g c = λ all.
-    let m = c.merge_all.ensures in let r = c.reserve.invariant in
-    eq-eqb c.len-came.result (c.reserve.inside.ports - c.reserve.inside.left)
-    (omega (arith, all, m.lines, m.bound, c.len-came.ensures, c.args.ports.ok, r.0, r.4, r.5))
+    let m = c.take_all_back.ensures in let l = c.left-left.ensures in
+    eq-eqb c.len-came.result (c.ports-all.result - c.left-left.result)
+    (omega (
+      arith,
+      all,
+      m.back,
+      m.bound,
+      c.of-log.ensures.back,
+      l.left,
+      l.few,
+      c.ports-all.ensures,
+      c.len-came.ensures,
+      c.args.ports.ok,
+    ))
 
 pub returns-clause-came : goal.returns-clause-came
 returns-clause-came g c =
-    let m = c.merge_all.ensures in let r = c.reserve.invariant in (
+    let l = c.left-left.ensures in (
       (λ came.
-          let same = eqb-true c.len-came.result (c.reserve.inside.ports - c.reserve.inside.left) came in
-          omega (arith, same, m.lines, m.bound, c.len-came.ensures, c.args.ports.ok, r.0, r.4, r.5)),
-      (λ all. eq-eqb c.len-came.result (c.reserve.inside.ports - c.reserve.inside.left)
-          (omega (arith, all, m.lines, m.bound, c.len-came.ensures, c.args.ports.ok, r.0, r.4, r.5))),
+          let same = eqb-true c.len-came.result (c.ports-all.result - c.left-left.result) came in
+          omega (arith, same, l.left, l.few, c.ports-all.ensures, c.len-came.ensures, c.args.ports.ok)),
+      (λ all. eq-eqb c.len-came.result (c.ports-all.result - c.left-left.result)
+          (omega (arith, all, l.left, l.few, c.ports-all.ensures, c.len-came.ensures, c.args.ports.ok))),
     )
-
-pub returns-clause-claimed : goal.returns-clause-claimed
-returns-clause-claimed g c = λ came told.
-    let m = c.merge_all.ensures in let r = c.reserve.invariant in
-    let same = eqb-true c.len-came.result (c.reserve.inside.ports - c.reserve.inside.left) came in
-    let amount = c.audit.ensures.whole
-    (omega (arith, same, m.lines, c.len-came.ensures, c.args.ports.ok, r.0, r.4, r.5)) in
-    let book = ap (λ (b : Counts). b.lines) c.books.view_is in
-    must-hold c.are_claimed-claimed.result (λ waits.
-    let more = subst (λ (places : List (Option UnclaimedState)).
-    0 < sum_by (λ place. length (unclaimed_lines place)) places)
-    c.as_slice.ensures.value (c.are_claimed-claimed.ensures.waits waits) in
-    absurd (omega (arith, more, c.log.invariant.0.lines, amount, book, m.lines_amount, r.2, told)))
 
 pub returns-clause-seen : goal.returns-clause-seen
 returns-clause-seen g c =
+    let m = c.take_all_back.ensures in
     subst (λ (ls : List Line). AllByRecursion (λ (p : PortState). IsPrefix p.history ls) c.args.ports.items)
-    c.log.invariant.2 c.merge_all.ensures.seen
+    (sym (c.close-trace.ensures.trace ∙ m.trace)) m.seen
 
 pub returns-clause-planned : goal.returns-clause-planned
-returns-clause-planned g c = ends-by g.K.Name.memory g.K.Name.plan c.engine.inside.log.trace c.engine.inside.engine.memory c.engine.invariant.8 c.engine.invariant.0
+returns-clause-planned g c =
+    let s = c.engine.inside in let i = c.engine.invariant in
+    ends-by g.K.Name.memory g.K.Name.plan s.log.trace s.engine.memory i.8 i.0

@@ -4,9 +4,9 @@ use Rattle.im_types.specs.declared.refusals.Refusal.TheVariants.{OffPlan}
 use Rattle.im_types.specs.Trace.{end_of}
 use Rattle.im_types.specs.Changes.{shown_by}
 use Rattle.im_engine.specs.Commands.{each_refused}
-use Rattle.im_controller.specs.Log.{LogState}
+use Rattle.im_trace.specs.Log.{LogState}
 use Rattle.im_controller.specs.State.{SharedState}
-use Rattle.im_controller.specs.Groups.{AreFreeFor}
+use Rattle.im_queue.specs.Members.{AreFreeFor}
 use Rattle.im_controller.specs.Kept.{HasKept, accepted_in}
 use Rattle.im_controller.specs.Planned.{KeepsTo}
 use Rattle.im_controller.specs.Admitted.{is_picked, picked}

@@ -3,7 +3,7 @@ use Rattle.im_types.specs.declared.operations.Kind.TheVariants.{I}
 use Rattle.im_types.specs.declared.operations.Op.TheVariants.{Alloc}
 use Rattle.im_types.specs.declared.commands.Command.TheVariants.{Request as Asks}
 use Rattle.im_types.specs.declared.groups.Served.TheVariants.{Unserved}
-use Rattle.im_controller.specs.Log.{LogState, with_unclaimed}
+use Rattle.im_trace.specs.Log.{LogState, with_unclaimed}
 use Rattle.im_controller.specs.Groups.{answer_in}
 use Rattle.im_controller.proofs.Keeping.{Keeps, keeps_next, keeps_cons}
 use Rattle.im_controller.proofs.groups.keep_all.Goals as goal

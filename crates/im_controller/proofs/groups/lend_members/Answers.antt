@@ -7,10 +7,11 @@ use Rattle.im_types.specs.Changes.{shown_by}
 use Rattle.im_disk.specs.Since.{CallsAtMost, LeavesWithin, LeavesNow}
 use Rattle.im_engine.specs.Groups.{calls_for_group}
 use Rattle.im_engine.specs.Commands.{MeansCommands, commands_put}
-use Rattle.im_controller.specs.Log.{LogState}
+use Rattle.im_trace.specs.Log.{LogState}
 use Rattle.im_controller.specs.State.{SharedState}
 use Rattle.im_controller.specs.Groups.{answer_in, those, with_all_unclaimed, AreAnswersTo, memory_after_all}
-use Rattle.im_controller.specs.Groups.{AreFreeFor, AreSureBehind, LendsGroup}
+use Rattle.im_queue.specs.Members.{AreFreeFor, AreSureBehind}
+use Rattle.im_controller.specs.Groups.{LendsGroup}
 use Rattle.im_controller.specs.Kept.{accepted_in}
 use Rattle.im_controller.specs.Planned.{AreOnPlan, KeepsTo}
 use Rattle.im_controller.proofs.AdmitLemmas.{keeps-members}

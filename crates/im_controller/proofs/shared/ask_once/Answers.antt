@@ -1,7 +1,7 @@
 use Rattle.std.proofs.Common.{◌≡◌, rules, Ok, Err}
 use Rattle.im_types.specs.declared.refusals.Refusal.TheVariants.{Stalled}
 use Rattle.im_controller.proofs.SeenLemmas.{stays-seen}
-use Rattle.im_controller.specs.declared.servers.Ask.TheVariants.{Go}
+use Rattle.im_queue.specs.declared.servers.Ask.TheVariants.{Go}
 use Rattle.im_controller.proofs.WaitLemmas.{finds-told, go-waits, err-waits, go-stalled, other-stalled}
 use Rattle.im_controller.proofs.shared.ask_once.Goals as goal
 

@@ -4,7 +4,7 @@ use Rattle.im_controller.specs.Waits.{IsFoundAt}
 use Rattle.im_types.specs.declared.commands.Call.TheVariants.{Collect}
 use Rattle.im_types.specs.declared.commands.Outcome.TheVariants.{Entry as Tells}
 use Rattle.im_types.specs.declared.refusals.Refusal.{Refusal}
-use Rattle.im_controller.specs.Log.{FoundState}
+use Rattle.im_trace.specs.Log.{FoundState}
 use Rattle.im_controller.specs.Planned.{TellsBy, TellsFound}
 use Rattle.im_controller.proofs.PlannedLemmas.{tells-last}
 use Rattle.im_controller.proofs.ShownLemmas.{told-all}

@@ -2,7 +2,7 @@ use Rattle.std.proofs.Common.{◌++◌, ◌∙◌, ap, sym, subst, List}
 use Rattle.im_types.specs.declared.commands.Call.TheVariants.{Collect}
 use Rattle.im_types.specs.declared.commands.Line.{Line}
 use Rattle.im_types.specs.Trace.{told}
-use Rattle.im_controller.specs.Lines.{lines_of}
+use Rattle.im_trace.specs.Lines.{lines_of}
 use Rattle.im_controller.specs.State.{SharedState}
 use Rattle.im_controller.specs.Waits.{IsFoundAt, entry_of}
 use Rattle.im_controller.proofs.SeenLemmas.{goes-on, looks-trace}

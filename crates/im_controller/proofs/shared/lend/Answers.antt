@@ -6,9 +6,9 @@ use Rattle.im_types.specs.Contents.{Contents}
 use Rattle.im_types.specs.Step.{step}
 use Rattle.im_engine.specs.State.{MeansState, MeansEither}
 use Rattle.im_disk.specs.Since.{LeavesNow}
-use Rattle.im_controller.specs.Lines.{memory_after}
+use Rattle.im_trace.specs.Lines.{memory_after}
 use Rattle.im_controller.specs.Lends.{Lends}
-use Rattle.im_controller.specs.Log.{LogState, receipt_for}
+use Rattle.im_trace.specs.Log.{LogState, receipt_for}
 use Rattle.im_controller.specs.State.{SharedState}
 use Rattle.im_controller.specs.Kept.{accepted_in}
 use Rattle.im_controller.specs.Planned.{has_command, KeepsTo}

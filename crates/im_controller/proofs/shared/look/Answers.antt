@@ -1,13 +1,13 @@
 use Rattle.std.proofs.Common.{◌≡◌, List, sym, ap, subst, ◌∙◌, ◌++◌}
 use Rattle.im_types.specs.declared.commands.Line.{Line}
 use Rattle.im_types.specs.declared.commands.Call.TheVariants.{Collect}
-use Rattle.im_controller.specs.Lines.{lines_of}
-use Rattle.im_controller.specs.Log.{LogState}
+use Rattle.im_trace.specs.Lines.{lines_of}
+use Rattle.im_trace.specs.Log.{LogState}
 use Rattle.im_types.specs.Trace.{told, end_of}
 use Rattle.im_types.specs.Changes.{shown_by}
 use Rattle.im_controller.specs.Planned.{KeepsTo}
 use Rattle.im_controller.proofs.PlannedLemmas.{keeps-line, question-on}
-use Rattle.im_controller.proofs.LogLemmas.{last-told}
+use Rattle.im_trace.proofs.LogLemmas.{last-told}
 use Rattle.im_controller.proofs.ShownLemmas.{looked-shown, memory-same}
 use Rattle.im_controller.proofs.KeptLemmas.{kept_looked}
 use Rattle.im_controller.proofs.shared.look.Goals as goal

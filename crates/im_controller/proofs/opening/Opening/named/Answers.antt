@@ -4,26 +4,20 @@ use Rattle.im_types.specs.declared.commands.Request.{Request}
 use Rattle.im_types.specs.Contents.{Contents}
 use Rattle.im_controller.specs.State.{OpeningState}
 use Rattle.im_controller.specs.Kept.{Begun, begun_in, accepted_in, HasKept}
-use Rattle.im_controller.specs.Chains.{IsOpened}
+use Rattle.im_trace.specs.Chains.{IsOpened}
 use Rattle.im_controller.specs.Planned.{StartsBy, KeepsTo}
 use Rattle.im_controller.proofs.PlannedLemmas.{keeps-start}
-use Rattle.im_controller.proofs.LogLemmas.{log-starts}
 use Rattle.im_controller.proofs.KeptLemmas.{kept_start}
 use Rattle.im_controller.proofs.opening.Opening.named.Goals as goal
 
-pub named-requires-clause-memory : goal.named-requires-clause-memory
-named-requires-clause-memory g c =
+pub named-log-requires-clause-memory : goal.named-log-requires-clause-memory
+named-log-requires-clause-memory g c =
     subst IsOpened (c.memory.ensures ∙ ap (λ (o : OpeningState g.row.D.Denot). o.engine.memory) c.self.view_is
     ∙ c.requires.memory) c.cells-cells.ensures.memory
 
-pub invariant_of-log : goal.invariant_of-log
-invariant_of-log g c =
-    let i = c.self.invariant in
-    (log-starts g.K.Name.memory g.K.Name.marks _ _ _ _ i.2 i.4 c.open-lines_book.ensures.total c.open-marked_book.ensures.total, i.3, c.named.ensures ∙ sym i.2)
-
 pub invariant_of-shared : goal.invariant_of-shared
 invariant_of-shared g c =
-    let i = c.self.invariant in let e = c.self.inside.engine in let m = g.K.Name.memory in
+    let i = c.self.invariant in let begins = c.named-log.ensures.trace in let e = c.self.inside.engine in let m = g.K.Name.memory in
     let begun = ap (λ (o : OpeningState g.row.D.Denot). begun_in g.D.Disk.now g.D.Disk.past g.D.Disk.failures o.engine) c.self.view_is ∙ c.requires.begun in
     let plan = ap (λ (o : OpeningState g.row.D.Denot). o.plan) c.self.view_is ∙ c.requires.plan in
     let memory = ap (λ (o : OpeningState g.row.D.Denot). o.engine.memory) c.self.view_is ∙ c.requires.memory in (
@@ -35,13 +29,13 @@ invariant_of-shared g c =
       (λ honest began.
           let alive = ap (λ (b : Begun). b.failed) begun ∙ began in
           subst (λ (ls : List Line). HasKept g.D.Disk.now g.D.Disk.past g.D.Disk.failures g.K.Name.begun m
-          (accepted_in m ls) e) (sym i.2)
+          (accepted_in m ls) e) (sym begins)
           (kept_start g.D.Disk.now g.D.Disk.past g.D.Disk.failures g.K.Name.begun m e begun memory alive
           (c.failed-failed.ensures.means honest alive))),
-      i.7,
+      search rules,
       plan,
-      subst (λ (ls : List Line). KeepsTo m g.K.Name.plan ls) (sym i.2)
+      subst (λ (ls : List Line). KeepsTo m g.K.Name.plan ls) (sym begins)
           (keeps-start m g.K.Name.plan
           (subst (λ (p : Option (List Request)). StartsBy m p) plan
-          (subst (λ (n : Contents). StartsBy n c.self.inside.plan) memory i.8))),
+          (subst (λ (n : Contents). StartsBy n c.self.inside.plan) memory i.3))),
     )

@@ -1,4 +1,0 @@
-use Rattle.im_controller.proofs.books.note_line.Given as goal
-
-abbrev pub ghost-note : goal.ghost-note
-ghost-note g a = g.plus

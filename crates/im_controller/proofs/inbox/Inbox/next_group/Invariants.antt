@@ -1,6 +1,0 @@
-use Rattle.std.proofs.Common.{◌≤◌, length}
-use Rattle.im_controller.specs.Groups.{Gathers}
-use Rattle.im_controller.proofs.inbox.Inbox.next_group.Given as goal
-
-abbrev pub invariant-loop-element : goal.invariant-loop-element
-invariant-loop-element g l = Gathers l.log.places l.memory.contents l.element l.members.items × (length l.members.items ≤ l.most)

@@ -1,6 +1,0 @@
-use Rattle.std.proofs.Common.{drop}
-use Rattle.im_controller.specs.Groups.{MayJoin}
-use Rattle.im_controller.proofs.inbox.may_join.Given as goal
-
-abbrev pub invariant-loop-member : goal.invariant-loop-member
-invariant-loop-member l = MayJoin l.command (drop l.member-index l.members) → MayJoin l.command l.members

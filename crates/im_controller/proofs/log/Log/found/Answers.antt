@@ -1,7 +1,0 @@
-use Rattle.im_controller.proofs.log.Log.found.Goals as goal
-
-pub invariant_of-result : goal.invariant_of-result
-invariant_of-result g c = rw c.prefix.ensures.same ((c.prefix.ensures.legal, c.requires.ends), c.requires.told)
-
-pub returns-clause-proof : goal.returns-clause-proof
-returns-clause-proof g c = (c.prefix.ensures.legal, c.requires.ends)

@@ -1,8 +1,0 @@
-use Rattle.std.proofs.Common.{subst}
-use Rattle.im_types.specs.Trace.{IsLegal}
-use Rattle.im_controller.specs.Log.{LogState}
-use Rattle.im_controller.proofs.log.Log.prefix.Goals as goal
-
-pub returns-clause-legal : goal.returns-clause-legal
-returns-clause-legal g c =
-    subst (λ (l : LogState). IsLegal g.K.Name.memory l.trace) c.self.view_is c.self.invariant.0.legal

@@ -1,0 +1,2 @@
+pub mod StuckLemmas
+pub mod Gathering

@@ -1,0 +1,13 @@
+//! What stands beside a lock: the queue before it, the inbox of the commands that ask to be served, the bells of those
+//! that sleep, and what each element's server waits for. Nothing here knows the engine or takes the lock.
+#![tactic(auto)]
+
+mod bell; // Who sleeps is woken by a bell.
+mod inbox; // A place for each element's command, and the groups that are taken out.
+mod servers; // What each element's server does, and which ports sleep.
+mod turns; // Who goes next.
+
+pub use bell::{Bell, Bells};
+pub use inbox::{Inbox, NextGroup};
+pub use servers::{Ask, Server, Servers, stuck_is_each};
+pub use turns::{Turn, Turns};

@@ -1,0 +1,4 @@
+pub mod ChainLemmas
+pub mod ToldLemmas
+pub mod SeenLemmas
+pub mod LogLemmas

@@ -1,0 +1,240 @@
+-- A log that grows by a line, keeps an answer for its port, and hands it out.
+use Rattle.std.proofs.Common.{◌≡◌, ℕ, zero, suc, ◌+◌, ◌<◌, ◌≤◌, Bool, true, false, List, [], ◌∷◌, ◌++◌, refl, sym, ap}
+use Rattle.std.proofs.Common.{◌∙◌, subst, cond, Option, None, Some, Result, Ok, Err, length, length-append}
+use Rattle.std.proofs.Common.{append-nil, append_assoc, slice_get, slice_set, sum_by, arith, if◌then◌else◌}
+use Rattle.std.specs.Prelude.{count_by, IfOk}
+use Rattle.std.specs.List.{AllByRecursion}
+use mathlib.Core.List.{IsPrefix}
+use Rattle.std.proofs.lemmas.List.Sums.{sum_by-append, sum_by-set}
+use Rattle.std.proofs.lemmas.Option.{slice_get_within, get_or_from_slice_get}
+use Rattle.im_types.specs.declared.changes.Change.{Change}
+use Rattle.im_types.specs.declared.commands.Command.{Command}
+use Rattle.im_types.specs.declared.commands.Outcome.{Outcome}
+use Rattle.im_types.specs.declared.commands.Call.{Call}
+use Rattle.im_types.specs.declared.commands.Call.TheVariants.{Command as Commands}
+use Rattle.im_types.specs.declared.commands.Line.{Line}
+use Rattle.im_types.specs.declared.refusals.Refusal.{Refusal}
+use Rattle.im_types.specs.Contents.{Contents}
+use Rattle.im_types.specs.declared.operations.Entry.{Entry}
+use Rattle.im_types.specs.declared.commands.Outcome.TheVariants.{Entry as Tells}
+use Rattle.im_types.specs.Trace.{told, answer_to, contents_after, IsLegal, end_of}
+use Rattle.im_laws.proofs.TraceLemmas.{end_of-append, IsLegal-push}
+use Rattle.im_trace.specs.Lines.{Counts, EndsIn, EndsInAll, leaves_line, line_of, lines_of, memory_after}
+use Rattle.im_trace.specs.Lines.{counts_after}
+use Rattle.im_trace.specs.Log.{sender_of, UnclaimedState, LogState, IsProof, IsProofIn, unclaimed_lines, with_line}
+use Rattle.im_trace.specs.Log.{with_unclaimed, without_unclaimed, AreFree, AreClaimed, IsLog, IsOfTrace}
+use Rattle.im_trace.specs.Log.{receipt_for}
+
+-- the line of a call, if it leaves one
+abbrev pub lines_by : Bool → Call → Result Outcome Refusal → List Line
+lines_by b call answer = if b then line_of call answer ∷ [] else []
+
+-- what a trace with the line of an answer more comes to
+legal_by : (b : Bool) (m : Contents) (trace : List Line) (call : Call) (answer : Result Outcome Refusal)
+    → IsLegal m trace → (b ≡ true → answer ≡ answer_to (end_of m trace) call)
+    → IsLegal m (trace ++ lines_by b call answer)
+legal_by true m trace call answer legal is = IsLegal-push m trace (line_of call answer) legal (is refl)
+legal_by false m trace call answer legal is = subst (λ ls. IsLegal m ls) (sym (append-nil trace)) legal
+
+end_by : (b : Bool) (m : Contents) (trace : List Line) (call : Call) (answer : Result Outcome Refusal)
+    → end_of m (trace ++ lines_by b call answer) ≡ (if b then contents_after (end_of m trace) call else end_of m trace)
+end_by true m trace call answer = end_of-append m trace (line_of call answer ∷ [])
+end_by false m trace call answer = ap (λ ls. end_of m ls) (append-nil trace)
+
+few_by : (b : Bool) (call : Call) (answer : Result Outcome Refusal) (n limit : ℕ) → (b ≡ true → n < limit)
+    → n ≤ limit → n + length (lines_by b call answer) ≤ limit
+few_by true call answer n limit room few = omega (arith, room refl)
+few_by false call answer n limit room few = omega (arith, few)
+
+pub end-lines : (m : Contents) (trace : List Line) (call : Call) (answer : Result Outcome Refusal)
+    → end_of m (trace ++ lines_of call answer) ≡ memory_after (end_of m trace) call answer
+end-lines m trace call answer = end_by (leaves_line answer) m trace call answer
+
+count-append : (marks : Line → Bool) (xs ys : List Line) → count_by marks (xs ++ ys)
+    ≡ count_by marks xs + count_by marks ys
+count-append marks xs ys = sum_by-append (λ x. cond (marks x) 1 0) xs ys
+
+-- the trace of an answer's receipt
+proof_at : (m : Contents) (trace : List Line) (call : Call) (answer : Result Outcome Refusal)
+    → IsLegal m (trace ++ lines_of call answer) → IsProof m call answer (trace ++ lines_of call answer)
+proof_at m trace call (Ok outcome) legal = (legal, (trace, refl))
+proof_at m trace call (Err refusal) legal = tt
+
+pub proof-at_end : (m : Contents) (trace : List Line) (call : Call) (answer : Result Outcome Refusal)
+    → IsLegal m trace → EndsInAll trace (lines_of call answer) → IsProof m call answer trace
+proof-at_end m trace call (Ok outcome) legal ends = (legal, ends)
+proof-at_end m trace call (Err refusal) legal ends = tt
+
+-- what begins a list begins each that goes on behind it
+pub prefix-more : {X : Type 0} (xs ys zs : List X) → IsPrefix xs ys → IsPrefix xs (ys ++ zs)
+prefix-more xs ys zs p = (p.0 ++ zs, sym (append_assoc xs p.0 zs) ∙ ap (λ l. l ++ zs) p.1)
+
+proofs-more : (m : Contents) (trace more : List Line) (places : List (Option UnclaimedState))
+    → AllByRecursion (IsProofIn m trace) places → AllByRecursion (IsProofIn m (trace ++ more)) places
+proofs-more m trace more [] all = tt
+proofs-more m trace more (None ∷ places) all = (tt, proofs-more m trace more places all.1)
+proofs-more m trace more (Some w ∷ places) all =
+    ((all.0.0, prefix-more w.history trace more all.0.1, all.0.2), proofs-more m trace more places all.1)
+
+-- sums over places
+module _ (f : Option UnclaimedState → ℕ) (none : f None ≡ 0) (places : List (Option UnclaimedState)) (e : ℕ)
+    (w : UnclaimedState) where
+  sum_kept : slice_get places e ≡ Some None → sum_by f (slice_set places e (Some w)) ≡ sum_by f places + f (Some w)
+  sum_kept free =
+      let old = ap f (get_or_from_slice_get places e None None free) in
+      omega (arith, sum_by-set f places e (Some w) None (slice_get_within places e None free), old, none)
+
+  sum_claimed : slice_get places e ≡ Some (Some w) → sum_by f (slice_set places e None) + f (Some w) ≡ sum_by f places
+  sum_claimed there =
+      let old = ap f (get_or_from_slice_get places e (Some w) None there) in
+      omega (arith, sum_by-set f places e None None (slice_get_within places e (Some w) there), old, none)
+
+-- what holds of each place, of a changed one too
+module _ {X : Type 0} (P : X → Type 0) where
+  all-set : (xs : List X) (i : ℕ) (x : X) → AllByRecursion P xs → P x → AllByRecursion P (slice_set xs i x)
+  all-set [] i x all is = tt
+  all-set (y ∷ xs) zero x all is = (is, all.1)
+  all-set (y ∷ xs) (suc i) x all is = (all.0, all-set xs i x all.1 is)
+
+  some-get : (x y : X) → Some x ≡ Some y → P x → P y
+  some-get x y e is = subst P (cc) is
+
+  pub all-get : (xs : List X) (i : ℕ) (x : X) → AllByRecursion P xs → slice_get xs i ≡ Some x → P x
+  all-get [] i x all at = absurd (cc)
+  all-get (y ∷ xs) zero x all at = some-get y x at all.0
+  all-get (y ∷ xs) (suc i) x all at = all-get xs i x all.1 at
+
+module _ (m : Contents) (marks : Line → Bool) (l : LogState) (books : Counts) (is : IsLog m marks l books) where
+  -- a line whose port is told it at once
+  pub log-leaves : (call : Call) (answer : Result Outcome Refusal)
+      → (leaves_line answer ≡ true → length l.trace < l.limit)
+      → (leaves_line answer ≡ true → answer ≡ answer_to (end_of m l.trace) call)
+      → IsLog m marks (with_line l call answer) (counts_after marks books (lines_of call answer))
+  log-leaves call answer room so =
+      let more = lines_of call answer in record {
+        legal = legal_by (leaves_line answer) m l.trace call answer is.legal so;
+        few = omega (
+          arith,
+          few_by (leaves_line answer) call answer
+              (length l.trace) l.limit room is.few,
+          length-append l.trace more,
+        );
+        lines = omega (arith, is.lines, length-append l.trace more);
+        marked = omega (arith, is.marked, count-append marks l.trace more);
+        proofs = proofs-more m l.trace more l.places is.proofs;
+      }
+
+  -- an answer that waits for its port
+  pub log-keeps : (r : Command) (answer : Result Outcome Refusal) → slice_get l.places (sender_of r) ≡ Some None
+      → (leaves_line answer ≡ true → length l.trace < l.limit)
+      → (leaves_line answer ≡ true → answer ≡ answer_to (end_of m l.trace) (Commands r))
+      → IsLog m marks (with_unclaimed l r answer) books
+  log-keeps r answer free room so =
+      let call = Commands r in
+      let more = lines_of call answer in
+      let history = l.trace ++ more in
+      let w : UnclaimedState = record { command = r; answer = answer; before = length l.trace; history = history } in
+      let legal = legal_by (leaves_line answer) m l.trace call answer is.legal so in record {
+        legal = legal;
+        few = omega (
+          arith,
+          few_by (leaves_line answer) call answer
+              (length l.trace) l.limit room is.few,
+          length-append l.trace more,
+        );
+        lines = omega (
+          arith,
+          is.lines,
+          sum_kept
+              (λ p. length (unclaimed_lines p)) refl l.places (sender_of r) w free,
+          length-append l.trace more,
+        );
+        marked = omega (
+          arith,
+          is.marked,
+          sum_kept
+              (λ p. count_by marks (unclaimed_lines p)) refl l.places (sender_of r) w free,
+          count-append marks l.trace more,
+        );
+        proofs = all-set (IsProofIn m (l.trace ++ more)) l.places (sender_of r) (Some w)
+            (proofs-more m l.trace more l.places is.proofs)
+            (proof_at m l.trace call answer legal, ([], append-nil (l.trace ++ more)), (l.trace, refl, refl));
+      }
+
+  -- an answer that its port takes
+  pub log-claims : (e : ℕ) (w : UnclaimedState) → slice_get l.places e ≡ Some (Some w)
+      → IsLog m marks (without_unclaimed l e) (counts_after marks books (unclaimed_lines (Some w)))
+  log-claims e w there = record {
+    legal = is.legal;
+    few = is.few;
+    lines = omega (arith, is.lines, sum_claimed (λ p. length (unclaimed_lines p)) refl l.places e w there);
+    marked = omega (arith, is.marked, sum_claimed (λ p. count_by marks (unclaimed_lines p)) refl l.places e w there);
+    proofs = all-set (IsProofIn m l.trace) l.places e None is.proofs tt;
+  }
+
+-- places in which no answer waits
+free-sum : (f : Option UnclaimedState → ℕ) (places : List (Option UnclaimedState)) → f None ≡ 0 → AreFree places
+    → sum_by f places ≡ 0
+free-sum f [] none free = refl
+free-sum f (p ∷ places) none free = omega
+    (arith, free-sum f places none free.1, ap f free.0 ∙ none, sum_by-append f (p ∷ []) places)
+
+free-proofs : (m : Contents) (trace : List Line) (places : List (Option UnclaimedState)) → AreFree places
+    → AllByRecursion (IsProofIn m trace) places
+free-proofs m trace [] free = tt
+free-proofs m trace (p ∷ places) free =
+    (subst (λ (q : Option UnclaimedState). IsProofIn m trace q) (sym free.0) tt, free-proofs m trace places free.1)
+
+-- a log before its first line
+pub log-starts : (m : Contents) (marks : Line → Bool) (trace : List Line) (limit : ℕ)
+    (places : List (Option UnclaimedState)) (books : Counts) → trace ≡ [] → AreFree places → books.lines ≡ 0
+    → books.marked ≡ 0
+    → IsLog m marks (record { trace = trace; limit = limit; places = places }) books
+log-starts m marks trace limit places books none free no_lines no_marked = rw none (record {
+  legal = tt;
+  few = omega arith;
+  lines = omega (arith, no_lines, free-sum (λ p. length (unclaimed_lines p)) places refl free);
+  marked = omega (arith, no_marked, free-sum (λ p. count_by marks (unclaimed_lines p)) places refl free);
+  proofs = free-proofs m [] places free;
+})
+
+-- no more lines are marked than there are
+count-few : (marks : Line → Bool) (xs : List Line) → count_by marks xs ≤ length xs
+count-few marks [] = omega arith
+count-few marks (x ∷ xs) = omega (arith, count-few marks xs, at_most (marks x), count-append marks (x ∷ []) xs)
+  where
+    at_most : (b : Bool) → cond b 1 0 ≤ 1
+    at_most true = omega arith
+    at_most false = omega arith
+
+marked-few : (marks : Line → Bool) (places : List (Option UnclaimedState))
+    → sum_by (λ p. count_by marks (unclaimed_lines p)) places ≤ sum_by (λ p. length (unclaimed_lines p)) places
+marked-few marks [] = omega arith
+marked-few marks (p ∷ places) = omega (
+  arith,
+  marked-few marks places,
+  count-few marks (unclaimed_lines p),
+  sum_by-append (λ q. count_by marks (unclaimed_lines q)) (p ∷ []) places,
+  sum_by-append (λ q. length (unclaimed_lines q)) (p ∷ []) places,
+)
+
+-- where no line waits, the books count all lines
+pub log-claimed : (m : Contents) (marks : Line → Bool) (l : LogState) (books : Counts) → IsLog m marks l books
+    → AreClaimed l.places → (books.lines ≡ length l.trace) × (books.marked ≡ count_by marks l.trace)
+log-claimed m marks l books is none = (
+  omega (arith, is.lines, none),
+  omega (arith, is.marked, none, marked-few marks l.places),
+)
+
+-- an entry that is told has its line at the end
+pub last-told : (l : LogState) (trace : List Line) (call : Call) (answer : Result Entry Refusal) → trace
+    ≡ l.trace ++ lines_of call (told answer) → IfOk answer (λ entry. EndsIn trace (line_of call (Ok (Tells entry))))
+last-told l trace call (Ok entry) is = (l.trace, is)
+last-told l trace call (Err refusal) is = tt
+
+-- a receipt with the trace of an answer
+pub receipt-of_trace : (m : Contents) (trace history : List Line) (told : List Change) (command : Command)
+    (a : Result Outcome Refusal) → IsPrefix history trace → IsProof m (Commands command) a history
+    → IsOfTrace m trace (receipt_for history told command a)
+receipt-of_trace m trace history told command (Ok outcome) begins proof = (begins, proof)
+receipt-of_trace m trace history told command (Err refusal) begins proof = tt

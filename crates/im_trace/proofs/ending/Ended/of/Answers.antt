@@ -1,0 +1,25 @@
+use Rattle.std.proofs.Common.{◌∙◌, ◌<◌, sym, subst, arith, List, Option, length, sum_by}
+use Rattle.im_trace.specs.Log.{UnclaimedState, AreClaimed, unclaimed_lines}
+use Rattle.im_trace.proofs.LogLemmas.{log-claimed}
+use Rattle.im_trace.proofs.ending.Ended.of.Goals as goal
+
+pub invariant_of-result : goal.invariant_of-result
+invariant_of-result g c =
+    let r = c.reserve.invariant in
+    let is = c.log.invariant.0 in
+    let same = c.as_slice.ensures.value in
+    let told = c.are_claimed-claimed.ensures in
+    let m = g.K.Name.memory in
+    let marks = g.K.Name.marks in (
+      record {
+        lines = λ claimed. (log-claimed m marks _ _ is (subst AreClaimed same (told.claimed claimed))).0;
+        marked = λ claimed. (log-claimed m marks _ _ is (subst AreClaimed same (told.claimed claimed))).1;
+        fewer = λ waits.
+            let more = subst (λ (places : List (Option UnclaimedState)).
+            0 < sum_by (λ place. length (unclaimed_lines place)) places) same (told.waits waits) in
+            omega (arith, more, is.lines);
+      },
+      r.1 ∙ sym r.0,
+      omega (arith, r.0, r.4, r.5),
+      c.log.invariant.2,
+    )

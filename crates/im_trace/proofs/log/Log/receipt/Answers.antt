@@ -1,0 +1,11 @@
+use Rattle.im_types.specs.declared.commands.Call.TheVariants.{Command as Commands}
+use Rattle.im_trace.proofs.LogLemmas.{proof-at_end}
+use Rattle.im_trace.proofs.log.Log.receipt.Goals as goal
+
+pub receipt_of-requires : goal.receipt_of-requires
+receipt_of-requires g c =
+    rw c.prefix.ensures.same (record {
+      proof = proof-at_end g.K.Name.memory c.args.self.now.trace (Commands c.args.command.now) c.args.answer
+          c.prefix.ensures.legal c.requires.ends;
+      told = c.requires.told;
+    })

@@ -1,0 +1,31 @@
+-- A log before it has a name, and at its end. (Own.)
+use Rattle.std.specs.Prelude.{◌≡◌, ℕ, ◌+◌, ◌<◌, Bool, true, false, List, length, count_by}
+use Rattle.im_types.specs.declared.commands.Line.{Line}
+use Rattle.im_trace.specs.Books.{LinesBook}
+use Rattle.im_trace.specs.Lines.{Counts}
+
+-- room for a log: how many lines it may have, how many ports there are, which ledgers count the lines and the marked
+-- lines, and the book of the lines
+pub record NewLogState : Type 0 where
+  pub limit : ℕ
+  pub ports : ℕ
+  pub lines_name : ℕ
+  pub marked_name : ℕ
+  pub book : LinesBook
+
+-- a log at its end: whether no line waits, how many shares are back, and how many lines their ports were told
+pub record EndedState : Type 0 where
+  pub trace : List Line
+  pub claimed : Bool
+  pub back : ℕ
+  pub told : Counts
+
+-- all lines of a trace are counted if none waits, and fewer if one waits
+pub record IsCounted (marks : Line → Bool) (trace : List Line) (claimed : Bool) (counts : Counts) : Type 0 where
+  pub lines : claimed ≡ true → counts.lines ≡ length trace
+  pub marked : claimed ≡ true → counts.marked ≡ count_by marks trace
+  pub fewer : claimed ≡ false → counts.lines < length trace
+
+-- a log at its end after a port's share is back
+abbrev pub with_share_back : EndedState → Counts → EndedState
+with_share_back e tally = record e { back = e.back + 1; told = record { lines = e.told.lines + tally.lines; marked = e.told.marked + tally.marked } }

@@ -1,0 +1,7 @@
+pub mod Lines
+pub mod Books
+pub mod Begun
+pub mod Chains
+pub mod Traced
+pub mod Log
+pub mod Ends

@@ -1,0 +1,154 @@
+-- The log: a trace with the answers that wait for their ports, and the receipts that are taken from it. (Own.)
+use Rattle.std.specs.Prelude.{◌≡◌, ℕ, ◌+◌, ◌≤◌, ◌++◌, List, [], Bool, Option, None, Some, Result, Ok, Err, length}
+use Rattle.std.specs.Prelude.{slice_get, slice_set, count_by, sum_by}
+use Rattle.std.specs.List.{AllByRecursion}
+use mathlib.Core.List.{IsPrefix}
+use Rattle.im_types.specs.declared.operations.Entry.{Entry}
+use Rattle.im_types.specs.declared.commands.Command.{Command}
+use Rattle.im_types.specs.declared.commands.Command.TheVariants.{Request as Asks, Confirm}
+use Rattle.im_types.specs.declared.commands.Outcome.{Outcome}
+use Rattle.im_types.specs.declared.commands.Call.{Call}
+use Rattle.im_types.specs.declared.commands.Call.TheVariants.{Command as Commands}
+use Rattle.im_types.specs.declared.commands.Line.{Line}
+use Rattle.im_types.specs.declared.refusals.Refusal.{Refusal}
+use Rattle.im_types.specs.Contents.{Contents}
+use Rattle.im_types.specs.Trace.{IsLegal}
+use Rattle.im_types.specs.declared.changes.Change.{Change}
+use Rattle.im_types.specs.Changes.{shown_by}
+use Rattle.im_trace.specs.Lines.{EndsIn, Counts, GoesOnTo, line_of, lines_of, counts_after}
+
+-- a command, its outcome, the trace that ends in its line, and what was shown when its port was told
+pub record ReceiptState : Type 0 where
+  pub command : Command
+  pub outcome : Outcome
+  pub history : List Line
+  pub told : List Change
+
+-- what was kept under a number, the trace that ends in the line of this collect, and what was shown then
+pub record FoundState : Type 0 where
+  pub element : ℕ
+  pub number : ℕ
+  pub entry : Entry
+  pub history : List Line
+  pub told : List Change
+
+-- the element of a command
+abbrev pub sender_of : Command → ℕ
+sender_of (Asks r) = r.element
+sender_of (Confirm element upto) = element
+
+-- the answer to a command that its port hasn't taken yet, how many lines there were before it, and the trace right after it
+pub record UnclaimedState : Type 0 where
+  pub command : Command
+  pub answer : Result Outcome Refusal
+  pub before : ℕ
+  pub history : List Line
+
+-- a trace, how many lines it may have, and a place for each element's answer
+pub record LogState : Type 0 where
+  pub trace : List Line
+  pub limit : ℕ
+  pub places : List (Option UnclaimedState)
+
+-- an answer without its receipt
+abbrev pub plain : Result ReceiptState Refusal → Result Outcome Refusal
+plain (Ok receipt) = Ok receipt.outcome
+plain (Err refusal) = Err refusal
+
+-- an answer with its receipt, which has this trace and these shown changes
+abbrev pub receipt_for : List Line → List Change → Command → Result Outcome Refusal → Result ReceiptState Refusal
+receipt_for history shown command (Ok outcome) = Ok (record { command = command; outcome = outcome; history = history; told = shown })
+receipt_for history shown command (Err refusal) = Err refusal
+
+-- the full cells that were opened, followed by the changes of this trace, are a prefix of what was shown
+abbrev pub IsToldOf : Contents → List Line → List Change → Type 0
+IsToldOf m history shown = IsPrefix (shown_by m history) shown
+
+-- a legal trace that ends in the line of this answer, if that is an outcome
+abbrev pub IsProof : Contents → Call → Result Outcome Refusal → List Line → Type 0
+IsProof m call (Ok outcome) history = IsLegal m history × EndsIn history (line_of call (Ok outcome))
+IsProof m call (Err refusal) history = Unit {0}
+
+-- the lines that an answer in a place left
+abbrev pub unclaimed_lines : Option UnclaimedState → List Line
+unclaimed_lines None = []
+unclaimed_lines (Some waiting) = lines_of (Commands waiting.command) waiting.answer
+
+-- the log after the line of a call; its port was told
+abbrev pub with_line : LogState → Call → Result Outcome Refusal → LogState
+with_line l call answer = record l { trace = l.trace ++ lines_of call answer }
+
+-- the log with the answer to a command in its element's place
+abbrev pub with_unclaimed : LogState → Command → Result Outcome Refusal → LogState
+with_unclaimed l command answer =
+    let trace = l.trace ++ lines_of (Commands command) answer in
+    record { trace = trace; limit = l.limit; places = slice_set l.places (sender_of command) (Some (record { command = command; answer = answer; before = length l.trace; history = trace })) }
+
+-- the log with an element's place free
+abbrev pub without_unclaimed : LogState → ℕ → LogState
+without_unclaimed l element = record l { places = slice_set l.places element None }
+
+-- a trace has so many lines, and then these
+abbrev pub IsBefore : ℕ → List Line → List Line → Type 0
+IsBefore before last lines = (start : List Line) × (length start ≡ before) × (lines ≡ start ++ last)
+
+-- an answer that waits in a place has a prefix of the trace, which is legal and ends in its line
+abbrev pub IsProofIn : Contents → List Line → Option UnclaimedState → Type 0
+IsProofIn m trace None = Unit {0}
+IsProofIn m trace (Some waiting) = IsProof m (Commands waiting.command) waiting.answer waiting.history × IsPrefix waiting.history trace
+    × IsBefore waiting.before (unclaimed_lines (Some waiting)) waiting.history
+
+-- A legal trace with no more lines than it may have. The books count each line that its port was told: all but those of
+-- answers that wait.
+pub record IsLog (m : Contents) (marks : Line → Bool) (l : LogState) (books : Counts) : Type 0 where
+  pub legal : IsLegal m l.trace
+  pub few : length l.trace ≤ l.limit
+  pub lines : books.lines + sum_by (λ p. length (unclaimed_lines p)) l.places ≡ length l.trace
+  pub marked : books.marked + sum_by (λ p. count_by marks (unclaimed_lines p)) l.places ≡ count_by marks l.trace
+  -- each answer that waits has a prefix of the trace, which is legal and ends in its line
+  pub proofs : AllByRecursion (IsProofIn m l.trace) l.places
+
+-- a receipt is of this command
+abbrev pub IsOf : Command → Result ReceiptState Refusal → Type 0
+IsOf command (Ok receipt) = receipt.command ≡ command
+IsOf command (Err refusal) = Unit {0}
+
+-- the answer to a command is taken from an element's place, or isn't there
+abbrev pub Takes : List (Option UnclaimedState) → ℕ → Command → Option UnclaimedState → List (Option UnclaimedState) → Type 0
+Takes places element command None others = others ≡ places
+Takes places element command (Some w) others = (slice_get places element ≡ Some (Some w)) × (w.command ≡ command) × (others ≡ slice_set places element None)
+
+-- A port looks for the answer to its command in its element's place. There is none, or it takes it, and its line is
+-- counted.
+abbrev pub Claims : (Line → Bool) → LogState → Counts → ℕ → Command → Option (Result ReceiptState Refusal) → LogState → Counts → Type 0
+Claims marks l t element command None l' t' = (l' ≡ l) × (t' ≡ t)
+Claims marks l t element command (Some answer) l' t' =
+    (l' ≡ without_unclaimed l element) × (t' ≡ counts_after marks t (lines_of (Commands command) (plain answer))) × IsOf command answer
+
+-- a receipt has this trace
+abbrev pub HasHistory : List Line → Result ReceiptState Refusal → Type 0
+HasHistory history (Ok receipt) = receipt.history ≡ history
+HasHistory history (Err refusal) = Unit {0}
+
+-- What a port has seen of the trace, once it was told the answer to a command: the command's line, if it left one, stands
+-- after all that the port saw before, and the receipt has the same trace.
+abbrev pub SeesReceipt : List Line → Command → Result ReceiptState Refusal → List Line → Type 0
+SeesReceipt seen command answer seen' = GoesOnTo seen (lines_of (Commands command) (plain answer)) seen' × HasHistory seen' answer
+
+-- the same, when it looks for the answer to its command: it sees no more if there is none
+abbrev pub SeesAnswer : List Line → Command → Option (Result ReceiptState Refusal) → List Line → Type 0
+SeesAnswer seen command None seen' = seen' ≡ seen
+SeesAnswer seen command (Some answer) seen' = SeesReceipt seen command answer seen'
+
+-- an outcome has a prefix of the trace, which is legal and ends in its line
+abbrev pub IsOfTrace : Contents → List Line → Result ReceiptState Refusal → Type 0
+IsOfTrace m trace (Ok r) = IsPrefix r.history trace × IsProof m (Commands r.command) (Ok r.outcome) r.history
+IsOfTrace m trace (Err refusal) = Unit {0}
+
+-- no answer waits in any of these places
+abbrev pub AreFree : List (Option UnclaimedState) → Type 0
+AreFree places = AllByRecursion (λ place. place ≡ None) places
+
+-- no line waits in any of these places
+abbrev pub AreClaimed : List (Option UnclaimedState) → Type 0
+AreClaimed places = sum_by (λ place. length (unclaimed_lines place)) places ≡ 0

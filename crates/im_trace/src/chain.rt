@@ -1,0 +1,294 @@
+//! The book of the lines: the trace, of which each port and each receipt has a prefix. It is one book of the toolchain's
+//! `logbook`, and contracts alone see its entries. Who has the next pen knows all its lines, and nobody else adds one.
+ghost use Rattle.std.specs.Prelude.{◌≡◌, ◌<◌, ◌++◌, ◌∷◌, [], length};
+ghost use mathlib.Core.List.{IsPrefix};
+ghost use Rattle.logbook.specs.Pages.{may_write};
+ghost use Rattle.im_trace.specs.Lines.{AreInOrder};
+ghost use Rattle.im_trace.specs.Chains.{IsOpened, first_of};
+
+use crate::name::Name;
+use crate::traced::Traced;
+use im_types::Line;
+use logbook::{Gain, Offer, Pen, Plain, Play, Rule, Seen, Start, Word};
+use std::marker::{Model, PhantomData};
+use std::snapshot::Snapshot;
+
+/// An entry of the book. Contracts alone see it, and no value of it is made.
+pub struct Link {
+    /// The key of the pen that wrote it.
+    pub from: u64,
+    /// The line.
+    pub line: Line,
+    /// The key of the pen that writes the next one.
+    pub next: u64,
+}
+
+/// The rule of the book: the pen of each entry is used up.
+pub struct Chained;
+
+impl Rule<Link, u64> for Chained {
+    ghost use Rattle.std.specs.Prelude.{[]};
+    ghost use base.Fml.{ftrue};
+    ghost use Rattle.im_trace.specs.Chains.{IsChained};
+
+    ghost holds = { λ cells log. IsChained cells log };
+
+    ghost first = { [] };
+
+    ghost hinted = { λ n log. Unit {0} };
+
+    ghost shows = { λ log. [] };
+
+    ghost keeps = { λ names log. ftrue };
+
+    ghost moves = { λ ask before after answer. Unit {0} };
+}
+
+// Nothing is traded.
+pub struct NoGain;
+
+impl Gain<Link, u64> for NoGain {
+    ghost use base.Fml.{ftrue};
+
+    ghost after = { λ names about answer. ftrue };
+}
+
+// A step that makes a pen.
+pub struct MakePen;
+
+impl Play<Link, u64> for MakePen {
+    ghost use Rattle.im_trace.specs.Chains.{MakesPen};
+
+    ghost then = { MakesPen };
+}
+
+// A step that adds nothing.
+pub struct KeepPen;
+
+impl Play<Link, u64> for KeepPen {
+    ghost use Rattle.im_trace.specs.Chains.{KeepsPen};
+
+    ghost then = { KeepsPen };
+}
+
+impl Plain<u64, Link, u64> for KeepPen {
+    ghost use Rattle.std.specs.Prelude.{None, Err};
+    ghost use Rattle.im_types.specs.declared.commands.Call.TheVariants.{Collect};
+    ghost use Rattle.im_types.specs.declared.refusals.Refusal.TheVariants.{NoElement};
+
+    ghost ask = { λ n. record { from = 0; line = record { call = Collect 0 0; answer = Err NoElement }; next = 0 } };
+
+    ghost state = { λ n. None };
+}
+
+// What is to be added: a line, and the pen of the next one. It has no bytes.
+#[derive(Drop)]
+pub struct Signed {
+    line: Snapshot<Line>,
+    next: Pen,
+}
+
+// A step that adds a line.
+pub struct UsePen;
+
+impl Play<Link, u64> for UsePen {
+    ghost use Rattle.im_trace.specs.Chains.{UsesPen};
+
+    ghost then = { UsesPen };
+}
+
+impl Plain<Signed, Link, u64> for UsePen {
+    ghost use Rattle.std.specs.Prelude.{None};
+
+    ghost ask = { λ s. record { from = 0; line = s.line.value; next = s.next.nib.key } };
+
+    ghost state = { λ s. None };
+}
+
+// Returns a pen that isn't used up.
+fn new_pen(head: &Word<Link, u64, Chained>, seen: &Seen<Link, u64, Chained>) -> Pen
+    requires { head.now ≡ first_of seen.now.book }
+    ensures book { result.book ≡ seen.now.book }
+    ensures right { result.nib.right ≡ may_write }
+{
+    let mut seen = seen.again();
+    let mut offer: Offer<Link, u64, Chained, NoGain> = seen.plain::<NoGain, u64, KeepPen>(&0);
+    let mut pen = seen.no_pen();
+    let _zero = head.compare_exchange::<MakePen, NoGain>(0, 0, &mut seen, &mut offer, &mut pen);
+    let _word: Word<Link, u64, Chained> = Word::tracked(0, &mut pen);
+    pen
+}
+
+/// A book with no lines, which has no name yet. Contracts see which book it is.
+#[derive(Drop)]
+pub struct NewChain {
+    head: Word<Link, u64, Chained>,
+    seen: Seen<Link, u64, Chained>,
+    pen: Pen,
+}
+
+impl Model for NewChain {
+    ghost use Rattle.std.specs.Prelude.{◌≡◌, []};
+    ghost use Rattle.logbook.specs.Pages.{may_write};
+    ghost use Rattle.im_trace.specs.Books.{LinesBook};
+    ghost use Rattle.im_trace.specs.Chains.{first_of};
+
+    ghost Value = { LinesBook };
+
+    ghost view = { λ c. record { book = c.seen.book; root = c.pen.nib.key } };
+
+    ghost invariant = { λ c. (c.seen.log ≡ []) × (c.head ≡ first_of c.seen.book)
+        × (c.pen.book ≡ c.seen.book) × (c.pen.nib.right ≡ may_write) };
+}
+
+impl NewChain {
+    // Makes a new book.
+    pub(crate) fn new() -> NewChain {
+        let (seen, mut first, _second) = Seen::open(Start::alone(), 0, 0);
+        let head = Word::tracked(0, &mut first);
+        let pen = new_pen(&head, &seen);
+        NewChain { head, seen, pen }
+    }
+
+    // Returns the book under a name.
+    pub(crate) fn named<K: Name>(self) -> Chain<K>
+        requires book { self ≡ K.book.lines }
+        requires memory { IsOpened K.memory }
+        ensures { result ≡ [] }
+    {
+        let NewChain { head, seen, pen } = self;
+        Chain {
+            head,
+            seen,
+            pen,
+            of: PhantomData,
+        }
+    }
+}
+
+/// The book, with the pen that writes its next line. Contracts see its lines.
+#[derive(Drop)]
+pub struct Chain<K: Name> {
+    head: Word<Link, u64, Chained>,
+    seen: Seen<Link, u64, Chained>,
+    pen: Pen,
+    of: PhantomData<K>,
+}
+
+impl<K: Name> Model for Chain<K> {
+    ghost use Rattle.std.specs.Prelude.{◌≡◌, List};
+    ghost use Rattle.logbook.specs.Pages.{may_write};
+    ghost use Rattle.im_types.specs.declared.commands.Line.{Line};
+    ghost use Rattle.im_trace.specs.Chains.{IsOpened, first_of, lines_from, tip_from};
+
+    ghost Value = { List Line };
+
+    ghost view = { λ c. lines_from K.book.lines.root c.seen.log };
+
+    ghost invariant = { λ c. (c.head ≡ first_of K.book.lines.book) × (c.seen.book ≡ K.book.lines.book)
+        × (c.pen.book ≡ K.book.lines.book) × (c.pen.nib.right ≡ may_write)
+        × (tip_from K.book.lines.root c.seen.log ≡ c.pen.nib.key) × IsOpened K.memory };
+}
+
+impl<K: Name> Chain<K> {
+    // Adds a line.
+    pub(crate) fn add(&mut self, line: &Line)
+        ensures { self.new ≡ self.old ++ line.now ∷ [] }
+    {
+        let signed = Signed {
+            line: Snapshot::of(line),
+            next: new_pen(&self.head, &self.seen),
+        };
+        let mut offer: Offer<Link, u64, Chained, NoGain> = self
+            .seen
+            .plain::<NoGain, Signed, UsePen>(&signed);
+        let _zero = self
+            .head
+            .compare_exchange::<UsePen, NoGain>(0, 0, &mut self.seen, &mut offer, &mut self.pen);
+        let Signed { line: _, next } = signed;
+        self.pen = next;
+    }
+
+    // A prefix that anyone has seen is a prefix of these lines.
+    pub(crate) fn knows(&mut self, prefix: &Prefix<K>)
+        ensures same { self.new ≡ self.old }
+        ensures known { IsPrefix prefix.now self.old }
+    {
+        let mut seen = self.seen.again();
+        seen.learn(&prefix.seen);
+        let mut offer: Offer<Link, u64, Chained, NoGain> = seen.plain::<NoGain, u64, KeepPen>(&0);
+        let _zero = self
+            .head
+            .compare_exchange::<KeepPen, NoGain>(0, 0, &mut seen, &mut offer, &mut self.pen);
+    }
+}
+
+/// A prefix of the controller's trace. Contracts see its lines.
+#[derive(Drop)]
+pub struct Prefix<K: Name> {
+    count: usize,
+    lines: Snapshot<Vec<Traced>>,
+    seen: Seen<Link, u64, Chained>,
+    of: PhantomData<K>,
+}
+
+impl<K: Name> Model for Prefix<K> {
+    ghost use Rattle.std.specs.Prelude.{◌≡◌, List, length};
+    ghost use mathlib.Core.List.{IsPrefix};
+    ghost use Rattle.im_types.specs.declared.commands.Line.{Line};
+    ghost use Rattle.im_trace.specs.Chains.{IsOpened, lines_from};
+
+    ghost Value = { List Line };
+
+    ghost view = { λ p. p.lines.value.items };
+
+    ghost invariant = { λ p. (p.count ≡ length p.lines.value.items) × (p.seen.book ≡ K.book.lines.book)
+        × IsPrefix p.lines.value.items (lines_from K.book.lines.root p.seen.log) × IsOpened K.memory };
+}
+
+// Returns what two have seen together.
+fn both_of(
+    one: &Seen<Link, u64, Chained>,
+    two: &Seen<Link, u64, Chained>,
+) -> Seen<Link, u64, Chained>
+    requires { one.now.book ≡ two.now.book }
+    ensures one { IsPrefix one.now.log result.log }
+    ensures two { IsPrefix two.now.log result.log }
+{
+    let mut both = one.again();
+    both.learn(two);
+    both
+}
+
+impl<K: Name> Prefix<K> {
+    // Returns a prefix of the book's lines.
+    pub(crate) fn begun(lines: Snapshot<Vec<Traced>>, count: usize, chain: &Chain<K>) -> Prefix<K>
+        requires count { count ≡ length lines.value.items }
+        requires known { IsPrefix lines.value.items chain.now }
+        ensures { result ≡ lines.value.items }
+    {
+        Prefix {
+            count,
+            lines,
+            seen: chain.seen.again(),
+            of: PhantomData,
+        }
+    }
+
+    /// Returns how many lines it has.
+    pub fn len(&self) -> usize
+        ensures { result ≡ length self.now }
+    {
+        self.count
+    }
+
+    /// One of two prefixes is a prefix of the other: all ports and receipts of a controller are of one trace. It begins
+    /// with a memory whose waiters and entries agree, as an engine's do. The call does nothing at run time. Contracts
+    /// alone see what it says.
+    pub fn order(&self, other: &Prefix<K>)
+        ensures order { AreInOrder self.now other.now }
+        ensures memory { IsOpened K.memory }
+    {
+        let _both = both_of(&self.seen, &other.seen);
+    }
+}

@@ -1,0 +1,129 @@
+//! What goes out of the lock: an answer, with the trace that ends in its line.
+ghost use Rattle.std.specs.Prelude.{◌≡◌, Ok};
+ghost use Rattle.im_types.specs.declared.commands.Call.TheVariants.{Command as Commands, Collect};
+ghost use Rattle.im_types.specs.declared.commands.Outcome.TheVariants.{Entry as Tells};
+ghost use Rattle.im_types.specs.Trace.{IsLegal};
+ghost use Rattle.im_trace.specs.Lines.{EndsIn, line_of};
+ghost use Rattle.im_trace.specs.Log.{IsToldOf};
+
+use crate::chain::Prefix;
+use crate::name::{Name, Shown};
+use im_glass::Told;
+use im_types::{Command, Entry, Outcome};
+use std::marker::Model;
+use std::snapshot::Snapshot;
+
+/// The outcome of a command. Contracts see with it the command, what was shown by then, and the controller's trace up
+/// to the command's line. That trace is legal from the memory that was opened.
+#[derive(Drop)]
+pub struct Receipt<K: Name> {
+    pub(crate) outcome: Outcome,
+    pub(crate) command: Snapshot<Command>,
+    pub(crate) history: Prefix<K>,
+    pub(crate) told: Told<Shown<K>>,
+}
+
+impl<K: Name> Model for Receipt<K> {
+    ghost use Rattle.std.specs.Prelude.{Ok};
+    ghost use Rattle.im_types.specs.declared.commands.Call.TheVariants.{Command as Commands};
+    ghost use Rattle.im_trace.specs.Log.{ReceiptState, IsProof, IsToldOf};
+
+    ghost Value = { ReceiptState };
+
+    ghost view = { λ r. record {
+      command = r.command.value;
+      outcome = r.outcome;
+      history = r.history;
+      told = r.told;
+    } };
+
+    ghost invariant = { λ r. IsProof K.memory (Commands r.command.value) (Ok r.outcome) r.history
+        × IsToldOf K.memory r.history r.told };
+}
+
+impl<K: Name> Receipt<K> {
+    /// Returns the outcome of the command.
+    pub fn outcome(&self) -> Outcome
+        ensures outcome { result ≡ self.now.outcome }
+        ensures legal { IsLegal K.memory self.now.history }
+        ensures last { EndsIn self.now.history (line_of (Commands self.now.command) (Ok self.now.outcome)) }
+    {
+        self.outcome
+    }
+
+    /// Returns what was shown when the command was answered: the full cells of the memory that was opened, then the
+    /// changes of the accepted commands of its trace, in order. There may be more after these.
+    pub fn told(&self) -> &Told<Shown<K>>
+        ensures told { result.now ≡ self.now.told }
+        ensures holds { IsToldOf K.memory self.now.history result.now }
+    {
+        &self.told
+    }
+
+    /// Returns the trace up to the command's line. The histories of all receipts of a controller are of one trace, as
+    /// [`Prefix::order`] says.
+    pub fn history(&self) -> &Prefix<K>
+        ensures { result.now ≡ self.now.history }
+    {
+        &self.history
+    }
+}
+
+/// What is kept under a number. Contracts see with it the element, the number, what was shown by then, and the
+/// controller's trace up to the line of this collect. That trace is legal from the memory that was opened.
+#[derive(Drop)]
+pub struct Found<K: Name> {
+    pub(crate) entry: Entry,
+    pub(crate) element: u16,
+    pub(crate) number: u64,
+    pub(crate) history: Prefix<K>,
+    pub(crate) told: Told<Shown<K>>,
+}
+
+impl<K: Name> Model for Found<K> {
+    ghost use Rattle.std.specs.Prelude.{Ok};
+    ghost use Rattle.im_types.specs.declared.commands.Call.TheVariants.{Collect};
+    ghost use Rattle.im_types.specs.declared.commands.Outcome.TheVariants.{Entry as Tells};
+    ghost use Rattle.im_trace.specs.Log.{FoundState, IsProof, IsToldOf};
+
+    ghost Value = { FoundState };
+
+    ghost view = { λ f. record {
+      element = f.element;
+      number = f.number;
+      entry = f.entry;
+      history = f.history;
+      told = f.told;
+    } };
+
+    ghost invariant = { λ f. IsProof K.memory (Collect f.element f.number) (Ok (Tells f.entry)) f.history
+        × IsToldOf K.memory f.history f.told };
+}
+
+impl<K: Name> Found<K> {
+    /// Returns the entry that is kept.
+    pub fn entry(&self) -> Entry
+        ensures entry { result ≡ self.now.entry }
+        ensures legal { IsLegal K.memory self.now.history }
+        ensures last { EndsIn self.now.history
+            (line_of (Collect self.now.element self.now.number) (Ok (Tells self.now.entry))) }
+    {
+        self.entry
+    }
+
+    /// Returns what was shown when the entry was found: what [`Receipt::told`] says of a receipt, for this trace.
+    pub fn told(&self) -> &Told<Shown<K>>
+        ensures told { result.now ≡ self.now.told }
+        ensures holds { IsToldOf K.memory self.now.history result.now }
+    {
+        &self.told
+    }
+
+    /// Returns the trace up to the line of this collect. It is of the same trace as the histories of all receipts, as
+    /// [`Prefix::order`] says.
+    pub fn history(&self) -> &Prefix<K>
+        ensures { result.now ≡ self.now.history }
+    {
+        &self.history
+    }
+}

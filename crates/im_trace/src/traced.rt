@@ -1,0 +1,133 @@
+//! A line of the trace, in few bytes.
+ghost use Rattle.std.specs.Prelude.{◌≡◌};
+ghost use Rattle.im_trace.specs.Lines.{line_of};
+ghost use Rattle.im_trace.specs.Traced.{call_with, answer_with};
+
+use im_types::{Call, Command, Entry, Line, Op, Outcome, Refusal, Reply, Request};
+use std::marker::Model;
+
+// What was asked.
+#[derive(Clone, Copy)]
+pub(crate) enum Asked {
+    Request,
+    Confirm,
+    Collect,
+}
+
+// What was answered.
+#[derive(Clone, Copy)]
+pub(crate) enum Said {
+    Answered,
+    Waiting,
+    Confirmed,
+    Refused(Refusal),
+}
+
+/// A line of the trace, in 48 bytes. A call beside its answer would take 88, since each of their layers has a tag of
+/// its own. Contracts see the [`Line`].
+#[derive(Drop)]
+pub struct Traced {
+    number: u64, // Of a confirmation, the number below which entries are confirmed.
+    op: Op, // Of a request alone.
+    reply: Reply, // Of an answer alone.
+    element: u16,
+    asked: Asked,
+    said: Said,
+}
+
+impl Model for Traced {
+    ghost use Rattle.im_types.specs.declared.commands.Line.{Line};
+    ghost use Rattle.im_trace.specs.Traced.{call_with, answer_with};
+
+    ghost Value = { Line };
+
+    ghost view = { λ t. record {
+      call = call_with t.asked t.element t.number t.op;
+      answer = answer_with t.said t.reply;
+    } };
+}
+
+// Returns what a call asks, its element, its number and its operation.
+fn parts_of(call: Call) -> (Asked, u16, u64, Op)
+    ensures { call_with result.0 result.1 result.2 result.3 ≡ call }
+{
+    match call {
+        Call::Command(Command::Request(request)) => {
+            (Asked::Request, request.element, request.number, request.op)
+        }
+        Call::Command(Command::Confirm { element, upto }) => {
+            (Asked::Confirm, element, upto, Op::Fetch(0))
+        }
+        Call::Collect { element, number } => (Asked::Collect, element, number, Op::Fetch(0)),
+    }
+}
+
+// Returns what an answer says, and its reply.
+fn said_of(answer: Result<Outcome, Refusal>) -> (Said, Reply)
+    ensures { answer_with result.0 result.1 ≡ answer }
+{
+    match answer {
+        Ok(Outcome::Entry(Entry::Answered(reply))) => (Said::Answered, reply),
+        Ok(Outcome::Entry(Entry::Waiting)) => (Said::Waiting, Reply::Stored),
+        Ok(Outcome::Confirmed) => (Said::Confirmed, Reply::Stored),
+        Err(refusal) => (Said::Refused(refusal), Reply::Stored),
+    }
+}
+
+// The call with these parts.
+fn call_with(asked: Asked, element: u16, number: u64, op: Op) -> Call
+    ensures { result ≡ call_with asked element number op }
+{
+    match asked {
+        Asked::Request => Call::Command(Command::Request(Request {
+            element,
+            number,
+            op,
+        })),
+        Asked::Confirm => Call::Command(Command::Confirm {
+            element,
+            upto: number,
+        }),
+        Asked::Collect => Call::Collect { element, number },
+    }
+}
+
+// The answer that says this.
+fn answer_with(said: Said, reply: Reply) -> Result<Outcome, Refusal>
+    ensures { result ≡ answer_with said reply }
+{
+    match said {
+        Said::Answered => Ok(Outcome::Entry(Entry::Answered(reply))),
+        Said::Waiting => Ok(Outcome::Entry(Entry::Waiting)),
+        Said::Confirmed => Ok(Outcome::Confirmed),
+        Said::Refused(refusal) => Err(refusal),
+    }
+}
+
+impl Traced {
+    // Returns the line of a call and its answer.
+    pub(crate) fn new(call: Call, answer: Result<Outcome, Refusal>) -> Traced
+        ensures { result ≡ line_of call answer }
+    {
+        let (asked, element, number, op) = parts_of(call);
+        let (said, reply) = said_of(answer);
+        Traced {
+            number,
+            op,
+            reply,
+            element,
+            asked,
+            said,
+        }
+    }
+
+    /// Returns the call and its answer.
+    pub fn line(&self) -> Line
+        ensures line { result ≡ self.now }
+    {
+        Line {
+            call: call_with(self.asked, self.element, self.number, self.op),
+            answer: answer_with(self.said, self.reply),
+        }
+    }
+}
