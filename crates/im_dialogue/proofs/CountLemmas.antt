@@ -1,8 +1,8 @@
 -- Sums of what is below a number, and the windows whose entries are counted.
-use Rattle.std.proofs.Common.{◌≡◌, ◌∙◌, ℕ, suc, ◌+◌, ◌-◌, ◌≤◌, length, ap, sym, refl, arith}
-use Rattle.std.specs.Prelude.{Option, Some, slice_get}
+use Rattle.std.proofs.Common.{◌≡◌, ◌∙◌, ℕ, suc, ◌+◌, ◌-◌, ◌≤◌, length, ap, sym, arith}
+use Rattle.std.specs.Prelude.{slice_get}
 use Rattle.im_types.specs.declared.TheConstants.{WINDOW}
-use Rattle.im_types.specs.Contents.{Contents, Window}
+use Rattle.im_types.specs.Contents.{Contents}
 use Rattle.im_types.specs.Memory.{IsMemory}
 use Rattle.im_text.proofs.WindowLemmas.{HasBounds}
 use Rattle.im_dialogue.specs.Counting.{sum_below, kept_in}
