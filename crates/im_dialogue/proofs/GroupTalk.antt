@@ -113,13 +113,14 @@ module _ {D : Type 0} (watch : Bool) (start : EngineState D) (b : GroupStart) wh
 
     -- its text, behind those before
     texts_on : (answer : Answer) (more : List ℕ)
-        → more ≡ text ++ (answer_text name answer ++ watch_text watch (memory_between b ahead) answer)
+        → more ≡ text ++ (answer_text name (memory_between b ahead) answer
+        ++ watch_text watch (memory_between b ahead) answer)
         → texts_of watch start.memory (exchange answer ∷ told.said) ≡ texts_of watch start.memory base ++ more
     texts_on answer more is =
-        ap (λ (t : List ℕ). t ++ (answer_text name answer ++ watch_text watch here answer)) told.texts
-        ∙ append_assoc (texts_of watch start.memory base) text (answer_text name answer ++ watch_text watch here answer)
+        ap (λ (t : List ℕ). t ++ (answer_text name here answer ++ watch_text watch here answer)) told.texts
+        ∙ append_assoc (texts_of watch start.memory base) text (answer_text name here answer ++ watch_text watch here answer)
         ∙ ap (λ (m : Contents). texts_of watch start.memory base
-        ++ (text ++ (answer_text name answer ++ watch_text watch m answer))) (sym told.reach.memory)
+        ++ (text ++ (answer_text name m answer ++ watch_text watch m answer))) (sym told.reach.memory)
         ∙ ap (λ (t : List ℕ). texts_of watch start.memory base ++ t) (sym is)
 
     module _ (c : Command) (asked : asked_of line ≡ Some (asks.Serve c)) where
@@ -142,8 +143,8 @@ module _ {D : Type 0} (watch : Bool) (start : EngineState D) (b : GroupStart) wh
       all_put = commands_behind b.memory b.places ahead c
 
       pub told_member : (more : List ℕ)
-          → more ≡ text ++ (answer_text name (ServedAs c answered_so) ++ watch_text watch (memory_between b ahead)
-          (ServedAs c answered_so))
+          → more ≡ text ++ (answer_text name (memory_between b ahead) (ServedAs c answered_so)
+          ++ watch_text watch (memory_between b ahead) (ServedAs c answered_so))
           → SaidMore watch start b base (ahead ++ c ∷ []) more
       told_member more is = record {
         said = exchange (ServedAs c answered_so) ∷ told.said;
@@ -181,7 +182,8 @@ module _ {D : Type 0} (watch : Bool) (start : EngineState D) (b : GroupStart) wh
 
     pub told_shown : (asked : Asked) (answer : Answer) → asked_of line ≡ Some asked
         → IsKnown (memory_between b ahead) (count_between b ahead) asked answer
-        → (more : List ℕ) → more ≡ text ++ (answer_text name answer ++ watch_text watch (memory_between b ahead) answer)
+        → (more : List ℕ) → more ≡ text ++ (answer_text name (memory_between b ahead) answer
+        ++ watch_text watch (memory_between b ahead) answer)
         → SaidMore watch start b base ahead more
     told_shown asked answer read shown more is =
         let same : put_of start.memory (exchange answer ∷ told.said) ≡ put_of start.memory told.said

@@ -7,3 +7,4 @@ pub mod PartLemmas
 pub mod FitLemmas
 pub mod DialogueLemmas
 pub mod LineLemmas
+pub mod CountLemmas

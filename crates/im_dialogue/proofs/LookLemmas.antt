@@ -44,7 +44,7 @@ use Rattle.im_laws.proofs.CellLemmas.{act-other}
 use Rattle.im_laws.proofs.AgreementLemmas.{same_waiter-equal}
 use Rattle.im_dialogue.specs.Watching.{is_quiet}
 use Rattle.im_dialogue.specs.Looks.{op_waits_at, kept_waits_at, asks_at, may_wait, may_answer, may_change}
-use Rattle.im_dialogue.specs.Talk.{recall, recalled}
+use Rattle.im_dialogue.specs.Showing.{recall, recalled}
 use Rattle.im_dialogue.proofs.WatchLemmas.{quiet_resumes}
 
 -- ---- where nothing is kept, an answer leaves nothing

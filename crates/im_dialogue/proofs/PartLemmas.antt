@@ -1,7 +1,7 @@
 -- The parts of a group: how it grows, and how its answers are told.
 use Rattle.std.proofs.Common.{◌≡◌, ◌∙◌, ℕ, zero, suc, ◌≤◌, Bool, false, List, [], ◌∷◌}
 use Rattle.std.proofs.Common.{◌++◌, length, map, take, refl, sym, ap, subst, append_assoc, arith}
-use Rattle.std.specs.Prelude.{MatchOption, Option, Some, None, Result, Ok, Err}
+use Rattle.std.specs.Prelude.{◌||◌, option_map, MatchOption, Option, Some, None, Result, Ok, Err}
 use Rattle.std.specs.List.{list_any}
 use Rattle.std.proofs.lemmas.List.{append-nil}
 use Rattle.im_types.specs.declared.TheConstants.{MAX_GROUP}
@@ -10,11 +10,10 @@ use Rattle.im_types.specs.declared.commands.Command.{Command}
 use Rattle.im_types.specs.declared.commands.Outcome.{Outcome}
 use Rattle.im_types.specs.declared.groups.Served.{Served}
 use Rattle.im_types.specs.declared.refusals.Refusal.{Refusal}
-use Rattle.im_types.specs.Contents.{Contents}
-use Rattle.im_types.specs.Window.{ask}
+use Rattle.im_types.specs.Contents.{Contents, Held, held_at}
 use Rattle.im_types.specs.Groups.{as_served}
 use Rattle.im_types.specs.Memory.{IsMemory}
-use Rattle.im_laws.proofs.Tests.{or_left, or_right}
+use Rattle.im_laws.proofs.Tests.{or_left, or_right, true_false}
 use Rattle.im_groups.specs.Commands.{answer_with, answers_with, contents_with}
 use Rattle.im_groups.specs.Commands.{places_behind}
 use Rattle.im_groups.proofs.CommandLemmas.{left_behind}
@@ -24,10 +23,14 @@ use Rattle.im_dialogue.specs.declared.asking.Asked.TheVariants as asks
 use Rattle.im_dialogue.specs.declared.answers.Answer.{Answer}
 use Rattle.im_dialogue.specs.declared.answers.Answer.TheVariants as answer
 use Rattle.im_dialogue.specs.declared.group_line.GroupLine.{GroupLine}
-use Rattle.im_dialogue.specs.declared.group_line.GroupLine.TheVariants.{Member, Collect, Entry, Known}
-use Rattle.im_dialogue.specs.Answers.{answer_text}
-use Rattle.im_dialogue.specs.Looks.{may_change}
-use Rattle.im_dialogue.specs.Talk.{Answers, put_by, recall}
+use Rattle.im_dialogue.specs.declared.group_line.GroupLine.TheVariants.{Member, Known}
+use Rattle.im_dialogue.specs.declared.group_line.GroupLine.TheVariants as line
+use Rattle.im_dialogue.specs.declared.look.Look.{Look}
+use Rattle.im_dialogue.specs.declared.look.Look.TheVariants.{Collect, Entry, Cell, Block, Stat, Help}
+use Rattle.im_dialogue.specs.Answers.{answer_text, kept_line, look_text, recalled_line}
+use Rattle.im_dialogue.specs.Looks.{may_alter, may_change, may_reach}
+use Rattle.im_dialogue.specs.Showing.{block_said, cell_said, recall}
+use Rattle.im_dialogue.specs.Talk.{Answers, put_by}
 use Rattle.im_dialogue.specs.Together.{IsAsked, GroupStart, group_start, memory_between, places_between}
 use Rattle.im_dialogue.specs.Together.{count_between, with_member, members_in}
 use Rattle.im_dialogue.specs.Together.{disturbs, LeavesShown, IsKnown, IsGroupLine, StandTogether, MayBeServed}
@@ -36,27 +39,24 @@ use Rattle.im_dialogue.specs.Watching.{told_with, watch_text}
 use Rattle.im_dialogue.specs.Telling.{SaysAll, WasServed}
 use Rattle.im_dialogue.proofs.GroupTalk.{told_none, told_member, told_shown}
 use Rattle.im_dialogue.proofs.LookLemmas.{ask_recalls, entry_of, may_change_there, recall_with}
-use Rattle.im_dialogue.proofs.ReachLemmas.{after_memory, contents_behind}
+use Rattle.im_dialogue.proofs.ReachLemmas.{after_memory, cell_after, contents_behind}
 
 -- ---- a group grows
 
 members_onto : (ahead : List Command) (p : GroupLine) (parts : List GroupLine)
     → with_member ahead p ++ members_in parts ≡ ahead ++ members_in (p ∷ parts)
 members_onto ahead (Member c) parts = append_assoc ahead (c ∷ []) (members_in parts)
-members_onto ahead (Collect who) parts = refl
-members_onto ahead (Entry who) parts = refl
+members_onto ahead (line.Look look) parts = refl
 members_onto ahead (Known given) parts = refl
 
 with_more : (c : Command) (ahead : List Command) (p : GroupLine) → with_member (c ∷ ahead) p ≡ c ∷ with_member ahead p
 with_more c ahead (Member d) = refl
-with_more c ahead (Collect who) = refl
-with_more c ahead (Entry who) = refl
+with_more c ahead (line.Look look) = refl
 with_more c ahead (Known given) = refl
 
 members_alone : (p : GroupLine) → members_in (p ∷ []) ≡ with_member [] p
 members_alone (Member c) = refl
-members_alone (Collect who) = refl
-members_alone (Entry who) = refl
+members_alone (line.Look look) = refl
 members_alone (Known given) = refl
 
 members_push : (parts : List GroupLine) (p : GroupLine) → members_in (parts ++ p ∷ []) ≡ with_member (members_in parts)
@@ -64,8 +64,7 @@ members_push : (parts : List GroupLine) (p : GroupLine) → members_in (parts ++
 members_push [] p = members_alone p
 members_push (Member c ∷ parts) p = ap (λ (l : List Command). c ∷ l) (members_push parts p)
     ∙ sym (with_more c (members_in parts) p)
-members_push (Collect who ∷ parts) p = members_push parts p
-members_push (Entry who ∷ parts) p = members_push parts p
+members_push (line.Look look ∷ parts) p = members_push parts p
 members_push (Known given ∷ parts) p = members_push parts p
 
 module _ (watch : Bool) (b : GroupStart) where
@@ -114,57 +113,78 @@ any_there m ahead c [] p later none = or_left (disturbs m ahead c p) (list_any (
 any_there m ahead c (q ∷ before) p later none = any_there m ahead c before p later
     (or_right (disturbs m ahead c q) (list_any (disturbs m ahead c) (before ++ p ∷ later)) none)
 
-module _ (watch : Bool) (b : GroupStart) (cells elements : ℕ) (is : IsMemory cells elements b.memory) (p : GroupLine)
-    (who : Waiter)
-    (looks : (m : Contents) (ahead : List Command) (c : Command) → disturbs m ahead c p ≡ false
-    → may_change m ahead who c ≡ false) where
-  recalled_next : (ahead : List Command) (c : Command) → disturbs b.memory ahead c p ≡ false
-      → recall (memory_between b (ahead ++ c ∷ [])).windows who ≡ recall (memory_between b ahead).windows who
-  recalled_next ahead c calm =
-      ap (λ (m : Contents). recall m.windows who) (contents_behind b.memory b.places ahead c)
-      ∙ recall_with cells elements (memory_between b ahead) (after_memory cells elements b.memory b.places ahead is)
-      (places_between b ahead) c who
-      (may_change_there cells elements b.memory b.places ahead who c is (looks b.memory ahead c calm))
+-- one member more
+module _ (b : GroupStart) (cells elements : ℕ) (is : IsMemory cells elements b.memory) (name : List ℕ)
+    (ahead : List Command) (c : Command) where
+  abbrev here : Contents
+  here = memory_between b ahead
 
+  abbrev behind : Contents
+  behind = memory_between b (ahead ++ c ∷ [])
+
+  here_memory : IsMemory cells elements here
+  here_memory = after_memory cells elements b.memory b.places ahead is
+
+  recalled_next : (who : Waiter) → may_change b.memory ahead who c ≡ false
+      → recall behind.windows who ≡ recall here.windows who
+  recalled_next who calm =
+      ap (λ (m : Contents). recall m.windows who) (contents_behind b.memory b.places ahead c)
+      ∙ recall_with cells elements here here_memory (places_between b ahead) c who
+      (may_change_there cells elements b.memory b.places ahead who c is calm)
+
+  cell_next : (a : ℕ) → may_reach a c ≡ false → held_at behind.cells a ≡ held_at here.cells a
+  cell_next a away =
+      ap (λ (m : Contents). held_at m.cells a) (contents_behind b.memory b.places ahead c)
+      ∙ cell_after cells elements here (places_between b ahead) (c ∷ []) a here_memory (ap (λ x. x || false) away)
+
+  shown_next : (look : Look) → may_alter b.memory ahead look c ≡ false
+      → look_text name behind look ≡ look_text name here look
+  shown_next (Collect who) calm = ap (kept_line who.element who.number name)
+      (ask_recalls behind.windows who ∙ ap entry_of (recalled_next who calm) ∙ sym (ask_recalls here.windows who))
+  shown_next (Entry who) calm = ap (recalled_line who.element who.number name) (recalled_next who calm)
+  shown_next (Cell a) calm = ap (cell_said a) (cell_next a calm)
+  shown_next (Block a) calm = ap (λ (o : Option Held). block_said a (option_map (λ (h : Held). h.block) o))
+      (cell_next a calm)
+  shown_next Stat calm = absurd (true_false calm)
+  shown_next Help calm = refl
+
+module _ (watch : Bool) (b : GroupStart) (cells elements : ℕ) (is : IsMemory cells elements b.memory)
+    (name : List ℕ) (look : Look) where
   -- whatever members of these parts act
-  recalled_still : (k : ℕ) (ahead : List Command) (shown before later parts : List GroupLine) (texts : List (List ℕ))
-      → shown ≡ before ++ p ∷ later
+  shown_still : (k : ℕ) (ahead : List Command) (shown before later parts : List GroupLine) (texts : List (List ℕ))
+      → shown ≡ before ++ line.Look look ∷ later
       → StandTogether watch b ahead shown parts texts
-      → recall (memory_between b (ahead ++ take k (members_in parts))).windows who ≡ recall
-      (memory_between b ahead).windows who
-  recalled_still zero ahead shown before later parts texts there are = ap
-      (λ (l : List Command). recall (memory_between b l).windows who) (append-nil ahead)
-  recalled_still (suc k) ahead shown before later [] texts there are = ap
-      (λ (l : List Command). recall (memory_between b l).windows who) (append-nil ahead)
-  recalled_still (suc k) ahead shown before later (q ∷ parts) [] there are = absurd are
-  recalled_still (suc k) ahead shown before later (Member c ∷ parts) (t ∷ texts) there are =
-      ap (λ (l : List Command). recall (memory_between b l).windows who)
+      → look_text name (memory_between b (ahead ++ take k (members_in parts))) look ≡ look_text name
+      (memory_between b ahead) look
+  shown_still zero ahead shown before later parts texts there are = ap
+      (λ (l : List Command). look_text name (memory_between b l) look) (append-nil ahead)
+  shown_still (suc k) ahead shown before later [] texts there are = ap
+      (λ (l : List Command). look_text name (memory_between b l) look) (append-nil ahead)
+  shown_still (suc k) ahead shown before later (q ∷ parts) [] there are = absurd are
+  shown_still (suc k) ahead shown before later (Member c ∷ parts) (t ∷ texts) there are =
+      ap (λ (l : List Command). look_text name (memory_between b l) look)
       (sym (append_assoc ahead (c ∷ []) (take k (members_in parts))))
-      ∙ recalled_still k (ahead ++ c ∷ []) (shown ++ Member c ∷ []) before (later ++ Member c ∷ []) parts texts
-      (ap (λ (l : List GroupLine). l ++ Member c ∷ []) there ∙ append_assoc before (p ∷ later) (Member c ∷ [])) are.1.1
-      ∙ recalled_next ahead c
-      (any_there b.memory ahead c before p later
+      ∙ shown_still k (ahead ++ c ∷ []) (shown ++ Member c ∷ []) before (later ++ Member c ∷ []) parts texts
+      (ap (λ (l : List GroupLine). l ++ Member c ∷ []) there
+      ∙ append_assoc before (line.Look look ∷ later) (Member c ∷ [])) are.1.1
+      ∙ shown_next b cells elements is name ahead c look
+      (any_there b.memory ahead c before (line.Look look) later
       (subst (λ (l : List GroupLine). list_any (disturbs b.memory ahead c) l ≡ false) there are.1.0))
-  recalled_still (suc k) ahead shown before later (Collect other ∷ parts) (t ∷ texts) there are =
-      recalled_still (suc k) ahead (shown ++ Collect other ∷ []) before (later ++ Collect other ∷ []) parts texts
-      (ap (λ (l : List GroupLine). l ++ Collect other ∷ []) there
-      ∙ append_assoc before (p ∷ later) (Collect other ∷ [])) are.1.1
-  recalled_still (suc k) ahead shown before later (Entry other ∷ parts) (t ∷ texts) there are =
-      recalled_still (suc k) ahead (shown ++ Entry other ∷ []) before (later ++ Entry other ∷ []) parts texts
-      (ap (λ (l : List GroupLine). l ++ Entry other ∷ []) there ∙ append_assoc before (p ∷ later) (Entry other ∷ []))
-      are.1.1
-  recalled_still (suc k) ahead shown before later (Known given ∷ parts) (t ∷ texts) there are =
-      recalled_still (suc k) ahead (shown ++ Known given ∷ []) before (later ++ Known given ∷ []) parts texts
-      (ap (λ (l : List GroupLine). l ++ Known given ∷ []) there ∙ append_assoc before (p ∷ later) (Known given ∷ []))
-      are.1.1
+  shown_still (suc k) ahead shown before later (line.Look other ∷ parts) (t ∷ texts) there are =
+      shown_still (suc k) ahead (shown ++ line.Look other ∷ []) before (later ++ line.Look other ∷ []) parts texts
+      (ap (λ (l : List GroupLine). l ++ line.Look other ∷ []) there
+      ∙ append_assoc before (line.Look look ∷ later) (line.Look other ∷ [])) are.1.1
+  shown_still (suc k) ahead shown before later (Known given ∷ parts) (t ∷ texts) there are =
+      shown_still (suc k) ahead (shown ++ Known given ∷ []) before (later ++ Known given ∷ []) parts texts
+      (ap (λ (l : List GroupLine). l ++ Known given ∷ []) there
+      ∙ append_assoc before (line.Look look ∷ later) (Known given ∷ [])) are.1.1
 
 -- ---- the answers are told
 
 pub told_nothing : (given : Answer) → told_with given [] ≡ []
 told_nothing (answer.Served c (Ok outcome)) = refl
 told_nothing (answer.Served c (Err refusal)) = refl
-told_nothing (answer.Kept who result) = refl
-told_nothing (answer.Entry who result) = refl
+told_nothing (answer.Looked look) = refl
 told_nothing (answer.Window element result) = refl
 told_nothing (answer.Room room) = refl
 told_nothing (answer.Turned done) = refl
@@ -211,21 +231,22 @@ module _ {D : Type 0} (watch : Bool) (old : EngineState D) where
   tells_member : (ahead : List Command) (text told more name : List ℕ) (c : Command) → SaysAll watch old ahead text
       → IsGroupLine watch b ahead (Member c) told
       → let a = answer_with (memory_between b ahead) (places_between b ahead) c in
-      more ≡ text ++ (answer_text name (answer.Served c a) ++ told_with (answer.Served c a) told)
+      more ≡ text ++ (answer_text name (memory_between b ahead) (answer.Served c a)
+      ++ told_with (answer.Served c a) told)
       → SaysAll watch old (ahead ++ c ∷ []) more
   tells_member ahead text told more name c tells (asked, is_told) is = λ start base at.
       told_member watch start b base ahead text (tells start base at) asked.0 name c asked.1 more
-      (is ∙ ap (λ (t : List ℕ). text
-      ++ (answer_text name (answer.Served c (answer_with (memory_between b ahead) (places_between b ahead) c))
-      ++ t)) (is_told _ refl))
+      (is ∙ ap (λ (t : List ℕ). text ++ (answer_text name (memory_between b ahead)
+      (answer.Served c (answer_with (memory_between b ahead) (places_between b ahead) c)) ++ t)) (is_told _ refl))
 
   tells_shown : (ahead : List Command) (text more name : List ℕ) (asked : Asked) (given : Answer)
       → SaysAll watch old ahead text → IsAsked asked
       → IsKnown (memory_between b ahead) (count_between b ahead) asked given
-      → more ≡ text ++ (answer_text name given ++ told_with given []) → SaysAll watch old ahead more
+      → more ≡ text ++ (answer_text name (memory_between b ahead) given ++ told_with given [])
+      → SaysAll watch old ahead more
   tells_shown ahead text more name asked given tells read shown is = λ start base at.
       told_shown watch start b base ahead text (tells start base at) read.0 name asked given read.1 shown more
-      (is ∙ ap (λ (t : List ℕ). text ++ (answer_text name given ++ t))
+      (is ∙ ap (λ (t : List ℕ). text ++ (answer_text name (memory_between b ahead) given ++ t))
       (told_nothing given ∙ sym (shown.tells watch (memory_between b ahead))))
 
   looked : (m : Contents) (n : ℕ) (asked : Asked) (given : Answer) → Answers m n (Some asked) given
@@ -238,8 +259,8 @@ module _ {D : Type 0} (watch : Bool) (old : EngineState D) where
     -- the next part's answer
     pub telling_next : (p : GroupLine) (parts : List GroupLine) (t : List ℕ) (texts : List (List ℕ))
         (answers : List Served) (text more name : List ℕ) (given : Answer)
-        → Telling cs (p ∷ parts) (t ∷ texts) answers text → line_answer m answers p ≡ Some given
-        → more ≡ text ++ (answer_text name given ++ told_with given t)
+        → Telling cs (p ∷ parts) (t ∷ texts) answers text → line_answer answers p ≡ Some given
+        → more ≡ text ++ (answer_text name m given ++ told_with given t)
         → Telling cs parts texts (answers_behind p answers) more
     telling_next (Member c) parts t texts [] text more name given telling is_given same = absurd (cc)
     telling_next (Member c) parts t texts (a ∷ answers) text more name given telling is_given same =
@@ -276,7 +297,7 @@ module _ {D : Type 0} (watch : Bool) (old : EngineState D) where
                   ∙ ap (λ (k : ℕ). map as_served (answers_with (memory_between b (telling.ahead ++ c ∷ [])) k rest))
                   (sym (left_behind b.memory b.places telling.ahead c));
               tells = tells_member telling.ahead text t more name c telling.tells telling.parts_are.0
-                  (same ∙ ap (λ (g : Answer). text ++ (answer_text name g ++ told_with g t))
+                  (same ∙ ap (λ (g : Answer). text ++ (answer_text name m g ++ told_with g t))
                   (given_is ∙ ap (λ r. answer.Served c r) result));
             }
 
@@ -288,62 +309,31 @@ module _ {D : Type 0} (watch : Bool) (old : EngineState D) where
         by_many (suc k) rest first all are = on (take k (members_in parts))
             (all ∙ ap (λ (l : List Command). telling.ahead ++ l) first) k refl
             (are ∙ ap (λ (l : List Command). map as_served (answers_with M L l)) first)
-    telling_next (Collect who) parts t texts answers text more name given telling is_given same =
-        let given_is : given ≡ answer.Kept who (ask m.windows who) = cc in
-        let still = recalled_still watch b cells elements is (Collect who) who (λ n ahead c e. e) telling.many
-        telling.ahead (telling.shown ++ Collect who ∷ [])
-        telling.shown [] parts texts refl telling.parts_are.1.1 in
+    telling_next (line.Look look) parts t texts answers text more name given telling is_given same =
+        let given_is : given ≡ answer.Looked look = cc in
+        let still = shown_still watch b cells elements is name look telling.many telling.ahead
+        (telling.shown ++ line.Look look ∷ []) telling.shown [] parts texts refl telling.parts_are.1.1 in
         let there = after_all
         ∙ ap (λ (l : List Command). memory_between b l)
         (telling.all ∙ ap (λ (l : List Command). telling.ahead ++ l) telling.first) in
-        let result = ask_recalls m.windows who ∙ ap entry_of (ap (λ (n : Contents). recall n.windows who) there ∙ still)
-        ∙ sym (ask_recalls (memory_between b telling.ahead).windows who) in
         record {
           ahead = telling.ahead;
-          shown = telling.shown ++ Collect who ∷ [];
+          shown = telling.shown ++ line.Look look ∷ [];
           more = telling.more;
           many = telling.many;
           all = telling.all;
           first = telling.first;
           parts_are = telling.parts_are.1.1;
           answers_are = telling.answers_are;
-          tells = tells_shown telling.ahead text more name (asks.Collect who) (answer.Kept who (ask m.windows who))
-              telling.tells telling.parts_are.0.0
-              (looked (memory_between b telling.ahead) (count_between b telling.ahead) (asks.Collect who)
-              (answer.Kept who (ask m.windows who))
-              (ap (λ r. answer.Kept who r) result) (λ any. refl) (λ watch any. refl))
-              (same ∙ ap (λ (g : Answer). text ++ (answer_text name g ++ told_with g t)) given_is
-              ∙ ap (λ (l : List ℕ). text
-              ++ (answer_text name (answer.Kept who (ask m.windows who))
-              ++ told_with (answer.Kept who (ask m.windows who)) l)) telling.parts_are.0.1);
-        }
-    telling_next (Entry who) parts t texts answers text more name given telling is_given same =
-        let given_is : given ≡ answer.Entry who (recall m.windows who) = cc in
-        let still = recalled_still watch b cells elements is (Entry who) who (λ n ahead c e. e) telling.many
-        telling.ahead (telling.shown ++ Entry who ∷ [])
-        telling.shown [] parts texts refl telling.parts_are.1.1 in
-        let there = after_all
-        ∙ ap (λ (l : List Command). memory_between b l)
-        (telling.all ∙ ap (λ (l : List Command). telling.ahead ++ l) telling.first) in
-        let result = ap (λ (n : Contents). recall n.windows who) there ∙ still in
-        record {
-          ahead = telling.ahead;
-          shown = telling.shown ++ Entry who ∷ [];
-          more = telling.more;
-          many = telling.many;
-          all = telling.all;
-          first = telling.first;
-          parts_are = telling.parts_are.1.1;
-          answers_are = telling.answers_are;
-          tells = tells_shown telling.ahead text more name (asks.Entry who) (answer.Entry who (recall m.windows who))
-              telling.tells telling.parts_are.0.0
-              (looked (memory_between b telling.ahead) (count_between b telling.ahead) (asks.Entry who)
-              (answer.Entry who (recall m.windows who))
-              (ap (λ r. answer.Entry who r) result) (λ any. refl) (λ watch any. refl))
-              (same ∙ ap (λ (g : Answer). text ++ (answer_text name g ++ told_with g t)) given_is
-              ∙ ap (λ (l : List ℕ). text
-              ++ (answer_text name (answer.Entry who (recall m.windows who))
-              ++ told_with (answer.Entry who (recall m.windows who)) l)) telling.parts_are.0.1);
+          tells = tells_shown telling.ahead text more name (asks.Look look) (answer.Looked look) telling.tells
+              telling.parts_are.0.0
+              (looked (memory_between b telling.ahead) (count_between b telling.ahead) (asks.Look look)
+              (answer.Looked look) refl (λ any. refl) (λ watch any. refl))
+              (same ∙ ap (λ (g : Answer). text ++ (answer_text name m g ++ told_with g t)) given_is
+              ∙ ap (λ (l : List ℕ). text ++ (look_text name m look ++ told_with (answer.Looked look) l))
+              telling.parts_are.0.1
+              ∙ ap (λ (l : List ℕ). text ++ (l ++ told_with (answer.Looked look) []))
+              (ap (λ (n : Contents). look_text name n look) there ∙ still));
         }
     telling_next (Known known) parts t texts answers text more name given telling is_given same =
         let given_is : given ≡ known = cc in
@@ -358,8 +348,10 @@ module _ {D : Type 0} (watch : Bool) (old : EngineState D) where
           answers_are = telling.answers_are;
           tells = tells_shown telling.ahead text more name telling.parts_are.0.0.0 known telling.tells
               telling.parts_are.0.0.1 telling.parts_are.0.0.2
-              (same ∙ ap (λ (g : Answer). text ++ (answer_text name g ++ told_with g t)) given_is
-              ∙ ap (λ (l : List ℕ). text ++ (answer_text name known ++ told_with known l)) telling.parts_are.0.1);
+              (same ∙ ap (λ (g : Answer). text ++ (answer_text name m g ++ told_with g t)) given_is
+              ∙ ap (λ (l : List ℕ). text ++ (answer_text name m known ++ told_with known l)) telling.parts_are.0.1.1
+              ∙ ap (λ (l : List ℕ). text ++ (l ++ told_with known []))
+              (telling.parts_are.0.1.0 name m (memory_between b telling.ahead)));
         }
 
   -- ---- all of them
@@ -380,14 +372,13 @@ module _ {D : Type 0} (watch : Bool) (old : EngineState D) where
       nothing (suc k) = refl
 
   -- no answer is left
-  pub telling_cut : (m : Contents) (cs : List Command) (p : GroupLine) (parts : List GroupLine) (texts : List (List ℕ))
+  pub telling_cut : (cs : List Command) (p : GroupLine) (parts : List GroupLine) (texts : List (List ℕ))
       (answers : List Served) (text : List ℕ)
-      → Telling cs (p ∷ parts) texts answers text → line_answer m answers p ≡ None → SaysAll watch old cs text
-  telling_cut m cs (Member c) parts texts (a ∷ answers) text telling none = absurd (cc)
-  telling_cut m cs (Collect who) parts texts answers text telling none = absurd (cc)
-  telling_cut m cs (Entry who) parts texts answers text telling none = absurd (cc)
-  telling_cut m cs (Known given) parts texts answers text telling none = absurd (cc)
-  telling_cut m cs (Member c) parts texts [] text telling none = no_more telling.ahead telling.more cs text telling.all
+      → Telling cs (p ∷ parts) texts answers text → line_answer answers p ≡ None → SaysAll watch old cs text
+  telling_cut cs (Member c) parts texts (a ∷ answers) text telling none = absurd (cc)
+  telling_cut cs (line.Look look) parts texts answers text telling none = absurd (cc)
+  telling_cut cs (Known given) parts texts answers text telling none = absurd (cc)
+  telling_cut cs (Member c) parts texts [] text telling none = no_more telling.ahead telling.more cs text telling.all
       (nobody telling.more telling.answers_are) telling.tells
     where
       nobody : (more : List Command)
@@ -400,7 +391,8 @@ module _ {D : Type 0} (watch : Bool) (old : EngineState D) where
   some_member : (ahead : List Command) (text told : List ℕ) (c : Command) → SaysAll watch old ahead text
       → IsGroupLine watch b ahead (Member c) told
       → SaysAll watch old (ahead ++ c ∷ [])
-      (text ++ (answer_text [] (answer.Served c (answer_with (memory_between b ahead) (places_between b ahead) c))
+      (text ++ (answer_text [] (memory_between b ahead)
+      (answer.Served c (answer_with (memory_between b ahead) (places_between b ahead) c))
       ++ told_with (answer.Served c (answer_with (memory_between b ahead) (places_between b ahead) c)) told))
   some_member ahead text told c tells part = tells_member ahead text told _ [] c tells part refl
 
@@ -420,10 +412,8 @@ module _ {D : Type 0} (watch : Bool) (old : EngineState D) where
         subst (λ (l : List Command). SaysAll watch old l rest.0)
             (append_assoc ahead (c ∷ []) (take k (members_in parts))) rest.1,
       )
-  some_from (suc k) ahead shown (Collect who ∷ parts) (t ∷ texts) text tells are = some_from (suc k) ahead
-      (shown ++ Collect who ∷ []) parts texts text tells are.1.1
-  some_from (suc k) ahead shown (Entry who ∷ parts) (t ∷ texts) text tells are = some_from (suc k) ahead
-      (shown ++ Entry who ∷ []) parts texts text tells are.1.1
+  some_from (suc k) ahead shown (line.Look look ∷ parts) (t ∷ texts) text tells are = some_from (suc k) ahead
+      (shown ++ line.Look look ∷ []) parts texts text tells are.1.1
   some_from (suc k) ahead shown (Known given ∷ parts) (t ∷ texts) text tells are = some_from (suc k) ahead
       (shown ++ Known given ∷ []) parts texts text tells are.1.1
 
@@ -441,8 +431,8 @@ module _ {D : Type 0} (watch : Bool) (old : EngineState D) where
       → WasServed watch old all all_texts members cs all_answers m
       → (p : GroupLine) (parts rest : List GroupLine) (t : List ℕ) (texts others : List (List ℕ))
       (answers left : List Served) (text more name : List ℕ) (given : Answer)
-      → parts ≡ p ∷ rest → texts ≡ t ∷ others → left ≡ answers_behind p answers → line_answer m answers p ≡ Some given
-      → more ≡ text ++ (answer_text name given ++ told_with given t) → Telling cs parts texts answers text
+      → parts ≡ p ∷ rest → texts ≡ t ∷ others → left ≡ answers_behind p answers → line_answer answers p ≡ Some given
+      → more ≡ text ++ (answer_text name m given ++ told_with given t) → Telling cs parts texts answers text
       → Telling cs rest others left more
   telling_step all all_texts members cs all_answers m served p parts rest t texts others answers left text more name
       given parts_are texts_are left_is given_is same telling =
@@ -452,12 +442,12 @@ module _ {D : Type 0} (watch : Bool) (old : EngineState D) where
       (subst (λ (l : List GroupLine). Telling cs l (t ∷ others) answers text) parts_are
       (subst (λ (l : List (List ℕ)). Telling cs parts l answers text) texts_are telling)) given_is same)
 
-  pub telling_ends : (m : Contents) (cs : List Command) (p : GroupLine) (parts rest : List GroupLine)
+  pub telling_ends : (cs : List Command) (p : GroupLine) (parts rest : List GroupLine)
       (texts : List (List ℕ)) (answers : List Served) (text : List ℕ)
-      → parts ≡ p ∷ rest → line_answer m answers p ≡ None → Telling cs parts texts answers text
+      → parts ≡ p ∷ rest → line_answer answers p ≡ None → Telling cs parts texts answers text
       → SaysAll watch old cs text
-  telling_ends m cs p parts rest texts answers text parts_are none telling =
-      telling_cut m cs p rest texts answers text
+  telling_ends cs p parts rest texts answers text parts_are none telling =
+      telling_cut cs p rest texts answers text
       (subst (λ (l : List GroupLine). Telling cs l texts answers text) parts_are telling) none
 
   pub telling_over : (cs : List Command) (parts : List GroupLine) (texts : List (List ℕ)) (answers : List Served)

@@ -297,22 +297,28 @@ module _ {D : Type 0} (now : D → Moment) (past : D → List Moment) (honest : 
         let on = goes start far.1.0 (λ b. (far.0, far.1.1.0)) h in
         (far.0, (far.1.0, (on.1, far.1.1.1)))
 
-    -- what is told behind the answer, at the memory where it was answered
-    told_at : (start old new : EngineState D) (said : List Exchange) (asked : Option Asked) (answer : Answer) (line name told : List ℕ) → asked_of line ≡ asked → IsAt now past start old said
+    -- the line of an answer on this memory, and what is told behind it
+    abbrev line_on : List ℕ → Contents → Answer → List ℕ
+    line_on name m answer = answer_text name m answer ++ watch_text watch m answer
+
+    -- the same, at the memory where it was answered
+    told_at : (start old new : EngineState D) (said : List Exchange) (asked : Option Asked) (answer : Answer)
+        (line name told : List ℕ) → asked_of line ≡ asked → IsAt now past start old said
         → IsAt now past start new (record { line = line; answer = answer; name = name } ∷ said)
-        → ((n : ℕ) → Answers old.memory n asked answer → told ≡ watch_text watch old.memory answer) → told ≡ watch_text watch (after start.memory (put_of start.memory said)) answer
+        → ((n : ℕ) → Answers old.memory n asked answer → told ≡ line_on name old.memory answer)
+        → told ≡ line_on name (after start.memory (put_of start.memory said)) answer
     told_at start old new said asked answer line name told read at after_it is =
         let m : Contents = after start.memory (put_of start.memory said) in
         let same : old.memory ≡ after start.memory (put_of start.memory said) = at.run.memory at.works in
         let answers : Answers old.memory (start.count + length (put_of start.memory said)) asked answer
         = subst (λ (m : Contents). Answers m (start.count + length (put_of start.memory said)) asked answer) (sym same)
         (subst (λ (o : Option Asked). Answers (after start.memory (put_of start.memory said)) (start.count + length (put_of start.memory said)) o answer) read after_it.answered.0) in
-        subst (λ (m : Contents). told ≡ watch_text watch m answer) same (is (start.count + length (put_of start.memory said)) answers)
+        subst (λ (m : Contents). told ≡ line_on name m answer) same (is (start.count + length (put_of start.memory said)) answers)
 
     -- the line of an answer was printed, and those behind it
     pub talks_on : (old new : EngineState D) (was is : Option (List ℕ)) (asked : Option Asked) (answer : Answer) (line name told : List ℕ) → asked_of line ≡ asked → (honest new.disk → honest old.disk)
-        → Says now past honest old new asked answer → ((n : ℕ) → Answers old.memory n asked answer → told ≡ watch_text watch old.memory answer)
-        → Appends was is (answer_text name answer ++ told) → TalksOn watch now past honest old was new is
+        → Says now past honest old new asked answer → ((n : ℕ) → Answers old.memory n asked answer → told ≡ line_on name old.memory answer)
+        → Appends was is told → TalksOn watch now past honest old was new is
     talks_on old new was is asked answer line name told read back says tells printed = λ start held so_far h.
         let far = so_far (back h) in
         let said = says start far.1.0 line name read (λ b. (far.0, far.1.1.0)) h in
@@ -322,23 +328,23 @@ module _ {D : Type 0} (now : D → Moment) (past : D → List Moment) (honest : 
             record { line = line; answer = answer; name = name } ∷ far.1.0,
             (
               said.1,
-              subst (λ (t : List ℕ). Appends held is (texts_of watch start.memory far.1.0 ++ (answer_text name answer ++ t))) same
-                  (Appends-trans held was is (texts_of watch start.memory far.1.0) (answer_text name answer ++ told) far.1.1.1 printed),
+              subst (λ (t : List ℕ). Appends held is (texts_of watch start.memory far.1.0 ++ t)) same
+                  (Appends-trans held was is (texts_of watch start.memory far.1.0) told far.1.1.1 printed),
             ),
           ),
         )
 
     -- a beginning of them was printed
     pub talk_ends : (old new : EngineState D) (was is : Option (List ℕ)) (asked : Option Asked) (answer : Answer) (line name told : List ℕ) → asked_of line ≡ asked → (honest new.disk → honest old.disk)
-        → Says now past honest old new asked answer → ((n : ℕ) → Answers old.memory n asked answer → told ≡ watch_text watch old.memory answer)
-        → Begins was is (answer_text name answer ++ told) → TalkEnds watch now past honest old was new is
+        → Says now past honest old new asked answer → ((n : ℕ) → Answers old.memory n asked answer → told ≡ line_on name old.memory answer)
+        → Begins was is told → TalkEnds watch now past honest old was new is
     talk_ends old new was is asked answer line name told read back says tells printed = λ start held so_far h.
         let far = so_far (back h) in
         let said = says start far.1.0 line name read (λ b. (far.0, far.1.1.0)) h in
         let same = told_at start old new far.1.0 asked answer line name told read far.1.1.0 said.1 tells in (
           far.0,
-          silent start new held was is far.1.0 (record { line = line; answer = answer; name = name } ∷ far.1.0) (answer_text name answer ++ told) said.1
-              (ap (λ (t : List ℕ). texts_of watch start.memory far.1.0 ++ (answer_text name answer ++ t)) (sym same)) far.1.1.1 printed,
+          silent start new held was is far.1.0 (record { line = line; answer = answer; name = name } ∷ far.1.0) told said.1
+              (ap (λ (t : List ℕ). texts_of watch start.memory far.1.0 ++ t) (sym same)) far.1.1.1 printed,
         )
 
     pub ends_after : (old mid new : EngineState D) (was been is : Option (List ℕ)) → TalksOn watch now past honest old was mid been → TalkEnds watch now past honest mid been new is → TalkEnds watch now past honest old was new is

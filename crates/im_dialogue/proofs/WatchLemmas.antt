@@ -1,5 +1,6 @@
 -- What is told of those that waited.
-use Rattle.std.proofs.Common.{◌≡◌, ◌∙◌, ℕ, Bool, true, false, List, [], take, drop, refl, sym, subst, if◌then◌else◌}
+use Rattle.std.proofs.Common.{◌≡◌, ◌∙◌, ℕ, Bool, true, false, List, [], ◌++◌, take, drop, refl, sym, ap, subst}
+use Rattle.std.proofs.Common.{if◌then◌else◌}
 use Rattle.std.specs.Prelude.{◌==◌, Option, None, Some, Result, Ok, Err}
 use Rattle.std.specs.List.{list_any}
 use Rattle.im_types.specs.declared.operations.Op.{Op}
@@ -21,6 +22,8 @@ use Rattle.im_dialogue.specs.declared.asking.Asked.TheVariants as asks
 use Rattle.im_dialogue.specs.declared.answers.Answer.{Answer}
 use Rattle.im_dialogue.specs.declared.answers.Answer.TheVariants.{Served as ServedAs}
 use Rattle.im_dialogue.specs.Watching.{watch_text, is_quiet, told_by, told_with}
+use Rattle.im_dialogue.specs.declared.look.Look.{Look}
+use Rattle.im_dialogue.specs.Answers.{answer_text}
 use Rattle.im_dialogue.specs.Talk.{Answers}
 
 -- ---- who is resumed
@@ -78,7 +81,7 @@ quiet_resumes cells who (Put a v) quiet = absurd (cc)
 
 -- ---- what is told behind an answer
 
-pub told_is : (watch : Bool) (m : Contents) (n : ℕ) (asked : Option Asked) (answer : Answer) → Answers m n asked answer → told_with answer (told_by watch m asked) ≡ watch_text watch m answer
+told_is : (watch : Bool) (m : Contents) (n : ℕ) (asked : Option Asked) (answer : Answer) → Answers m n asked answer → told_with answer (told_by watch m asked) ≡ watch_text watch m answer
 told_is watch m n (Some (asks.Serve command)) answer (outcome, is, of) = by_answer answer outcome is
   where
     by_outcome : (o : Result Outcome Refusal) → told_with (ServedAs command o) (told_by watch m (Some (asks.Serve command))) ≡ watch_text watch m (ServedAs command o)
@@ -87,8 +90,7 @@ told_is watch m n (Some (asks.Serve command)) answer (outcome, is, of) = by_answ
 
     by_answer : (a : Answer) (o : Result Outcome Refusal) → a ≡ ServedAs command o → told_with a (told_by watch m (Some (asks.Serve command))) ≡ watch_text watch m a
     by_answer a o is = subst (λ (x : Answer). told_with x (told_by watch m (Some (asks.Serve command))) ≡ watch_text watch m x) (sym is) (by_outcome o)
-told_is watch m n (Some (asks.Collect who)) answer is = subst (λ (x : Answer). told_with x [] ≡ watch_text watch m x) (sym is) refl
-told_is watch m n (Some (asks.Entry who)) answer is =
+told_is watch m n (Some (asks.Look look)) answer is =
     subst (λ (x : Answer). told_with x [] ≡ watch_text watch m x) (sym is) refl
 told_is watch m n (Some (asks.Window element)) answer is = subst (λ (x : Answer). told_with x [] ≡ watch_text watch m x) (sym is) refl
 told_is watch m n (Some asks.Room) answer (room, is) = subst (λ (x : Answer). told_with x [] ≡ watch_text watch m x) (sym is) refl
@@ -99,5 +101,38 @@ told_is watch m n (Some asks.About) answer (slots, room, is) =
 told_is watch m n (Some asks.Quit) answer none = absurd none
 told_is watch m n None answer (number, (fault, is)) = subst (λ (x : Answer). told_with x [] ≡ watch_text watch m x) (sym is) refl
 
-pub wrong_tells : (watch : Bool) (m : Contents) (n : ℕ) (answer : Answer) → Answers m n None answer → [] ≡ watch_text watch m answer
-wrong_tells watch m n answer (number, (fault, is)) = subst (λ (x : Answer). [] ≡ watch_text watch m x) (sym is) refl
+-- the line of an answer, on the memory after it too, which is the same if the line only looks
+plain_line : (name : List ℕ) (m now : Contents) (n : ℕ) (asked : Asked) (answer : Answer)
+    → ((look : Look) → asked ≡ asks.Look look → now ≡ m) → Answers m n (Some asked) answer
+    → answer_text name now answer ≡ answer_text name m answer
+plain_line name m now n (asks.Look look) answer same is =
+    ap (λ (x : Contents). answer_text name x answer) (same look refl)
+plain_line name m now n (asks.Serve command) answer same (outcome, is, of) =
+    subst (λ (x : Answer). answer_text name now x ≡ answer_text name m x) (sym is) refl
+plain_line name m now n (asks.Window element) answer same is =
+    subst (λ (x : Answer). answer_text name now x ≡ answer_text name m x) (sym is) refl
+plain_line name m now n asks.Room answer same (room, is) =
+    subst (λ (x : Answer). answer_text name now x ≡ answer_text name m x) (sym is) refl
+plain_line name m now n asks.Turn answer same (done, is) =
+    subst (λ (x : Answer). answer_text name now x ≡ answer_text name m x) (sym is) refl
+plain_line name m now n asks.Count answer same is =
+    subst (λ (x : Answer). answer_text name now x ≡ answer_text name m x) (sym is) refl
+plain_line name m now n asks.About answer same (slots, room, is) =
+    subst (λ (x : Answer). answer_text name now x ≡ answer_text name m x) (sym is) refl
+plain_line name m now n asks.Quit answer same none = absurd none
+
+-- the line of an answer that was asked for, and what is told behind it
+pub line_is : (watch : Bool) (name : List ℕ) (m now : Contents) (n : ℕ) (asked : Asked) (answer : Answer)
+    (told : List ℕ) → ((look : Look) → asked ≡ asks.Look look → now ≡ m)
+    → told ≡ told_with answer (told_by watch m (Some asked)) → Answers m n (Some asked) answer
+    → answer_text name now answer ++ told ≡ answer_text name m answer ++ watch_text watch m answer
+line_is watch name m now n asked answer told same is answers =
+    ap (λ (t : List ℕ). t ++ told) (plain_line name m now n asked answer same answers)
+    ∙ ap (λ (t : List ℕ). answer_text name m answer ++ t) (is ∙ told_is watch m n (Some asked) answer answers)
+
+-- the line that says where a line goes wrong, with nothing behind it
+pub wrong_line_is : (watch : Bool) (name : List ℕ) (m now : Contents) (n : ℕ) (answer : Answer) → now ≡ m
+    → Answers m n None answer
+    → answer_text name now answer ++ [] ≡ answer_text name m answer ++ watch_text watch m answer
+wrong_line_is watch name m now n answer same (number, (fault, is)) =
+    subst (λ (x : Answer). answer_text name now x ++ [] ≡ answer_text name m x ++ watch_text watch m x) (sym is) refl

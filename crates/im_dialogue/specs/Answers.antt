@@ -7,14 +7,19 @@ use Rattle.im_types.specs.declared.commands.Command.TheVariants.{Request as Asks
 use Rattle.im_types.specs.declared.commands.Outcome.{Outcome}
 use Rattle.im_types.specs.declared.commands.Outcome.TheVariants.{Entry as Tells, Confirmed}
 use Rattle.im_types.specs.declared.refusals.Refusal.{Refusal}
+use Rattle.im_types.specs.Contents.{Contents, block_at, held_at}
+use Rattle.im_types.specs.Window.{ask}
 use Rattle.im_checkpoint.specs.declared.checkpoint.TurnDone.{TurnDone}
 use Rattle.im_checkpoint.specs.declared.checkpoint.TurnDone.TheVariants.{Idle, Began, Page, Synced, InForce, Swept}
 use Rattle.im_text.specs.Texts.{entry_text, line_feed, op_text}
 use Rattle.im_text.specs.Printing.{told_line, refused_line}
 use Rattle.im_dialogue.specs.declared.about.About.{About}
 use Rattle.im_dialogue.specs.declared.answers.Answer.{Answer}
-use Rattle.im_dialogue.specs.declared.answers.Answer.TheVariants.{Served, Kept, Entry as Recalled, Window}
+use Rattle.im_dialogue.specs.declared.answers.Answer.TheVariants.{Served, Looked, Window}
 use Rattle.im_dialogue.specs.declared.answers.Answer.TheVariants.{Room, Turned, Count, About as Facts, Wrong}
+use Rattle.im_dialogue.specs.declared.look.Look.{Look}
+use Rattle.im_dialogue.specs.declared.look.Look.TheVariants.{Collect, Entry as Recalls, Cell, Block, Stat, Help}
+use Rattle.im_dialogue.specs.Showing.{recall, cell_said, block_said, stat_line, help_line}
 
 -- E.N refused NUMBER NAME
 abbrev pub request_refused : ℕ → ℕ → Refusal → List ℕ → List ℕ
@@ -85,14 +90,23 @@ turn_text Swept = codes "turn swept"
 abbrev pub wrong_line : ℕ → List ℕ → List ℕ
 wrong_line number words = codes "error " ++ decimal number ++ codes ": " ++ words ++ line_feed
 
--- the line of an answer; the words are the name of its refusal, or where a line that isn't in the grammar goes wrong
-abbrev pub answer_text : List ℕ → Answer → List ℕ
-answer_text name (Served command outcome) = served_line name command outcome
-answer_text name (Kept who answer) = kept_line who.element who.number name answer
-answer_text name (Recalled who answer) = recalled_line who.element who.number name answer
-answer_text name (Window element answer) = window_line element name answer
-answer_text name (Room room) = codes "room " ++ decimal room ++ line_feed
-answer_text name (Turned done) = turn_text done ++ line_feed
-answer_text name (Count count) = codes "count " ++ decimal count ++ line_feed
-answer_text name (Facts about) = about_line about
-answer_text name (Wrong number fault) = wrong_line number name
+-- what a line shows of this memory that only looks
+abbrev pub look_text : List ℕ → Contents → Look → List ℕ
+look_text name m (Collect who) = kept_line who.element who.number name (ask m.windows who)
+look_text name m (Recalls who) = recalled_line who.element who.number name (recall m.windows who)
+look_text name m (Cell a) = cell_said a (held_at m.cells a)
+look_text name m (Block a) = block_said a (block_at m.cells a)
+look_text name m Stat = stat_line m
+look_text name m Help = help_line
+
+-- the line of an answer on this memory; the words are the name of its refusal, or where a line that isn't in the
+-- grammar goes wrong
+abbrev pub answer_text : List ℕ → Contents → Answer → List ℕ
+answer_text name m (Served command outcome) = served_line name command outcome
+answer_text name m (Looked look) = look_text name m look
+answer_text name m (Window element answer) = window_line element name answer
+answer_text name m (Room room) = codes "room " ++ decimal room ++ line_feed
+answer_text name m (Turned done) = turn_text done ++ line_feed
+answer_text name m (Count count) = codes "count " ++ decimal count ++ line_feed
+answer_text name m (Facts about) = about_line about
+answer_text name m (Wrong number fault) = wrong_line number name

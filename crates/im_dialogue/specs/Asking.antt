@@ -10,8 +10,9 @@ use Rattle.im_script.specs.Grammar.{is_line, number_up_to, words_of}
 use Rattle.im_script.specs.Lines.{action_of}
 use Rattle.im_script.specs.Places.{op_of}
 use Rattle.im_dialogue.specs.declared.asking.Asked.{Asked}
-use Rattle.im_dialogue.specs.declared.asking.Asked.TheVariants.{Serve, Collect, Entry, Window}
+use Rattle.im_dialogue.specs.declared.asking.Asked.TheVariants.{Serve, Look, Window}
 use Rattle.im_dialogue.specs.declared.asking.Asked.TheVariants.{Room, Turn, Count, About, Quit}
+use Rattle.im_dialogue.specs.declared.look.Look.TheVariants.{Collect, Entry, Cell, Block, Stat, Help}
 
 -- an element's number
 abbrev pub element_of : List ℕ → Option ℕ
@@ -38,19 +39,27 @@ waiter_of word = waiter_by (slice_split (λ byte. byte == 46) word)
 abbrev pub op_in : List (List ℕ) → Option Op
 op_in words = option_and_then (op_of []) (action_of [] words)
 
--- room, turn, count, about or quit
+-- room, turn, count, about, stat, help or quit
 abbrev pub asked_by_one : List ℕ → Option Asked
 asked_by_one word = if bytes_eq word (codes "room") then Some Room
     else (if bytes_eq word (codes "turn") then Some Turn
     else (if bytes_eq word (codes "count") then Some Count
     else (if bytes_eq word (codes "about") then Some About
-    else (if bytes_eq word (codes "quit") then Some Quit else None))))
+    else (if bytes_eq word (codes "stat") then Some (Look Stat)
+    else (if bytes_eq word (codes "help") then Some (Look Help)
+    else (if bytes_eq word (codes "quit") then Some Quit else None))))))
 
--- collect E.N, entry E.N or window E
+-- cell A or block A, given the address
+abbrev pub asked_at : List ℕ → ℕ → Option Asked
+asked_at word a = if bytes_eq word (codes "cell") then Some (Look (Cell a))
+    else (if bytes_eq word (codes "block") then Some (Look (Block a)) else None)
+
+-- collect E.N, entry E.N, window E, cell A or block A
 abbrev pub asked_by_two : List ℕ → List ℕ → Option Asked
-asked_by_two word what = if bytes_eq word (codes "collect") then option_map Collect (waiter_of what)
-    else (if bytes_eq word (codes "entry") then option_map Entry (waiter_of what)
-    else (if bytes_eq word (codes "window") then option_map Window (element_of what) else None))
+asked_by_two word what = if bytes_eq word (codes "collect") then option_map (λ w. Look (Collect w)) (waiter_of what)
+    else (if bytes_eq word (codes "entry") then option_map (λ w. Look (Entry w)) (waiter_of what)
+    else (if bytes_eq word (codes "window") then option_map Window (element_of what)
+    else option_and_then (asked_at word) (number_up_to 4294967295 what)))
 
 -- confirm E UPTO
 abbrev pub asked_by_three : List ℕ → List ℕ → List ℕ → Option Asked

@@ -1,4 +1,6 @@
 pub mod Asking
+pub mod Counting
+pub mod Showing
 pub mod Answers
 pub mod Watching
 pub mod Talk

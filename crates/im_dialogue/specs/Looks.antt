@@ -11,6 +11,8 @@ use Rattle.im_types.specs.declared.commands.Command.TheVariants.{Request as Asks
 use Rattle.im_types.specs.Contents.{Contents, kept_for}
 use Rattle.im_types.specs.Step.{asker}
 use Rattle.im_types.specs.Agreement.{address_of, same_waiter}
+use Rattle.im_dialogue.specs.declared.look.Look.{Look}
+use Rattle.im_dialogue.specs.declared.look.Look.TheVariants.{Collect, Entry, Cell, Block, Stat, Help}
 
 -- an operation that has to wait, if it does, at this address
 abbrev pub op_waits_at : ℕ → Op → Bool
@@ -68,3 +70,12 @@ may_reach a (Confirm element upto) = false
 abbrev pub is_first : Contents → List Command → Request → Bool
 is_first m ahead r = (is_none (kept_for m.windows (asker r)) && not (list_any (asks_for (asker r)) ahead))
     && not (list_any (may_reach (address_of r.op)) ahead)
+
+-- after these commands the command may change what the line shows; each may change what `stat` shows
+abbrev pub may_alter : Contents → List Command → Look → Command → Bool
+may_alter m ahead (Collect who) command = may_change m ahead who command
+may_alter m ahead (Entry who) command = may_change m ahead who command
+may_alter m ahead (Cell a) command = may_reach a command
+may_alter m ahead (Block a) command = may_reach a command
+may_alter m ahead Stat command = true
+may_alter m ahead Help command = false

@@ -1,17 +1,15 @@
 -- A dialogue over an engine: what was asked, what it was answered, and what a crash leaves of it. (Own.)
-use Rattle.std.specs.Prelude.{◌≡◌, ◌⊎◌, ℕ, ◌+◌, ◌≤◌, nat_lt, Bool, true, false, List, [], ◌∷◌, ◌++◌, length}
-use Rattle.std.specs.Prelude.{Option, None, Some, MatchResult, Result, Ok, Err, if◌then◌else◌}
+use Rattle.std.specs.Prelude.{◌≡◌, ◌⊎◌, ℕ, ◌+◌, ◌≤◌, Bool, true, false, List, [], ◌∷◌, ◌++◌, length}
+use Rattle.std.specs.Prelude.{Option, None, Some, MatchResult, Result, Err}
 use Rattle.im_types.specs.declared.TheConstants.{MAX_GROUP}
 use Rattle.std.specs.Io.KnownBytes.{Appends}
 use Rattle.im_types.specs.declared.commands.Command.{Command}
 use Rattle.im_types.specs.declared.commands.Outcome.{Outcome}
 use Rattle.im_types.specs.declared.refusals.Refusal.{Refusal}
-use Rattle.im_types.specs.declared.refusals.Refusal.TheVariants.{Gap, Forgotten, JournalFull, Device, Failed}
-use Rattle.im_types.specs.declared.operations.Waiter.{Waiter}
-use Rattle.im_types.specs.declared.operations.Kept.{Kept as KeptEntry}
+use Rattle.im_types.specs.declared.refusals.Refusal.TheVariants.{JournalFull, Device, Failed}
 use Rattle.im_types.specs.Layout.{layout_in_use}
-use Rattle.im_types.specs.Contents.{Contents, Window as WindowOf, kept_for}
-use Rattle.im_types.specs.Window.{ask, bounds}
+use Rattle.im_types.specs.Contents.{Contents}
+use Rattle.im_types.specs.Window.{bounds}
 use Rattle.im_types.specs.Step.{step, is_accepted}
 use Rattle.im_types.specs.Run.{after}
 use Rattle.im_disk.specs.declared.disk.Disk.{Ghosts}
@@ -26,7 +24,7 @@ use Rattle.im_dialogue.specs.declared.asking.Asked.TheVariants as asks
 use Rattle.im_script.specs.declared.faults.LineFault.{LineFault}
 use Rattle.im_dialogue.specs.declared.about.About.{About}
 use Rattle.im_dialogue.specs.declared.answers.Answer.{Answer}
-use Rattle.im_dialogue.specs.declared.answers.Answer.TheVariants.{Served, Kept, Entry, Window, Room, Turned, Count}
+use Rattle.im_dialogue.specs.declared.answers.Answer.TheVariants.{Served, Looked, Window, Room, Turned, Count}
 use Rattle.im_dialogue.specs.declared.answers.Answer.TheVariants.{About as Facts, Wrong}
 use Rattle.im_dialogue.specs.Asking.{asked_of}
 use Rattle.im_dialogue.specs.Answers.{answer_text}
@@ -45,16 +43,6 @@ pub record Exchange : Type 0 where
 abbrev pub IsOf : Contents → Command → Result Outcome Refusal → Type 0
 IsOf m command answer = (answer ≡ (step m command).answer) ⊎ ((is_accepted m command ≡ true) × (answer ≡ Err JournalFull))
 
--- what is kept for a request with its operation, or why nothing is kept, as for `collect`, by the bounds of the window
-abbrev pub recalled : ℕ → Result (ℕ × ℕ) Refusal → Option KeptEntry → Result KeptEntry Refusal
-recalled number (Err refusal) kept = Err refusal
-recalled number (Ok (base, next)) (Some kept) = Ok kept
-recalled number (Ok (base, next)) None = Err (if nat_lt number base then Forgotten else Gap)
-
--- a request and what is kept for it, or why nothing is kept
-abbrev pub recall : List WindowOf → Waiter → Result KeptEntry Refusal
-recall windows who = recalled who.number (bounds windows who.element) (kept_for windows who)
-
 -- what `about` says of an image with this memory, this many slots, this many accepted commands and this room
 abbrev pub about_of : Contents → ℕ → ℕ → ℕ → About
 about_of m slots commands room = record {
@@ -69,8 +57,7 @@ about_of m slots commands room = record {
 -- the answer to what is asked, on this memory, after this many commands
 abbrev pub Answers : Contents → ℕ → Option Asked → Answer → Type 0
 Answers m commands (Some (asks.Serve command)) answer = (outcome : Result Outcome Refusal) × (answer ≡ Served command outcome) × IsOf m command outcome
-Answers m commands (Some (asks.Collect who)) answer = answer ≡ Kept who (ask m.windows who)
-Answers m commands (Some (asks.Entry who)) answer = answer ≡ Entry who (recall m.windows who)
+Answers m commands (Some (asks.Look look)) answer = answer ≡ Looked look
 Answers m commands (Some (asks.Window element)) answer = answer ≡ Window element (bounds m.windows element)
 Answers m commands (Some asks.Room) answer = (room : ℕ) × (answer ≡ Room room)
 Answers m commands (Some asks.Turn) answer = (done : TurnDone) × (answer ≡ Turned done)
@@ -98,7 +85,8 @@ AreAnswered m commands (x ∷ xs) = Answers (after m (put_of m xs)) (commands + 
 -- lines of the requests that it answered
 abbrev pub texts_of : Bool → Contents → List Exchange → List ℕ
 texts_of watch m [] = []
-texts_of watch m (x ∷ xs) = texts_of watch m xs ++ (answer_text x.name x.answer ++ watch_text watch (after m (put_of m xs)) x.answer)
+texts_of watch m (x ∷ xs) = texts_of watch m xs
+    ++ (answer_text x.name (after m (put_of m xs)) x.answer ++ watch_text watch (after m (put_of m xs)) x.answer)
 
 -- the refusal says that a call of the disk failed, and ends the dialogue
 abbrev pub is_end : Refusal → Bool

@@ -10,7 +10,6 @@ use Rattle.im_types.specs.declared.groups.Served.TheVariants as served
 use Rattle.im_types.specs.declared.refusals.Refusal.{Refusal}
 use Rattle.im_types.specs.declared.refusals.Refusal.TheVariants.{NoMemory}
 use Rattle.im_types.specs.Contents.{Contents}
-use Rattle.im_types.specs.Window.{ask}
 use Rattle.im_groups.specs.Commands.{places, answer_with, commands_at, contents_after, left_after}
 use Rattle.im_engine.specs.State.{EngineState}
 use Rattle.im_dialogue.specs.declared.asking.Asked.{Asked}
@@ -18,10 +17,11 @@ use Rattle.im_dialogue.specs.declared.asking.Asked.TheVariants as asks
 use Rattle.im_dialogue.specs.declared.answers.Answer.{Answer}
 use Rattle.im_dialogue.specs.declared.answers.Answer.TheVariants as answer
 use Rattle.im_dialogue.specs.declared.group_line.GroupLine.{GroupLine}
-use Rattle.im_dialogue.specs.declared.group_line.GroupLine.TheVariants.{Member, Collect, Entry, Known}
+use Rattle.im_dialogue.specs.declared.group_line.GroupLine.TheVariants.{Member, Look, Known}
+use Rattle.im_dialogue.specs.Answers.{answer_text}
 use Rattle.im_dialogue.specs.Asking.{asked_of}
-use Rattle.im_dialogue.specs.Looks.{may_change}
-use Rattle.im_dialogue.specs.Talk.{Answers, put_by, recall}
+use Rattle.im_dialogue.specs.Looks.{may_alter}
+use Rattle.im_dialogue.specs.Talk.{Answers, put_by}
 use Rattle.im_dialogue.specs.Watching.{told_with, watch_text}
 
 -- ---- what lines ask for
@@ -70,30 +70,26 @@ count_between b ahead = b.count + length (commands_at b.memory b.places ahead)
 -- the members with that of one more part
 abbrev pub with_member : List Command → GroupLine → List Command
 with_member ahead (Member command) = ahead ++ command ∷ []
-with_member ahead (Collect who) = ahead
-with_member ahead (Entry who) = ahead
+with_member ahead (Look look) = ahead
 with_member ahead (Known answer) = ahead
 
 -- the members among parts
 abbrev pub members_in : List GroupLine → List Command
 members_in [] = []
 members_in (Member command ∷ parts) = command ∷ members_in parts
-members_in (Collect who ∷ parts) = members_in parts
-members_in (Entry who ∷ parts) = members_in parts
+members_in (Look look ∷ parts) = members_in parts
 members_in (Known answer ∷ parts) = members_in parts
 
 -- after these members a command may change what a part shows that is answered behind the group
 abbrev pub disturbs : Contents → List Command → Command → GroupLine → Bool
 disturbs m ahead command (Member other) = false
-disturbs m ahead command (Collect who) = may_change m ahead who command
-disturbs m ahead command (Entry who) = may_change m ahead who command
+disturbs m ahead command (Look look) = may_alter m ahead look command
 disturbs m ahead command (Known answer) = false
 
 -- a part that stands behind these members and parts changes nothing of what those parts show
 abbrev pub LeavesShown : Contents → List Command → List GroupLine → GroupLine → Type 0
 LeavesShown m ahead shown (Member command) = list_any (disturbs m ahead command) shown ≡ false
-LeavesShown m ahead shown (Collect who) = Unit {0}
-LeavesShown m ahead shown (Entry who) = Unit {0}
+LeavesShown m ahead shown (Look look) = Unit {0}
 LeavesShown m ahead shown (Known answer) = Unit {0}
 
 -- what is asked has this answer on this memory, after this many commands, and nothing is put on the disk or told for it
@@ -101,6 +97,10 @@ pub record IsKnown (m : Contents) (commands : ℕ) (asked : Asked) (answer : Ans
   pub answers : Answers m commands (Some asked) answer
   pub puts : (any : Contents) → put_by any answer ≡ []
   pub tells : (watch : Bool) (any : Contents) → watch_text watch any answer ≡ []
+
+-- the line of an answer is the same on each memory
+abbrev pub IsPlain : Answer → Type 0
+IsPlain answer = (name : List ℕ) (m n : Contents) → answer_text name m answer ≡ answer_text name n answer
 
 -- the text is what those that watch are told behind the answer of a command, which stands behind these members
 abbrev pub TellsWatchers : Bool → GroupStart → List Command → Command → List ℕ → Type 0
@@ -113,10 +113,9 @@ TellsWatchers watch b ahead command text = (outcome : Result Outcome Refusal)
 abbrev pub IsGroupLine : Bool → GroupStart → List Command → GroupLine → List ℕ → Type 0
 IsGroupLine watch b ahead (Member command) text = IsAsked (asks.Serve command)
     × TellsWatchers watch b ahead command text
-IsGroupLine watch b ahead (Collect who) text = IsAsked (asks.Collect who) × (text ≡ [])
-IsGroupLine watch b ahead (Entry who) text = IsAsked (asks.Entry who) × (text ≡ [])
+IsGroupLine watch b ahead (Look look) text = IsAsked (asks.Look look) × (text ≡ [])
 IsGroupLine watch b ahead (Known given) text = ((asked : Asked) × IsAsked asked
-    × IsKnown (memory_between b ahead) (count_between b ahead) asked given) × (text ≡ [])
+    × IsKnown (memory_between b ahead) (count_between b ahead) asked given) × (IsPlain given × (text ≡ []))
 
 -- the parts may stand so behind these members and parts
 abbrev pub StandTogether : Bool → GroupStart → List Command → List GroupLine → List GroupLine → List (List ℕ) → Type 0
@@ -144,17 +143,15 @@ pub record MayStandNext (watch : Bool) (b : GroupStart) (members : List Command)
 -- ---- the answers
 
 -- the answer to a part: a member's is the first of those that are left
-abbrev pub line_answer : Contents → List Served → GroupLine → Option Answer
-line_answer m [] (Member command) = None
-line_answer m (first ∷ others) (Member command) = Some (answer.Served command (result_of first))
-line_answer m answers (Collect who) = Some (answer.Kept who (ask m.windows who))
-line_answer m answers (Entry who) = Some (answer.Entry who (recall m.windows who))
-line_answer m answers (Known given) = Some given
+abbrev pub line_answer : List Served → GroupLine → Option Answer
+line_answer [] (Member command) = None
+line_answer (first ∷ others) (Member command) = Some (answer.Served command (result_of first))
+line_answer answers (Look look) = Some (answer.Looked look)
+line_answer answers (Known given) = Some given
 
 -- those that are left behind it
 abbrev pub answers_behind : GroupLine → List Served → List Served
 answers_behind (Member command) [] = []
 answers_behind (Member command) (first ∷ others) = others
-answers_behind (Collect who) answers = answers
-answers_behind (Entry who) answers = answers
+answers_behind (Look look) answers = answers
 answers_behind (Known given) answers = answers

@@ -6,7 +6,10 @@ ghost use Rattle.im_dialogue.specs.Answers.{kept_line, operation_line};
 ghost use Rattle.im_dialogue.specs.Answers.{request_refused, served_line, turn_text, window_line, wrong_line};
 
 use crate::about::About;
+use crate::look::Look;
+use crate::showing::{add_look, look_refused};
 use im_checkpoint::TurnDone;
+use im_memory::Memory;
 use im_script::LineFault;
 use im_text::{add_entry, add_op};
 use im_types::{Command, Entry, Kept, Outcome, Refusal, Waiter};
@@ -17,10 +20,8 @@ use std::alloc::AllocError;
 pub enum Answer {
     /// To a command: its outcome or its refusal.
     Served(Command, Result<Outcome, Refusal>),
-    /// To `collect E.N`: what is kept.
-    Kept(Waiter, Result<Entry, Refusal>),
-    /// To `entry E.N`: the request, and what is kept for it.
-    Entry(Waiter, Result<Kept, Refusal>),
+    /// To a line that only looks: what the memory shows.
+    Looked(Look),
     /// To `window E`: the first number that is kept, and the next one.
     Window(u16, Result<(u64, u64), Refusal>),
     /// To `room`: how many more commands there is room for.
@@ -36,12 +37,11 @@ pub enum Answer {
 }
 
 impl Answer {
-    /// Returns the refusal of the answer, if it is one.
-    pub fn refusal(&self) -> Option<Refusal> {
+    /// Returns the refusal of the answer on this memory, if it is one.
+    pub fn refusal(&self, memory: &Memory) -> Option<Refusal> {
         match *self {
             Answer::Served(_, Err(refusal)) => Some(refusal),
-            Answer::Kept(_, Err(refusal)) => Some(refusal),
-            Answer::Entry(_, Err(refusal)) => Some(refusal),
+            Answer::Looked(look) => look_refused(memory, look),
             Answer::Window(_, Err(refusal)) => Some(refusal),
             _ => None,
         }
@@ -56,8 +56,8 @@ fn add_refused(out: &mut String, refusal: Refusal, name: &str) -> Result<(), All
     write!(out, "refused {number} {name}\n")
 }
 
-// Adds `E.N refused NUMBER NAME`.
-fn add_request_refused(
+/// Adds `E.N refused NUMBER NAME`.
+pub(crate) fn add_request_refused(
     out: &mut String,
     who: Waiter,
     refusal: Refusal,
@@ -96,8 +96,8 @@ fn add_told(out: &mut String, who: Waiter, entry: Entry) -> Result<(), AllocErro
     out.push_str("\n")
 }
 
-// Adds what is kept for a request, or why nothing is kept.
-fn add_kept(
+/// Adds what is kept for a request, or why nothing is kept.
+pub(crate) fn add_kept(
     out: &mut String,
     who: Waiter,
     answer: Result<Entry, Refusal>,
@@ -112,8 +112,8 @@ fn add_kept(
     }
 }
 
-// Adds `E.N entry OPERATION -> REPLY`.
-fn add_operation(out: &mut String, who: Waiter, kept: Kept) -> Result<(), AllocError>
+/// Adds `E.N entry OPERATION -> REPLY`.
+pub(crate) fn add_operation(out: &mut String, who: Waiter, kept: Kept) -> Result<(), AllocError>
     ensures { OnOk result (string_bytes out.new
         ≡ string_bytes out.old ++ operation_line who.element who.number kept) }
 {
@@ -220,16 +220,20 @@ fn add_wrong(out: &mut String, number: u64, words: &str) -> Result<(), AllocErro
     write!(out, "error {number}: {words}\n")
 }
 
-/// Adds the line of an answer. `name` is the name of the refusal, if the answer is one. If the line isn't in the
-/// grammar, it is the words for where the line goes wrong. At an error, a part of the line may have been added.
-pub fn add_answer(out: &mut String, answer: Answer, name: &str) -> Result<(), AllocError>
-    ensures { OnOk result (string_bytes out.new ≡ string_bytes out.old ++ answer_text name.now answer) }
+/// Adds the line of an answer on this memory. `name` is the name of the refusal, if the answer is one. If the line isn't
+/// in the grammar, it is the words for where the line goes wrong. At an error, a part of the line may have been added.
+pub fn add_answer(
+    out: &mut String,
+    memory: &Memory,
+    answer: Answer,
+    name: &str,
+) -> Result<(), AllocError>
+    ensures { OnOk result (string_bytes out.new
+        ≡ string_bytes out.old ++ answer_text name.now memory.now.contents answer) }
 {
     match answer {
         Answer::Served(command, answer) => add_served(out, command, answer, name),
-        Answer::Kept(who, answer) => add_kept(out, who, answer, name),
-        Answer::Entry(who, Ok(kept)) => add_operation(out, who, kept),
-        Answer::Entry(who, Err(refusal)) => add_request_refused(out, who, refusal, name),
+        Answer::Looked(look) => add_look(out, memory, look, name),
         Answer::Window(element, answer) => add_window(out, element, answer, name),
         Answer::Room(room) => write!(out, "room {room}\n"),
         Answer::Turned(done) => {

@@ -1,14 +1,16 @@
 //! What a line asks for.
 ghost use Rattle.std.specs.Prelude.{◌≡◌, ◌==◌, ◌∷◌, [], IfOk};
 ghost use Rattle.im_types.specs.declared.commands.Command.TheVariants.{Request as Asks};
-ghost use Rattle.im_dialogue.specs.declared.asking.Asked.TheVariants.{Collect, Entry, Serve, Window};
+ghost use Rattle.im_dialogue.specs.declared.asking.Asked.TheVariants.{Look as Looks, Serve, Window};
+ghost use Rattle.im_dialogue.specs.declared.look.Look.TheVariants.{Collect, Entry};
 ghost use Rattle.std.specs.List.{slice_split};
 ghost use Rattle.std.specs.Option.{option_and_then, option_map, option_or};
 ghost use Rattle.im_script.specs.Grammar.{texts, words_of};
-ghost use Rattle.im_dialogue.specs.Asking.{asked_by_one, asked_by_three, asked_by_two, asked_in, asked_of, element_of};
-ghost use Rattle.im_dialogue.specs.Asking.{number_of, op_in, request_by, waiter_by, waiter_in, waiter_of};
+ghost use Rattle.im_dialogue.specs.Asking.{asked_at, asked_by_one, asked_by_three, asked_by_two, asked_in, asked_of};
+ghost use Rattle.im_dialogue.specs.Asking.{element_of, number_of, op_in, request_by, waiter_by, waiter_in, waiter_of};
 
-use im_script::{is_line, read_action, read_number, split_words};
+use crate::look::Look;
+use im_script::{is_line, read_action, read_number, read_u32, split_words};
 use im_types::{Command, Op, Request, Waiter};
 use indexmap::IndexSet;
 use std::alloc::{AllocError, Global};
@@ -18,10 +20,8 @@ use std::alloc::{AllocError, Global};
 pub enum Asked {
     /// `E.N` and a request, or `confirm E UPTO`: a command is served.
     Serve(Command),
-    /// `collect E.N`: what is kept for a request.
-    Collect(Waiter),
-    /// `entry E.N`: the request, and what is kept for it.
-    Entry(Waiter),
+    /// A line that only looks: what the memory shows.
+    Look(Look),
     /// `window E`: the first number that an element keeps, and its next one.
     Window(u16),
     /// `room`: for how many more commands the journal has room.
@@ -101,6 +101,10 @@ pub(crate) fn read_one(word: &[u8]) -> Option<Asked>
         Some(Asked::Count)
     } else if word == b"about".as_slice() {
         Some(Asked::About)
+    } else if word == b"stat".as_slice() {
+        Some(Asked::Look(Look::Stat))
+    } else if word == b"help".as_slice() {
+        Some(Asked::Look(Look::Help))
     } else if word == b"quit".as_slice() {
         Some(Asked::Quit)
     } else {
@@ -120,21 +124,35 @@ fn read_window(element: &[u8]) -> Option<Asked>
 
 // Asks what is kept for a request.
 fn ask_collect(who: Option<Waiter>) -> Option<Asked>
-    ensures { result ≡ option_map Collect who }
+    ensures { result ≡ option_map (λ w. Looks (Collect w)) who }
 {
     match who {
-        Some(who) => Some(Asked::Collect(who)),
+        Some(who) => Some(Asked::Look(Look::Collect(who))),
         None => None,
     }
 }
 
 // Asks for a request, and what is kept for it.
 fn ask_entry(who: Option<Waiter>) -> Option<Asked>
-    ensures { result ≡ option_map Entry who }
+    ensures { result ≡ option_map (λ w. Looks (Entry w)) who }
 {
     match who {
-        Some(who) => Some(Asked::Entry(who)),
+        Some(who) => Some(Asked::Look(Look::Entry(who))),
         None => None,
+    }
+}
+
+// Asks for what is at an address.
+fn ask_at(word: &[u8], a: Option<u32>) -> Option<Asked>
+    ensures { result ≡ option_and_then (asked_at word.now) a }
+{
+    let a = a?;
+    if word == b"cell".as_slice() {
+        Some(Asked::Look(Look::Cell(a)))
+    } else if word == b"block".as_slice() {
+        Some(Asked::Look(Look::Block(a)))
+    } else {
+        None
     }
 }
 
@@ -151,7 +169,7 @@ fn read_two(alloc: Global, word: &[u8], what: &[u8]) -> Result<Option<Asked>, Al
     } else if word == b"window".as_slice() {
         Ok(read_window(what))
     } else {
-        Ok(None)
+        Ok(ask_at(word, read_u32(what)))
     }
 }
 

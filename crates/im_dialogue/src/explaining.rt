@@ -22,6 +22,8 @@ fn behind(word: &[u8]) -> Option<&'static [Expected]> {
         Some(&[Expected::Asker, Expected::Number])
     } else if word == b"window".as_slice() {
         Some(&[Expected::Asker])
+    } else if word == b"cell".as_slice() || word == b"block".as_slice() {
+        Some(&[Expected::Address])
     } else {
         None
     }

@@ -13,7 +13,7 @@ ghost use Rattle.im_dialogue.specs.Watching.{answers_nobody};
 use crate::asking::Asked;
 use crate::group_line::GroupLine;
 use crate::known::known;
-use crate::looks::{is_first, may_change};
+use crate::looks::{is_first, may_alter};
 use crate::serving::Setting;
 use crate::watching::{add_resumed, answers_nobody};
 use arrayvec::ArrayVec;
@@ -53,8 +53,7 @@ fn disturbs(memory: &Memory, ahead: &[Command], command: &Command, part: GroupLi
     ensures { result ≡ disturbs memory.now.contents ahead.now command.now part }
 {
     match part {
-        GroupLine::Collect(who) => may_change(memory, ahead, who, command),
-        GroupLine::Entry(who) => may_change(memory, ahead, who, command),
+        GroupLine::Look(look) => may_alter(memory, ahead, look, command),
         GroupLine::Member(_) => false,
         GroupLine::Known(_) => false,
     }
@@ -158,8 +157,7 @@ fn part_of<D: Disk>(
 {
     match asked {
         Asked::Serve(command) => member(engine.memory(), setting.watch, group, command, now),
-        Asked::Collect(who) => Ok(Some(GroupLine::Collect(who))),
-        Asked::Entry(who) => Ok(Some(GroupLine::Entry(who))),
+        Asked::Look(look) => Ok(Some(GroupLine::Look(look))),
         _ => Ok(known(engine, setting.slots, group.members.as_slice(), asked)),
     }
 }
@@ -171,8 +169,7 @@ fn add_member(members: &mut ArrayVec<Command, 16>, part: GroupLine)
 {
     match part {
         GroupLine::Member(command) => members.push(command),
-        GroupLine::Collect(_) => {}
-        GroupLine::Entry(_) => {}
+        GroupLine::Look(_) => {}
         GroupLine::Known(_) => {}
     }
 }
@@ -217,8 +214,8 @@ fn take_part<D: Disk>(
 }
 
 /// Takes lines into a group, given what they ask for: the first ones, up to the first command that can't be a member.
-/// That is the seventeenth one, or one that may change what a `collect` or an `entry` ahead of it shows. If the dialogue
-/// is watched, it is also a store or a put of which it isn't known before the group acts whom it answers.
+/// That is the seventeenth one, or one that may change what a line ahead of it shows that only looks. If the dialogue is
+/// watched, it is also a store or a put of which it isn't known before the group acts whom it answers.
 pub(crate) fn take_parts<D: Disk>(
     alloc: Global,
     engine: &Engine<D>,

@@ -6,7 +6,8 @@ ghost use Rattle.im_types.specs.Memory.{IsMemory};
 ghost use Rattle.im_groups.specs.Ahead.{bounds_behind, moved_by};
 ghost use Rattle.im_engine.specs.Commands.{after_commands, commands_put};
 ghost use Rattle.im_dialogue.specs.Talk.{about_of};
-ghost use Rattle.im_dialogue.specs.Together.{IsAsked, IsKnown, MayStandNext, count_between, group_start, memory_between};
+ghost use Rattle.im_dialogue.specs.Together.{IsAsked, IsKnown, IsPlain, MayStandNext, count_between, group_start};
+ghost use Rattle.im_dialogue.specs.Together.{memory_between};
 
 use crate::about::About;
 use crate::answers::Answer;
@@ -132,8 +133,9 @@ fn about_behind<D: Disk>(engine: &Engine<D>, slots: u32, put: u32) -> About
 fn shown<D: Disk>(engine: &Engine<D>, slots: u32, put: &[Command], asked: Asked) -> Option<Answer>
     requires few { length put.now ≤ MAX_GROUP }
     requires within { length put.now ≤ LAST - engine.now.count }
-    ensures { IfSome result (λ answer. (ahead : List Command) → put.now ≡ commands_put engine.now ahead
+    ensures answer { IfSome result (λ answer. (ahead : List Command) → put.now ≡ commands_put engine.now ahead
         → let b = group_start engine.now in IsKnown (memory_between b ahead) (count_between b ahead) asked answer) }
+    ensures plain { IfSome result (λ answer. IsPlain answer) }
 {
     let many = put.len() as u32;
     match asked {

@@ -3,8 +3,9 @@ ghost use Rattle.std.specs.Prelude.{◌≡◌, is_none};
 ghost use Rattle.im_types.specs.Contents.{kept_for};
 ghost use Rattle.std.specs.List.{list_any};
 ghost use Rattle.im_dialogue.specs.Looks.{asks_at, asks_for, is_first, kept_waits_at, may_answer, may_change, may_reach};
-ghost use Rattle.im_dialogue.specs.Looks.{may_wait, reaches, op_waits_at};
+ghost use Rattle.im_dialogue.specs.Looks.{may_alter, may_wait, reaches, op_waits_at};
 
+use crate::look::Look;
 use im_memory::Memory;
 use im_types::codes::address_of;
 use im_types::{Command, Kept, Op, Request, Waiter};
@@ -152,6 +153,23 @@ fn is_unkept(memory: &Memory, who: Waiter) -> bool
     match memory.kept(who.element, who.number) {
         Some(_) => false,
         None => true,
+    }
+}
+
+// ---- what a line shows that only looks
+
+/// Returns whether a command may change what a line shows that only looks, after these commands. Each command may change
+/// what `stat` shows.
+pub(crate) fn may_alter(memory: &Memory, ahead: &[Command], look: Look, command: &Command) -> bool
+    ensures { result ≡ may_alter memory.now.contents ahead.now look command.now }
+{
+    match look {
+        Look::Collect(who) => may_change(memory, ahead, who, command),
+        Look::Entry(who) => may_change(memory, ahead, who, command),
+        Look::Cell(a) => may_reach(a, command),
+        Look::Block(a) => may_reach(a, command),
+        Look::Stat => true,
+        Look::Help => false,
     }
 }
 

@@ -21,47 +21,62 @@ use im_damage::Damage;
 use im_disk::Disk;
 use im_engine::Engine;
 use im_listening::Ear;
-use im_script::LineFault;
+use im_memory::Memory;
 use im_text::{Reason, put_through};
 use std::alloc::{AllocError, Global};
 use std::io::{BufRead, Write};
 
 /// Returns the name of the refusal that an answer is, or the words for where a line goes wrong. It is empty for any
 /// other answer.
-pub(crate) fn name_of(alloc: Global, answer: Answer) -> Result<String, AllocError> {
+pub(crate) fn name_of(
+    alloc: Global,
+    memory: &Memory,
+    answer: Answer,
+) -> Result<String, AllocError> {
     let mut name = String::new(alloc);
     if let Answer::Wrong(_, fault) = answer {
         write!(name, "{fault}")?;
     }
-    if let Some(refusal) = answer.refusal() {
+    if let Some(refusal) = answer.refusal(memory) {
         write!(name, "{refusal}")?;
     }
     Ok(name)
 }
 
-// Makes the line of an answer, followed by the lines for those that watch.
-fn make_text(alloc: Global, text: &mut String, answer: Answer, nows: &str) -> Result<(), AllocError>
-    ensures { OnOk result ((name : List ℕ) × (string_bytes text.new ≡ answer_text name answer ++ nows.now)) }
+// Makes the line of an answer on this memory, followed by the lines for those that watch.
+fn make_text(
+    alloc: Global,
+    text: &mut String,
+    memory: &Memory,
+    answer: Answer,
+    nows: &str,
+) -> Result<(), AllocError>
+    ensures { OnOk result ((name : List ℕ)
+        × (string_bytes text.new ≡ answer_text name memory.now.contents answer ++ nows.now)) }
 {
-    let name = name_of(alloc, answer)?;
+    let name = name_of(alloc, memory, answer)?;
     text.clear();
-    add_answer(text, answer, name.as_str())?;
+    add_answer(text, memory, answer, name.as_str())?;
     text.push_str(nows)
 }
 
-// Prints the line of an answer, followed by the lines for those that watch, and has the writer put them through.
+// Prints the line of an answer on this memory, followed by the lines for those that watch, and has the writer put them
+// through.
 fn say<W: Write>(
     alloc: Global,
     text: &mut String,
+    memory: &Memory,
     answer: Answer,
     nows: &str,
     out: &mut W,
 ) -> Result<(), Reason>
-    ensures { MatchResult result
-        (λ _. (name : List ℕ) × Appends (W.contents out.old) (W.contents out.new) (answer_text name answer ++ nows.now))
-        (λ _. (name : List ℕ) × Begins (W.contents out.old) (W.contents out.new) (answer_text name answer ++ nows.now)) }
+    ensures { let m = memory.now.contents in MatchResult result
+        (λ _. (name : List ℕ)
+        × Appends (W.contents out.old) (W.contents out.new) (answer_text name m answer ++ nows.now))
+        (λ _. (name : List ℕ)
+        × Begins (W.contents out.old) (W.contents out.new) (answer_text name m answer ++ nows.now)) }
 {
-    match make_text(alloc, text, answer, nows) {
+    match make_text(alloc, text, memory, answer, nows) {
         Ok(()) => put_through(out, text.as_str()),
         Err(_) => Err(Reason::Memory),
     }
@@ -114,36 +129,18 @@ fn serve_asked<D: Disk, W: Write>(
     match answer(engine, setting.slots, asked) {
         Ok(None) => Ok(false),
         // The command is on the disk before its line is printed. After a crash between the two it can be asked again.
-        Ok(Some(answer)) => match say(alloc, text, answer, told_with(answer, nows.as_str()), out) {
-            Ok(()) => Ok(true),
-            Err(reason) => Err(reason),
-        },
+        Ok(Some(answer)) => {
+            let told = told_with(answer, nows.as_str());
+            match say(alloc, text, engine.memory(), answer, told, out) {
+                Ok(()) => Ok(true),
+                Err(reason) => Err(reason),
+            }
+        }
         Err(refusal) => Err(Reason::Image(refusal, Damage::Unknown)),
     }
 }
 
 // Answers a line that isn't in the grammar by where it goes wrong. Nothing changes.
-fn refuse_line<D: Disk, W: Write>(
-    alloc: Global,
-    engine: &Engine<D>,
-    number: u64,
-    line: &[u8],
-    fault: LineFault,
-    text: &mut String,
-    out: &mut W,
-) -> Result<(), Reason>
-    requires wrong { asked_of line.now ≡ None }
-    ensures { (watch : Bool) → MatchResult result
-        (λ _. TalksOn watch D.now D.past D.honest engine.now (W.contents out.old) engine.now (W.contents out.new))
-        (λ _. TalkEnds watch D.now D.past D.honest engine.now (W.contents out.old) engine.now (W.contents out.new)) }
-{
-    match say(alloc, text, wrong(engine, number, fault), "", out) {
-        Ok(()) => Ok(()),
-        Err(reason) => Err(reason),
-    }
-}
-
-// Finds where a line that isn't in the grammar goes wrong, and answers it.
 fn explain_line<D: Disk, W: Write>(
     alloc: Global,
     engine: &Engine<D>,
@@ -158,7 +155,13 @@ fn explain_line<D: Disk, W: Write>(
         (λ _. TalkEnds watch D.now D.past D.honest engine.now (W.contents out.old) engine.now (W.contents out.new)) }
 {
     match explain(alloc, line) {
-        Ok(fault) => refuse_line(alloc, engine, number, line, fault, text, out),
+        Ok(fault) => {
+            let answer = wrong(engine, number, fault);
+            match say(alloc, text, engine.memory(), answer, "", out) {
+                Ok(()) => Ok(()),
+                Err(reason) => Err(reason),
+            }
+        }
         Err(_) => Err(Reason::Memory),
     }
 }
@@ -339,7 +342,7 @@ fn serve_rested<D: Disk, R: BufRead + Ear, W: Write>(
 /// with lines between them that change nothing. Their answers are written together, and are those that the lines would
 /// have by themselves. A group ends before a confirmation that would drop an entry of which it isn't known, before the
 /// group acts, that it is answered: one that waits, or that a fetch or a take of the group makes. It also ends before a
-/// command that may change what a `collect` or `entry` ahead of it tells. No line waits for another. All other lines are
+/// command that may change what a line ahead of it shows that only looks. No line waits for another. All other lines are
 /// answered before the next one is read.
 ///
 /// The reader tells whether something is there to be read. While nothing is, turns of a checkpoint are taken if there

@@ -1,9 +1,10 @@
 //! Does on an engine what is asked.
 ghost use Rattle.std.specs.Prelude.{◌≡◌, ◌≤◌, true, Some, None, MatchOption, MatchResult};
-ghost use Rattle.im_dialogue.specs.declared.asking.Asked.TheVariants.{Collect, Count, Quit, Room};
+ghost use Rattle.im_dialogue.specs.declared.asking.Asked.TheVariants.{Count, Quit, Room};
 ghost use Rattle.im_dialogue.specs.declared.asking.Asked.TheVariants.{Serve, Turn, Window};
 ghost use Rattle.im_dialogue.specs.declared.answers.Answer.TheVariants as answer;
-ghost use Rattle.im_dialogue.specs.Talk.{GoesOn, Halts, Says, about_of, is_end, recall};
+ghost use Rattle.im_dialogue.specs.declared.look.Look.{Look};
+ghost use Rattle.im_dialogue.specs.Talk.{GoesOn, Halts, Says, about_of, is_end};
 
 use crate::about::About;
 use crate::answers::Answer;
@@ -12,10 +13,9 @@ use im_checkpoint::TurnDone;
 use im_disk::Disk;
 use im_engine::Engine;
 use im_listening::Ear;
-use im_memory::Memory;
 use im_script::LineFault;
 use im_types::layout::{MOST_AREA_PAGES, Version};
-use im_types::{Command, Kept, Refusal, Waiter};
+use im_types::{Command, Refusal};
 
 // As many turns as two checkpoints take at the largest sizes: the rest of one that is under way, and a whole one.
 const MOST_TURNS: usize = 2 * (MOST_AREA_PAGES + 4);
@@ -139,38 +139,6 @@ fn turn<D: Disk>(engine: &mut Engine<D>) -> Result<Answer, Refusal>
     }
 }
 
-// Returns what is kept for a request, as an answer.
-fn collect<D: Disk>(engine: &Engine<D>, who: Waiter) -> Answer
-    ensures { Says D.now D.past D.honest engine.now engine.now (Some (Collect who)) result }
-{
-    Answer::Kept(who, engine.collect(who.element, who.number))
-}
-
-/// Returns a request and what is kept for it. It is refused with `NoElement`, with `Forgotten` below the window, and
-/// with `Gap` if the number isn't used yet.
-pub(crate) fn recall(memory: &Memory, who: Waiter) -> Result<Kept, Refusal>
-    ensures { result ≡ recall memory.now.contents.windows who }
-{
-    let (base, _next) = memory.window(who.element)?;
-    match memory.kept(who.element, who.number) {
-        Some(kept) => Ok(kept),
-        None => {
-            if who.number < base {
-                Err(Refusal::Forgotten)
-            } else {
-                Err(Refusal::Gap)
-            }
-        }
-    }
-}
-
-// Returns a request and what is kept for it, as an answer.
-fn entry<D: Disk>(engine: &Engine<D>, who: Waiter) -> Answer
-    ensures { result ≡ answer.Entry who (recall engine.now.memory.windows who) }
-{
-    Answer::Entry(who, recall(engine.memory(), who))
-}
-
 // Returns an element's window, as an answer.
 fn window<D: Disk>(engine: &Engine<D>, element: u16) -> Answer
     ensures { Says D.now D.past D.honest engine.now engine.now (Some (Window element)) result }
@@ -216,8 +184,9 @@ pub fn wrong<D: Disk>(engine: &Engine<D>, number: u64, fault: LineFault) -> Answ
     Answer::Wrong(number, fault)
 }
 
-/// Does on an engine what is asked, and returns the answer. Returns `None` if that ends the dialogue. Before a command,
-/// turns of a checkpoint are taken while there is no room for one. `slots` is how many slots the journal has.
+/// Does on an engine what is asked, and returns the answer. Returns `None` if that ends the dialogue. The answer to a line
+/// that only looks is what the engine's memory shows then ([`crate::add_answer`]). Before a command, turns of a checkpoint
+/// are taken while there is no room for one. `slots` is how many slots the journal has.
 ///
 /// Returns `Device` or `Failed` if a call of the disk failed. Then at most this command is in doubt, and what was said
 /// before stays. Any other refusal is an answer.
@@ -231,6 +200,7 @@ pub fn answer<D: Disk>(
         (λ answer. Says D.now D.past D.honest engine.old engine.new (Some asked) answer))
         (λ _. Halts D.now D.past D.honest engine.old engine.new) }
     ensures honest { D.honest engine.new.disk → D.honest engine.old.disk }
+    ensures same { (look : Look) → asked ≡ Asked.Look look → engine.new ≡ engine.old }
 {
     match asked {
         Asked::Serve(command) => match serve_with_room(engine, command) {
@@ -241,8 +211,7 @@ pub fn answer<D: Disk>(
             Ok(answer) => Ok(Some(answer)),
             Err(refusal) => Err(refusal),
         },
-        Asked::Collect(who) => Ok(Some(collect(engine, who))),
-        Asked::Entry(who) => Ok(Some(entry(engine, who))),
+        Asked::Look(look) => Ok(Some(Answer::Looked(look))),
         Asked::Window(element) => Ok(Some(window(engine, element))),
         Asked::Room => Ok(Some(room(engine))),
         Asked::Count => Ok(Some(count(engine))),

@@ -14,7 +14,6 @@ use crate::group_line::GroupLine;
 use crate::grouping::Gathered;
 use crate::lines::unread;
 use crate::serving::name_of;
-use crate::talk::recall;
 use crate::watching::told_with;
 use arrayvec::ArrayVec;
 use im_damage::Damage;
@@ -161,18 +160,17 @@ fn result_of(served: Served) -> Result<Outcome, Refusal>
     }
 }
 
-// Returns the answer to a part of a group that was served, given the memory behind the group, and the answers to the
-// members that aren't told yet. Returns `None` if no answer is left for the part.
-fn line_answer(memory: &Memory, answers: &[Served], part: GroupLine) -> Option<Answer>
-    ensures { result ≡ line_answer memory.now.contents answers.now part }
+// Returns the answer to a part of a group that was served, given the answers to the members that aren't told yet. Returns
+// `None` if no answer is left for the part.
+fn line_answer(answers: &[Served], part: GroupLine) -> Option<Answer>
+    ensures { result ≡ line_answer answers.now part }
 {
     match part {
         GroupLine::Member(command) => match answers.first() {
             Some(first) => Some(Answer::Served(command, result_of(*first))),
             None => None,
         },
-        GroupLine::Collect(who) => Some(Answer::Kept(who, memory.collect(who.element, who.number))),
-        GroupLine::Entry(who) => Some(Answer::Entry(who, recall(memory, who))),
+        GroupLine::Look(look) => Some(Answer::Looked(look)),
         GroupLine::Known(answer) => Some(answer),
     }
 }
@@ -186,19 +184,24 @@ fn answers_behind(part: GroupLine, answers: &[Served]) -> &[Served]
             Some((_, others)) => others,
             None => answers,
         },
-        GroupLine::Collect(_) => answers,
-        GroupLine::Entry(_) => answers,
+        GroupLine::Look(_) => answers,
         GroupLine::Known(_) => answers,
     }
 }
 
-// Adds the line of an answer, and what those that watch are told behind it.
-fn add_line(alloc: Global, text: &mut String, answer: Answer, now: &str) -> Result<(), AllocError>
+// Adds the line of an answer on this memory, and what those that watch are told behind it.
+fn add_line(
+    alloc: Global,
+    text: &mut String,
+    memory: &Memory,
+    answer: Answer,
+    now: &str,
+) -> Result<(), AllocError>
     ensures { OnOk result ((name : List ℕ) × (string_bytes text.new ≡ string_bytes text.old
-        ++ (answer_text name answer ++ told_with answer now.now))) }
+        ++ (answer_text name memory.now.contents answer ++ told_with answer now.now))) }
 {
-    let name = name_of(alloc, answer)?;
-    add_answer(text, answer, name.as_str())?;
+    let name = name_of(alloc, memory, answer)?;
+    add_answer(text, memory, answer, name.as_str())?;
     let told = told_with(answer, now);
     text.push_str(told)
 }
@@ -226,10 +229,10 @@ fn make_lines<D: Disk>(
         let Some((now, others)) = nows.split_first() else {
             return Ok(told); // There is one for each part.
         };
-        let Some(answer) = line_answer(engine.memory(), answers, *part) else {
+        let Some(answer) = line_answer(answers, *part) else {
             return Ok(told);
         };
-        add_line(alloc, text, answer, now.as_str())?;
+        add_line(alloc, text, engine.memory(), answer, now.as_str())?;
         answers = answers_behind(*part, answers);
         parts = later;
         nows = others;

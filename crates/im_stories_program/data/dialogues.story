@@ -300,6 +300,121 @@ printed 15 = about version 2 cells 4096 elements 16 slots 256 count 4 room 252
 printed 16 = 2 confirmed 3
 printed 17 = 2 window 3 3
 
+# A cell is shown with its kind and state, and those that wait at it in their order
+disk 450560 = 450560 bytes
+format 4096 16 256 = formatted
+script 0.1 alloc i 3 / 0.2 alloc m 2 / 1.1 store 0 42 / 1.2 store 1 5 / 1.3 store 1 6 / 2.1 fetch 2 / 1.4 fetch 2 / 3.1 take 4 / = 8 lines
+script cell 0 / cell 1 / cell 2 / cell 3 / cell 4 / cell 5 / cell 4095 / cell 4096 / cell 4294967295 / = 17 lines
+-- Four calls for each of the eight commands; a look makes none.
+talk slowly = 0, 32 calls
+printed = 17 lines
+printed 8 = cell 0 i full 42
+printed 9 = cell 1 i clashed 5
+printed 10 = cell 2 i waiting 2.1 1.4
+printed 11 = cell 3 m empty
+printed 12 = cell 4 m waiting 3.1
+printed 13 = cell 5 nocell
+printed 14 = cell 4095 nocell
+printed 15 = cell 4096 nocell
+printed 16 = cell 4294967295 nocell
+count = 8
+
+# A block is shown for each of its cells, as long as it is there
+disk 450560 = 450560 bytes
+format 4096 16 256 = formatted
+script 0.1 alloc i 3 / 0.2 alloc m 2 / block 2 / 0.3 release 0 / block 3 / block 4 / block 0 / block 5 / block 4096 / = 9 lines
+talk slowly = 0, 12 calls
+printed = 9 lines
+printed 2 = block 0 i 3
+printed 3 = 0.3 released
+printed 4 = block 3 m 2
+printed 5 = block 3 m 2
+printed 6 = block 0 noblock
+printed 7 = block 5 noblock
+printed 8 = block 4096 noblock
+
+# Blocks, cells of each state, and entries are counted
+disk 450560 = 450560 bytes
+format 4096 16 256 = formatted
+script stat / 0.1 alloc i 3 / 0.2 alloc m 2 / 1.1 store 0 42 / 1.2 store 1 5 / 1.3 store 1 6 / 2.1 fetch 2 / 1.4 fetch 2 / 3.1 take 4 / = 9 lines
+script stat / confirm 0 3 / stat / 4.1 store 2 7 / stat / 3.2 put 3 1 / 0.3 release 0 / stat / = 17 lines
+-- Eight commands, the confirmation and three more.
+talk slowly = 0, 48 calls
+printed = 17 lines
+printed 0 = stat cells 4096 blocks 0 empty 0 waiting 0 full 0 clashed 0 kept 0 deferred 0
+printed 9 = stat cells 4096 blocks 2 empty 1 waiting 2 full 1 clashed 1 kept 8 deferred 3
+printed 10 = 0 confirmed 3
+printed 11 = stat cells 4096 blocks 2 empty 1 waiting 2 full 1 clashed 1 kept 6 deferred 3
+printed 12 = 4.1 stored
+-- It answered 2.1 and 1.4; the take waits still.
+printed 13 = stat cells 4096 blocks 2 empty 1 waiting 1 full 2 clashed 1 kept 7 deferred 1
+printed 14 = 3.2 stored
+printed 15 = 0.3 released
+printed 16 = stat cells 4096 blocks 1 empty 0 waiting 1 full 1 clashed 0 kept 9 deferred 1
+
+# A line that looks stands in a group, and a command that may change what it shows begins the next one
+disk 450560 = 450560 bytes
+format 4096 16 256 = formatted
+script 0.1 alloc i 2 / 1.1 fetch 0 / = 2 lines
+talk = 0, 5 calls
+script cell 0 / 1.2 fetch 1 / cell 1 / cell 0 / 2.1 fetch 1 / block 0 / 3.1 store 0 5 / cell 0 / stat / 3.2 store 1 6 / = 10 lines
+-- The fetches of cell 1, and the stores, begin groups: a look at the cell, at its block or at all cells stands ahead.
+talk = 0, 16 calls
+printed = 10 lines
+printed 0 = cell 0 i waiting 1.1
+printed 1 = 1.2 waiting
+printed 2 = cell 1 i waiting 1.2
+printed 3 = cell 0 i waiting 1.1
+printed 4 = 2.1 waiting
+printed 5 = block 0 i 2
+printed 6 = 3.1 stored
+printed 7 = cell 0 i full 5
+printed 8 = stat cells 4096 blocks 1 empty 0 waiting 1 full 1 clashed 0 kept 5 deferred 2
+printed 9 = 3.2 stored
+count = 6
+
+# A look behind commands of its group that don't reach its cell ends no group
+disk 450560 = 450560 bytes
+format 4096 16 256 = formatted
+script 0.1 alloc i 8 / cell 7 / 1.1 store 0 1 / cell 0 / block 9 / 1.2 store 1 2 / help / 1.3 fetch 2 / cell 2 / 2.1 store 3 4 / = 10 lines
+-- Five commands in one group.
+talk = 0, 8 calls
+printed = 10 lines
+printed 1 = cell 7 i empty
+printed 3 = cell 0 i full 1
+printed 4 = block 9 noblock
+printed 8 = cell 2 i waiting 1.3
+
+# Where it is watched, a line that looks is told behind those that were answered
+disk 450560 = 450560 bytes
+format 4096 16 256 = formatted
+script 0.1 alloc i 1 / 1.1 fetch 0 / = 2 lines
+talk = 0, 5 calls
+script cell 0 / 2.1 store 0 3 / cell 0 / 3.1 fetch 0 / cell 9 / = 5 lines
+-- Two groups of one command.
+talk watched = 0, 8 calls
+printed = 6 lines
+printed 0 = cell 0 i waiting 1.1
+printed 1 = 2.1 stored
+printed 2 = 1.1 now value 3
+printed 3 = cell 0 i full 3
+printed 4 = 3.1 value 3
+printed 5 = cell 9 nocell
+
+# The lines of a dialogue are told in one line
+disk 450560 = 450560 bytes
+format 4096 16 256 = formatted
+script help / help me / cell / cell x / cell 4294967296 / block 1 2 / stat 1 / cells 1 / = 8 lines
+talk = 0, 0 calls
+printed = 8 lines
+printed 0 = help E.N alloc i LENGTH, E.N alloc m LENGTH, E.N release A, E.N reset A, E.N fetch A, E.N store A VALUE, E.N take A, E.N put A VALUE, collect E.N, entry E.N, confirm E UPTO, window E, cell A, block A, stat, room, turn, count, about, help, quit
+printed 1 = error 2: 'me', where the end of the line is expected
+printed 2 = error 3: the line ends, where an address from 0 to 4294967295 is expected
+printed 3 = error 4: 'x', where an address from 0 to 4294967295 is expected
+printed 4 = error 5: '4294967296', where an address from 0 to 4294967295 is expected
+printed 5 = error 6: '2', where the end of the line is expected
+printed 6 = error 7: '1', where the end of the line is expected
+
 # An entry that waits is asked for between the puts of a group, before and behind the one that answers it
 disk 450560 = 450560 bytes
 format 4096 16 256 = formatted

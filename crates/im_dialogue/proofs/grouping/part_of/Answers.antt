@@ -4,16 +4,9 @@ use Rattle.im_dialogue.specs.Together.{IsAsked, group_start}
 use Rattle.im_dialogue.proofs.FitLemmas.{known_fits}
 use Rattle.im_dialogue.proofs.grouping.part_of.Goals as goal
 
-pub returns-in-Collect : goal.returns-in-Collect
-returns-in-Collect g c = record {
-  is = (subst (λ (a : Asked). IsAsked a) c.in-Collect.is c.requires.asked, c.requires.empty);
-  leaves = tt;
-  room = c.requires.few;
-}
-
-pub returns-in-Entry : goal.returns-in-Entry
-returns-in-Entry g c = record {
-  is = (subst (λ (a : Asked). IsAsked a) c.in-Entry.is c.requires.asked, c.requires.empty);
+pub returns-in-Look : goal.returns-in-Look
+returns-in-Look g c = record {
+  is = (subst (λ (a : Asked). IsAsked a) c.in-Look.is c.requires.asked, c.requires.empty);
   leaves = tt;
   room = c.requires.few;
 }

@@ -1,4 +1,4 @@
-use Rattle.std.proofs.Common.{◌∙◌, sym, subst, ap}
+use Rattle.std.proofs.Common.{◌∙◌, refl, sym, subst, ap}
 use Rattle.im_types.specs.Contents.{Contents}
 use Rattle.im_types.specs.Window.{bounds}
 use Rattle.im_groups.specs.Ahead.{moved_by}
@@ -8,8 +8,8 @@ use Rattle.im_dialogue.specs.Together.{IsKnown, group_start, count_between, memo
 use Rattle.im_dialogue.proofs.FitLemmas.{about_shown, count_shown, room_shown, window_shown}
 use Rattle.im_dialogue.proofs.known.shown.Goals as goal
 
-pub returns-in-Window : goal.returns-in-Window
-returns-in-Window g c = λ ahead is.
+pub returns-in-Window-clause-answer : goal.returns-in-Window-clause-answer
+returns-in-Window-clause-answer g c = λ ahead is.
     let b = group_start c.args.engine.now in
     let e = c.in-Window.element in
     let given = answer.Window e c.window_behind.result in
@@ -18,25 +18,37 @@ returns-in-Window g c = λ ahead is.
     (window_shown b ahead c.args.put.now is e c.window_behind.result
     (c.window_behind.ensures ∙ ap moved c.memory.ensures))
 
-pub returns-in-Room : goal.returns-in-Room
-returns-in-Room g c = λ ahead is.
+pub returns-in-Room-clause-answer : goal.returns-in-Room-clause-answer
+returns-in-Room-clause-answer g c = λ ahead is.
     let b = group_start c.args.engine.now in
     let given = answer.Room c.room_behind.result in
     subst (λ (a : Asked). IsKnown (memory_between b ahead) (count_between b ahead) a given) (sym c.in-Room.is)
     (room_shown b ahead c.args.put.now is c.room_behind.result)
 
-pub returns-in-Count : goal.returns-in-Count
-returns-in-Count g c = λ ahead is.
+pub returns-in-Count-clause-answer : goal.returns-in-Count-clause-answer
+returns-in-Count-clause-answer g c = λ ahead is.
     let b = group_start c.args.engine.now in
     let given = answer.Count c.count_behind.result in
     subst (λ (a : Asked). IsKnown (memory_between b ahead) (count_between b ahead) a given) (sym c.in-Count.is)
     (count_shown b ahead c.args.put.now is c.count_behind.result c.count_behind.ensures)
 
-pub returns-in-About : goal.returns-in-About
-returns-in-About g c = λ ahead is.
+pub returns-in-About-clause-answer : goal.returns-in-About-clause-answer
+returns-in-About-clause-answer g c = λ ahead is.
     let b = group_start c.args.engine.now in
     let about = c.about_behind.ensures.about in
     let given = answer.About c.about_behind.result in
     subst (λ (a : Asked). IsKnown (memory_between b ahead) (count_between b ahead) a given) (sym c.in-About.is)
     (about_shown b ahead c.args.put.now is c.about_behind.ensures.memory c.args.slots about.0 c.about_behind.result
     about.1)
+
+pub returns-in-Window-clause-plain : goal.returns-in-Window-clause-plain
+returns-in-Window-clause-plain g c = λ name m n. refl
+
+pub returns-in-Room-clause-plain : goal.returns-in-Room-clause-plain
+returns-in-Room-clause-plain g c = λ name m n. refl
+
+pub returns-in-Count-clause-plain : goal.returns-in-Count-clause-plain
+returns-in-Count-clause-plain g c = λ name m n. refl
+
+pub returns-in-About-clause-plain : goal.returns-in-About-clause-plain
+returns-in-About-clause-plain g c = λ name m n. refl

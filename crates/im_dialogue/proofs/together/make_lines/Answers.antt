@@ -1,4 +1,5 @@
 use Rattle.std.proofs.Common.{◌≡◌, ◌∙◌, ◌∷◌, ◌++◌, List, ℕ, ap, length, map, sym, rules, string_bytes}
+use Rattle.im_types.specs.Contents.{Contents}
 use Rattle.im_dialogue.specs.Answers.{answer_text}
 use Rattle.im_dialogue.specs.Together.{line_answer}
 use Rattle.im_dialogue.specs.Watching.{told_with}
@@ -17,10 +18,9 @@ returns-in_default-split_first g c = λ watch old cs served.
 
 pub returns-in_default-line_answer : goal.returns-in_default-line_answer
 returns-in_default-line_answer g c = λ watch old cs served.
-    let m = c.args.engine.now.memory in
     let parts_are : c.loop-part.parts.now ≡ c.in-Some.part.now ∷ c.in-Some.later.now = search rules in
-    let answer_is : c.line_answer.result ≡ line_answer m c.loop-part.answers.now c.in-Some.part.now = search rules in
-    telling_ends watch old m cs c.in-Some.part.now c.loop-part.parts.now c.in-Some.later.now
+    let answer_is : c.line_answer.result ≡ line_answer c.loop-part.answers.now c.in-Some.part.now = search rules in
+    telling_ends watch old cs c.in-Some.part.now c.loop-part.parts.now c.in-Some.later.now
     (map string_bytes c.loop-part.nows.now) c.loop-part.answers.now (string_bytes c.loop-part.text) parts_are
     (sym answer_is ∙ none_by _ c.in_default-line_answer.not-Some) (c.loop-part.invariant watch old cs served)
 
@@ -32,7 +32,7 @@ loop-part-preserved g c = λ watch old cs served.
     let parts_are : c.loop-part.parts.now ≡ c.in-Some.part.now ∷ c.in-Some.later.now = search rules in
     let nows_are : c.loop-part.nows.now ≡ c.in-Some-split_first.now.now ∷ c.in-Some-split_first.others.now = search
     rules in
-    let answer_is : c.line_answer.result ≡ line_answer m c.loop-part.answers.now c.in-Some.part.now = search rules in
+    let answer_is : c.line_answer.result ≡ line_answer c.loop-part.answers.now c.in-Some.part.now = search rules in
     let same : c.as_str.result.now ≡ string_bytes c.in-Some-split_first.now.now = search rules in
     let line = c.in_ok-add_line.ensures in
     telling_step watch old group.parts.items (map string_bytes group.nows.items) group.members.items cs
@@ -43,8 +43,9 @@ loop-part-preserved g c = λ watch old cs served.
     (string_bytes c.loop-part.text) (string_bytes c.add_line.new.text) line.0 given
     parts_are (ap (map string_bytes) nows_are) c.answers_behind-answers.ensures
     (sym answer_is ∙ c.in-Some-line_answer.is)
-    (line.1 ∙ ap (λ (t : List ℕ). string_bytes c.loop-part.text ++ (answer_text line.0 given ++ told_with given t))
-    same)
+    (line.1 ∙ ap (λ (x : Contents). string_bytes c.loop-part.text
+    ++ (answer_text line.0 x given ++ told_with given c.as_str.result.now)) c.memory.ensures
+    ∙ ap (λ (t : List ℕ). string_bytes c.loop-part.text ++ (answer_text line.0 m given ++ told_with given t)) same)
     (c.loop-part.invariant watch old cs served)
 
 pub returns : goal.returns

@@ -1,0 +1,9 @@
+use Rattle.std.proofs.Common.{◌≡◌, ◌≤◌}
+use Rattle.im_dialogue.specs.Counting.{counted_at, sum_below}
+use Rattle.im_dialogue.proofs.counting.count_cells.Given as goal
+
+abbrev pub invariant-loop-a : goal.invariant-loop-a
+invariant-loop-a l = record {
+  sum : l.count ≡ sum_below (counted_at l.sort l.memory.contents) l.a;
+  few : l.count ≤ l.a;
+}

@@ -1,0 +1,98 @@
+-- What is shown of a memory by a line that only looks. (Own.)
+use Rattle.std.specs.Prelude.{ℕ, List, [], ◌∷◌, ◌++◌, length, codes, decimal, nat_lt, if◌then◌else◌, Option, None, Some}
+use Rattle.std.specs.Prelude.{option_map, Result, Ok, Err}
+use Rattle.im_types.specs.declared.operations.Waiter.{Waiter}
+use Rattle.im_types.specs.declared.operations.Block.{Block}
+use Rattle.im_types.specs.declared.operations.Kept.{Kept as KeptEntry}
+use Rattle.im_types.specs.declared.cells.Cell.{Cell}
+use Rattle.im_types.specs.declared.cells.Cell.TheVariants as cell
+use Rattle.im_types.specs.declared.refusals.Refusal.{Refusal}
+use Rattle.im_types.specs.declared.refusals.Refusal.TheVariants.{Gap, Forgotten}
+use Rattle.im_types.specs.Contents.{Contents, Held, Window, kept_for, waiters_in}
+use Rattle.im_types.specs.Window.{bounds}
+use Rattle.im_types.specs.Presences.{presence_in}
+use Rattle.im_text.specs.Texts.{kind_text, line_feed}
+use Rattle.im_dialogue.specs.declared.sort.Sort.TheVariants.{Base, Empty, Waiting, Full, Clashed}
+use Rattle.im_dialogue.specs.Counting.{many_cells, many_kept, many_deferred}
+
+-- ---- a request and what is kept for it
+
+-- what is kept for a request with its operation, or why nothing is kept, as for `collect`, by the bounds of the window
+abbrev pub recalled : ℕ → Result (ℕ × ℕ) Refusal → Option KeptEntry → Result KeptEntry Refusal
+recalled number (Err refusal) kept = Err refusal
+recalled number (Ok (base, next)) (Some kept) = Ok kept
+recalled number (Ok (base, next)) None = Err (if nat_lt number base then Forgotten else Gap)
+
+-- a request and what is kept for it, or why nothing is kept
+abbrev pub recall : List Window → Waiter → Result KeptEntry Refusal
+recall windows who = recalled who.number (bounds windows who.element) (kept_for windows who)
+
+-- ---- a cell
+
+-- E.N behind a space
+abbrev pub queued_text : Waiter → List ℕ
+queued_text who = codes " " ++ decimal who.element ++ codes "." ++ decimal who.number
+
+-- the requests that wait, in their order
+abbrev pub queue_text : List Waiter → List ℕ
+queue_text [] = []
+queue_text (who ∷ others) = queued_text who ++ queue_text others
+
+-- the state of a cell, with its value or the requests that wait at it
+abbrev pub state_text : Option Cell → List Waiter → List ℕ
+state_text None waiters = []
+state_text (Some cell.Empty) waiters = codes " empty"
+state_text (Some cell.Waiting) waiters = codes " waiting" ++ queue_text waiters
+state_text (Some (cell.Full v)) waiters = codes " full " ++ decimal v
+state_text (Some (cell.Clashed v)) waiters = codes " clashed " ++ decimal v
+
+-- the kind and the state of a cell, or that there is none, by the block that it lies in
+abbrev pub held_text : Option Block → Option Cell → List Waiter → List ℕ
+held_text None seen waiters = codes "nocell"
+held_text (Some block) seen waiters = kind_text block.kind ++ state_text seen waiters
+
+-- cell A KIND STATE, or cell A nocell
+abbrev pub cell_said : ℕ → Option Held → List ℕ
+cell_said a held = codes "cell " ++ decimal a ++ codes " "
+    ++ held_text (option_map (λ (h : Held). h.block) held) (presence_in held) (waiters_in held) ++ line_feed
+
+-- block BASE KIND LENGTH, or block A noblock
+abbrev pub block_said : ℕ → Option Block → List ℕ
+block_said a None = codes "block " ++ decimal a ++ codes " noblock" ++ line_feed
+block_said a (Some b) = codes "block " ++ decimal b.base ++ codes " " ++ kind_text b.kind ++ codes " " ++ decimal b.length
+    ++ line_feed
+
+-- ---- counts
+
+-- stat cells C blocks B
+abbrev pub blocks_said : Contents → List ℕ
+blocks_said m = codes "stat cells " ++ decimal (length m.cells) ++ codes " blocks " ++ decimal (many_cells Base m)
+
+-- empty E waiting W full F clashed X: how many cells of blocks are in each state
+abbrev pub states_said : Contents → List ℕ
+states_said m = codes " empty " ++ decimal (many_cells Empty m) ++ codes " waiting " ++ decimal (many_cells Waiting m)
+    ++ codes " full " ++ decimal (many_cells Full m) ++ codes " clashed " ++ decimal (many_cells Clashed m)
+
+-- kept K deferred D: how many entries are kept, and how many of them wait
+abbrev pub entries_said : Contents → List ℕ
+entries_said m = codes " kept " ++ decimal (many_kept m) ++ codes " deferred " ++ decimal (many_deferred m) ++ line_feed
+
+-- what `stat` says of a memory
+abbrev pub stat_line : Contents → List ℕ
+stat_line m = blocks_said m ++ states_said m ++ entries_said m
+
+-- ---- help
+
+-- the requests of a dialogue
+abbrev pub requests_said : List ℕ
+requests_said = codes "help E.N alloc i LENGTH, E.N alloc m LENGTH, E.N release A, E.N reset A, E.N fetch A, "
+    ++ codes "E.N store A VALUE, E.N take A, E.N put A VALUE, "
+
+-- its other lines
+abbrev pub lines_said : List ℕ
+lines_said = codes "collect E.N, entry E.N, confirm E UPTO, window E, cell A, block A, "
+    ++ codes "stat, room, turn, count, about, help, quit" ++ line_feed
+
+-- what `help` says
+abbrev pub help_line : List ℕ
+help_line = requests_said ++ lines_said

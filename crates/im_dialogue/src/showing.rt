@@ -1,0 +1,206 @@
+//! Adds what lines show that only look at the memory.
+ghost use Rattle.std.specs.Prelude.{◌≡◌, ◌++◌, OnOk, string_bytes};
+ghost use Rattle.im_types.specs.Contents.{block_at, held_at, waiters_at};
+ghost use Rattle.im_types.specs.Presences.{presence_in};
+ghost use Rattle.im_dialogue.specs.Answers.{look_text, recalled_line};
+ghost use Rattle.im_dialogue.specs.Showing.{block_said, blocks_said, cell_said, entries_said, help_line, held_text};
+ghost use Rattle.im_dialogue.specs.Showing.{queue_text, recall, stat_line, state_text, states_said};
+
+use crate::answers::{add_kept, add_operation, add_request_refused};
+use crate::counting::{count_cells, count_deferred, count_kept};
+use crate::look::Look;
+use crate::sort::Sort;
+use im_memory::Memory;
+use im_text::kind_text;
+use im_types::{Block, Cell, Kept, Refusal, Waiter};
+use std::alloc::AllocError;
+
+// ---- a request and what is kept for it
+
+/// Returns a request and what is kept for it. It is refused with `NoElement`, with `Forgotten` below the window, and
+/// with `Gap` if the number isn't used yet.
+fn recall(memory: &Memory, who: Waiter) -> Result<Kept, Refusal>
+    ensures { result ≡ recall memory.now.contents.windows who }
+{
+    let (base, _next) = memory.window(who.element)?;
+    match memory.kept(who.element, who.number) {
+        Some(kept) => Ok(kept),
+        None => {
+            if who.number < base {
+                Err(Refusal::Forgotten)
+            } else {
+                Err(Refusal::Gap)
+            }
+        }
+    }
+}
+
+// Adds a request and what is kept for it, or why nothing is kept.
+fn add_recalled(
+    out: &mut String,
+    who: Waiter,
+    answer: Result<Kept, Refusal>,
+    name: &str,
+) -> Result<(), AllocError>
+    ensures { OnOk result (string_bytes out.new
+        ≡ string_bytes out.old ++ recalled_line who.element who.number name.now answer) }
+{
+    match answer {
+        Ok(kept) => add_operation(out, who, kept),
+        Err(refusal) => add_request_refused(out, who, refusal, name),
+    }
+}
+
+// ---- a cell
+
+// Adds the requests that wait at a cell, in their order.
+fn add_queue(out: &mut String, memory: &Memory, a: u32) -> Result<(), AllocError>
+    ensures { OnOk result (string_bytes out.new
+        ≡ string_bytes out.old ++ queue_text (waiters_at memory.now.contents.cells a)) }
+{
+    for who in memory.waiters(a) {
+        let element = who.element;
+        let number = who.number;
+        write!(out, " {element}.{number}")?;
+    }
+    Ok(())
+}
+
+// Adds the state of a cell, with its value or the requests that wait at it.
+fn add_state(out: &mut String, memory: &Memory, a: u32) -> Result<(), AllocError>
+    ensures { let cells = memory.now.contents.cells in OnOk result (string_bytes out.new
+        ≡ string_bytes out.old ++ state_text (presence_in (held_at cells a)) (waiters_at cells a)) }
+{
+    match memory.cell(a) {
+        None => Ok(()), // It is in no block.
+        Some(Cell::Empty) => out.push_str(" empty"),
+        Some(Cell::Waiting) => {
+            out.push_str(" waiting")?;
+            add_queue(out, memory, a)
+        }
+        Some(Cell::Full(value)) => write!(out, " full {value}"),
+        Some(Cell::Clashed(value)) => write!(out, " clashed {value}"),
+    }
+}
+
+// Adds the kind and the state of a cell, or that there is none.
+fn add_held(out: &mut String, memory: &Memory, a: u32) -> Result<(), AllocError>
+    ensures { let cells = memory.now.contents.cells in OnOk result (string_bytes out.new
+        ≡ string_bytes out.old ++ held_text (block_at cells a) (presence_in (held_at cells a)) (waiters_at cells a)) }
+{
+    match memory.block(a) {
+        None => out.push_str("nocell"),
+        Some(block) => {
+            out.push_str(kind_text(block.kind))?;
+            add_state(out, memory, a)
+        }
+    }
+}
+
+// Adds `cell A KIND STATE`, or `cell A nocell`.
+fn add_cell(out: &mut String, memory: &Memory, a: u32) -> Result<(), AllocError>
+    ensures { OnOk result (string_bytes out.new ≡ string_bytes out.old ++ cell_said a (held_at memory.now.contents.cells a)) }
+{
+    write!(out, "cell {a} ")?;
+    add_held(out, memory, a)?;
+    out.push_str("\n")
+}
+
+// Adds `block BASE KIND LENGTH`, or `block A noblock`.
+fn add_block(out: &mut String, a: u32, block: Option<Block>) -> Result<(), AllocError>
+    ensures { OnOk result (string_bytes out.new ≡ string_bytes out.old ++ block_said a block) }
+{
+    let Some(block) = block else {
+        return write!(out, "block {a} noblock\n");
+    };
+    let base = block.base;
+    let kind = kind_text(block.kind);
+    let length = block.length;
+    write!(out, "block {base} {kind} {length}\n")
+}
+
+// ---- counts
+
+// Adds `stat cells C blocks B`.
+fn add_blocks(out: &mut String, memory: &Memory) -> Result<(), AllocError>
+    ensures { OnOk result (string_bytes out.new ≡ string_bytes out.old ++ blocks_said memory.now.contents) }
+{
+    let cells = memory.cells();
+    let blocks = count_cells(memory, Sort::Base);
+    write!(out, "stat cells {cells} blocks {blocks}")
+}
+
+// Adds `empty E waiting W full F clashed X`.
+fn add_states(out: &mut String, memory: &Memory) -> Result<(), AllocError>
+    ensures { OnOk result (string_bytes out.new ≡ string_bytes out.old ++ states_said memory.now.contents) }
+{
+    let empty = count_cells(memory, Sort::Empty);
+    let waiting = count_cells(memory, Sort::Waiting);
+    let full = count_cells(memory, Sort::Full);
+    let clashed = count_cells(memory, Sort::Clashed);
+    write!(out, " empty {empty} waiting {waiting}")?;
+    write!(out, " full {full} clashed {clashed}")
+}
+
+// Adds `kept K deferred D`.
+fn add_entries(out: &mut String, memory: &Memory) -> Result<(), AllocError>
+    ensures { OnOk result (string_bytes out.new ≡ string_bytes out.old ++ entries_said memory.now.contents) }
+{
+    let kept = count_kept(memory);
+    let deferred = count_deferred(memory);
+    write!(out, " kept {kept} deferred {deferred}\n")
+}
+
+// Adds how many blocks, cells and entries there are.
+fn add_stat(out: &mut String, memory: &Memory) -> Result<(), AllocError>
+    ensures { OnOk result (string_bytes out.new ≡ string_bytes out.old ++ stat_line memory.now.contents) }
+{
+    add_blocks(out, memory)?;
+    add_states(out, memory)?;
+    add_entries(out, memory)
+}
+
+// ---- help
+
+// Adds the lines of a dialogue.
+fn add_help(out: &mut String) -> Result<(), AllocError>
+    ensures { OnOk result (string_bytes out.new ≡ string_bytes out.old ++ help_line) }
+{
+    out.push_str(
+        "help E.N alloc i LENGTH, E.N alloc m LENGTH, E.N release A, E.N reset A, E.N fetch A, ",
+    )?;
+    out.push_str("E.N store A VALUE, E.N take A, E.N put A VALUE, ")?;
+    out.push_str("collect E.N, entry E.N, confirm E UPTO, window E, cell A, block A, ")?;
+    out.push_str("stat, room, turn, count, about, help, quit\n")
+}
+
+// ---- all of them
+
+/// Adds what a line shows that only looks. `name` is the name of the refusal, if it is one.
+pub(crate) fn add_look(
+    out: &mut String,
+    memory: &Memory,
+    look: Look,
+    name: &str,
+) -> Result<(), AllocError>
+    ensures { OnOk result (string_bytes out.new
+        ≡ string_bytes out.old ++ look_text name.now memory.now.contents look) }
+{
+    match look {
+        Look::Collect(who) => add_kept(out, who, memory.collect(who.element, who.number), name),
+        Look::Entry(who) => add_recalled(out, who, recall(memory, who), name),
+        Look::Cell(a) => add_cell(out, memory, a),
+        Look::Block(a) => add_block(out, a, memory.block(a)),
+        Look::Stat => add_stat(out, memory),
+        Look::Help => add_help(out),
+    }
+}
+
+/// Returns the refusal that a line shows that only looks, if it is refused.
+pub(crate) fn look_refused(memory: &Memory, look: Look) -> Option<Refusal> {
+    match look {
+        Look::Collect(who) => memory.collect(who.element, who.number).err(),
+        Look::Entry(who) => recall(memory, who).err(),
+        _ => None,
+    }
+}
