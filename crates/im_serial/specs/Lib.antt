@@ -1,4 +1,5 @@
 pub mod Asked
 pub mod Noted
 pub mod Serving
+pub mod Begun
 pub mod Once

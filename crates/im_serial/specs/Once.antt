@@ -5,7 +5,11 @@ use Rattle.std.specs.Prelude.{slice_index_or, slice_set, if◌then◌else◌}
 use Rattle.std.specs.Option.{option_map_or}
 use Rattle.std.specs.Io.KnownBytes.{Appends}
 use Rattle.im_types.specs.declared.commands.Command.{Command}
+use Rattle.im_types.specs.declared.operations.Entry.{Entry}
+use Rattle.im_types.specs.declared.operations.Entry.TheVariants.{Answered}
+use Rattle.im_types.specs.declared.operations.Reply.TheVariants.{Base}
 use Rattle.im_types.specs.declared.operations.Waiter.{Waiter}
+use Rattle.im_types.specs.declared.sizes.Limits.{Limits}
 use Rattle.im_types.specs.Contents.{Contents, kept_for}
 use Rattle.im_types.specs.Meaning.{accept_each}
 use Rattle.im_types.specs.Memory.{IsMemory}
@@ -26,7 +30,8 @@ use Rattle.im_serial.specs.declared.meeting.Met.{Met}
 use Rattle.im_serial.specs.declared.meeting.Met.TheVariants.{New, Done, Kept}
 use Rattle.im_serial.specs.declared.waits.Mark.{Mark}
 use Rattle.im_serial.specs.Noted.{AreKnown, AreLast, IsMarked, noted_if, notes}
-use Rattle.im_serial.specs.Serving.{GoesAt, HaltsAt, MeansAtLeast, NotOpened, ScriptServer}
+use Rattle.im_serial.specs.Begun.{HasGoneOn, MeansBegun}
+use Rattle.im_serial.specs.Serving.{AreWaited, GoesAt, HaltsWith, IsOver, MeansAtLeast, NotOpened, ScriptServer}
 
 -- ---- what a memory has of a script
 
@@ -97,6 +102,34 @@ next_had m element = option_map_or next_number (slice_get m.windows element) 0
 -- the next request of an element, if these are left
 abbrev pub who_next : Contents → List ℕ → ℕ → Waiter
 who_next m many element = record { element = element; number = next_had m element - left_of many element }
+
+-- what an image has of this request: its entry, or that it was confirmed
+abbrev pub met_of : Contents → Waiter → Met
+met_of m who = option_map_or (λ k. Kept k.entry) (kept_for m.windows who) Done
+
+-- the entry tells the base of a block
+abbrev pub IsBase : Entry → Type 0
+IsBase entry = (base : ℕ) × (entry ≡ Answered (Base base))
+
+-- a name can stand for the block: it was made, or its request was confirmed
+abbrev pub IsMade : Met → Type 0
+IsMade New = ⊥
+IsMade Done = Unit {0}
+IsMade (Kept entry) = IsBase entry
+
+-- each block of the setup that a memory has was made, or its request was confirmed
+abbrev pub AreMade : Contents → List ℕ → List Wanted → Type 0
+AreMade m many [] = Unit {0}
+AreMade m many (w ∷ wanted) = (has_block many w ≡ true → IsMade (met_of m (who_next m many w.element)))
+    × AreMade m (met many w.element) wanted
+
+-- the same of all of a script
+abbrev pub HasMade : Contents → List Wanted → Type 0
+HasMade m script = AreMade m (numbers_had m) script
+
+-- From these requests it comes to those: if the blocks of the rest were made, all were.
+abbrev pub Makes : Contents → List ℕ → List Wanted → List ℕ → List Wanted → Type 0
+Makes m many wanted later left = (rest : List Wanted) → AreMade m later (left ++ rest) → AreMade m many (wanted ++ rest)
 
 -- the line of a request that the memory has: what is kept for it, or that it was confirmed
 abbrev pub past_line : Contents → Waiter → List ℕ
@@ -188,6 +221,7 @@ pub record HasShown {D : Type 0} (script : List Wanted) (bases known : List ℕ)
   pub engine : mid.engine ≡ old.engine
   pub later : List ℕ
   pub meets : Meets (numbers_had old.engine.memory) script later [] old mid
+  pub made : HasMade old.engine.memory script
   pub names : known ≡ bases ++ bases_had (numbers_had old.engine.memory) 0 script
   pub pending : mid.lines.pending.items ≡ []
   pub works : mid.lines.broken ≡ false
@@ -229,17 +263,24 @@ pub record HasServedNothing {D : Type 0} (disk : Ghosts D) (t : ScriptServer D) 
   pub pending : t.lines.pending.items ≡ []
 
 module _ {D : Type 0} (disk : Ghosts D) where
+  -- it goes on or was ended; each block of the setup that the memory had was made, or nothing was put
+  abbrev pub HaltsOnce : EngineState D → List Wanted → Course → EngineState D → List ℕ → List Waited → Type 0
+  HaltsOnce start script c engine text waited = disk.honest engine.disk → disk.honest start.disk
+      × ((put : List Command) × ((names : List Waiter) × (AreWaited (Some c) waited names
+      × (HaltsWith disk.now disk.past disk.failures start engine put text names
+      × (IsOver start.memory (Some c) engine put waited × (HasMade start.memory script ⊎ (put ≡ [])))))))
+
   -- the script was ended, and what was told of it was printed
   abbrev pub EndedOnce : EngineState D → List Wanted → Option (List ℕ) → ScriptServer D → Type 0
   EndedOnce start script was t = (c : Course) × ((had : List ℕ) × (IsCourse start.memory script c had × ((text : List ℕ)
-      × (HaltsAt disk start (Some c) t.engine text t.waited × Prints was t.held t.lines (had ++ text)))))
+      × (HaltsOnce start script c t.engine text t.waited × Prints was t.held t.lines (had ++ text)))))
 
   -- nothing is left of the script, and what was told of it was printed
   abbrev pub DoneOnce : EngineState D → List Wanted → Option (List ℕ) → ScriptServer D → Type 0
-  DoneOnce start script was t = (bases : List ℕ) × ((text : List ℕ)
+  DoneOnce start script was t = HasMade start.memory script × ((bases : List ℕ) × ((text : List ℕ)
       × (GoesAt disk start (standing (Some (course_of start.memory script)) bases []) t.engine text
       (notes t.waited t.marks)
-      × Prints was t.held t.lines (lines_had start.memory (numbers_had start.memory) script ++ text)))
+      × Prints was t.held t.lines (lines_had start.memory (numbers_had start.memory) script ++ text))))
 
   -- the script was served once, if the call succeeded
   abbrev pub HasServedOnce : {T E : Type 0} → List Wanted → List ℕ → Result T E → ScriptServer D → ScriptServer D
@@ -285,6 +326,7 @@ pub record ClosedOnce {D : Type 0} (now : D → Moment) (past : D → List Momen
     (start : EngineState D) (disk : D) (was is : Option (List ℕ)) (status : ℕ) : Type 0 where
   pub put : List Command
   pub asked : IsAskedOnce start.memory (wanted_of text) put status
+  pub made : HasMade start.memory (wanted_of text) ⊎ ((put ≡ []) × (status ≡ 0 → ⊥))
   pub accepted : accept_each start.memory put ≡ Some (after start.memory put)
   pub leaves : Leaves (now start.disk) (now disk) (past start.disk) (past disk) (MeansBeginning start put)
   pub doubt : LeavesNow (now disk) (MeansAllOrInDoubt (Rises (failures start.disk) (failures disk)) start put)
@@ -293,13 +335,17 @@ pub record ClosedOnce {D : Type 0} (now : D → Moment) (past : D → List Momen
 
 -- The image was opened, with the meaning of a file that a crash could leave then, and these commands were put on it:
 -- those requests of this script that its memory didn't have, in their order, and confirmations. With status 0 they are
--- all of those. From then on a crash leaves the memory after a prefix of them. At the end it leaves the memory after
+-- all of those. Nothing was put if a block of the setup that the memory had wasn't made. If each file that was left meant
+-- what runs of the script come to, those runs and this one are one run from a new image on. From then on a crash leaves the memory after a prefix of them. At the end it leaves the memory after
 -- all of them, or after all but the last if a call of the disk failed. If the status is 0, it is after all of them.
 pub record ServedOnce {D : Type 0} (now : D → Moment) (past : D → List Moment) (failures : D → ℕ) (text : List ℕ)
     (old new : D) (was is : Option (List ℕ)) (status : ℕ) : Type 0 where
   pub start : EngineState D
   pub put : List Command
   pub asked : IsAskedOnce start.memory (wanted_of text) put status
+  pub made : HasMade start.memory (wanted_of text) ⊎ ((put ≡ []) × (status ≡ 0 → ⊥))
+  pub once : (limits : Limits) → LeavesNow (now old) (MeansBegun limits (wanted_of text))
+      → HasGoneOn limits (wanted_of text) start.memory put status
   pub found : (file : List ℕ) × Left (now old) file × MeansState start file
   pub accepted : accept_each start.memory put ≡ Some (after start.memory put)
   pub leaves : Leaves (now old) (now new) (past old) (past new) (MeansBeginning start put)
