@@ -34,6 +34,7 @@ use Rattle.im_engine.proofs.Keeping.{accept_both}
 use Rattle.im_laws.specs.Windows.{TakesNextNumber}
 use Rattle.im_laws.proofs.AcceptLemmas.{accepted-fresh, accepted-moves_base, accepted-takes_next}
 use Rattle.im_laws.proofs.AgreementLemmas.{same_waiter-self}
+use Rattle.im_laws.proofs.JudgeLemmas.{confirm-cells}
 use Rattle.im_laws.proofs.MemoryLemmas.{after-memory, bounds-window, empty-memory}
 use Rattle.im_laws.proofs.RunLemmas.{after-append}
 use Rattle.im_laws.proofs.StepLemmas.{judge-fresh}
@@ -46,7 +47,7 @@ use Rattle.im_serial.specs.Asked.{standing, whole_course}
 use Rattle.im_serial.specs.Once.{IsAskedOnce, has_block, has_next, left_of, length_asked, met, next_had, numbers_had}
 use Rattle.im_serial.specs.Once.{AreMade, HasMade, IsMade, bases_had, met_of, news, who_next}
 use Rattle.im_serial.specs.declared.meeting.Met.TheVariants as met_as
-use Rattle.im_serial.specs.Begun.{HasBegun, HasGoneOn, new_memory}
+use Rattle.im_serial.specs.Begun.{HasComeTo, HasGoneOn, new_memory}
 use Rattle.im_serial.proofs.AskedLemmas.{stands_asked, stands_confirmed, stands_first, stands_here}
 use Rattle.im_serial.proofs.LeftLemmas.{AreLeft, bases_left, count_more, count_of, count_same, end-append, end_of}
 use Rattle.im_serial.proofs.LeftLemmas.{end_with, first_had, had_at, news_left, others_left, sums-append, sums_of}
@@ -133,13 +134,6 @@ had_confirmed m element upto e accepted =
     (λ other. ap had_by (it.others e other))
     (cases_eq e element)
     ∙ sym (had_bounds m e)
-
-cells_confirmed : (m : Contents) (element upto : ℕ) → (step m (Confirm element upto)).contents.cells ≡ m.cells
-cells_confirmed m element upto = by_result (confirm_window upto (slice_get m.windows element))
-  where
-    by_result : (c : Result Window Refusal) → (step_confirm m element c).contents.cells ≡ m.cells
-    by_result (Err refusal) = refl
-    by_result (Ok window) = refl
 
 module _ (cells elements : ℕ) (m : Contents) (is : IsMemory cells elements m) (r : Request) (accepted : is_accepted m
     (Asks r) ≡ true) where
@@ -270,7 +264,7 @@ module _ (limits : Limits) (script : List Wanted) (put : List Command) (done lef
         counts = λ e. ap (λ (n : Contents). left_of (numbers_had n) e) now ∙ had_confirmed m element upto e accepted
             ∙ it.counts e;
         setup = ⊎_elim (λ h. inl (
-          subst (ArePacked (end_of 0 done)) (sym (ap (λ (n : Contents). n.cells) now ∙ cells_confirmed m element upto))
+          subst (ArePacked (end_of 0 done)) (sym (ap (λ (n : Contents). n.cells) now ∙ confirm-cells m element upto))
               h.0,
           h.1,
         )) (λ h. inr h) it.setup;
@@ -488,14 +482,14 @@ comes limits script (Asks r ∷ put) earlier done (w ∷ left) last n it (is, in
 
 -- a run of the script that began on a new image
 run_comes : (limits : Limits) (script : List Wanted) (put : List Command) (m : Contents) → HasSetup script
-    → HasBegun limits script put m → Comes limits script put
+    → HasComeTo limits script put m → Comes limits script put
 run_comes limits script put m setup it = comes limits script put [] [] script it.left m (stands_new limits script setup)
     it.leads it.accepted
 
 -- ---- a run that goes on
 
 module _ (limits : Limits) (script : List Wanted) (setup : HasSetup script) (earlier : List Command) (m : Contents)
-    (begun : HasBegun limits script earlier m) (put : List Command) (status : ℕ)
+    (begun : HasComeTo limits script earlier m) (put : List Command) (status : ℕ)
     (asked : IsAskedOnce m script put status) (accepted : accept_each m put ≡ Some (after m put))
     (made : HasMade m script ⊎ ((put ≡ []) × (status ≡ 0 → ⊥))) where
   memory_is : m ≡ after (new_memory limits) earlier
@@ -550,7 +544,7 @@ module _ (limits : Limits) (script : List Wanted) (setup : HasSetup script) (ear
   gone_on = record { earlier = earlier; begun = begun.accepted; accepted = all_accepted; asked = all_asked }
 
   -- stopped anywhere, it is a run that was stopped
-  pub begun_on : (many : ℕ) → HasBegun limits script (earlier ++ take many put) (after m (take many put))
+  pub begun_on : (many : ℕ) → HasComeTo limits script (earlier ++ take many put) (after m (take many put))
   begun_on many =
       let first = leads_first (new_memory limits) [] script (earlier ++ put) all_lead.0 (length earlier + many)
       all_lead.1.0 in

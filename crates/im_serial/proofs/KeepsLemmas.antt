@@ -9,14 +9,14 @@ use Rattle.im_types.specs.Contents.{Contents}
 use Rattle.im_types.specs.Meaning.{Means, accept_each}
 use Rattle.im_types.specs.Run.{after}
 use Rattle.im_disk.specs.declared.disk.Disk.{Ghosts}
-use Rattle.im_disk.specs.Moment.{Left, Moment}
+use Rattle.im_disk.specs.Moment.{Left, Moment, Outside}
 use Rattle.im_disk.specs.Since.{LeavesNow}
 use Rattle.im_disk.proofs.SinceLemmas.{leaves_now, leaves_weaker}
 use Rattle.im_engine.specs.State.{EngineState, MeansState}
 use Rattle.im_engine.specs.Run.{MeansBeginning}
 use Rattle.im_engine.proofs.FilesMean.{means_one}
-use Rattle.im_serial.specs.Asked.{wanted_of}
-use Rattle.im_serial.specs.Begun.{HasBegun, HasGoneOn, KeepsBegun, MeansBegun, MeansDone, new_memory}
+use Rattle.im_serial.specs.Asked.{Wanted, wanted_of}
+use Rattle.im_serial.specs.Begun.{HasComeTo, HasGoneOn, KeepsBegun, MeansBegun, MeansDone, new_memory}
 use Rattle.im_serial.specs.Once.{HasMade, IsAskedOnce, SerialOnceOn, ServedOnce}
 use Rattle.im_serial.proofs.BegunLemmas.{all_accepted, all_asked, begun_on, gone_on}
 use Rattle.im_serial.proofs.SetupLemmas.{setup_first}
@@ -25,7 +25,7 @@ use Rattle.im_serial.proofs.SetupLemmas.{setup_first}
 record WasBegun {D : Type 0} (limits : Limits) (text : List ℕ) (start : EngineState D) : Type 0 where
   earlier : List Command
   count : start.count ≡ length earlier
-  begun : HasBegun limits (wanted_of text) earlier start.memory
+  begun : HasComeTo limits (wanted_of text) earlier start.memory
 
 module _ {D : Type 0} (limits : Limits) (text : List ℕ) (old : Moment) (start : EngineState D)
     (before : LeavesNow old (MeansBegun limits (wanted_of text)))
@@ -37,7 +37,7 @@ module _ {D : Type 0} (limits : Limits) (text : List ℕ) (old : Moment) (start 
       record {
         earlier = it.0;
         count = same.1;
-        begun = subst (HasBegun limits (wanted_of text) it.0) (sym same.0) it.1.1.0;
+        begun = subst (HasComeTo limits (wanted_of text) it.0) (sym same.0) it.1.1.0;
       }
 
 pub went_on : {D : Type 0} (limits : Limits) (text : List ℕ) (old : Moment) (start : EngineState D) (put : List
@@ -125,3 +125,19 @@ module _ {D : Type 0} (disk : Ghosts D) (limits : Limits) (text : List ℕ) (old
             (disk.past new) (MeansBeginning it.start it.put) it.leaves file left);
         done = done_on it;
       }
+
+-- a crash leaves no more than could be left
+pub crashed_keeps : (old new : Moment) (P : List ℕ → Type 0) → Left old new.bytes → new.ranges ≡ old.ranges
+    → LeavesNow old P → LeavesNow new P
+crashed_keeps old new P left same keeps = λ file again. keeps file (record {
+  size = again.size ∙ left.size;
+  same = λ i out. again.same i (subst (λ (r : List (ℕ × ℕ)). Outside r i) (sym same) out) ∙ left.same i out;
+})
+
+-- a new image
+pub new_begun : (limits : Limits) (script : List Wanted) (file : List ℕ) → Means (new_memory limits) 0 0 file
+    → MeansBegun limits script file
+new_begun limits script file means = (
+  [],
+  (new_memory limits, (record { left = script; leads = refl; accepted = refl }, means)),
+)

@@ -47,7 +47,7 @@ use Rattle.im_serial.specs.Once.{Breaks, BrokenAt, HasBroken, HasMet, HasPassed,
 use Rattle.im_serial.specs.Once.{Names, bases_had, has_block, has_next, left_of, length_asked}
 use Rattle.im_serial.specs.Once.{if_new, lines_had, met, met_all, news, next_had, noted_of, numbers_had, past_line}
 use Rattle.im_serial.specs.Once.{waits_had, waits_of, who_next, ClosedOnce, DoneOnce, EndedOnce, HasServedOnce}
-use Rattle.im_serial.specs.Once.{AreMade, HaltsOnce, HasMade, IsMade, Makes, is_had, met_of}
+use Rattle.im_serial.specs.Once.{AreMade, HaltsOnce, HasMade, IsMade, MakesBlocks, is_had, met_of}
 use Rattle.im_serial.specs.declared.meeting.Met.{Met}
 use Rattle.im_serial.specs.declared.meeting.Met.TheVariants as as_met
 use Rattle.im_serial.specs.Once.{HasServedNothing, IsAskedOnce, ServedOnce, ToldOnce, course_of, new_of}
@@ -324,7 +324,7 @@ found_of (Ok it) m it_is there same found = λ has. found ∙ ap (met_of m) same
 pub makes_block : {T E : Type 0} (r : Result T E) (m : Contents) (many later : List ℕ) (w : Wanted) (it : Met)
     → later ≡ met many w.element → is_had it ≡ has_next many w.element
     → (is_had it ≡ true → it ≡ met_of m (who_next m many w.element)) → OnOk r (is_had it ≡ true → IsMade it)
-    → OnOk r (Makes m many (w ∷ []) later [])
+    → OnOk r (MakesBlocks m many (w ∷ []) later [])
 makes_block (Err e) m many later w it same had found made = tt
 makes_block (Ok x) m many later w it same had found made = λ rest are. (
   λ block.
@@ -335,7 +335,7 @@ makes_block (Ok x) m many later w it same had found made = λ rest are. (
 
 -- a request that makes none
 pub makes_plain : (m : Contents) (many later : List ℕ) (w : Wanted) → w.named ≡ false → later ≡ met many w.element
-    → Makes m many (w ∷ []) later []
+    → MakesBlocks m many (w ∷ []) later []
 makes_plain m many later w plain same = λ rest are. (
   λ block. absurd (true_false w.named (and_both (has_next many w.element) w.named block).1 plain),
   subst (λ (l : List ℕ). AreMade m l rest) same are,
@@ -345,8 +345,8 @@ makes_plain m many later w plain same = λ rest are. (
 pub line_makes : (m : Contents) (all : List Wanted) (first many : List ℕ) (d next : Draft) (said : Said) (text line :
     List ℕ) (behind : Option (Bor (List ℕ)))
     → lines_of text ≡ line ∷ option_map_or (λ rest. lines_of rest.now) behind [] → counted d line ≡ Some (next, said)
-    → Makes m first all many (wanted_in d (lines_of text)) → (later : List ℕ) → Makes m many (wanted_by said) later []
-    → Makes m first all later (option_map_or (λ rest. wanted_in next (lines_of rest.now)) behind [])
+    → MakesBlocks m first all many (wanted_in d (lines_of text)) → (later : List ℕ) → MakesBlocks m many (wanted_by said) later []
+    → MakesBlocks m first all later (option_map_or (λ rest. wanted_in next (lines_of rest.now)) behind [])
 line_makes m all first many d next said text line behind lines read so_far later makes = λ rest are.
     let left = option_map_or (λ rest. wanted_in next (lines_of rest.now)) behind [] in
     so_far rest (subst (AreMade m many) (sym (ap (λ (l : List Wanted). l ++ rest) (line_wanted d next said text line
@@ -354,15 +354,15 @@ line_makes m all first many d next said text line behind lines read so_far later
 
 -- the lines that are left
 pub makes_none : (F : Bor (List ℕ) → List Wanted) (m : Contents) (first later : List ℕ) (all : List Wanted) (rest :
-    Option (Bor (List ℕ))) → rest ≡ None → Makes m first all later (option_map_or F rest [])
-    → Makes m first all later []
-makes_none F m first later all rest none makes = subst (λ (o : Option (Bor (List ℕ))). Makes m first all later
+    Option (Bor (List ℕ))) → rest ≡ None → MakesBlocks m first all later (option_map_or F rest [])
+    → MakesBlocks m first all later []
+makes_none F m first later all rest none makes = subst (λ (o : Option (Bor (List ℕ))). MakesBlocks m first all later
     (option_map_or F o [])) none makes
 
 pub makes_some : (F : Bor (List ℕ) → List Wanted) (m : Contents) (first later : List ℕ) (all : List Wanted) (rest :
-    Option (Bor (List ℕ))) (text : Bor (List ℕ)) → rest ≡ Some text → Makes m first all later (option_map_or F rest [])
-    → Makes m first all later (F text)
-makes_some F m first later all rest text some makes = subst (λ (o : Option (Bor (List ℕ))). Makes m first all later
+    Option (Bor (List ℕ))) (text : Bor (List ℕ)) → rest ≡ Some text → MakesBlocks m first all later (option_map_or F rest [])
+    → MakesBlocks m first all later (F text)
+makes_some F m first later all rest text some makes = subst (λ (o : Option (Bor (List ℕ))). MakesBlocks m first all later
     (option_map_or F o [])) some makes
 
 -- ---- servers
@@ -519,7 +519,7 @@ module _ {D : Type 0} where
       Waited) (marks : List Mark) → engine ≡ old.engine
       → Meets (numbers_had old.engine.memory) script later [] old (server_of engine held before waited marks)
       → Names (numbers_had old.engine.memory) 0 script later behind [] bases known
-      → Makes old.engine.memory (numbers_had old.engine.memory) script later [] → PrintsOn held before after last
+      → MakesBlocks old.engine.memory (numbers_had old.engine.memory) script later [] → PrintsOn held before after last
       → OnOk r (last.pending.items ≡ []) → OnOk r (last.broken ≡ false)
       → MatchResult r (λ x. HasShown script bases known old (server_of engine after last waited marks))
       (λ e. Breaks (numbers_had old.engine.memory) script old (server_of engine after last waited marks))

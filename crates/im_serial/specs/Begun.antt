@@ -16,7 +16,7 @@ new_memory limits = empty_contents limits.cells limits.elements
 -- These commands lead from a new image to this memory, each accepted in its turn. They are, confirmations aside, the
 -- first requests of the script, in their order, each with its element's next number, and the names stand for the bases
 -- in the blocks' answers. So a run of the script that was stopped, or done, has put them.
-pub record HasBegun (limits : Limits) (script : List Wanted) (put : List Command) (m : Contents) : Type 0 where
+pub record HasComeTo (limits : Limits) (script : List Wanted) (put : List Command) (m : Contents) : Type 0 where
   pub left : List Wanted
   pub leads : Leads (new_memory limits) [] script put left
   pub accepted : accept_each (new_memory limits) put ≡ Some m
@@ -32,7 +32,7 @@ pub record HasGoneOn (limits : Limits) (script : List Wanted) (m : Contents) (pu
 
 -- the file means a memory that a run of the script came to
 abbrev pub MeansBegun : Limits → List Wanted → List ℕ → Type 0
-MeansBegun limits script file = (put : List Command) × ((m : Contents) × (HasBegun limits script put m
+MeansBegun limits script file = (put : List Command) × ((m : Contents) × (HasComeTo limits script put m
     × Means m (length put) 0 file))
 
 -- the file means the memory after all requests of the script, each once

@@ -128,8 +128,8 @@ abbrev pub HasMade : Contents → List Wanted → Type 0
 HasMade m script = AreMade m (numbers_had m) script
 
 -- From these requests it comes to those: if the blocks of the rest were made, all were.
-abbrev pub Makes : Contents → List ℕ → List Wanted → List ℕ → List Wanted → Type 0
-Makes m many wanted later left = (rest : List Wanted) → AreMade m later (left ++ rest) → AreMade m many (wanted ++ rest)
+abbrev pub MakesBlocks : Contents → List ℕ → List Wanted → List ℕ → List Wanted → Type 0
+MakesBlocks m many wanted later left = (rest : List Wanted) → AreMade m later (left ++ rest) → AreMade m many (wanted ++ rest)
 
 -- the line of a request that the memory has: what is kept for it, or that it was confirmed
 abbrev pub past_line : Contents → Waiter → List ℕ
@@ -333,6 +333,12 @@ pub record ClosedOnce {D : Type 0} (now : D → Moment) (past : D → List Momen
   pub done : status ≡ 0 → LeavesNow (now disk) (MeansAfter start put (length put))
   pub printed : ToldOnce now start (wanted_of text) put disk was is status
 
+-- The same of a disk that is honest at the end.
+abbrev pub ClosesOnce : {D : Type 0} → Ghosts D → List ℕ → EngineState D → D → Option (List ℕ) → Option (List ℕ) → ℕ
+    → Type 0
+ClosesOnce disk text start new was is status = disk.honest new
+    → ClosedOnce disk.now disk.past disk.failures text start new was is status
+
 -- The image was opened, with the meaning of a file that a crash could leave then, and these commands were put on it:
 -- those requests of this script that its memory didn't have, in their order, and confirmations. With status 0 they are
 -- all of those. Nothing was put if a block of the setup that the memory had wasn't made. If each file that was left meant
@@ -357,6 +363,10 @@ pub record ServedOnce {D : Type 0} (now : D → Moment) (past : D → List Momen
 abbrev pub SerialOnceOn : {D : Type 0} → Ghosts D → List ℕ → D → D → Option (List ℕ) → Option (List ℕ) → ℕ → Type 0
 SerialOnceOn disk text old new was is status = NotOpened disk.now disk.past old new was is status
     ⊎ ServedOnce disk.now disk.past disk.failures text old new was is status
+
+-- The same of a disk that is honest at the end.
+abbrev pub ServesOnceOn : {D : Type 0} → Ghosts D → List ℕ → D → D → Option (List ℕ) → Option (List ℕ) → ℕ → Type 0
+ServesOnceOn disk text old new was is status = disk.honest new → SerialOnceOn disk text old new was is status
 
 -- The same of some script, and of a disk that is at this moment, and has no moment before it.
 pub record ServedOnceFrom {D : Type 0} (now : D → Moment) (past : D → List Moment) (failures : D → ℕ) (first : Moment)

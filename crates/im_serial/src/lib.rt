@@ -7,7 +7,9 @@ mod past;
 mod room;
 mod serial;
 mod server;
+mod stops;
 mod waits;
 
 pub use serial::{serial_on, serial_once_on};
 pub use server::{Desk, Paper, Server};
+pub use stops::{Stop, Stopped, new_images_have_begun, serial_over_stops};

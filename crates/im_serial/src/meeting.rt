@@ -9,7 +9,7 @@ ghost use Rattle.im_text.specs.Printing.{PrintsMore, PrintsOn};
 ghost use Rattle.im_serial.specs.declared.waits.Mark.TheVariants.{Here};
 ghost use Rattle.im_serial.specs.Noted.{mark_place};
 ghost use Rattle.im_serial.specs.Asked.{Wanted, wanted_by, wanted_of};
-ghost use Rattle.im_serial.specs.Once.{HasPassed, IsMade, Makes, Names, has_next, is_had, met, met_of, noted_of};
+ghost use Rattle.im_serial.specs.Once.{HasPassed, IsMade, MakesBlocks, Names, has_next, is_had, met, met_of, noted_of};
 ghost use Rattle.im_serial.specs.Once.{past_line, who_next};
 ghost use Rattle.im_serial.specs.Serving.{seen_by};
 
@@ -158,7 +158,7 @@ impl<D: Disk> Server<D> {
         ensures engine { self.new.engine ≡ self.old.engine }
         ensures names { OnOk result (Names past.old.many.items past.old.end (wanted_by (Said.Block block))
             past.new.many.items past.new.end [] self.old.bases.items self.new.bases.items) }
-        ensures made { OnOk result (Makes self.old.engine.memory past.old.many.items (wanted_by (Said.Block block))
+        ensures made { OnOk result (MakesBlocks self.old.engine.memory past.old.many.items (wanted_by (Said.Block block))
             past.new.many.items []) }
         ensures passed { HasPassed past.old.many.items (wanted_by (Said.Block block)) past.new.many.items result
             (seen_by self.old (W.contents out.old)) (seen_by self.new (W.contents out.new)) }
@@ -180,7 +180,7 @@ impl<D: Disk> Server<D> {
         ensures engine { self.new.engine ≡ self.old.engine }
         ensures names { OnOk result (Names past.old.many.items past.old.end (wanted_by (Said.Asks line))
             past.new.many.items past.new.end [] self.old.bases.items self.new.bases.items) }
-        ensures made { OnOk result (Makes self.old.engine.memory past.old.many.items (wanted_by (Said.Asks line))
+        ensures made { OnOk result (MakesBlocks self.old.engine.memory past.old.many.items (wanted_by (Said.Asks line))
             past.new.many.items []) }
         ensures passed { HasPassed past.old.many.items (wanted_by (Said.Asks line)) past.new.many.items result
             (seen_by self.old (W.contents out.old)) (seen_by self.new (W.contents out.new)) }
@@ -201,7 +201,7 @@ impl<D: Disk> Server<D> {
         ensures engine { self.new.engine ≡ self.old.engine }
         ensures names { OnOk result (Names past.old.many.items past.old.end (wanted_by said)
             past.new.many.items past.new.end [] self.old.bases.items self.new.bases.items) }
-        ensures made { OnOk result (Makes self.old.engine.memory past.old.many.items (wanted_by said)
+        ensures made { OnOk result (MakesBlocks self.old.engine.memory past.old.many.items (wanted_by said)
             past.new.many.items []) }
         ensures passed { HasPassed past.old.many.items (wanted_by said) past.new.many.items result
             (seen_by self.old (W.contents out.old)) (seen_by self.new (W.contents out.new)) }
@@ -225,7 +225,7 @@ impl<D: Disk> Server<D> {
         ensures engine { self.new.engine ≡ self.old.engine }
         ensures names { OnOk result (Names past.old.many.items past.old.end (wanted_of script.now)
             past.new.many.items past.new.end [] self.old.bases.items self.new.bases.items) }
-        ensures made { OnOk result (Makes self.old.engine.memory past.old.many.items (wanted_of script.now)
+        ensures made { OnOk result (MakesBlocks self.old.engine.memory past.old.many.items (wanted_of script.now)
             past.new.many.items []) }
         ensures passed { HasPassed past.old.many.items (wanted_of script.now) past.new.many.items result
             (seen_by self.old (W.contents out.old)) (seen_by self.new (W.contents out.new)) }

@@ -5,7 +5,7 @@ ghost use Rattle.im_engine.specs.State.{MeansState};
 ghost use Rattle.im_types.specs.declared.sizes.Limits.{Limits};
 ghost use Rattle.im_serial.specs.Asked.{wanted_of};
 ghost use Rattle.im_serial.specs.Begun.{KeepsBegun, MeansBegun};
-ghost use Rattle.im_serial.specs.Once.{ClosedOnce, HasServedNothing, SerialOnceOn};
+ghost use Rattle.im_serial.specs.Once.{ClosesOnce, HasServedNothing, SerialOnceOn, ServesOnceOn};
 ghost use Rattle.im_serial.specs.Serving.{Closed, SerialOn, seen_by};
 
 use crate::server::{Desk, Server};
@@ -159,8 +159,7 @@ fn open_and_serve_once<D: Disk, W: Write, N: Observer>(
     observer: &mut N,
 ) -> (u8, D)
     ensures status { result.0 ≤ 1 }
-    ensures served { D.honest result.1
-        → SerialOnceOn D.Disk script.now disk result.1 (W.contents out.old) (W.contents out.new) result.0 }
+    ensures served { ServesOnceOn D.Disk script.now disk result.1 (W.contents out.old) (W.contents out.new) result.0 }
     ensures honest { D.honest result.1 → D.honest disk }
 {
     let desk = match Desk::new(alloc) {
@@ -189,8 +188,8 @@ fn serve_once_on<D: Disk, W: Write, N: Observer>(
 ) -> (u8, D)
     requires works { HasServedNothing D.Disk (seen_by server (W.contents out.old)) server.bases.items }
     ensures status { result.0 ≤ 1 }
-    ensures closed { D.honest result.1 → ClosedOnce D.now D.past D.failures script.now server.engine result.1
-        (W.contents out.old) (W.contents out.new) result.0 }
+    ensures closed { ClosesOnce D.Disk script.now server.engine result.1 (W.contents out.old) (W.contents out.new)
+        result.0 }
     ensures honest { D.honest result.1 → D.honest server.engine.disk }
 {
     let served = server.serve_once(alloc, script, out, observer);

@@ -2,7 +2,7 @@ use Rattle.std.proofs.Common.{◌∙◌, [], subst}
 use Rattle.im_engine.specs.State.{EngineState}
 use Rattle.im_script.specs.Script.{draft_of, lines_of}
 use Rattle.im_serial.specs.Asked.{wanted_by, wanted_in, wanted_of}
-use Rattle.im_serial.specs.Once.{Makes}
+use Rattle.im_serial.specs.Once.{MakesBlocks}
 use Rattle.im_serial.specs.Serving.{server_of}
 use Rattle.im_serial.proofs.OnceLemmas.{breaks_here, line_breaks, line_makes, line_meets, line_names, makes_none}
 use Rattle.im_serial.proofs.OnceLemmas.{makes_some, meets_none, meets_some, names_none, names_some}
@@ -100,7 +100,7 @@ loop-number-preserved g c =
               c.in-Ok.ensures.ok (makes_some (λ text. wanted_in d (lines_of text.now)) was.engine.memory
               first.many.items past.many.items all c.loop-number.rest c.in-Some.text c.in-Some.is
               c.loop-number.invariant.1.1.0) c.meet_said.new.past.many.items
-              (subst (λ (e : EngineState g.row.D.Denot). Makes e.memory past.many.items (wanted_by c.in-Ok.said)
+              (subst (λ (e : EngineState g.row.D.Denot). MakesBlocks e.memory past.many.items (wanted_by c.in-Ok.said)
               c.meet_said.new.past.many.items []) c.loop-number.invariant.0 c.in-Ok-meet_said.ensures.made),
           line_meets all first.many.items past.many.items old mid d (draft_of c.read.new.self)
               c.in-Ok.said c.in-Some.text.now c.split_line.result.0.now c.split_line.result.1 c.split_line.ensures

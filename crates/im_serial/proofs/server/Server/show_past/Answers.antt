@@ -1,6 +1,6 @@
 use Rattle.std.proofs.Common.{◌∙◌, [], List, ℕ, ap, subst}
 use Rattle.im_serial.specs.Asked.{wanted_of}
-use Rattle.im_serial.specs.Once.{Breaks, Makes, Meets, Names, numbers_had}
+use Rattle.im_serial.specs.Once.{Breaks, MakesBlocks, Meets, Names, numbers_had}
 use Rattle.im_serial.specs.Serving.{server_of}
 use Rattle.im_serial.proofs.OnceLemmas.{breaks_here, meets_refl, shown_by}
 use Rattle.im_serial.proofs.server.Server.show_past.Goals as goal
@@ -40,7 +40,7 @@ returns-in-Ok-meet_all-clause-shown g c =
     (subst (λ (l : List ℕ). Names l 0 all past.many.items past.end [] was.bases.items s.bases.items) many (subst (λ (n :
     ℕ). Names c.in-Ok-new.past.many.items n all past.many.items past.end [] was.bases.items s.bases.items)
     c.in-Ok-new.ensures.end c.in-Ok-meet_all.ensures.names))
-    (subst (λ (l : List ℕ). Makes was.engine.memory l all past.many.items []) many c.in-Ok-meet_all.ensures.made)
+    (subst (λ (l : List ℕ). MakesBlocks was.engine.memory l all past.many.items []) many c.in-Ok-meet_all.ensures.made)
     c.flush.ensures.on c.flush.ensures.pending c.flush.ensures.works
 
 pub returns-clause-shown : goal.returns-clause-shown
