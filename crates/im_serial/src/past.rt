@@ -92,7 +92,7 @@ impl Past {
     }
 }
 
-/// MakesBlocks the line `K.N done` for a request that was confirmed.
+/// Makes the line `K.N done` for a request that was confirmed.
 pub fn make_done(line: &mut String, element: u16, number: u64) -> Result<(), AllocError>
     ensures { OnOk result (string_bytes line.new ≡ done_line (record { element = element; number = number })) }
 {

@@ -1,4 +1,4 @@
-//! MakesBlocks room for the next request: in the journal, and in its element's window.
+//! Makes room for the next request: in the journal, and in its element's window.
 ghost use Rattle.std.specs.Prelude.{◌≡◌, ◌≤◌, ℕ, false, Ok, IfOk};
 ghost use Rattle.im_types.specs.Window.{bounds};
 ghost use Rattle.im_serial.specs.Serving.{Drops, Keeps};
@@ -63,7 +63,7 @@ fn serve_confirm<D: Disk>(engine: &mut Engine<D>, element: u16, upto: u64) -> Re
     }
 }
 
-/// MakesBlocks room, and then confirms an element's entries below a number.
+/// Makes room, and then confirms an element's entries below a number.
 pub fn confirm<D: Disk>(
     engine: &mut Engine<D>,
     progress: &mut Progress,

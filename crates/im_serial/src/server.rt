@@ -80,7 +80,7 @@ pub struct Server<D: Disk> {
 }
 
 impl<D: Disk> Server<D> {
-    /// MakesBlocks a server over an engine. It has served nothing yet, and marks the requests that already wait.
+    /// Makes a server over an engine. It has served nothing yet, and marks the requests that already wait.
     pub fn new(alloc: Global, engine: Engine<D>, desk: Desk) -> Server<D>
         ensures engine { result.engine ≡ engine }
         ensures lines { result.lines ≡ desk.lines }
@@ -152,7 +152,7 @@ impl<D: Disk> Server<D> {
         confirm(&mut self.engine, &mut self.progress, element, upto)
     }
 
-    // MakesBlocks a place in an element's window, and room in the journal, for its next request.
+    // Makes a place in an element's window, and room in the journal, for its next request.
     fn prepare<N: Observer>(&mut self, element: u16, observer: &mut N) -> Result<(), Refusal>
         ensures goes { Prepares D.Disk result self.old.engine self.old.waited.items self.old.places.marks.items
             self.new.engine self.new.waited.items self.new.places.marks.items }
@@ -267,7 +267,7 @@ impl<D: Disk> Server<D> {
         }
     }
 
-    // MakesBlocks a block of the setup, prints its answer, and keeps its base.
+    // Makes a block of the setup, prints its answer, and keeps its base.
     fn name_block<W: Write, N: Observer>(
         &mut self,
         block: Allocation,
@@ -290,7 +290,7 @@ impl<D: Disk> Server<D> {
         }
     }
 
-    /// MakesBlocks a block of the setup, prints its answer, and keeps its base. If element 0's window is full, its entries
+    /// Makes a block of the setup, prints its answer, and keeps its base. If element 0's window is full, its entries
     /// before the first that still waits are confirmed first. Turns of a checkpoint are taken while there is no room
     /// for a command. An accepted command is on the disk before its line is kept for printing.
     ///

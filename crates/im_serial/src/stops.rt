@@ -26,7 +26,7 @@ pub struct Stop {
 
 /// A disk with an image, and the stops that the runs on it meet.
 #[derive(Drop)]
-pub struct Stopped {
+pub struct Interrupted {
     /// The disk.
     pub disk: MemDisk,
     /// The stops, one for each run.
@@ -47,7 +47,7 @@ pub fn new_images_have_begun()
 /// in their order, each with its element's next number.
 pub fn serial_over_stops<W: Write, N: Observer>(
     alloc: Global,
-    image: Stopped,
+    image: Interrupted,
     script: &Script<'_>,
     out: &mut W,
     observer: &mut N,
@@ -58,12 +58,13 @@ pub fn serial_over_stops<W: Write, N: Observer>(
     ensures now { (limits : Limits) → LeavesNow image.disk.moment (MeansBegun limits (wanted_of script.now))
         → result.0 ≡ 0 → LeavesNow result.1.moment (MeansDone limits (wanted_of script.now)) }
 {
-    let Stopped { mut disk, stops } = image;
+    let Interrupted { mut disk, stops } = image;
     for at in 0..stops.len() {
         let stop = stops[at];
         let fused = FuseDisk::new(disk, stop.passes, stop.mode);
         let (_status, left) = serial_once_on(alloc, fused, script, out, observer);
         disk = left.into_inner().crash(stop.crash);
     }
-    serial_once_on(alloc, disk, script, out, observer)
+    let (status, disk) = serial_once_on(alloc, disk, script, out, observer);
+    (status, disk)
 }

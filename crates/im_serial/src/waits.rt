@@ -42,7 +42,7 @@ fn index_of(element: u16, number: u64) -> usize
 }
 
 impl Places {
-    /// MakesBlocks marks that say that nobody waits. It takes all room that will be needed.
+    /// Makes marks that say that nobody waits. It takes all room that will be needed.
     pub fn new(alloc: Global) -> Result<Places, AllocError> {
         let mut marks = Vec::with_capacity(alloc, index_of(MAX_ELEMENTS, 0))?;
         for _place in 0..index_of(MAX_ELEMENTS, 0) {

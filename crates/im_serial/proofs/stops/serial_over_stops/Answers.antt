@@ -21,8 +21,8 @@ loop-at-preserved g c = λ limits before.
 
 pub returns-clause-keeps : goal.returns-clause-keeps
 returns-clause-keeps g c = λ limits before.
-    (c.serial_once_on.ensures.keeps tt limits (c.loop-at.invariant limits before)).after
+    (c.serial_once_on-status-2.ensures.keeps tt limits (c.loop-at.invariant limits before)).after
 
 pub returns-clause-now : goal.returns-clause-now
 returns-clause-now g c = λ limits before zero.
-    (c.serial_once_on.ensures.keeps tt limits (c.loop-at.invariant limits before)).done zero
+    (c.serial_once_on-status-2.ensures.keeps tt limits (c.loop-at.invariant limits before)).done zero
