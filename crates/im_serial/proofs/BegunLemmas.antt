@@ -44,8 +44,10 @@ use Rattle.im_script.specs.declared.places.Action.{Action}
 use Rattle.im_script.specs.Places.{op_of}
 use Rattle.im_serial.specs.Asked.{HasReached, IsAsked, Leads, Wanted, base_told, bases_by, number_next, request_in}
 use Rattle.im_serial.specs.Asked.{standing, whole_course}
-use Rattle.im_serial.specs.Once.{IsAskedOnce, has_block, has_next, left_of, length_asked, met, next_had, numbers_had}
-use Rattle.im_serial.specs.Once.{AreMade, HasMade, IsMade, bases_had, met_of, news, who_next}
+use Rattle.im_serial.specs.Had.{has_block, has_next, left_of, length_asked, met, next_had, numbers_had}
+use Rattle.im_serial.specs.Once.{IsAskedOnce}
+use Rattle.im_serial.specs.Had.{bases_had, news, who_next}
+use Rattle.im_serial.specs.Once.{AreMade, HasMade, IsMade, met_of}
 use Rattle.im_serial.specs.declared.meeting.Met.TheVariants as met_as
 use Rattle.im_serial.specs.Begun.{HasComeTo, HasGoneOn, new_memory}
 use Rattle.im_serial.proofs.AskedLemmas.{stands_asked, stands_confirmed, stands_first, stands_here}

@@ -11,7 +11,7 @@ use Rattle.im_types.specs.Window.{next_number}
 use Rattle.im_laws.proofs.GroupLemmas.{above_zero}
 use Rattle.im_laws.proofs.Tests.{eq_by_test, true_false}
 use Rattle.im_serial.specs.Asked.{Wanted}
-use Rattle.im_serial.specs.Once.{bases_had, has_block, has_next, if_new, left_of, length_asked, met, news, numbers_had}
+use Rattle.im_serial.specs.Had.{bases_had, has_block, has_next, if_new, left_of, length_asked, met, news, numbers_had}
 
 -- ---- what is left of an element's requests
 

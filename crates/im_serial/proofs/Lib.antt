@@ -7,3 +7,4 @@ pub mod SetupLemmas
 pub mod BegunLemmas
 pub mod KeepsLemmas
 pub mod OnceLemmas
+pub mod FittingLemmas

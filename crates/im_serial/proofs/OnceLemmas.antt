@@ -44,13 +44,17 @@ use Rattle.im_script.specs.Script.{Draft, counted, lines_of}
 use Rattle.im_serial.specs.Asked.{Course, Leads, Wanted, standing, wanted_by, wanted_in, wanted_of}
 use Rattle.im_serial.specs.Serving.{EndsAt, GoingAt, HaltsAt, HaltsWith, HasServed, Passes, ScriptServer, server_of}
 use Rattle.im_serial.specs.Once.{Breaks, BrokenAt, HasBroken, HasMet, HasPassed, HasShown, IsPrefix, Meets, MetAt}
-use Rattle.im_serial.specs.Once.{Names, bases_had, has_block, has_next, left_of, length_asked}
-use Rattle.im_serial.specs.Once.{if_new, lines_had, met, met_all, news, next_had, noted_of, numbers_had, past_line}
-use Rattle.im_serial.specs.Once.{waits_had, waits_of, who_next, ClosedOnce, DoneOnce, EndedOnce, HasServedOnce}
+use Rattle.im_serial.specs.Had.{bases_had, has_block, has_next, left_of, length_asked}
+use Rattle.im_serial.specs.Once.{Names}
+use Rattle.im_serial.specs.Had.{if_new, met, met_all, news, next_had, numbers_had}
+use Rattle.im_serial.specs.Once.{lines_had, noted_of, past_line}
+use Rattle.im_serial.specs.Had.{who_next}
+use Rattle.im_serial.specs.Once.{waits_had, waits_of, ClosedOnce, DoneOnce, EndedOnce, HasServedOnce}
 use Rattle.im_serial.specs.Once.{AreMade, HaltsOnce, HasMade, IsMade, MakesBlocks, is_had, met_of}
 use Rattle.im_serial.specs.declared.meeting.Met.{Met}
 use Rattle.im_serial.specs.declared.meeting.Met.TheVariants as as_met
 use Rattle.im_serial.specs.Once.{HasServedNothing, IsAskedOnce, ServedOnce, ToldOnce, course_of, new_of}
+use Rattle.im_serial.specs.Fitting.{FitsScript}
 use Rattle.im_serial.proofs.AskedLemmas.{stands_here, wanted_line}
 use Rattle.im_serial.proofs.LeftLemmas.{had_at, has_some, met_here, met_less}
 use Rattle.im_serial.proofs.KeepsLemmas.{went_on}
@@ -627,6 +631,14 @@ prints_after was mid is lines had text first it = record {
   back = it.back;
 }
 
+pub either_way : {T E : Type 0} (r : Result T E) (A B : Type 0) → A → MatchResult r (λ x. A) (λ e. A ⊎ B)
+either_way (Ok x) A B it = it
+either_way (Err e) A B it = inl it
+
+none_left : (waited : List Waited) → map who_of waited ≡ [] → waited ≡ []
+none_left [] is = refl
+none_left (w ∷ waited) is = absurd (cc)
+
 no_item : (w : Waited) → ◌≡◌ {A = Option Waited} None (Some w) → ⊥
 no_item w is = cc
 
@@ -671,8 +683,10 @@ module _ {D : Type 0} (disk : Ghosts D) where
 
   -- it was ended before the first request
   unbegun : (script : List Wanted) (old new : ScriptServer D) (bases : List ℕ) → HasServedNothing disk old bases
-      → new.engine ≡ old.engine → BrokenAt script old.held new → EndedOnce disk old.engine script old.held new
-  unbegun script old new bases ready same it =
+      → new.engine ≡ old.engine → (it : BrokenAt script old.held new)
+      → FitsScript old.engine.memory script ⊎ ((it.0 ≡ []) × (new.waited ≡ []))
+      → EndedOnce disk old.engine script old.held new
+  unbegun script old new bases ready same it fit =
       let c : Course = record {
         first = bases_had (numbers_had old.engine.memory) 0 script;
         wanted = new_of old.engine.memory script;
@@ -687,7 +701,7 @@ module _ {D : Type 0} (disk : Ghosts D) where
             (
               [],
               (
-                subst (λ (e : EngineState D). HaltsOnce disk old.engine script c e [] new.waited) (sym same) (λ h. (
+                subst (λ (e : EngineState D). HaltsOnce disk old.engine script c it.0 e [] new.waited) (sym same) (λ h. (
                   h,
                   (
                     [],
@@ -710,7 +724,7 @@ module _ {D : Type 0} (disk : Ghosts D) where
                               memory = refl;
                               known = broken.known;
                             },
-                            inr refl,
+                            (inr refl, ⊎_elim (λ is. inl is) (λ none. inr (refl, none)) fit),
                           ),
                         ),
                       ),
@@ -724,23 +738,45 @@ module _ {D : Type 0} (disk : Ghosts D) where
         ),
       )
 
+  -- nothing was printed
+  untold : (script : List Wanted) (old new : ScriptServer D) (bases : List ℕ) → HasServedNothing disk old bases
+      → new ≡ old → EndedOnce disk old.engine script old.held new
+  untold script old new bases ready same =
+      let m = old.engine.memory in
+      let broken : HasBroken m script [] old.waited = record {
+        lines = (lines_had m (numbers_had m) script, refl);
+        names = (
+          waits_had m (numbers_had m) script,
+          ap (λ (l : List Waited). map who_of l ++ waits_had m (numbers_had m) script) (sym ready.waited),
+        );
+        known = λ at w is. absurd (no_item w (ap (λ (l : List Waited). slice_get l at) (sym ready.waited) ∙ is));
+      } in
+      subst (λ (t : ScriptServer D). EndedOnce disk old.engine script old.held t) (sym same)
+      (unbegun script old old bases ready refl ([], (broken, prints_none old.held old.lines ready.pending))
+      (inr (refl, ready.waited)))
+
   -- it failed before the first request
   pub once_unbegun : (T : Type 0) {E : Type 0} (e : E) (script : List Wanted) (old new : ScriptServer D)
       (bases : List ℕ)
       → new.engine ≡ old.engine → Breaks (numbers_had old.engine.memory) script old new
+      → FitsScript old.engine.memory script ⊎ (new ≡ old)
       → HasServedOnce disk {T = T} script bases (Err e) old new
-  once_unbegun T e script old new bases same breaks = λ ready. (
-    unbegun script old new bases ready same (breaks script [] old.held (met_start script old bases ready)),
+  once_unbegun T e script old new bases same breaks fit = λ ready. (
+    ⊎_elim
+        (λ is. unbegun script old new bases ready same (breaks script [] old.held (met_start script old bases ready))
+        (inl is))
+        (untold script old new bases ready)
+        fit,
     tt,
   )
 
   module _ (script : List Wanted) (bases known : List ℕ) (old mid : ScriptServer D) (it : HasShown script bases known
-      old mid) where
+      old mid) (fit : FitsScript old.engine.memory script) where
     -- and then it was ended
     pub shown_ends : (T : Type 0) {E : Type 0} (e : E) → HasServedOnce disk {T = T} script bases (Err e) old mid
     shown_ends T e = once_unbegun T e script old mid bases it.engine (breaks_here (numbers_had old.engine.memory)
         it.later
-        script [] old mid it.meets)
+        script [] old mid it.meets) (inl fit)
 
     shown_at : HasServedNothing disk old bases → MetAt script it.later [] old.held mid
     shown_at ready = it.meets script [] old.held (met_start script old bases ready)
@@ -803,7 +839,7 @@ module _ {D : Type 0} (disk : Ghosts D) where
                     λ h.
                         let all = ends.1.0 h in
                         let rest = all.1.1.1 in
-                        (all.0, (all.1.0, (all.1.1.0, (rest.0, (rest.1.0, (rest.1.1, inl it.made)))))),
+                        (all.0, (all.1.0, (all.1.1.0, (rest.0, (rest.1.0, (rest.1.1, (inl it.made, inl fit))))))),
                     prints_after old.held mid.held new.held new.lines _ ends.0 (shown_written ready)
                         ends.1.1,
                   ),
@@ -820,7 +856,7 @@ module _ {D : Type 0} (disk : Ghosts D) where
             → OnOk r (DoneOnce disk old.engine script old.held new)
         by_result (Ok x) serves going written =
             let done = serves old.engine mid.held (Some course) [] going in (
-              it.made,
+              (it.made, fit),
               (
                 last,
                 (
@@ -837,6 +873,7 @@ module _ {D : Type 0} (disk : Ghosts D) where
   told_once : (start engine : EngineState D) (script : List Wanted) (put : List Command) (text : List ℕ) (names : List
       Waiter) (status : ℕ) (was is : Option (List ℕ)) (waited : List Waited) (many : ℕ) (last : List ℕ) (done doubt :
       List Command) (had : List ℕ) (earlier : List Waiter)
+      → FitsScript start.memory script ⊎ ((put ≡ []) × ((had ≡ []) × (waited ≡ [])))
       → HaltsWith disk.now disk.past disk.failures start engine put text names
       → IsPrefix had (lines_had start.memory (numbers_had start.memory) script)
       → IsPrefix earlier (waits_had start.memory (numbers_had start.memory) script)
@@ -846,7 +883,7 @@ module _ {D : Type 0} (disk : Ghosts D) where
       × (map who_of waited ≡ waits_had start.memory (numbers_had start.memory) script ++ waits start.memory put)
       × Appends was is (had ++ replies start.memory put ++ nows waited (length waited)))
       → ToldOnce disk.now start script put engine.disk was is status
-  told_once start engine script put text names status was is waited many last done doubt had earlier it had_is
+  told_once start engine script put text names status was is waited many last done doubt had earlier fit it had_is
       earlier_is same parts few entries last_is begins whole = record {
         had = had;
         had_is = had_is;
@@ -863,6 +900,7 @@ module _ {D : Type 0} (disk : Ghosts D) where
         apart = parts;
         few = few;
         last_entries = entries;
+        fit = fit;
         many = many;
         last = last;
         last_is = last_is;
@@ -914,7 +952,8 @@ module _ {D : Type 0} (disk : Ghosts D) where
       by_status : disk.honest engine.disk → (n : ℕ) → status ≡ n
           → disk.honest start.disk × ClosedOnce disk.now disk.past disk.failures script start engine.disk was is status
       by_status there zero zero_is =
-          let made = (going zero_is).0 in
+          let made = (going zero_is).0.0 in
+          let fit = (going zero_is).0.1 in
           let g = (going zero_is).1 in
           let text = g.1.0 in
           let it = g.1.1.0 there in
@@ -939,7 +978,7 @@ module _ {D : Type 0} (disk : Ghosts D) where
                 })
                 (inl made)
                 (told_once start engine (wanted_of script) put text names status was is waited some.0 end.0 put []
-                lines early on ([], sym (append-nil lines)) ([], sym (append-nil early)) (same ∙ it.1.1.1.0) (sym
+                lines early (inl fit) on ([], sym (append-nil lines)) ([], sym (append-nil early)) (same ∙ it.1.1.1.0) (sym
                 (append-nil put)) (omega arith) (learn m put (goes.has.memory goes.works) (noted_known m put 0 0 marks
                 noted u.recorded.noted)) end.1.0 (prints_begins was is final (((lines ++ text) ++ nows waited some.0) ++
                 end.0) end.1.1)
@@ -960,7 +999,8 @@ module _ {D : Type 0} (disk : Ghosts D) where
           let names = it.1.1.0 in
           let halted = it.1.1.1.1.0 in
           let o = it.1.1.1.1.1.0 in
-          let made = it.1.1.1.1.1.1 in
+          let made = it.1.1.1.1.1.1.0 in
+          let fit = it.1.1.1.1.1.1.1 in
           let m = start.memory in
           let told = some.2 was (had ++ text) reached.1.1.1.1.1 in
           let end = last was ((had ++ text) ++ nows waited some.0) told in (
@@ -974,7 +1014,10 @@ module _ {D : Type 0} (disk : Ghosts D) where
                 })
                 (⊎_elim (λ all. inl all) (λ none. inr (none, λ z. absurd (omega arith))) made)
                 (told_once start engine (wanted_of script) put text names status was is waited some.0 end.0 o.done
-                o.doubt had c.earlier halted is_course.had_is is_course.earlier_is (same ∙ it.1.1.1.0) o.split o.few
+                o.doubt had c.earlier (⊎_elim (λ is. inl is) (λ none. inr (
+                  none.0,
+                  (none.1.0, none_left waited (same ∙ ap (map who_of) none.1.1)),
+                )) fit) halted is_course.had_is is_course.earlier_is (same ∙ it.1.1.1.0) o.split o.few
                 (learn m o.done o.memory o.known) end.1.0 (prints_begins was is final (((had ++ text) ++ nows waited
                 some.0) ++ end.0) end.1.1) (λ z. absurd (omega arith))),
           )

@@ -31,77 +31,15 @@ use Rattle.im_serial.specs.declared.meeting.Met.TheVariants.{New, Done, Kept}
 use Rattle.im_serial.specs.declared.waits.Mark.{Mark}
 use Rattle.im_serial.specs.Noted.{AreKnown, AreLast, IsMarked, noted_if, notes}
 use Rattle.im_serial.specs.Begun.{HasGoneOn, MeansBegun}
+use Rattle.im_serial.specs.Fitting.{FitsScript}
+use Rattle.im_serial.specs.Had.{bases_had, has_block, has_next, left_of, met, news, next_had, numbers_had, who_next}
 use Rattle.im_serial.specs.Serving.{AreWaited, GoesAt, HaltsWith, IsOver, MeansAtLeast, NotOpened, ScriptServer}
-
--- ---- what a memory has of a script
-
--- how many requests each element made, by its next number
-abbrev pub numbers_had : Contents → List ℕ
-numbers_had m = map (λ w. next_number w - 1) m.windows
-
--- how many of an element's are left
-abbrev pub left_of : List ℕ → ℕ → ℕ
-left_of many element = slice_index_or many element 0
-
--- whether the memory has the next request of an element
-abbrev pub has_next : List ℕ → ℕ → Bool
-has_next many element = nat_lt 0 (left_of many element)
-
--- what is left when the next request of an element was met
-abbrev pub met : List ℕ → ℕ → List ℕ
-met many element = if has_next many element then slice_set many element (left_of many element - 1) else many
-
--- the same of several requests
-abbrev pub met_all : List ℕ → List Wanted → List ℕ
-met_all many [] = many
-met_all many (w ∷ wanted) = met_all (met many w.element) wanted
-
--- a request, if the memory doesn't have it
-abbrev pub if_new : List ℕ → Wanted → List Wanted
-if_new many w = if has_next many w.element then [] else w ∷ []
-
--- those of the requests that the memory doesn't have: the n-th one of an element has number n
-abbrev pub news : List ℕ → List Wanted → List Wanted
-news many [] = []
-news many (w ∷ wanted) = if_new many w ++ news (met many w.element) wanted
-
--- ---- the blocks of the setup that it has
-
--- the length of a block that is asked for
-abbrev pub length_asked : Action → ℕ
-length_asked (Alloc kind length) = length
-length_asked action = 0
-
--- whether it has a block with a name
-abbrev pub has_block : List ℕ → Wanted → Bool
-has_block many w = has_next many w.element && w.named
-
--- where the next block of the setup begins in a new image: behind those before it
-abbrev pub end_behind : List ℕ → ℕ → Wanted → ℕ
-end_behind many end w = if has_block many w then end + length_asked w.action else end
-
--- the base of its block
-abbrev pub base_had : List ℕ → ℕ → Wanted → List ℕ
-base_had many end w = if has_block many w then end ∷ [] else []
-
--- the bases of those blocks, which stand one behind another
-abbrev pub bases_had : List ℕ → ℕ → List Wanted → List ℕ
-bases_had many end [] = []
-bases_had many end (w ∷ wanted) = base_had many end w ++ bases_had (met many w.element) (end_behind many end w) wanted
 
 -- ---- what is printed of it
 
 -- K.N done: a request that was confirmed
 abbrev pub done_line : Waiter → List ℕ
 done_line who = decimal who.element ++ codes "." ++ decimal who.number ++ codes " done" ++ line_feed
-
--- the number of an element's next request in a memory, or 0 if it has no such element
-abbrev pub next_had : Contents → ℕ → ℕ
-next_had m element = option_map_or next_number (slice_get m.windows element) 0
-
--- the next request of an element, if these are left
-abbrev pub who_next : Contents → List ℕ → ℕ → Waiter
-who_next m many element = record { element = element; number = next_had m element - left_of many element }
 
 -- what an image has of this request: its entry, or that it was confirmed
 abbrev pub met_of : Contents → Waiter → Met
@@ -263,21 +201,24 @@ pub record HasServedNothing {D : Type 0} (disk : Ghosts D) (t : ScriptServer D) 
   pub pending : t.lines.pending.items ≡ []
 
 module _ {D : Type 0} (disk : Ghosts D) where
-  -- it goes on or was ended; each block of the setup that the memory had was made, or nothing was put
-  abbrev pub HaltsOnce : EngineState D → List Wanted → Course → EngineState D → List ℕ → List Waited → Type 0
-  HaltsOnce start script c engine text waited = disk.honest engine.disk → disk.honest start.disk
+  -- It goes on or was ended. Each block of the setup that the memory had was made, or nothing was put. What the memory
+  -- had fits the script, or nothing was put or printed.
+  abbrev pub HaltsOnce : EngineState D → List Wanted → Course → List ℕ → EngineState D → List ℕ → List Waited → Type 0
+  HaltsOnce start script c had engine text waited = disk.honest engine.disk → disk.honest start.disk
       × ((put : List Command) × ((names : List Waiter) × (AreWaited (Some c) waited names
       × (HaltsWith disk.now disk.past disk.failures start engine put text names
-      × (IsOver start.memory (Some c) engine put waited × (HasMade start.memory script ⊎ (put ≡ [])))))))
+      × (IsOver start.memory (Some c) engine put waited × ((HasMade start.memory script ⊎ (put ≡ []))
+      × (FitsScript start.memory script ⊎ ((put ≡ []) × ((had ≡ []) × (waited ≡ []))))))))))
 
   -- the script was ended, and what was told of it was printed
   abbrev pub EndedOnce : EngineState D → List Wanted → Option (List ℕ) → ScriptServer D → Type 0
   EndedOnce start script was t = (c : Course) × ((had : List ℕ) × (IsCourse start.memory script c had × ((text : List ℕ)
-      × (HaltsOnce start script c t.engine text t.waited × Prints was t.held t.lines (had ++ text)))))
+      × (HaltsOnce start script c had t.engine text t.waited × Prints was t.held t.lines (had ++ text)))))
 
   -- nothing is left of the script, and what was told of it was printed
   abbrev pub DoneOnce : EngineState D → List Wanted → Option (List ℕ) → ScriptServer D → Type 0
-  DoneOnce start script was t = HasMade start.memory script × ((bases : List ℕ) × ((text : List ℕ)
+  DoneOnce start script was t = (HasMade start.memory script × FitsScript start.memory script) × ((bases : List ℕ)
+      × ((text : List ℕ)
       × (GoesAt disk start (standing (Some (course_of start.memory script)) bases []) t.engine text
       (notes t.waited t.marks)
       × Prints was t.held t.lines (lines_had start.memory (numbers_had start.memory) script ++ text))))
@@ -295,7 +236,8 @@ IsAskedOnce m script put status = IsAsked m (bases_had (numbers_had m) 0 script)
 
 -- What was printed at the end, a prefix of this text, and all of it if the status is 0: the lines of what the memory
 -- had of the script, as far as they were made; those of the first commands that were put, each of which is in every
--- file that a crash leaves; those of requests that had to wait, with their last entries; and that of a refusal.
+-- file that a crash leaves; those of requests that had to wait, with their last entries; and that of a refusal. If what
+-- the memory had doesn't fit the script, nothing was put, and no line but that of the refusal is printed.
 pub record ToldOnce {D : Type 0} (now : D → Moment) (start : EngineState D) (script : List Wanted) (put : List Command)
     (disk : D) (was is : Option (List ℕ)) (status : ℕ) : Type 0 where
   pub had : List ℕ
@@ -313,6 +255,7 @@ pub record ToldOnce {D : Type 0} (now : D → Moment) (start : EngineState D) (s
   pub apart : put ≡ done ++ doubt
   pub few : length doubt ≤ 1
   pub last_entries : AreLast start.memory done waited
+  pub fit : FitsScript start.memory script ⊎ ((put ≡ []) × ((had ≡ []) × (waited ≡ [])))
   pub many : ℕ
   pub last : List ℕ
   pub last_is : IsLast last

@@ -12,4 +12,4 @@ mod waits;
 
 pub use serial::{serial_on, serial_once_on};
 pub use server::{Desk, Paper, Server};
-pub use stops::{Stop, Interrupted, new_images_have_begun, serial_over_stops};
+pub use stops::{Interrupted, Stop, new_images_have_begun, serial_over_stops};

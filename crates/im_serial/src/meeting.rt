@@ -9,8 +9,10 @@ ghost use Rattle.im_text.specs.Printing.{PrintsMore, PrintsOn};
 ghost use Rattle.im_serial.specs.declared.waits.Mark.TheVariants.{Here};
 ghost use Rattle.im_serial.specs.Noted.{mark_place};
 ghost use Rattle.im_serial.specs.Asked.{Wanted, wanted_by, wanted_of};
-ghost use Rattle.im_serial.specs.Once.{HasPassed, IsMade, MakesBlocks, Names, has_next, is_had, met, met_of, noted_of};
-ghost use Rattle.im_serial.specs.Once.{past_line, who_next};
+ghost use Rattle.im_serial.specs.Had.{has_next, met};
+ghost use Rattle.im_serial.specs.Once.{HasPassed, IsMade, MakesBlocks, Names, is_had, met_of, noted_of};
+ghost use Rattle.im_serial.specs.Had.{who_next};
+ghost use Rattle.im_serial.specs.Once.{past_line};
 ghost use Rattle.im_serial.specs.Serving.{seen_by};
 
 use crate::past::Past;

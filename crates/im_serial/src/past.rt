@@ -1,14 +1,21 @@
 //! What an image has of a script already.
-ghost use Rattle.std.specs.Prelude.{◌≡◌, ◌-◌, ◌+◌, ℕ, false, true, [], IfOk, IfSome, OnOk, slice_get, string_bytes};
+ghost use Rattle.std.specs.Prelude.{◌≡◌, ◌-◌, ◌+◌, ℕ, false, true, [], IfErr, IfOk, IfSome, OnOk, slice_get};
+ghost use Rattle.std.specs.Prelude.{length, nat_lt, string_bytes};
 ghost use Rattle.std.specs.Option.{option_map_or};
 ghost use Rattle.im_types.specs.Window.{next_number};
-ghost use Rattle.im_serial.specs.Asked.{wanted_by};
-ghost use Rattle.im_serial.specs.Once.{done_line, left_of, met, met_all, news, numbers_had};
+ghost use Rattle.im_types.specs.declared.refusals.Refusal.{Refusal};
+ghost use Rattle.im_types.specs.declared.refusals.Refusal.TheVariants.{BadScript, Mismatch};
+ghost use Rattle.im_text.specs.declared.reasons.Reason.TheVariants.{Request};
+ghost use Rattle.im_serial.specs.Asked.{wanted_by, wanted_of};
+ghost use Rattle.im_serial.specs.Fitting.{Compares, IsWithin, bases_with, behind_script, end_behind_base, fits, fits_as};
+ghost use Rattle.im_serial.specs.Fitting.{fits_from, is_base, keeps_as, keeps_base, keeps_op, placed};
+ghost use Rattle.im_serial.specs.Had.{left_of, met, met_all, news, numbers_had};
+ghost use Rattle.im_serial.specs.Once.{done_line};
 
 use im_memory::Memory;
-use im_script::{Allocation, Reader, Said, Script, ScriptFault, split_line};
+use im_script::{Allocation, Reader, Said, Script, ScriptFault, ScriptLine, split_line};
 use im_text::Reason;
-use im_types::{Entry, Op, Refusal, Reply};
+use im_types::{Entry, Kept, Op, Refusal, Reply};
 use std::alloc::{AllocError, Global};
 
 /// The requests of a script that an image has and that weren't met yet, as the script's lines are read.
@@ -44,6 +51,18 @@ impl Past {
         Ok(Past { many, end: 0 })
     }
 
+    /// Returns how many requests of an element are left.
+    pub fn left(&self, element: u16) -> u64
+        ensures { result ≡ left_of self.now.many.items element }
+    {
+        let at = element as usize;
+        if at < self.many.len() {
+            self.many[at]
+        } else {
+            0
+        }
+    }
+
     /// Meets an element's next request. Returns how many were left before it: 0 if the memory doesn't have it.
     pub fn meet(&mut self, element: u16) -> u64
         ensures left { result ≡ left_of self.old.many.items element }
@@ -77,8 +96,8 @@ impl Past {
     /// Places the next block of the setup behind those before it. Returns its base, or `None` if it ends past the last
     /// address.
     pub fn place(&mut self, length: u32) -> Option<u32>
-        ensures base { IfSome result (λ base. base ≡ self.old.end) }
-        ensures end { IfSome result (λ base. self.new.end ≡ self.old.end + length) }
+        ensures base { result ≡ placed self.old.end length }
+        ensures end { self.new.end ≡ end_behind_base self.old.end length result }
         ensures many { self.new.many ≡ self.old.many }
     {
         let base = self.end;
@@ -100,6 +119,46 @@ pub fn make_done(line: &mut String, element: u16, number: u64) -> Result<(), All
     writeln!(line, "{element}.{number} done")
 }
 
+// Whether an operation is kept, if there is one.
+fn keeps_op(op: Option<Op>, kept: Op) -> bool
+    ensures { result ≡ keeps_op op kept }
+{
+    match op {
+        Some(op) => op == kept,
+        None => false,
+    }
+}
+
+// Whether a base is this one, unless there is none to compare it with.
+fn is_base(there: u32, base: Option<u32>) -> bool
+    ensures { result ≡ is_base there base }
+{
+    match base {
+        Some(base) => there == base,
+        None => true,
+    }
+}
+
+// Whether an entry tells no other base.
+fn keeps_base(base: Option<u32>, entry: Entry) -> bool
+    ensures { result ≡ keeps_base base entry }
+{
+    match entry {
+        Entry::Answered(Reply::Base(there)) => is_base(there, base),
+        _ => true,
+    }
+}
+
+// Whether what is kept, if anything is, is of this operation and tells no other base.
+fn keeps_as(op: Option<Op>, base: Option<u32>, kept: Option<Kept>) -> bool
+    ensures { result ≡ keeps_as op base kept }
+{
+    match kept {
+        Some(kept) => keeps_op(op, kept.op) && keeps_base(base, kept.entry),
+        None => true, // It was confirmed, or is new.
+    }
+}
+
 // Compares an element's next request with the one that is kept under its number, if there is one.
 fn compare(
     memory: &Memory,
@@ -107,26 +166,41 @@ fn compare(
     element: u16,
     op: Option<Op>,
     base: Option<u32>,
-) -> Result<(), Reason> {
+) -> Result<(), Reason>
+    ensures many { past.new.many.items ≡ met past.old.many.items element }
+    ensures end { past.new.end ≡ past.old.end }
+    ensures fits { OnOk result (fits_as memory.now.contents past.old.many.items element op base ≡ true) }
+    ensures wrong { IfErr result (λ reason. (e : ℕ) → reason ≡ Request e Mismatch
+        → fits_as memory.now.contents past.old.many.items element op base ≡ false) }
+    ensures only { IfErr result (λ reason. (e : ℕ) → reason ≡ Request e BadScript → ⊥) }
+{
     let left = past.meet(element);
     if left == 0 {
         return Ok(());
     }
     let number = match memory.window(element) {
-        Ok((_, next)) => next.saturating_sub(left),
+        Ok((_base, next)) => next.saturating_sub(left),
         Err(refusal) => return Err(Reason::Request(element, refusal)),
     };
-    let Some(kept) = memory.kept(element, number) else {
-        return Ok(()); // It was confirmed.
-    };
-    let is_there = match (kept.entry, base) {
-        (Entry::Answered(Reply::Base(there)), Some(base)) => there == base,
-        _ => true,
-    };
-    if op == Some(kept.op) && is_there {
+    let fits = keeps_as(op, base, memory.kept(element, number));
+    if fits {
         Ok(())
     } else {
         Err(Reason::Request(element, Refusal::Mismatch))
+    }
+}
+
+// Keeps the base of a block, if it has one.
+fn add_base(bases: &mut Vec<u32>, base: Option<u32>) -> Result<(), Reason>
+    ensures bases { OnOk result (bases.new.items ≡ bases_with bases.old.items base) }
+    ensures only { IfErr result (λ reason. (e : ℕ) (refusal : Refusal) → reason ≡ Request e refusal → ⊥) }
+{
+    let Some(base) = base else {
+        return Ok(());
+    };
+    match bases.push(base) {
+        Ok(()) => Ok(()),
+        Err(_) => Err(Reason::Memory),
     }
 }
 
@@ -136,12 +210,14 @@ fn compare_block(
     past: &mut Past,
     bases: &mut Vec<u32>,
     block: Allocation,
-) -> Result<(), Reason> {
+) -> Result<(), Reason>
+    ensures compared { Compares memory.now.contents past.old.many.items bases.old.items past.old.end
+        (wanted_by (Said.Block block)) result past.new.many.items bases.new.items past.new.end }
+{
     let base = past.place(block.length);
-    if let Some(base) = base {
-        if bases.push(base).is_err() {
-            return Err(Reason::Memory);
-        }
+    match add_base(bases, base) {
+        Ok(()) => {}
+        Err(reason) => return Err(reason),
     }
     compare(
         memory,
@@ -152,20 +228,35 @@ fn compare_block(
     )
 }
 
+// Compares a request of a part.
+fn compare_line(
+    memory: &Memory,
+    past: &mut Past,
+    bases: &[u32],
+    line: ScriptLine,
+) -> Result<(), Reason>
+    ensures compared { Compares memory.now.contents past.old.many.items bases.now past.old.end
+        (wanted_by (Said.Asks line)) result past.new.many.items bases.now past.new.end }
+{
+    let op = line.action.op(bases);
+    compare(memory, past, line.element, op, None)
+}
+
 // Compares what a line says.
 fn compare_said(
     memory: &Memory,
     past: &mut Past,
     bases: &mut Vec<u32>,
     said: Said,
-) -> Result<(), Reason> {
+) -> Result<(), Reason>
+    ensures compared { Compares memory.now.contents past.old.many.items bases.old.items past.old.end
+        (wanted_by said) result past.new.many.items bases.new.items past.new.end }
+{
     match said {
-        Said::Nothing | Said::Begins(_) => Ok(()),
+        Said::Nothing => Ok(()),
+        Said::Begins(_element) => Ok(()),
         Said::Block(block) => compare_block(memory, past, bases, block),
-        Said::Asks(line) => {
-            let op = line.action.op(bases.as_slice());
-            compare(memory, past, line.element, op, None)
-        }
+        Said::Asks(line) => compare_line(memory, past, bases.as_slice(), line),
     }
 }
 
@@ -175,7 +266,14 @@ fn compare_all(
     memory: &Memory,
     past: &mut Past,
     script: &Script<'_>,
-) -> Result<(), Reason> {
+) -> Result<(), Reason>
+    ensures fits { OnOk result (fits_from memory.now.contents past.old.many.items [] past.old.end (wanted_of script.now)
+        ≡ true) }
+    ensures behind { OnOk result (past.new.many.items ≡ met_all past.old.many.items (wanted_of script.now)) }
+    ensures wrong { IfErr result (λ reason. (e : ℕ) → reason ≡ Request e Mismatch
+        → fits_from memory.now.contents past.old.many.items [] past.old.end (wanted_of script.now) ≡ false) }
+    ensures only { IfErr result (λ reason. (e : ℕ) → reason ≡ Request e BadScript → ⊥) }
+{
     let mut reader = Reader::new(alloc);
     let mut bases = Vec::new(alloc);
     let mut rest = Some(script.text());
@@ -199,9 +297,12 @@ fn compare_all(
 }
 
 // Whether an element's window begins beyond the script: more of its requests are left than are kept.
-fn is_beyond(memory: &Memory, past: &mut Past, element: u16) -> bool {
+fn is_beyond(memory: &Memory, past: &Past, element: u16) -> bool
+    ensures { IfSome (slice_get memory.now.contents.windows element) (λ w. result
+        ≡ nat_lt (length w.kept) (left_of past.now.many.items element)) }
+{
     match memory.window(element) {
-        Ok((base, next)) => past.meet(element) > next.saturating_sub(base),
+        Ok((base, next)) => past.left(element) > next.saturating_sub(base),
         Err(_) => false,
     }
 }
@@ -211,7 +312,15 @@ fn is_beyond(memory: &Memory, past: &mut Past, element: u16) -> bool {
 /// Errors: `Mismatch` if under a number of the script another operation is kept, or for a block of the setup another
 /// base than the script's setup has in a new image; `BadScript` if a window begins beyond the script. Another script
 /// used this image then. `NoMemory`.
-pub fn compare_script(alloc: Global, memory: &Memory, script: &Script<'_>) -> Result<(), Reason> {
+pub fn compare_script(alloc: Global, memory: &Memory, script: &Script<'_>) -> Result<(), Reason>
+    ensures fits { OnOk result (fits memory.now.contents (wanted_of script.now) ≡ true) }
+    ensures within { OnOk result (IsWithin memory.now.contents (behind_script memory.now.contents
+        (wanted_of script.now))) }
+    ensures wrong { IfErr result (λ reason. (e : ℕ) → reason ≡ Request e Mismatch
+        → fits memory.now.contents (wanted_of script.now) ≡ false) }
+    ensures beyond { IfErr result (λ reason. (e : ℕ) → reason ≡ Request e BadScript
+        → IsWithin memory.now.contents (behind_script memory.now.contents (wanted_of script.now)) → ⊥) }
+{
     let mut past = match Past::new(alloc, memory) {
         Ok(past) => past,
         Err(_) => return Err(Reason::Memory),
@@ -221,7 +330,7 @@ pub fn compare_script(alloc: Global, memory: &Memory, script: &Script<'_>) -> Re
         Err(reason) => return Err(reason),
     }
     for element in 0..memory.elements() {
-        if is_beyond(memory, &mut past, element) {
+        if is_beyond(memory, &past, element) {
             return Err(Reason::Request(element, Refusal::BadScript));
         }
     }
