@@ -1,11 +1,11 @@
 -- A run of a script that goes on from what a stopped run left is, with it, one run. (Own.)
-use Rattle.std.proofs.Common.{◌≡◌, ◌≢◌, ◌⊎◌, ◌∙◌, inl, inr, ⊎_elim, ℕ, ◌+◌, ◌-◌, ◌<◌, ◌≤◌, zero, suc, Bool, true, false}
-use Rattle.std.proofs.Common.{List, [], ◌∷◌, ◌++◌, length, replicate, take, Some, None, Ok, Err, refl, sym, ap, ap₂, cond}
+use Rattle.std.proofs.Common.{◌≡◌, ◌⊎◌, ◌∙◌, inl, inr, ⊎_elim, ℕ, ◌+◌, ◌-◌, ◌≤◌, zero, suc, Bool, true, false}
+use Rattle.std.proofs.Common.{List, [], ◌∷◌, ◌++◌, length, replicate, take, Some}
+use Rattle.std.proofs.Common.{None, Ok, Err, refl, sym, ap, ap₂, cond}
 use Rattle.std.proofs.Common.{append_assoc, append-nil, arith, subst}
-use Rattle.std.specs.Prelude.{Option, Result, ◌==◌, ◌&&◌, slice_get, if◌then◌else◌}
+use Rattle.std.specs.Prelude.{Option, Result, ◌&&◌, slice_get, if◌then◌else◌}
 use Rattle.std.specs.Option.{option_map, option_map_or, option_and_then}
 use Rattle.std.proofs.lemmas.Bool.{cases_eq}
-use Rattle.std.proofs.lemmas.Bool.Decides.{nat_tests}
 use Rattle.im_types.specs.declared.commands.Command.{Command}
 use Rattle.im_types.specs.declared.commands.Command.TheVariants.{Request as Asks, Confirm}
 use Rattle.im_types.specs.declared.commands.Judged.{Judged}
@@ -23,13 +23,12 @@ use Rattle.im_types.specs.declared.operations.Waiter.{Waiter}
 use Rattle.im_types.specs.declared.refusals.Refusal.{Refusal}
 use Rattle.im_types.specs.declared.sizes.Limits.{Limits}
 use Rattle.im_types.specs.Act.{act, allocate}
-use Rattle.im_types.specs.Agreement.{same_waiter}
 use Rattle.im_types.specs.Contents.{Contents, Held, Window, empty_contents, kept_for, new_window}
 use Rattle.im_types.specs.Meaning.{accept_each}
 use Rattle.im_types.specs.Memory.{IsMemory}
 use Rattle.im_types.specs.Run.{after}
-use Rattle.im_types.specs.Step.{asker, is_accepted, step, step_confirm, step_request}
-use Rattle.im_types.specs.Window.{answer_each, bounds, bounds_of, confirm_window, judge, next_number, note}
+use Rattle.im_types.specs.Step.{asker, is_accepted, step, step_request}
+use Rattle.im_types.specs.Window.{answer_each, bounds, bounds_of, judge, next_number, note}
 use Rattle.im_engine.proofs.Keeping.{accept_both}
 use Rattle.im_laws.specs.Windows.{TakesNextNumber}
 use Rattle.im_laws.proofs.AcceptLemmas.{accepted-fresh, accepted-moves_base, accepted-takes_next}
@@ -38,20 +37,20 @@ use Rattle.im_laws.proofs.JudgeLemmas.{confirm-cells}
 use Rattle.im_laws.proofs.MemoryLemmas.{after-memory, bounds-window, empty-memory}
 use Rattle.im_laws.proofs.RunLemmas.{after-append}
 use Rattle.im_laws.proofs.StepLemmas.{judge-fresh}
-use Rattle.im_laws.proofs.Tests.{some_none, some_same, true_false}
+use Rattle.im_laws.proofs.Tests.{some_none, some_same}
 use Rattle.im_laws.proofs.WindowLemmas.{kept_for-note}
 use Rattle.im_script.specs.declared.places.Action.{Action}
 use Rattle.im_script.specs.Places.{op_of}
 use Rattle.im_serial.specs.Asked.{HasReached, IsAsked, Leads, Wanted, base_told, bases_by, number_next, request_in}
 use Rattle.im_serial.specs.Asked.{standing, whole_course}
-use Rattle.im_serial.specs.Had.{has_block, has_next, left_of, length_asked, met, next_had, numbers_had}
+use Rattle.im_serial.specs.Had.{left_of, length_asked, met, next_had, numbers_had}
 use Rattle.im_serial.specs.Once.{IsAskedOnce}
-use Rattle.im_serial.specs.Had.{bases_had, news, who_next}
+use Rattle.im_serial.specs.Had.{bases_had, news}
 use Rattle.im_serial.specs.Once.{AreMade, HasMade, IsMade, met_of}
 use Rattle.im_serial.specs.declared.meeting.Met.TheVariants as met_as
 use Rattle.im_serial.specs.Begun.{HasComeTo, HasGoneOn, new_memory}
-use Rattle.im_serial.proofs.AskedLemmas.{stands_asked, stands_confirmed, stands_first, stands_here}
-use Rattle.im_serial.proofs.LeftLemmas.{AreLeft, bases_left, count_more, count_of, count_same, end-append, end_of}
+use Rattle.im_serial.proofs.AskedLemmas.{stands_asked, stands_confirmed, stands_first}
+use Rattle.im_serial.proofs.LeftLemmas.{AreLeft, bases_left, count_more, count_same, end-append, end_of}
 use Rattle.im_serial.proofs.LeftLemmas.{end_with, first_had, had_at, news_left, others_left, sums-append, sums_of}
 use Rattle.im_serial.proofs.SetupLemmas.{ArePacked, AreUnnamed, HasSetup, IsBlock, allocated, allocated_alone}
 use Rattle.im_serial.proofs.SetupLemmas.{free_all}
@@ -401,7 +400,8 @@ module _ (limits : Limits) (script : List Wanted) (put : List Command) (done lef
     (is : request_in (after (new_memory limits) put) (sums_of 0 done) w ≡ Some r)
     (none : bases_by w (step (after (new_memory limits) put) (Asks r)).answer ≡ None) where
   not_unnamed : w.named ≡ false → ⊥
-  not_unnamed plain = some_none [] (sym (ap (λ (b : Bool). if b then base_told (step (after (new_memory limits) put) (Asks
+  not_unnamed plain = some_none [] (sym (ap (λ (b : Bool). if b then base_told (step (after (new_memory limits) put)
+      (Asks
       r)).answer else Some []) plain) ∙ none)
 
   not_made : IsBlock w → HasMade (after (new_memory limits) (put ++ Asks r ∷ [])) script → ⊥
@@ -516,7 +516,8 @@ module _ (limits : Limits) (script : List Wanted) (setup : HasSetup script) (ear
           m) done left counts in (
             asked.left,
             (
-              it.reached put asked.left (subst (λ (n : Contents). Leads n (sums_of 0 done) left put asked.left) memory_is
+              it.reached put asked.left (subst (λ (n : Contents). Leads n (sums_of 0 done) left put asked.left)
+                  memory_is
                   (subst (λ (l : List Wanted). Leads m (sums_of 0 done) l put asked.left) wanted
                   (subst (λ (b : List ℕ). Leads m b (news (numbers_had m) script) put asked.left) bases asked.leads))),
               asked.all,
@@ -561,7 +562,8 @@ module _ (limits : Limits) (script : List Wanted) (setup : HasSetup script) (ear
       take_both : (some more : List Command) (many : ℕ) → take (length some + many) (some ++ more) ≡ some ++ take many
           more
       take_both [] more many = ap (λ (n : ℕ). take n more) (omega arith)
-      take_both (c ∷ some) more many = ap (λ (n : ℕ). take n (c ∷ (some ++ more))) (sums (length some) many) ∙ ap (λ (l :
+      take_both (c ∷ some) more many = ap (λ (n : ℕ). take n (c ∷ (some ++ more))) (sums (length some) many) ∙ ap (λ
+          (l :
           List Command). c ∷ l) (take_both some more many)
         where
           sums : (a b : ℕ) → suc a + b ≡ suc (a + b)

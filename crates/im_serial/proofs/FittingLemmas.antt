@@ -1,57 +1,21 @@
 -- A script is compared with what a memory has of it. (Own.)
-use Rattle.std.proofs.Common.{◌≡◌, ◌∙◌, ⊎_elim, ℕ, ◌+◌, ◌<◌, ◌≤◌, zero, suc, Bool, true, false, List, [], ◌∷◌, ◌++◌, length, refl, sym}
-use Rattle.std.proofs.Common.{Some, None, ap, append-nil, append_assoc, arith, subst}
+use Rattle.std.proofs.Common.{◌≡◌, ◌∙◌, ℕ, ◌<◌, ◌≤◌}
+use Rattle.std.proofs.Common.{true, false, List, [], ◌∷◌, ◌++◌, length, sym}
+use Rattle.std.proofs.Common.{Some, None, ap, append-nil, append_assoc, subst}
 use Rattle.std.specs.Borrow.{Bor}
-use Rattle.std.specs.Prelude.{Option, Result, Ok, Err, IfErr, IfSome, OnOk, ◌&&◌, nat_lt, slice_get, if◌then◌else◌}
+use Rattle.std.specs.Prelude.{Option, slice_get}
 use Rattle.std.specs.Option.{option_map_or}
-use Rattle.im_types.specs.declared.operations.Op.{Op}
-use Rattle.im_types.specs.declared.refusals.Refusal.{Refusal}
-use Rattle.im_types.specs.declared.refusals.Refusal.TheVariants.{BadScript, Mismatch}
+use Rattle.im_types.specs.declared.refusals.Refusal.TheVariants.{Mismatch}
 use Rattle.im_types.specs.Contents.{Contents, Window}
 use Rattle.im_script.specs.declared.script.Said.{Said}
-use Rattle.im_script.specs.Places.{op_of}
 use Rattle.im_script.specs.Script.{Draft, counted, lines_of}
 use Rattle.im_text.specs.declared.reasons.Reason.{Reason}
 use Rattle.im_text.specs.declared.reasons.Reason.TheVariants.{Request}
 use Rattle.im_serial.specs.Asked.{Wanted, wanted_by, wanted_in}
-use Rattle.im_serial.specs.Fitting.{Compared, Compares, IsWithin, base_for, bases_with, end_behind_base, fits_as}
+use Rattle.im_serial.specs.Fitting.{Compared}
 use Rattle.im_serial.specs.Fitting.{fits_from}
-use Rattle.im_serial.specs.Had.{left_of, length_asked, met, met_all}
+use Rattle.im_serial.specs.Had.{left_of, met_all}
 use Rattle.im_serial.proofs.OnceLemmas.{line_wanted}
-
--- one request
-pub compares_one : {T : Type 0} (r : Result T Reason) (m : Contents) (many bases : List ℕ) (end : ℕ) (w : Wanted) (op :
-    Option Op) (base : Option ℕ) (later with_them : List ℕ) (behind : ℕ) → op_of bases w.action ≡ op
-    → base_for end w ≡ base → later ≡ met many w.element → with_them ≡ bases_with bases base
-    → behind ≡ end_behind_base end (length_asked w.action) base
-    → OnOk r (fits_as m many w.element op base ≡ true)
-    → IfErr r (λ reason. (e : ℕ) → reason ≡ Request e Mismatch → fits_as m many w.element op base ≡ false)
-    → IfErr r (λ reason. (e : ℕ) → reason ≡ Request e BadScript → ⊥)
-    → Compares m many bases end (w ∷ []) r later with_them behind
-compares_one (Ok x) m many bases end w op base later with_them behind op_is base_is same with_is behind_is fits wrong
-    only = λ rest. (
-      ap (λ (o : Option Op). fits_as m many w.element o (base_for end w) && fits_from m (met many w.element) (bases_with
-          bases (base_for end w)) (end_behind_base end (length_asked w.action) (base_for end w)) rest) op_is
-          ∙ ap (λ (b : Option ℕ). fits_as m many w.element op b && fits_from m (met many w.element) (bases_with bases b)
-          (end_behind_base end (length_asked w.action) b) rest) base_is
-          ∙ ap (λ (t : Bool). t && fits_from m (met many w.element) (bases_with bases base) (end_behind_base end
-          (length_asked w.action) base) rest) fits
-          ∙ ap (λ (l : List ℕ). fits_from m l (bases_with bases base) (end_behind_base end (length_asked w.action) base)
-          rest) (sym same)
-          ∙ ap (λ (l : List ℕ). fits_from m later l (end_behind_base end (length_asked w.action) base) rest) (sym with_is)
-          ∙ ap (λ (n : ℕ). fits_from m later with_them n rest) (sym behind_is),
-      ap (λ (l : List ℕ). met_all l rest) (sym same),
-    )
-compares_one (Err reason) m many bases end w op base later with_them behind op_is base_is same with_is behind_is fits
-    wrong only = (
-      λ rest e is. ap (λ (o : Option Op). fits_as m many w.element o (base_for end w) && fits_from m (met many w.element)
-          (bases_with bases (base_for end w)) (end_behind_base end (length_asked w.action) (base_for end w)) rest) op_is
-          ∙ ap (λ (b : Option ℕ). fits_as m many w.element op b && fits_from m (met many w.element) (bases_with bases
-          (base_for end w)) (end_behind_base end (length_asked w.action) (base_for end w)) rest) base_is
-          ∙ ap (λ (t : Bool). t && fits_from m (met many w.element) (bases_with bases (base_for end w)) (end_behind_base end
-          (length_asked w.action) (base_for end w)) rest) (wrong e is),
-      only,
-    )
 
 -- ---- lines
 
@@ -82,7 +46,8 @@ module _ (m : Contents) (all : List Wanted) (first start : List ℕ) (from : ℕ
       ap (fits_from m first start from) (sym (append-nil all)) ∙ (so_far []).0 ∙ ap (fits_from m many bases end) (there
       []) ∙ wrong (left ++ []) e is
 
-pub compared_none : (F : Bor (List ℕ) → List Wanted) (m : Contents) (all : List Wanted) (first start : List ℕ) (from : ℕ)
+pub compared_none : (F : Bor (List ℕ) → List Wanted) (m : Contents) (all : List Wanted) (first start : List ℕ) (from :
+    ℕ)
     (many bases : List ℕ) (end : ℕ) (rest : Option (Bor (List ℕ))) → rest ≡ None
     → Compared m first start from all many bases end (option_map_or F rest [])
     → (fits_from m first start from all ≡ true) × (many ≡ met_all first all)
@@ -93,7 +58,8 @@ compared_none F m all first start from many bases end rest none it =
       sym (ap (met_all first) (sym (append-nil all)) ∙ (done []).1),
     )
 
-pub compared_some : (F : Bor (List ℕ) → List Wanted) (m : Contents) (all : List Wanted) (first start : List ℕ) (from : ℕ)
+pub compared_some : (F : Bor (List ℕ) → List Wanted) (m : Contents) (all : List Wanted) (first start : List ℕ) (from :
+    ℕ)
     (many bases : List ℕ) (end : ℕ) (rest : Option (Bor (List ℕ))) (text : Bor (List ℕ)) → rest ≡ Some text
     → Compared m first start from all many bases end (option_map_or F rest [])
     → Compared m first start from all many bases end (F text)

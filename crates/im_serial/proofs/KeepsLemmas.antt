@@ -1,11 +1,11 @@
 -- What runs of a script leave, whatever stopped them. (Own.)
-use Rattle.std.proofs.Common.{◌≡◌, ◌⊎◌, ◌∙◌, inl, inr, ⊎_elim, ℕ, ◌+◌, ◌≤◌, List, [], ◌++◌, length, take, refl, sym, ap, subst}
+use Rattle.std.proofs.Common.{◌≡◌, ◌⊎◌, ◌∙◌, inl, inr, ⊎_elim, ℕ, ◌+◌}
+use Rattle.std.proofs.Common.{List, [], ◌++◌, length, take, refl, sym, subst}
 use Rattle.std.proofs.Common.{arith, length-append}
 use Rattle.std.specs.Prelude.{Option, Some}
 use Rattle.std.proofs.lemmas.List.{length-take-le, take_all}
 use Rattle.im_types.specs.declared.commands.Command.{Command}
 use Rattle.im_types.specs.declared.sizes.Limits.{Limits}
-use Rattle.im_types.specs.Contents.{Contents}
 use Rattle.im_types.specs.Meaning.{Means, accept_each}
 use Rattle.im_types.specs.Run.{after}
 use Rattle.im_disk.specs.declared.disk.Disk.{Ghosts}

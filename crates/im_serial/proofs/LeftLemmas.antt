@@ -1,17 +1,16 @@
 -- How many of each element's requests are left, and what is new of a script whose first requests were put. (Own.)
-use Rattle.std.proofs.Common.{◌≡◌, ◌⊎◌, ◌∙◌, ⊎_elim, ℕ, ◌+◌, ◌-◌, ◌<◌, ◌≤◌, zero, suc, Bool, true, false}
+use Rattle.std.proofs.Common.{◌≡◌, ◌∙◌, ⊎_elim, ℕ, ◌+◌, ◌-◌, ◌<◌, ◌≤◌, zero, suc, Bool, true, false}
 use Rattle.std.proofs.Common.{List, [], ◌∷◌, ◌++◌, length, map, set, get_or, refl, sym, ap, append_assoc, arith, subst}
 use Rattle.std.specs.Prelude.{◌==◌, ◌&&◌, nat_lt, slice_get, if◌then◌else◌}
 use Rattle.std.specs.Option.{option_map_or}
 use Rattle.std.proofs.lemmas.Bool.{cases_eq}
 use Rattle.std.proofs.lemmas.Bool.Decides.{nat_tests}
 use Rattle.std.proofs.lemmas.List.{get_or-set_same, get_or-set_other}
-use Rattle.im_types.specs.Contents.{Contents, Window}
+use Rattle.im_types.specs.Contents.{Window}
 use Rattle.im_types.specs.Window.{next_number}
 use Rattle.im_laws.proofs.GroupLemmas.{above_zero}
-use Rattle.im_laws.proofs.Tests.{eq_by_test, true_false}
 use Rattle.im_serial.specs.Asked.{Wanted}
-use Rattle.im_serial.specs.Had.{bases_had, has_block, has_next, if_new, left_of, length_asked, met, news, numbers_had}
+use Rattle.im_serial.specs.Had.{bases_had, has_next, left_of, length_asked, met, news}
 
 -- ---- what is left of an element's requests
 
@@ -49,7 +48,8 @@ met_less many e f = ⊎_elim by_same (λ other. let it = met_there many e f othe
         omega arith
 
     by_same : f ≡ e → left_of (met many e) f ≤ left_of many f
-    by_same same = subst (λ (x : ℕ). left_of (met many e) x ≤ left_of many x) (sym same) (by_test (has_next many e) refl)
+    by_same same = subst (λ (x : ℕ). left_of (met many e) x ≤ left_of many x) (sym same) (by_test (has_next many e)
+        refl)
 
 -- something is left
 pub has_some : (many : List ℕ) (e f left : ℕ) → f ≡ e → left ≡ left_of many e → (left ≡ 0 → ⊥) → has_next many f ≡ true

@@ -1,15 +1,14 @@
 -- A script that is served once: what a memory has of it. (Own.)
 use Rattle.std.proofs.Common.{◌≡◌, ◌⊎◌, ◌∙◌, inl, inr, ⊎_elim, ℕ, ◌+◌, ◌-◌, ◌<◌, ◌≤◌, zero, suc, Bool, true, false}
-use Rattle.std.proofs.Common.{List, [], ◌∷◌, ◌++◌, length, map, set, get_or, take, Some, None, refl, sym, ap, ap₂}
+use Rattle.std.proofs.Common.{List, [], ◌∷◌, ◌++◌, length, map, take, Some, None, refl, sym, ap, ap₂}
 use Rattle.std.proofs.Common.{append_assoc, arith, subst}
 use Rattle.std.specs.Borrow.{Bor}
-use Rattle.std.specs.Prelude.{Option, Result, Ok, Err, IfOk, OnOk, MatchResult, ◌==◌, ◌&&◌, nat_lt, slice_get}
+use Rattle.std.specs.Prelude.{Option, Result, Ok, Err, IfOk, OnOk, MatchResult, ◌&&◌, slice_get}
 use Rattle.std.specs.Prelude.{if◌then◌else◌}
 use Rattle.std.specs.Io.KnownBytes.{Appends}
 use Rattle.std.specs.Option.{option_map_or}
 use Rattle.std.proofs.KnownBytes.{Appends-trans}
-use Rattle.std.proofs.lemmas.Bool.Decides.{nat_tests}
-use Rattle.std.proofs.lemmas.List.{append-nil, get_or-set_same, get_or-set_other, length-map, map-append}
+use Rattle.std.proofs.lemmas.List.{append-nil, length-map, map-append}
 use Rattle.std.proofs.lemmas.List.{take_all, take_more}
 use Rattle.im_types.specs.declared.operations.Entry.{Entry}
 use Rattle.im_types.specs.declared.operations.Entry.TheVariants.{Waiting, Answered}
@@ -27,7 +26,6 @@ use Rattle.im_disk.proofs.SinceLemmas.{left_now, leaves_now, leaves_then}
 use Rattle.im_engine.specs.State.{EngineState, MeansState}
 use Rattle.im_engine.specs.Run.{MeansBeginning}
 use Rattle.im_engine.proofs.Running.{doubt_by}
-use Rattle.im_laws.proofs.GroupLemmas.{above_zero}
 use Rattle.im_laws.proofs.Tests.{and_both}
 use Rattle.im_laws.proofs.WindowLemmas.{kept_for-window}
 use Rattle.im_text.specs.declared.lines.Lines.{Lines}
@@ -42,7 +40,7 @@ use Rattle.im_serial.specs.Noted.{AreKnown, AreLast, IsMarked, mark_place, noted
 use Rattle.im_script.specs.declared.script.Said.{Said}
 use Rattle.im_script.specs.Script.{Draft, counted, lines_of}
 use Rattle.im_serial.specs.Asked.{Course, Leads, Wanted, standing, wanted_by, wanted_in, wanted_of}
-use Rattle.im_serial.specs.Serving.{EndsAt, GoingAt, HaltsAt, HaltsWith, HasServed, Passes, ScriptServer, server_of}
+use Rattle.im_serial.specs.Serving.{EndsAt, GoingAt, HaltsWith, HasServed, Passes, ScriptServer, server_of}
 use Rattle.im_serial.specs.Once.{Breaks, BrokenAt, HasBroken, HasMet, HasPassed, HasShown, IsPrefix, Meets, MetAt}
 use Rattle.im_serial.specs.Had.{bases_had, has_block, has_next, left_of, length_asked}
 use Rattle.im_serial.specs.Once.{Names}
@@ -349,7 +347,8 @@ makes_plain m many later w plain same = λ rest are. (
 pub line_makes : (m : Contents) (all : List Wanted) (first many : List ℕ) (d next : Draft) (said : Said) (text line :
     List ℕ) (behind : Option (Bor (List ℕ)))
     → lines_of text ≡ line ∷ option_map_or (λ rest. lines_of rest.now) behind [] → counted d line ≡ Some (next, said)
-    → MakesBlocks m first all many (wanted_in d (lines_of text)) → (later : List ℕ) → MakesBlocks m many (wanted_by said) later []
+    → MakesBlocks m first all many (wanted_in d (lines_of text)) → (later : List ℕ) → MakesBlocks m many (wanted_by
+    said) later []
     → MakesBlocks m first all later (option_map_or (λ rest. wanted_in next (lines_of rest.now)) behind [])
 line_makes m all first many d next said text line behind lines read so_far later makes = λ rest are.
     let left = option_map_or (λ rest. wanted_in next (lines_of rest.now)) behind [] in
@@ -364,9 +363,11 @@ makes_none F m first later all rest none makes = subst (λ (o : Option (Bor (Lis
     (option_map_or F o [])) none makes
 
 pub makes_some : (F : Bor (List ℕ) → List Wanted) (m : Contents) (first later : List ℕ) (all : List Wanted) (rest :
-    Option (Bor (List ℕ))) (text : Bor (List ℕ)) → rest ≡ Some text → MakesBlocks m first all later (option_map_or F rest [])
+    Option (Bor (List ℕ))) (text : Bor (List ℕ)) → rest ≡ Some text → MakesBlocks m first all later (option_map_or F
+    rest [])
     → MakesBlocks m first all later (F text)
-makes_some F m first later all rest text some makes = subst (λ (o : Option (Bor (List ℕ))). MakesBlocks m first all later
+makes_some F m first later all rest text some makes = subst (λ (o : Option (Bor (List ℕ))). MakesBlocks m first all
+    later
     (option_map_or F o [])) some makes
 
 -- ---- servers
@@ -543,7 +544,8 @@ module _ {D : Type 0} where
         works = works;
       }
   shown_by (Err e) script bases known later behind old engine held after before last waited marks same meets names
-      makes prints pending works = breaks_here (numbers_had old.engine.memory) later script [] old (server_of engine after
+      makes prints pending works = breaks_here (numbers_had old.engine.memory) later script [] old (server_of engine
+      after
       last waited marks) (meets_printed (numbers_had old.engine.memory) later script [] old engine held after before
       last waited marks meets prints)
 
@@ -701,36 +703,37 @@ module _ {D : Type 0} (disk : Ghosts D) where
             (
               [],
               (
-                subst (λ (e : EngineState D). HaltsOnce disk old.engine script c it.0 e [] new.waited) (sym same) (λ h. (
-                  h,
-                  (
-                    [],
-                    (
-                      [],
+                subst (λ (e : EngineState D). HaltsOnce disk old.engine script c it.0 e [] new.waited) (sym same) (λ
+                    h. (
+                      h,
                       (
-                        sym (append-nil (map who_of new.waited)),
+                        [],
                         (
-                          halts disk.now disk.past disk.failures old.engine old.engine [] [] [] (goes_none disk.now
-                              disk.past disk.failures old.engine ready.works (ready.means h)),
+                          [],
                           (
-                            record {
-                              left = c.wanted;
-                              leads = refl;
-                              done = [];
-                              doubt = [];
-                              split = refl;
-                              few = omega arith;
-                              sure = λ works. refl;
-                              memory = refl;
-                              known = broken.known;
-                            },
-                            (inr refl, ⊎_elim (λ is. inl is) (λ none. inr (refl, none)) fit),
+                            sym (append-nil (map who_of new.waited)),
+                            (
+                              halts disk.now disk.past disk.failures old.engine old.engine [] [] [] (goes_none disk.now
+                                  disk.past disk.failures old.engine ready.works (ready.means h)),
+                              (
+                                record {
+                                  left = c.wanted;
+                                  leads = refl;
+                                  done = [];
+                                  doubt = [];
+                                  split = refl;
+                                  few = omega arith;
+                                  sure = λ works. refl;
+                                  memory = refl;
+                                  known = broken.known;
+                                },
+                                (inr refl, ⊎_elim (λ is. inl is) (λ none. inr (refl, none)) fit),
+                              ),
+                            ),
                           ),
                         ),
                       ),
-                    ),
-                  ),
-                )),
+                    )),
                 subst (Prints old.held new.held new.lines) (sym (append-nil it.0)) it.1.1,
               ),
             ),
@@ -978,7 +981,8 @@ module _ {D : Type 0} (disk : Ghosts D) where
                 })
                 (inl made)
                 (told_once start engine (wanted_of script) put text names status was is waited some.0 end.0 put []
-                lines early (inl fit) on ([], sym (append-nil lines)) ([], sym (append-nil early)) (same ∙ it.1.1.1.0) (sym
+                lines early (inl fit) on ([], sym (append-nil lines)) ([], sym (append-nil early)) (same ∙ it.1.1.1.0)
+                (sym
                 (append-nil put)) (omega arith) (learn m put (goes.has.memory goes.works) (noted_known m put 0 0 marks
                 noted u.recorded.noted)) end.1.0 (prints_begins was is final (((lines ++ text) ++ nows waited some.0) ++
                 end.0) end.1.1)

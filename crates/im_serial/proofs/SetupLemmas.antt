@@ -7,7 +7,7 @@ use Rattle.std.proofs.lemmas.Bool.Decides.{nat_tests}
 use Rattle.im_types.specs.declared.commands.Outcome.TheVariants.{Entry as Tells}
 use Rattle.im_types.specs.declared.operations.Kind.{Kind}
 use Rattle.im_types.specs.declared.operations.Reply.TheVariants.{BadLength}
-use Rattle.im_types.specs.Act.{Acted, allocate, allocate_at, only_tells}
+use Rattle.im_types.specs.Act.{allocate, allocate_at, only_tells}
 use Rattle.im_types.specs.Contents.{Empty, Held}
 use Rattle.im_types.specs.Place.{begins_free, fill, place}
 use Rattle.im_laws.proofs.Tests.{some_same, true_false}

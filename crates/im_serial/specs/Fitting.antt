@@ -1,4 +1,5 @@
--- Whether a memory was left by runs of a script: what it keeps under the script's numbers, and where windows begin. (Own.)
+-- Whether a memory was left by runs of a script: what it keeps under the script's numbers, and where windows begin.
+-- (Own.)
 use Rattle.std.specs.Prelude.{◌≡◌, ℕ, ◌+◌, ◌^◌, ◌≤◌, ◌==◌, ◌&&◌, Bool, true, false, List, [], ◌∷◌, ◌++◌, Option, None}
 use Rattle.std.specs.Prelude.{Some, Result, MatchResult, length, nat_lt, slice_get, if◌then◌else◌}
 use Rattle.std.specs.Option.{option_map_or}
@@ -46,12 +47,12 @@ fits_as m many element op base = if has_next many element
 -- ---- all of a script
 
 -- the base of a block that is placed there, unless it ends past the last address
-abbrev pub placed : ℕ → ℕ → Option ℕ
-placed end n = if nat_lt (end + n) (2 ^ 32) then Some end else None
+abbrev pub base_placed : ℕ → ℕ → Option ℕ
+base_placed end n = if nat_lt (end + n) (2 ^ 32) then Some end else None
 
 -- the base of the block of a request, if it makes one of the setup
 abbrev pub base_for : ℕ → Wanted → Option ℕ
-base_for end w = if w.named then placed end (length_asked w.action) else None
+base_for end w = if w.named then base_placed end (length_asked w.action) else None
 
 -- the bases with it
 abbrev pub bases_with : List ℕ → Option ℕ → List ℕ
@@ -73,8 +74,8 @@ abbrev pub fits : Contents → List Wanted → Bool
 fits m script = fits_from m (numbers_had m) [] 0 script
 
 -- No window begins behind the script: so many requests of each element are behind it at most as are kept.
-abbrev pub IsWithin : Contents → List ℕ → Type 0
-IsWithin m behind = (element : ℕ) (w : Window) → slice_get m.windows element ≡ Some w → left_of behind element
+abbrev pub BeginsWithin : Contents → List ℕ → Type 0
+BeginsWithin m behind = (element : ℕ) (w : Window) → slice_get m.windows element ≡ Some w → left_of behind element
     ≤ length w.kept
 
 -- the requests behind a script
@@ -83,7 +84,7 @@ behind_script m script = met_all (numbers_had m) script
 
 -- a memory that runs of a script may have left
 abbrev pub FitsScript : Contents → List Wanted → Type 0
-FitsScript m script = (fits m script ≡ true) × IsWithin m (behind_script m script)
+FitsScript m script = (fits m script ≡ true) × BeginsWithin m (behind_script m script)
 
 -- ---- while it is compared
 
@@ -93,7 +94,8 @@ Compared m many bases end wanted later with_them behind left = (rest : List Want
     → (fits_from m many bases end (wanted ++ rest) ≡ fits_from m later with_them behind (left ++ rest))
     × (met_all many (wanted ++ rest) ≡ met_all later (left ++ rest))
 
--- These requests were compared: they fit. If they don't, it ends; only then the reason may be a mismatch, and it is never
+-- These requests were compared: they fit. If they don't, it ends; only then the reason may be a mismatch, and it is
+-- never
 -- that a window begins behind the script.
 abbrev pub Compares : {T : Type 0} → Contents → List ℕ → List ℕ → ℕ → List Wanted → Result T Reason → List ℕ → List ℕ
     → ℕ → Type 0

@@ -1,7 +1,7 @@
 -- A script that is served once: what a memory has of its requests, and which of them are new. (Own.)
-use Rattle.std.specs.Prelude.{◌≡◌, ◌⊎◌, ℕ, ◌+◌, ◌-◌, ◌<◌, ◌≤◌, ◌&&◌, Bool, nat_lt, List, [], ◌∷◌, ◌++◌, length, map}
+use Rattle.std.specs.Prelude.{◌≡◌, ◌⊎◌, ℕ, ◌+◌, ◌<◌, ◌≤◌, Bool, List, [], ◌∷◌, ◌++◌, length, map}
 use Rattle.std.specs.Prelude.{take, true, false, codes, decimal, Result, MatchResult, OnOk, Option, Some, slice_get}
-use Rattle.std.specs.Prelude.{slice_index_or, slice_set, if◌then◌else◌}
+use Rattle.std.specs.Prelude.{if◌then◌else◌}
 use Rattle.std.specs.Option.{option_map_or}
 use Rattle.std.specs.Io.KnownBytes.{Appends}
 use Rattle.im_types.specs.declared.commands.Command.{Command}
@@ -14,14 +14,11 @@ use Rattle.im_types.specs.Contents.{Contents, kept_for}
 use Rattle.im_types.specs.Meaning.{accept_each}
 use Rattle.im_types.specs.Memory.{IsMemory}
 use Rattle.im_types.specs.Run.{after}
-use Rattle.im_types.specs.Window.{next_number}
 use Rattle.im_disk.specs.Moment.{Moment, Left, Rises}
 use Rattle.im_disk.specs.Since.{Leaves, LeavesNow}
 use Rattle.im_disk.specs.declared.disk.Disk.{Ghosts}
 use Rattle.im_engine.specs.State.{EngineState, MeansState}
 use Rattle.im_engine.specs.Run.{MeansAfter, MeansBeginning, MeansAllOrInDoubt}
-use Rattle.im_script.specs.declared.places.Action.{Action}
-use Rattle.im_script.specs.declared.places.Action.TheVariants.{Alloc}
 use Rattle.im_text.specs.declared.replies.Waited.{Waited}
 use Rattle.im_text.specs.Printing.{Begins, IsLast, Prints, nows, replies, told_line, waits, waits_if, who_of}
 use Rattle.im_text.specs.Texts.{line_feed}
@@ -67,7 +64,8 @@ HasMade m script = AreMade m (numbers_had m) script
 
 -- From these requests it comes to those: if the blocks of the rest were made, all were.
 abbrev pub MakesBlocks : Contents → List ℕ → List Wanted → List ℕ → List Wanted → Type 0
-MakesBlocks m many wanted later left = (rest : List Wanted) → AreMade m later (left ++ rest) → AreMade m many (wanted ++ rest)
+MakesBlocks m many wanted later left = (rest : List Wanted) → AreMade m later (left ++ rest) → AreMade m many (wanted
+    ++ rest)
 
 -- the line of a request that the memory has: what is kept for it, or that it was confirmed
 abbrev pub past_line : Contents → Waiter → List ℕ
@@ -284,8 +282,10 @@ ClosesOnce disk text start new was is status = disk.honest new
 
 -- The image was opened, with the meaning of a file that a crash could leave then, and these commands were put on it:
 -- those requests of this script that its memory didn't have, in their order, and confirmations. With status 0 they are
--- all of those. Nothing was put if a block of the setup that the memory had wasn't made. If each file that was left meant
--- what runs of the script come to, those runs and this one are one run from a new image on. From then on a crash leaves the memory after a prefix of them. At the end it leaves the memory after
+-- all of those. Nothing was put if a block of the setup that the memory had wasn't made. If each file that was left
+-- meant
+-- what runs of the script come to, those runs and this one are one run from a new image on. From then on a crash
+-- leaves the memory after a prefix of them. At the end it leaves the memory after
 -- all of them, or after all but the last if a call of the disk failed. If the status is 0, it is after all of them.
 pub record ServedOnce {D : Type 0} (now : D → Moment) (past : D → List Moment) (failures : D → ℕ) (text : List ℕ)
     (old new : D) (was is : Option (List ℕ)) (status : ℕ) : Type 0 where

@@ -1,6 +1,7 @@
 //! Serves a script's requests one after another on the image of a disk.
 #![tactic(auto)]
 
+mod comparing;
 mod meeting;
 mod once;
 mod past;

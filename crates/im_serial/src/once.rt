@@ -6,7 +6,8 @@ ghost use Rattle.im_serial.specs.Fitting.{FitsScript};
 ghost use Rattle.im_serial.specs.Once.{Breaks, HasServedOnce, HasShown};
 ghost use Rattle.im_serial.specs.Serving.{HasServed, seen_by};
 
-use crate::past::{Past, compare_script};
+use crate::comparing::compare_script;
+use crate::past::Past;
 use crate::server::Server;
 use im_disk::Disk;
 use im_script::{Reader, Said, Script, ScriptFault, split_line};

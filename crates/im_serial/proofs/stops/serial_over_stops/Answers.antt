@@ -1,6 +1,5 @@
-use Rattle.std.proofs.Common.{ap, ◌∙◌, subst, sym}
+use Rattle.std.proofs.Common.{ap, subst, sym}
 use Rattle.im_disk.specs.Fuse.{Fused}
-use Rattle.im_disk.specs.Moment.{Moment}
 use Rattle.im_disk.specs.Recording.{Recording}
 use Rattle.im_disk.specs.Since.{LeavesNow}
 use Rattle.im_serial.specs.Asked.{wanted_of}

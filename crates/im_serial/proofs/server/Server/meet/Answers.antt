@@ -31,10 +31,11 @@ returns-in-Ok-clause-passed g c = λ w element.
     t.ensures.others t.ensures.unmarked t.result t.ensures.pushed t.ensures.mark t.ensures.more)
 
 pub returns-in-Ok-clause-had : goal.returns-in-Ok-clause-had
-returns-in-Ok-clause-had g c = had_of c.tell_past.result c.args.self.now.engine.memory c.args.past.now.many.items (record {
-  element = c.args.element;
-  number = c.saturating_sub-number.result;
-}) c.args.element c.meet-left.result c.meet-left.ensures.left c.if-left-eq0.false c.tell_past.ensures.found
+returns-in-Ok-clause-had g c = had_of c.tell_past.result c.args.self.now.engine.memory c.args.past.now.many.items
+    (record {
+      element = c.args.element;
+      number = c.saturating_sub-number.result;
+    }) c.args.element c.meet-left.result c.meet-left.ensures.left c.if-left-eq0.false c.tell_past.ensures.found
 
 pub returns-in-Ok-clause-found : goal.returns-in-Ok-clause-found
 returns-in-Ok-clause-found g c =

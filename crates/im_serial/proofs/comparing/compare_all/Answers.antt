@@ -2,7 +2,7 @@ use Rattle.std.proofs.Common.{[]}
 use Rattle.im_script.specs.Script.{draft_of, lines_of}
 use Rattle.im_serial.specs.Asked.{wanted_in, wanted_of}
 use Rattle.im_serial.proofs.FittingLemmas.{compared_none, compared_some, line_compared, line_wrong}
-use Rattle.im_serial.proofs.past.compare_all.Goals as goal
+use Rattle.im_serial.proofs.comparing.compare_all.Goals as goal
 
 pub returns-in-None-clause-fits : goal.returns-in-None-clause-fits
 returns-in-None-clause-fits c = (compared_none (λ text. wanted_in (draft_of c.loop-number.reader) (lines_of text.now))

@@ -3,7 +3,7 @@ use Rattle.std.specs.Option.{option_map_or}
 use Rattle.im_script.specs.Script.{draft_of, lines_of}
 use Rattle.im_serial.specs.Asked.{wanted_in, wanted_of}
 use Rattle.im_serial.specs.Fitting.{Compared}
-use Rattle.im_serial.proofs.past.compare_all.Given as goal
+use Rattle.im_serial.proofs.comparing.compare_all.Given as goal
 
 abbrev pub invariant-loop-number : goal.invariant-loop-number
 invariant-loop-number l = Compared l.memory.contents l.fn.past.many.items [] l.fn.past.end (wanted_of l.script)
