@@ -2,4 +2,9 @@ pub mod AskedLemmas
 pub mod ServingLemmas
 pub mod NotedLemmas
 pub mod ScriptedLemmas
+pub mod LeftLemmas
+pub mod SetupLemmas
+pub mod BegunLemmas
+pub mod KeepsLemmas
 pub mod OnceLemmas
+pub mod FittingLemmas

@@ -1,15 +1,14 @@
 -- A script that is served once: what a memory has of it. (Own.)
 use Rattle.std.proofs.Common.{◌≡◌, ◌⊎◌, ◌∙◌, inl, inr, ⊎_elim, ℕ, ◌+◌, ◌-◌, ◌<◌, ◌≤◌, zero, suc, Bool, true, false}
-use Rattle.std.proofs.Common.{List, [], ◌∷◌, ◌++◌, length, map, set, get_or, take, Some, None, refl, sym, ap, ap₂}
+use Rattle.std.proofs.Common.{List, [], ◌∷◌, ◌++◌, length, map, take, Some, None, refl, sym, ap, ap₂}
 use Rattle.std.proofs.Common.{append_assoc, arith, subst}
 use Rattle.std.specs.Borrow.{Bor}
-use Rattle.std.specs.Prelude.{Option, Result, Ok, Err, OnOk, MatchResult, ◌==◌, ◌&&◌, nat_lt, slice_get}
+use Rattle.std.specs.Prelude.{Option, Result, Ok, Err, IfOk, OnOk, MatchResult, ◌&&◌, slice_get}
 use Rattle.std.specs.Prelude.{if◌then◌else◌}
 use Rattle.std.specs.Io.KnownBytes.{Appends}
 use Rattle.std.specs.Option.{option_map_or}
 use Rattle.std.proofs.KnownBytes.{Appends-trans}
-use Rattle.std.proofs.lemmas.Bool.Decides.{nat_tests}
-use Rattle.std.proofs.lemmas.List.{append-nil, get_or-set_same, get_or-set_other, length-map, map-append}
+use Rattle.std.proofs.lemmas.List.{append-nil, length-map, map-append}
 use Rattle.std.proofs.lemmas.List.{take_all, take_more}
 use Rattle.im_types.specs.declared.operations.Entry.{Entry}
 use Rattle.im_types.specs.declared.operations.Entry.TheVariants.{Waiting, Answered}
@@ -27,8 +26,7 @@ use Rattle.im_disk.proofs.SinceLemmas.{left_now, leaves_now, leaves_then}
 use Rattle.im_engine.specs.State.{EngineState, MeansState}
 use Rattle.im_engine.specs.Run.{MeansBeginning}
 use Rattle.im_engine.proofs.Running.{doubt_by}
-use Rattle.im_laws.proofs.GroupLemmas.{above_zero}
-use Rattle.im_laws.proofs.Tests.{eq_by_test}
+use Rattle.im_laws.proofs.Tests.{and_both}
 use Rattle.im_laws.proofs.WindowLemmas.{kept_for-window}
 use Rattle.im_text.specs.declared.lines.Lines.{Lines}
 use Rattle.im_text.specs.declared.replies.Waited.{Waited}
@@ -42,13 +40,22 @@ use Rattle.im_serial.specs.Noted.{AreKnown, AreLast, IsMarked, mark_place, noted
 use Rattle.im_script.specs.declared.script.Said.{Said}
 use Rattle.im_script.specs.Script.{Draft, counted, lines_of}
 use Rattle.im_serial.specs.Asked.{Course, Leads, Wanted, standing, wanted_by, wanted_in, wanted_of}
-use Rattle.im_serial.specs.Serving.{EndsAt, GoingAt, HaltsAt, HaltsWith, HasServed, Passes, ScriptServer, server_of}
+use Rattle.im_serial.specs.Serving.{EndsAt, GoingAt, HaltsWith, HasServed, Passes, ScriptServer, server_of}
 use Rattle.im_serial.specs.Once.{Breaks, BrokenAt, HasBroken, HasMet, HasPassed, HasShown, IsPrefix, Meets, MetAt}
-use Rattle.im_serial.specs.Once.{Names, bases_had, has_block, has_next, left_of, length_asked}
-use Rattle.im_serial.specs.Once.{if_new, lines_had, met, met_all, news, next_had, noted_of, numbers_had, past_line}
-use Rattle.im_serial.specs.Once.{waits_had, waits_of, who_next, ClosedOnce, DoneOnce, EndedOnce, HasServedOnce}
+use Rattle.im_serial.specs.Had.{bases_had, has_block, has_next, left_of, length_asked}
+use Rattle.im_serial.specs.Once.{Names}
+use Rattle.im_serial.specs.Had.{if_new, met, met_all, news, next_had, numbers_had}
+use Rattle.im_serial.specs.Once.{lines_had, noted_of, past_line}
+use Rattle.im_serial.specs.Had.{who_next}
+use Rattle.im_serial.specs.Once.{waits_had, waits_of, ClosedOnce, DoneOnce, EndedOnce, HasServedOnce}
+use Rattle.im_serial.specs.Once.{AreMade, HaltsOnce, HasMade, IsMade, MakesBlocks, is_had, met_of}
+use Rattle.im_serial.specs.declared.meeting.Met.{Met}
+use Rattle.im_serial.specs.declared.meeting.Met.TheVariants as as_met
 use Rattle.im_serial.specs.Once.{HasServedNothing, IsAskedOnce, ServedOnce, ToldOnce, course_of, new_of}
+use Rattle.im_serial.specs.Fitting.{FitsScript}
 use Rattle.im_serial.proofs.AskedLemmas.{stands_here, wanted_line}
+use Rattle.im_serial.proofs.LeftLemmas.{had_at, has_some, met_here, met_less}
+use Rattle.im_serial.proofs.KeepsLemmas.{went_on}
 use Rattle.im_serial.proofs.NotedLemmas.{apart, last_or_before, noted_known}
 use Rattle.im_serial.proofs.ScriptedLemmas.{going_from}
 use Rattle.im_serial.proofs.ServingLemmas.{goes_none, halts, put_all}
@@ -67,56 +74,7 @@ line_wanted d next said text line behind lines read = ap (wanted_in d) lines
     by_behind (Some rest) = refl
     by_behind None = refl
 
--- ---- what is left of an element's requests
-
-some_within : (xs : List ℕ) (i : ℕ) → 0 < get_or xs i 0 → i < length xs
-some_within [] i some = absurd (omega arith)
-some_within (x ∷ xs) zero some = omega arith
-some_within (x ∷ xs) (suc i) some = let it = some_within xs i some in omega arith
-
--- one less is left of that element's
-met_here : (many : List ℕ) (e : ℕ) → has_next many e ≡ true → left_of (met many e) e + 1 ≡ left_of many e
-met_here many e has =
-    let some : 0 < left_of many e = above_zero (left_of many e) has in
-    let is : left_of (met many e) e ≡ left_of many e - 1 = ap (λ (b : Bool). left_of (if b then set many e (left_of many
-    e - 1) else many) e) has ∙ get_or-set_same many e (left_of many e - 1) 0 (some_within many e some) in
-    omega arith
-
--- no more is left of any
-met_less : (many : List ℕ) (e f : ℕ) → left_of (met many e) f ≤ left_of many f
-met_less many e f = by_test (has_next many e) refl
-  where
-    by_same : has_next many e ≡ true → (t : Bool) → (f == e) ≡ t → left_of (met many e) f ≤ left_of many f
-    by_same has true t =
-        let same : f ≡ e = eq_by_test f e t in
-        subst (λ (x : ℕ). left_of (met many e) x ≤ left_of many x) (sym same)
-        (let it = met_here many e has in omega arith)
-    by_same has false t =
-        let is : left_of (met many e) f ≡ left_of many f = ap (λ (b : Bool). left_of (if b then set many e (left_of many
-        e - 1) else many) f) has ∙ get_or-set_other many e f (left_of many e - 1) 0 (λ same. true_false (f == e)
-        (eq_same f e same) t) in
-        omega arith
-      where
-        eq_same : (a b : ℕ) → a ≡ b → (a == b) ≡ true
-        eq_same a b same = grind (arith, nat_tests)
-
-    by_test : (b : Bool) → has_next many e ≡ b → left_of (met many e) f ≤ left_of many f
-    by_test true has = by_same has (f == e) refl
-    by_test false has =
-        let is : left_of (met many e) f ≡ left_of many f = ap (λ (b : Bool). left_of (if b then set many e (left_of many
-        e - 1) else many) f) has in
-        omega arith
-
--- something is left
-pub has_some : (many : List ℕ) (e f left : ℕ) → f ≡ e → left ≡ left_of many e → (left ≡ 0 → ⊥) → has_next many f ≡ true
-has_some many e f left same is some = ap (has_next many) same ∙ by_left (left_of many e) (λ none. some (is ∙ none))
-  where
-    by_some : (n : ℕ) → 0 < n → nat_lt 0 n ≡ true
-    by_some n less = grind (arith, nat_tests)
-
-    by_left : (n : ℕ) → (n ≡ 0 → ⊥) → nat_lt 0 n ≡ true
-    by_left zero some = absurd (some refl)
-    by_left (suc n) some = by_some (suc n) (omega arith)
+-- ---- what a memory has
 
 -- the next request of an element, by its window
 pub who_is_next : (m : Contents) (many : List ℕ) (e f base next left number : ℕ) → f ≡ e → bounds m.windows e ≡ Ok (
@@ -131,14 +89,6 @@ who_is_next m many e f base next left number same found is number_is =
     let number_same : number ≡ next_had m e - left_of many e = number_is ∙ ap₂ (λ (a b : ℕ). a - b) (sym next_is) is in
     ap (λ (n : ℕ). record { element = e; number = n }) number_same
     ∙ ap (λ (x : ℕ). who_next m many x) (sym same)
-
--- ---- how many requests a memory has
-
-had_at : (windows : List Window) (k : ℕ) → get_or (map (λ (w : Window). next_number w - 1) windows) k 0
-    ≡ option_map_or (λ (w : Window). next_number w - 1) (slice_get windows k) 0
-had_at [] k = refl
-had_at (w ∷ windows) zero = refl
-had_at (w ∷ windows) (suc k) = had_at windows k
 
 -- one element more
 pub had_more : (m : Contents) (k count : ℕ) (many : List ℕ) → many ≡ take k (numbers_had m) → k < length m.windows
@@ -348,6 +298,78 @@ names_kept (Ok x) many end w before between after between_many later between_end
         (subst (λ (l : List ℕ). Names many end (w ∷ []) (met many w.element) end [] before l) (sym (it.0 ∙ bases))
         (names_same many end w before (ap (λ (b : Bool). b && w.named) (sym had_is ∙ h)))))
 
+-- ---- what an image has of a request
+
+had_met : (m : Contents) (who : Waiter) → is_had (met_of m who) ≡ true
+had_met m who = by_kept (kept_for m.windows who)
+  where
+    by_kept : (found : Option Kept) → is_had (option_map_or (λ (k : Kept). as_met.Kept k.entry) found as_met.Done)
+        ≡ true
+    by_kept None = refl
+    by_kept (Some k) = refl
+
+pub had_of : {E : Type 0} (r : Result Met E) (m : Contents) (many : List ℕ) (who : Waiter) (e left : ℕ)
+    → left ≡ left_of many e → (left ≡ 0 → ⊥) → IfOk r (λ it. it ≡ met_of m who)
+    → IfOk r (λ it. is_had it ≡ has_next many e)
+had_of (Err error) m many it_is e left is some found = tt
+had_of (Ok it) m many it_is e left is some found = ap is_had found ∙ had_met m it_is
+    ∙ sym (has_some many e e left refl is some)
+
+pub found_of : {E : Type 0} (r : Result Met E) (m : Contents) (who there : Waiter) → who ≡ there
+    → IfOk r (λ it. it ≡ met_of m who) → IfOk r (λ it. is_had it ≡ true → it ≡ met_of m there)
+found_of (Err error) m it_is there same found = tt
+found_of (Ok it) m it_is there same found = λ has. found ∙ ap (met_of m) same
+
+-- ---- blocks that were made
+
+-- a block of the setup
+pub makes_block : {T E : Type 0} (r : Result T E) (m : Contents) (many later : List ℕ) (w : Wanted) (it : Met)
+    → later ≡ met many w.element → is_had it ≡ has_next many w.element
+    → (is_had it ≡ true → it ≡ met_of m (who_next m many w.element)) → OnOk r (is_had it ≡ true → IsMade it)
+    → OnOk r (MakesBlocks m many (w ∷ []) later [])
+makes_block (Err e) m many later w it same had found made = tt
+makes_block (Ok x) m many later w it same had found made = λ rest are. (
+  λ block.
+      let has : is_had it ≡ true = had ∙ (and_both (has_next many w.element) w.named block).0 in
+      subst IsMade (found has) (made has),
+  subst (λ (l : List ℕ). AreMade m l rest) same are,
+)
+
+-- a request that makes none
+pub makes_plain : (m : Contents) (many later : List ℕ) (w : Wanted) → w.named ≡ false → later ≡ met many w.element
+    → MakesBlocks m many (w ∷ []) later []
+makes_plain m many later w plain same = λ rest are. (
+  λ block. absurd (true_false w.named (and_both (has_next many w.element) w.named block).1 plain),
+  subst (λ (l : List ℕ). AreMade m l rest) same are,
+)
+
+-- what a line asks for
+pub line_makes : (m : Contents) (all : List Wanted) (first many : List ℕ) (d next : Draft) (said : Said) (text line :
+    List ℕ) (behind : Option (Bor (List ℕ)))
+    → lines_of text ≡ line ∷ option_map_or (λ rest. lines_of rest.now) behind [] → counted d line ≡ Some (next, said)
+    → MakesBlocks m first all many (wanted_in d (lines_of text)) → (later : List ℕ) → MakesBlocks m many (wanted_by
+    said) later []
+    → MakesBlocks m first all later (option_map_or (λ rest. wanted_in next (lines_of rest.now)) behind [])
+line_makes m all first many d next said text line behind lines read so_far later makes = λ rest are.
+    let left = option_map_or (λ rest. wanted_in next (lines_of rest.now)) behind [] in
+    so_far rest (subst (AreMade m many) (sym (ap (λ (l : List Wanted). l ++ rest) (line_wanted d next said text line
+    behind lines read) ∙ append_assoc (wanted_by said) left rest)) (makes (left ++ rest) are))
+
+-- the lines that are left
+pub makes_none : (F : Bor (List ℕ) → List Wanted) (m : Contents) (first later : List ℕ) (all : List Wanted) (rest :
+    Option (Bor (List ℕ))) → rest ≡ None → MakesBlocks m first all later (option_map_or F rest [])
+    → MakesBlocks m first all later []
+makes_none F m first later all rest none makes = subst (λ (o : Option (Bor (List ℕ))). MakesBlocks m first all later
+    (option_map_or F o [])) none makes
+
+pub makes_some : (F : Bor (List ℕ) → List Wanted) (m : Contents) (first later : List ℕ) (all : List Wanted) (rest :
+    Option (Bor (List ℕ))) (text : Bor (List ℕ)) → rest ≡ Some text → MakesBlocks m first all later (option_map_or F
+    rest [])
+    → MakesBlocks m first all later (F text)
+makes_some F m first later all rest text some makes = subst (λ (o : Option (Bor (List ℕ))). MakesBlocks m first all
+    later
+    (option_map_or F o [])) some makes
+
 -- ---- servers
 
 module _ {D : Type 0} where
@@ -501,17 +523,19 @@ module _ {D : Type 0} where
       ScriptServer D) (engine : EngineState D) (held after : Option (List ℕ)) (before last : Lines) (waited : List
       Waited) (marks : List Mark) → engine ≡ old.engine
       → Meets (numbers_had old.engine.memory) script later [] old (server_of engine held before waited marks)
-      → Names (numbers_had old.engine.memory) 0 script later behind [] bases known → PrintsOn held before after last
+      → Names (numbers_had old.engine.memory) 0 script later behind [] bases known
+      → MakesBlocks old.engine.memory (numbers_had old.engine.memory) script later [] → PrintsOn held before after last
       → OnOk r (last.pending.items ≡ []) → OnOk r (last.broken ≡ false)
       → MatchResult r (λ x. HasShown script bases known old (server_of engine after last waited marks))
       (λ e. Breaks (numbers_had old.engine.memory) script old (server_of engine after last waited marks))
-  shown_by (Ok x) script bases known later behind old engine held after before last waited marks same meets names prints
-      pending works = record {
+  shown_by (Ok x) script bases known later behind old engine held after before last waited marks same meets names makes
+      prints pending works = record {
         engine = same;
         later = later;
         meets = meets_printed (numbers_had old.engine.memory) later script [] old engine held after before last waited
             marks
             meets prints;
+        made = subst (AreMade old.engine.memory (numbers_had old.engine.memory)) (append-nil script) (makes [] tt);
         names = sym (append-nil known)
             ∙ sym (names (bases ++ bases_had (numbers_had old.engine.memory) 0 (script ++ [])) []
             refl)
@@ -520,7 +544,8 @@ module _ {D : Type 0} where
         works = works;
       }
   shown_by (Err e) script bases known later behind old engine held after before last waited marks same meets names
-      prints pending works = breaks_here (numbers_had old.engine.memory) later script [] old (server_of engine after
+      makes prints pending works = breaks_here (numbers_had old.engine.memory) later script [] old (server_of engine
+      after
       last waited marks) (meets_printed (numbers_had old.engine.memory) later script [] old engine held after before
       last waited marks meets prints)
 
@@ -608,6 +633,14 @@ prints_after was mid is lines had text first it = record {
   back = it.back;
 }
 
+pub either_way : {T E : Type 0} (r : Result T E) (A B : Type 0) → A → MatchResult r (λ x. A) (λ e. A ⊎ B)
+either_way (Ok x) A B it = it
+either_way (Err e) A B it = inl it
+
+none_left : (waited : List Waited) → map who_of waited ≡ [] → waited ≡ []
+none_left [] is = refl
+none_left (w ∷ waited) is = absurd (cc)
+
 no_item : (w : Waited) → ◌≡◌ {A = Option Waited} None (Some w) → ⊥
 no_item w is = cc
 
@@ -652,8 +685,10 @@ module _ {D : Type 0} (disk : Ghosts D) where
 
   -- it was ended before the first request
   unbegun : (script : List Wanted) (old new : ScriptServer D) (bases : List ℕ) → HasServedNothing disk old bases
-      → new.engine ≡ old.engine → BrokenAt script old.held new → EndedOnce disk old.engine script old.held new
-  unbegun script old new bases ready same it =
+      → new.engine ≡ old.engine → (it : BrokenAt script old.held new)
+      → FitsScript old.engine.memory script ⊎ ((it.0 ≡ []) × (new.waited ≡ []))
+      → EndedOnce disk old.engine script old.held new
+  unbegun script old new bases ready same it fit =
       let c : Course = record {
         first = bases_had (numbers_had old.engine.memory) 0 script;
         wanted = new_of old.engine.memory script;
@@ -668,33 +703,37 @@ module _ {D : Type 0} (disk : Ghosts D) where
             (
               [],
               (
-                subst (λ (e : EngineState D). HaltsAt disk old.engine (Some c) e [] new.waited) (sym same) (λ h. (
-                  h,
-                  (
-                    [],
-                    (
-                      [],
+                subst (λ (e : EngineState D). HaltsOnce disk old.engine script c it.0 e [] new.waited) (sym same) (λ
+                    h. (
+                      h,
                       (
-                        sym (append-nil (map who_of new.waited)),
+                        [],
                         (
-                          halts disk.now disk.past disk.failures old.engine old.engine [] [] [] (goes_none disk.now
-                              disk.past disk.failures old.engine ready.works (ready.means h)),
-                          record {
-                            left = c.wanted;
-                            leads = refl;
-                            done = [];
-                            doubt = [];
-                            split = refl;
-                            few = omega arith;
-                            sure = λ works. refl;
-                            memory = refl;
-                            known = broken.known;
-                          },
+                          [],
+                          (
+                            sym (append-nil (map who_of new.waited)),
+                            (
+                              halts disk.now disk.past disk.failures old.engine old.engine [] [] [] (goes_none disk.now
+                                  disk.past disk.failures old.engine ready.works (ready.means h)),
+                              (
+                                record {
+                                  left = c.wanted;
+                                  leads = refl;
+                                  done = [];
+                                  doubt = [];
+                                  split = refl;
+                                  few = omega arith;
+                                  sure = λ works. refl;
+                                  memory = refl;
+                                  known = broken.known;
+                                },
+                                (inr refl, ⊎_elim (λ is. inl is) (λ none. inr (refl, none)) fit),
+                              ),
+                            ),
+                          ),
                         ),
                       ),
-                    ),
-                  ),
-                )),
+                    )),
                 subst (Prints old.held new.held new.lines) (sym (append-nil it.0)) it.1.1,
               ),
             ),
@@ -702,23 +741,45 @@ module _ {D : Type 0} (disk : Ghosts D) where
         ),
       )
 
+  -- nothing was printed
+  untold : (script : List Wanted) (old new : ScriptServer D) (bases : List ℕ) → HasServedNothing disk old bases
+      → new ≡ old → EndedOnce disk old.engine script old.held new
+  untold script old new bases ready same =
+      let m = old.engine.memory in
+      let broken : HasBroken m script [] old.waited = record {
+        lines = (lines_had m (numbers_had m) script, refl);
+        names = (
+          waits_had m (numbers_had m) script,
+          ap (λ (l : List Waited). map who_of l ++ waits_had m (numbers_had m) script) (sym ready.waited),
+        );
+        known = λ at w is. absurd (no_item w (ap (λ (l : List Waited). slice_get l at) (sym ready.waited) ∙ is));
+      } in
+      subst (λ (t : ScriptServer D). EndedOnce disk old.engine script old.held t) (sym same)
+      (unbegun script old old bases ready refl ([], (broken, prints_none old.held old.lines ready.pending))
+      (inr (refl, ready.waited)))
+
   -- it failed before the first request
   pub once_unbegun : (T : Type 0) {E : Type 0} (e : E) (script : List Wanted) (old new : ScriptServer D)
       (bases : List ℕ)
       → new.engine ≡ old.engine → Breaks (numbers_had old.engine.memory) script old new
+      → FitsScript old.engine.memory script ⊎ (new ≡ old)
       → HasServedOnce disk {T = T} script bases (Err e) old new
-  once_unbegun T e script old new bases same breaks = λ ready. (
-    unbegun script old new bases ready same (breaks script [] old.held (met_start script old bases ready)),
+  once_unbegun T e script old new bases same breaks fit = λ ready. (
+    ⊎_elim
+        (λ is. unbegun script old new bases ready same (breaks script [] old.held (met_start script old bases ready))
+        (inl is))
+        (untold script old new bases ready)
+        fit,
     tt,
   )
 
   module _ (script : List Wanted) (bases known : List ℕ) (old mid : ScriptServer D) (it : HasShown script bases known
-      old mid) where
+      old mid) (fit : FitsScript old.engine.memory script) where
     -- and then it was ended
     pub shown_ends : (T : Type 0) {E : Type 0} (e : E) → HasServedOnce disk {T = T} script bases (Err e) old mid
     shown_ends T e = once_unbegun T e script old mid bases it.engine (breaks_here (numbers_had old.engine.memory)
         it.later
-        script [] old mid it.meets)
+        script [] old mid it.meets) (inl fit)
 
     shown_at : HasServedNothing disk old bases → MetAt script it.later [] old.held mid
     shown_at ready = it.meets script [] old.held (met_start script old bases ready)
@@ -778,7 +839,10 @@ module _ {D : Type 0} (disk : Ghosts D) where
                 (
                   ends.0,
                   (
-                    ends.1.0,
+                    λ h.
+                        let all = ends.1.0 h in
+                        let rest = all.1.1.1 in
+                        (all.0, (all.1.0, (all.1.1.0, (rest.0, (rest.1.0, (rest.1.1, (inl it.made, inl fit))))))),
                     prints_after old.held mid.held new.held new.lines _ ends.0 (shown_written ready)
                         ends.1.1,
                   ),
@@ -795,10 +859,13 @@ module _ {D : Type 0} (disk : Ghosts D) where
             → OnOk r (DoneOnce disk old.engine script old.held new)
         by_result (Ok x) serves going written =
             let done = serves old.engine mid.held (Some course) [] going in (
-              last,
+              (it.made, fit),
               (
-                done.0,
-                (done.1.0, prints_after old.held mid.held new.held new.lines _ done.0 written done.1.1),
+                last,
+                (
+                  done.0,
+                  (done.1.0, prints_after old.held mid.held new.held new.lines _ done.0 written done.1.1),
+                ),
               ),
             )
         by_result (Err e) serves going written = tt
@@ -809,6 +876,7 @@ module _ {D : Type 0} (disk : Ghosts D) where
   told_once : (start engine : EngineState D) (script : List Wanted) (put : List Command) (text : List ℕ) (names : List
       Waiter) (status : ℕ) (was is : Option (List ℕ)) (waited : List Waited) (many : ℕ) (last : List ℕ) (done doubt :
       List Command) (had : List ℕ) (earlier : List Waiter)
+      → FitsScript start.memory script ⊎ ((put ≡ []) × ((had ≡ []) × (waited ≡ [])))
       → HaltsWith disk.now disk.past disk.failures start engine put text names
       → IsPrefix had (lines_had start.memory (numbers_had start.memory) script)
       → IsPrefix earlier (waits_had start.memory (numbers_had start.memory) script)
@@ -818,7 +886,7 @@ module _ {D : Type 0} (disk : Ghosts D) where
       × (map who_of waited ≡ waits_had start.memory (numbers_had start.memory) script ++ waits start.memory put)
       × Appends was is (had ++ replies start.memory put ++ nows waited (length waited)))
       → ToldOnce disk.now start script put engine.disk was is status
-  told_once start engine script put text names status was is waited many last done doubt had earlier it had_is
+  told_once start engine script put text names status was is waited many last done doubt had earlier fit it had_is
       earlier_is same parts few entries last_is begins whole = record {
         had = had;
         had_is = had_is;
@@ -835,6 +903,7 @@ module _ {D : Type 0} (disk : Ghosts D) where
         apart = parts;
         few = few;
         last_entries = entries;
+        fit = fit;
         many = many;
         last = last;
         last_is = last_is;
@@ -847,11 +916,13 @@ module _ {D : Type 0} (disk : Ghosts D) where
       names → (status ≡ 0 → engine.failed ≡ false)
       → (engine.failed ≡ false → LeavesNow (disk.now engine.disk) (MeansState engine))
       → IsAskedOnce start.memory (wanted_of script) put status
+      → HasMade start.memory (wanted_of script) ⊎ ((put ≡ []) × (status ≡ 0 → ⊥))
       → ToldOnce disk.now start (wanted_of script) put engine.disk was is status
       → ClosedOnce disk.now disk.past disk.failures script start engine.disk was is status
-  closed_with script start engine put text names status was is it works means asked told = record {
+  closed_with script start engine put text names status was is it works means asked made told = record {
     put = put;
     asked = asked;
+    made = made;
     accepted = it.has.accepted;
     leaves = it.has.leaves;
     doubt = λ file left. doubt_by (engine.failed ≡ true) (Rises (disk.failures start.disk) (disk.failures engine.disk))
@@ -884,7 +955,9 @@ module _ {D : Type 0} (disk : Ghosts D) where
       by_status : disk.honest engine.disk → (n : ℕ) → status ≡ n
           → disk.honest start.disk × ClosedOnce disk.now disk.past disk.failures script start engine.disk was is status
       by_status there zero zero_is =
-          let g = going zero_is in
+          let made = (going zero_is).0.0 in
+          let fit = (going zero_is).0.1 in
+          let g = (going zero_is).1 in
           let text = g.1.0 in
           let it = g.1.1.0 there in
           let put = it.1.0 in
@@ -906,8 +979,10 @@ module _ {D : Type 0} (disk : Ghosts D) where
                   leads = stands_here m (standing (Some (course_of m (wanted_of script))) g.0 []) put u.reached;
                   all = λ z. refl;
                 })
+                (inl made)
                 (told_once start engine (wanted_of script) put text names status was is waited some.0 end.0 put []
-                lines early on ([], sym (append-nil lines)) ([], sym (append-nil early)) (same ∙ it.1.1.1.0) (sym
+                lines early (inl fit) on ([], sym (append-nil lines)) ([], sym (append-nil early)) (same ∙ it.1.1.1.0)
+                (sym
                 (append-nil put)) (omega arith) (learn m put (goes.has.memory goes.works) (noted_known m put 0 0 marks
                 noted u.recorded.noted)) end.1.0 (prints_begins was is final (((lines ++ text) ++ nows waited some.0) ++
                 end.0) end.1.1)
@@ -927,7 +1002,9 @@ module _ {D : Type 0} (disk : Ghosts D) where
           let put = it.1.0 in
           let names = it.1.1.0 in
           let halted = it.1.1.1.1.0 in
-          let o = it.1.1.1.1.1 in
+          let o = it.1.1.1.1.1.0 in
+          let made = it.1.1.1.1.1.1.0 in
+          let fit = it.1.1.1.1.1.1.1 in
           let m = start.memory in
           let told = some.2 was (had ++ text) reached.1.1.1.1.1 in
           let end = last was ((had ++ text) ++ nows waited some.0) told in (
@@ -939,8 +1016,12 @@ module _ {D : Type 0} (disk : Ghosts D) where
                       (subst (λ (w : List Wanted). Leads m c.first w put o.left) is_course.wanted o.leads);
                   all = λ z. absurd (omega arith);
                 })
+                (⊎_elim (λ all. inl all) (λ none. inr (none, λ z. absurd (omega arith))) made)
                 (told_once start engine (wanted_of script) put text names status was is waited some.0 end.0 o.done
-                o.doubt had c.earlier halted is_course.had_is is_course.earlier_is (same ∙ it.1.1.1.0) o.split o.few
+                o.doubt had c.earlier (⊎_elim (λ is. inl is) (λ none. inr (
+                  none.0,
+                  (none.1.0, none_left waited (same ∙ ap (map who_of) none.1.1)),
+                )) fit) halted is_course.had_is is_course.earlier_is (same ∙ it.1.1.1.0) o.split o.few
                 (learn m o.done o.memory o.known) end.1.0 (prints_begins was is final (((had ++ text) ++ nows waited
                 some.0) ++ end.0) end.1.1) (λ z. absurd (omega arith))),
           )
@@ -955,16 +1036,20 @@ module _ {D : Type 0} (disk : Ghosts D) where
       let now = disk.now in
       let past = disk.past in
       let failures = disk.failures in
+      let found : (file : List ℕ) × Left (now old) file × MeansState start file = (
+        (now start.disk).bytes,
+        ⊎_elim (λ left. left) (λ left. left) (leaves_now (now old) (now start.disk) (past old) (past start.disk) (Left
+            (now old)) opened (now start.disk).bytes (left_now (now start.disk))),
+        means (now start.disk).bytes (left_now (now start.disk)),
+      ) in
       record {
         start = start;
         put = it.put;
         asked = it.asked;
-        found = (
-          (now start.disk).bytes,
-          ⊎_elim (λ left. left) (λ left. left) (leaves_now (now old) (now start.disk) (past old) (past start.disk) (Left
-              (now old)) opened (now start.disk).bytes (left_now (now start.disk))),
-          means (now start.disk).bytes (left_now (now start.disk)),
-        );
+        made = it.made;
+        once = λ limits before. went_on limits text (now old) start it.put status before found it.asked it.accepted
+            it.made;
+        found = found;
         accepted = it.accepted;
         leaves = leaves_then (now old) (now start.disk) (now new) (past old) (past start.disk) (past new) (λ file. ⊥)
             (MeansBeginning start it.put) (MeansBeginning start it.put)

@@ -1,23 +1,24 @@
 -- A script that is served once: what a memory has of its requests, and which of them are new. (Own.)
-use Rattle.std.specs.Prelude.{◌≡◌, ◌⊎◌, ℕ, ◌+◌, ◌-◌, ◌<◌, ◌≤◌, ◌&&◌, Bool, nat_lt, List, [], ◌∷◌, ◌++◌, length, map}
+use Rattle.std.specs.Prelude.{◌≡◌, ◌⊎◌, ℕ, ◌+◌, ◌<◌, ◌≤◌, Bool, List, [], ◌∷◌, ◌++◌, length, map}
 use Rattle.std.specs.Prelude.{take, true, false, codes, decimal, Result, MatchResult, OnOk, Option, Some, slice_get}
-use Rattle.std.specs.Prelude.{slice_index_or, slice_set, if◌then◌else◌}
+use Rattle.std.specs.Prelude.{if◌then◌else◌}
 use Rattle.std.specs.Option.{option_map_or}
 use Rattle.std.specs.Io.KnownBytes.{Appends}
 use Rattle.im_types.specs.declared.commands.Command.{Command}
+use Rattle.im_types.specs.declared.operations.Entry.{Entry}
+use Rattle.im_types.specs.declared.operations.Entry.TheVariants.{Answered}
+use Rattle.im_types.specs.declared.operations.Reply.TheVariants.{Base}
 use Rattle.im_types.specs.declared.operations.Waiter.{Waiter}
+use Rattle.im_types.specs.declared.sizes.Limits.{Limits}
 use Rattle.im_types.specs.Contents.{Contents, kept_for}
 use Rattle.im_types.specs.Meaning.{accept_each}
 use Rattle.im_types.specs.Memory.{IsMemory}
 use Rattle.im_types.specs.Run.{after}
-use Rattle.im_types.specs.Window.{next_number}
 use Rattle.im_disk.specs.Moment.{Moment, Left, Rises}
 use Rattle.im_disk.specs.Since.{Leaves, LeavesNow}
 use Rattle.im_disk.specs.declared.disk.Disk.{Ghosts}
 use Rattle.im_engine.specs.State.{EngineState, MeansState}
 use Rattle.im_engine.specs.Run.{MeansAfter, MeansBeginning, MeansAllOrInDoubt}
-use Rattle.im_script.specs.declared.places.Action.{Action}
-use Rattle.im_script.specs.declared.places.Action.TheVariants.{Alloc}
 use Rattle.im_text.specs.declared.replies.Waited.{Waited}
 use Rattle.im_text.specs.Printing.{Begins, IsLast, Prints, nows, replies, told_line, waits, waits_if, who_of}
 use Rattle.im_text.specs.Texts.{line_feed}
@@ -26,63 +27,10 @@ use Rattle.im_serial.specs.declared.meeting.Met.{Met}
 use Rattle.im_serial.specs.declared.meeting.Met.TheVariants.{New, Done, Kept}
 use Rattle.im_serial.specs.declared.waits.Mark.{Mark}
 use Rattle.im_serial.specs.Noted.{AreKnown, AreLast, IsMarked, noted_if, notes}
-use Rattle.im_serial.specs.Serving.{GoesAt, HaltsAt, MeansAtLeast, NotOpened, ScriptServer}
-
--- ---- what a memory has of a script
-
--- how many requests each element made, by its next number
-abbrev pub numbers_had : Contents → List ℕ
-numbers_had m = map (λ w. next_number w - 1) m.windows
-
--- how many of an element's are left
-abbrev pub left_of : List ℕ → ℕ → ℕ
-left_of many element = slice_index_or many element 0
-
--- whether the memory has the next request of an element
-abbrev pub has_next : List ℕ → ℕ → Bool
-has_next many element = nat_lt 0 (left_of many element)
-
--- what is left when the next request of an element was met
-abbrev pub met : List ℕ → ℕ → List ℕ
-met many element = if has_next many element then slice_set many element (left_of many element - 1) else many
-
--- the same of several requests
-abbrev pub met_all : List ℕ → List Wanted → List ℕ
-met_all many [] = many
-met_all many (w ∷ wanted) = met_all (met many w.element) wanted
-
--- a request, if the memory doesn't have it
-abbrev pub if_new : List ℕ → Wanted → List Wanted
-if_new many w = if has_next many w.element then [] else w ∷ []
-
--- those of the requests that the memory doesn't have: the n-th one of an element has number n
-abbrev pub news : List ℕ → List Wanted → List Wanted
-news many [] = []
-news many (w ∷ wanted) = if_new many w ++ news (met many w.element) wanted
-
--- ---- the blocks of the setup that it has
-
--- the length of a block that is asked for
-abbrev pub length_asked : Action → ℕ
-length_asked (Alloc kind length) = length
-length_asked action = 0
-
--- whether it has a block with a name
-abbrev pub has_block : List ℕ → Wanted → Bool
-has_block many w = has_next many w.element && w.named
-
--- where the next block of the setup begins in a new image: behind those before it
-abbrev pub end_behind : List ℕ → ℕ → Wanted → ℕ
-end_behind many end w = if has_block many w then end + length_asked w.action else end
-
--- the base of its block
-abbrev pub base_had : List ℕ → ℕ → Wanted → List ℕ
-base_had many end w = if has_block many w then end ∷ [] else []
-
--- the bases of those blocks, which stand one behind another
-abbrev pub bases_had : List ℕ → ℕ → List Wanted → List ℕ
-bases_had many end [] = []
-bases_had many end (w ∷ wanted) = base_had many end w ++ bases_had (met many w.element) (end_behind many end w) wanted
+use Rattle.im_serial.specs.Begun.{HasGoneOn, MeansBegun}
+use Rattle.im_serial.specs.Fitting.{FitsScript}
+use Rattle.im_serial.specs.Had.{bases_had, has_block, has_next, left_of, met, news, next_had, numbers_had, who_next}
+use Rattle.im_serial.specs.Serving.{AreWaited, GoesAt, HaltsWith, IsOver, MeansAtLeast, NotOpened, ScriptServer}
 
 -- ---- what is printed of it
 
@@ -90,13 +38,34 @@ bases_had many end (w ∷ wanted) = base_had many end w ++ bases_had (met many w
 abbrev pub done_line : Waiter → List ℕ
 done_line who = decimal who.element ++ codes "." ++ decimal who.number ++ codes " done" ++ line_feed
 
--- the number of an element's next request in a memory, or 0 if it has no such element
-abbrev pub next_had : Contents → ℕ → ℕ
-next_had m element = option_map_or next_number (slice_get m.windows element) 0
+-- what an image has of this request: its entry, or that it was confirmed
+abbrev pub met_of : Contents → Waiter → Met
+met_of m who = option_map_or (λ k. Kept k.entry) (kept_for m.windows who) Done
 
--- the next request of an element, if these are left
-abbrev pub who_next : Contents → List ℕ → ℕ → Waiter
-who_next m many element = record { element = element; number = next_had m element - left_of many element }
+-- the entry tells the base of a block
+abbrev pub IsBase : Entry → Type 0
+IsBase entry = (base : ℕ) × (entry ≡ Answered (Base base))
+
+-- a name can stand for the block: it was made, or its request was confirmed
+abbrev pub IsMade : Met → Type 0
+IsMade New = ⊥
+IsMade Done = Unit {0}
+IsMade (Kept entry) = IsBase entry
+
+-- each block of the setup that a memory has was made, or its request was confirmed
+abbrev pub AreMade : Contents → List ℕ → List Wanted → Type 0
+AreMade m many [] = Unit {0}
+AreMade m many (w ∷ wanted) = (has_block many w ≡ true → IsMade (met_of m (who_next m many w.element)))
+    × AreMade m (met many w.element) wanted
+
+-- the same of all of a script
+abbrev pub HasMade : Contents → List Wanted → Type 0
+HasMade m script = AreMade m (numbers_had m) script
+
+-- From these requests it comes to those: if the blocks of the rest were made, all were.
+abbrev pub MakesBlocks : Contents → List ℕ → List Wanted → List ℕ → List Wanted → Type 0
+MakesBlocks m many wanted later left = (rest : List Wanted) → AreMade m later (left ++ rest) → AreMade m many (wanted
+    ++ rest)
 
 -- the line of a request that the memory has: what is kept for it, or that it was confirmed
 abbrev pub past_line : Contents → Waiter → List ℕ
@@ -188,6 +157,7 @@ pub record HasShown {D : Type 0} (script : List Wanted) (bases known : List ℕ)
   pub engine : mid.engine ≡ old.engine
   pub later : List ℕ
   pub meets : Meets (numbers_had old.engine.memory) script later [] old mid
+  pub made : HasMade old.engine.memory script
   pub names : known ≡ bases ++ bases_had (numbers_had old.engine.memory) 0 script
   pub pending : mid.lines.pending.items ≡ []
   pub works : mid.lines.broken ≡ false
@@ -229,17 +199,27 @@ pub record HasServedNothing {D : Type 0} (disk : Ghosts D) (t : ScriptServer D) 
   pub pending : t.lines.pending.items ≡ []
 
 module _ {D : Type 0} (disk : Ghosts D) where
+  -- It goes on or was ended. Each block of the setup that the memory had was made, or nothing was put. What the memory
+  -- had fits the script, or nothing was put or printed.
+  abbrev pub HaltsOnce : EngineState D → List Wanted → Course → List ℕ → EngineState D → List ℕ → List Waited → Type 0
+  HaltsOnce start script c had engine text waited = disk.honest engine.disk → disk.honest start.disk
+      × ((put : List Command) × ((names : List Waiter) × (AreWaited (Some c) waited names
+      × (HaltsWith disk.now disk.past disk.failures start engine put text names
+      × (IsOver start.memory (Some c) engine put waited × ((HasMade start.memory script ⊎ (put ≡ []))
+      × (FitsScript start.memory script ⊎ ((put ≡ []) × ((had ≡ []) × (waited ≡ []))))))))))
+
   -- the script was ended, and what was told of it was printed
   abbrev pub EndedOnce : EngineState D → List Wanted → Option (List ℕ) → ScriptServer D → Type 0
   EndedOnce start script was t = (c : Course) × ((had : List ℕ) × (IsCourse start.memory script c had × ((text : List ℕ)
-      × (HaltsAt disk start (Some c) t.engine text t.waited × Prints was t.held t.lines (had ++ text)))))
+      × (HaltsOnce start script c had t.engine text t.waited × Prints was t.held t.lines (had ++ text)))))
 
   -- nothing is left of the script, and what was told of it was printed
   abbrev pub DoneOnce : EngineState D → List Wanted → Option (List ℕ) → ScriptServer D → Type 0
-  DoneOnce start script was t = (bases : List ℕ) × ((text : List ℕ)
+  DoneOnce start script was t = (HasMade start.memory script × FitsScript start.memory script) × ((bases : List ℕ)
+      × ((text : List ℕ)
       × (GoesAt disk start (standing (Some (course_of start.memory script)) bases []) t.engine text
       (notes t.waited t.marks)
-      × Prints was t.held t.lines (lines_had start.memory (numbers_had start.memory) script ++ text)))
+      × Prints was t.held t.lines (lines_had start.memory (numbers_had start.memory) script ++ text))))
 
   -- the script was served once, if the call succeeded
   abbrev pub HasServedOnce : {T E : Type 0} → List Wanted → List ℕ → Result T E → ScriptServer D → ScriptServer D
@@ -254,7 +234,8 @@ IsAskedOnce m script put status = IsAsked m (bases_had (numbers_had m) 0 script)
 
 -- What was printed at the end, a prefix of this text, and all of it if the status is 0: the lines of what the memory
 -- had of the script, as far as they were made; those of the first commands that were put, each of which is in every
--- file that a crash leaves; those of requests that had to wait, with their last entries; and that of a refusal.
+-- file that a crash leaves; those of requests that had to wait, with their last entries; and that of a refusal. If what
+-- the memory had doesn't fit the script, nothing was put, and no line but that of the refusal is printed.
 pub record ToldOnce {D : Type 0} (now : D → Moment) (start : EngineState D) (script : List Wanted) (put : List Command)
     (disk : D) (was is : Option (List ℕ)) (status : ℕ) : Type 0 where
   pub had : List ℕ
@@ -272,6 +253,7 @@ pub record ToldOnce {D : Type 0} (now : D → Moment) (start : EngineState D) (s
   pub apart : put ≡ done ++ doubt
   pub few : length doubt ≤ 1
   pub last_entries : AreLast start.memory done waited
+  pub fit : FitsScript start.memory script ⊎ ((put ≡ []) × ((had ≡ []) × (waited ≡ [])))
   pub many : ℕ
   pub last : List ℕ
   pub last_is : IsLast last
@@ -285,21 +267,34 @@ pub record ClosedOnce {D : Type 0} (now : D → Moment) (past : D → List Momen
     (start : EngineState D) (disk : D) (was is : Option (List ℕ)) (status : ℕ) : Type 0 where
   pub put : List Command
   pub asked : IsAskedOnce start.memory (wanted_of text) put status
+  pub made : HasMade start.memory (wanted_of text) ⊎ ((put ≡ []) × (status ≡ 0 → ⊥))
   pub accepted : accept_each start.memory put ≡ Some (after start.memory put)
   pub leaves : Leaves (now start.disk) (now disk) (past start.disk) (past disk) (MeansBeginning start put)
   pub doubt : LeavesNow (now disk) (MeansAllOrInDoubt (Rises (failures start.disk) (failures disk)) start put)
   pub done : status ≡ 0 → LeavesNow (now disk) (MeansAfter start put (length put))
   pub printed : ToldOnce now start (wanted_of text) put disk was is status
 
+-- The same of a disk that is honest at the end.
+abbrev pub ClosesOnce : {D : Type 0} → Ghosts D → List ℕ → EngineState D → D → Option (List ℕ) → Option (List ℕ) → ℕ
+    → Type 0
+ClosesOnce disk text start new was is status = disk.honest new
+    → ClosedOnce disk.now disk.past disk.failures text start new was is status
+
 -- The image was opened, with the meaning of a file that a crash could leave then, and these commands were put on it:
 -- those requests of this script that its memory didn't have, in their order, and confirmations. With status 0 they are
--- all of those. From then on a crash leaves the memory after a prefix of them. At the end it leaves the memory after
+-- all of those. Nothing was put if a block of the setup that the memory had wasn't made. If each file that was left
+-- meant
+-- what runs of the script come to, those runs and this one are one run from a new image on. From then on a crash
+-- leaves the memory after a prefix of them. At the end it leaves the memory after
 -- all of them, or after all but the last if a call of the disk failed. If the status is 0, it is after all of them.
 pub record ServedOnce {D : Type 0} (now : D → Moment) (past : D → List Moment) (failures : D → ℕ) (text : List ℕ)
     (old new : D) (was is : Option (List ℕ)) (status : ℕ) : Type 0 where
   pub start : EngineState D
   pub put : List Command
   pub asked : IsAskedOnce start.memory (wanted_of text) put status
+  pub made : HasMade start.memory (wanted_of text) ⊎ ((put ≡ []) × (status ≡ 0 → ⊥))
+  pub once : (limits : Limits) → LeavesNow (now old) (MeansBegun limits (wanted_of text))
+      → HasGoneOn limits (wanted_of text) start.memory put status
   pub found : (file : List ℕ) × Left (now old) file × MeansState start file
   pub accepted : accept_each start.memory put ≡ Some (after start.memory put)
   pub leaves : Leaves (now old) (now new) (past old) (past new) (MeansBeginning start put)
@@ -311,6 +306,10 @@ pub record ServedOnce {D : Type 0} (now : D → Moment) (past : D → List Momen
 abbrev pub SerialOnceOn : {D : Type 0} → Ghosts D → List ℕ → D → D → Option (List ℕ) → Option (List ℕ) → ℕ → Type 0
 SerialOnceOn disk text old new was is status = NotOpened disk.now disk.past old new was is status
     ⊎ ServedOnce disk.now disk.past disk.failures text old new was is status
+
+-- The same of a disk that is honest at the end.
+abbrev pub ServesOnceOn : {D : Type 0} → Ghosts D → List ℕ → D → D → Option (List ℕ) → Option (List ℕ) → ℕ → Type 0
+ServesOnceOn disk text old new was is status = disk.honest new → SerialOnceOn disk text old new was is status
 
 -- The same of some script, and of a disk that is at this moment, and has no moment before it.
 pub record ServedOnceFrom {D : Type 0} (now : D → Moment) (past : D → List Moment) (failures : D → ℕ) (first : Moment)

@@ -1,13 +1,16 @@
 //! Serves a script's requests one after another on the image of a disk.
 #![tactic(auto)]
 
+mod comparing;
 mod meeting;
 mod once;
 mod past;
 mod room;
 mod serial;
 mod server;
+mod stops;
 mod waits;
 
 pub use serial::{serial_on, serial_once_on};
 pub use server::{Desk, Paper, Server};
+pub use stops::{Interrupted, Stop, new_images_have_begun, serial_over_stops};

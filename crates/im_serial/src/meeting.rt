@@ -9,7 +9,10 @@ ghost use Rattle.im_text.specs.Printing.{PrintsMore, PrintsOn};
 ghost use Rattle.im_serial.specs.declared.waits.Mark.TheVariants.{Here};
 ghost use Rattle.im_serial.specs.Noted.{mark_place};
 ghost use Rattle.im_serial.specs.Asked.{Wanted, wanted_by, wanted_of};
-ghost use Rattle.im_serial.specs.Once.{HasPassed, Names, has_next, is_had, met, noted_of, past_line};
+ghost use Rattle.im_serial.specs.Had.{has_next, met};
+ghost use Rattle.im_serial.specs.Once.{HasPassed, IsMade, MakesBlocks, Names, is_had, met_of, noted_of};
+ghost use Rattle.im_serial.specs.Had.{who_next};
+ghost use Rattle.im_serial.specs.Once.{past_line};
 ghost use Rattle.im_serial.specs.Serving.{seen_by};
 
 use crate::past::Past;
@@ -44,7 +47,9 @@ fn is_new(met: Met) -> bool
 }
 
 // Whether a name can stand for the block that a request made.
-fn is_made(met: Met) -> bool {
+fn is_made(met: Met) -> bool
+    ensures { result ≡ true → IsMade met }
+{
     match met {
         Met::New => false,
         Met::Done => true,
@@ -64,6 +69,7 @@ fn name_past(
         × (past.new.end ≡ past.old.end)) }
     ensures had { OnOk result (is_had met ≡ true → (bases.new.items ≡ bases.old.items ++ past.old.end ∷ [])
         × (past.new.end ≡ past.old.end + block.length)) }
+    ensures made { OnOk result (is_had met ≡ true → IsMade met) }
 {
     if is_new(met) {
         return Ok(());
@@ -85,7 +91,8 @@ impl<D: Disk> Server<D> {
     fn tell_past<W: Write>(&mut self, who: (u16, u64), out: &mut W) -> Result<Met, Reason>
         ensures engine { self.new.engine ≡ self.old.engine }
         ensures bases { self.new.bases.items ≡ self.old.bases.items }
-        ensures had { IfOk result (λ met. is_had met ≡ true) }
+        ensures found { let who : Waiter = record { element = who.0; number = who.1 } in
+            IfOk result (λ it. it ≡ met_of self.old.engine.memory who) }
         ensures pushed { let who : Waiter = record { element = who.0; number = who.1 } in MatchResult result
             (λ _. self.new.waited.items ≡ self.old.waited.items ++ noted_of self.old.engine.memory who)
             (λ _. self.new.waited.items ≡ self.old.waited.items) }
@@ -124,6 +131,8 @@ impl<D: Disk> Server<D> {
         ensures end { past.new.end ≡ past.old.end }
         ensures many { past.new.many.items ≡ met past.old.many.items element }
         ensures had { IfOk result (λ it. is_had it ≡ has_next past.old.many.items element) }
+        ensures found { let who = who_next self.old.engine.memory past.old.many.items element in
+            IfOk result (λ it. is_had it ≡ true → it ≡ met_of self.old.engine.memory who) }
         ensures passed { (w : Wanted) → w.element ≡ element
             → HasPassed past.old.many.items (w ∷ []) past.new.many.items result
             (seen_by self.old (W.contents out.old)) (seen_by self.new (W.contents out.new)) }
@@ -151,6 +160,8 @@ impl<D: Disk> Server<D> {
         ensures engine { self.new.engine ≡ self.old.engine }
         ensures names { OnOk result (Names past.old.many.items past.old.end (wanted_by (Said.Block block))
             past.new.many.items past.new.end [] self.old.bases.items self.new.bases.items) }
+        ensures made { OnOk result (MakesBlocks self.old.engine.memory past.old.many.items (wanted_by (Said.Block block))
+            past.new.many.items []) }
         ensures passed { HasPassed past.old.many.items (wanted_by (Said.Block block)) past.new.many.items result
             (seen_by self.old (W.contents out.old)) (seen_by self.new (W.contents out.new)) }
     {
@@ -171,6 +182,8 @@ impl<D: Disk> Server<D> {
         ensures engine { self.new.engine ≡ self.old.engine }
         ensures names { OnOk result (Names past.old.many.items past.old.end (wanted_by (Said.Asks line))
             past.new.many.items past.new.end [] self.old.bases.items self.new.bases.items) }
+        ensures made { OnOk result (MakesBlocks self.old.engine.memory past.old.many.items (wanted_by (Said.Asks line))
+            past.new.many.items []) }
         ensures passed { HasPassed past.old.many.items (wanted_by (Said.Asks line)) past.new.many.items result
             (seen_by self.old (W.contents out.old)) (seen_by self.new (W.contents out.new)) }
     {
@@ -190,6 +203,8 @@ impl<D: Disk> Server<D> {
         ensures engine { self.new.engine ≡ self.old.engine }
         ensures names { OnOk result (Names past.old.many.items past.old.end (wanted_by said)
             past.new.many.items past.new.end [] self.old.bases.items self.new.bases.items) }
+        ensures made { OnOk result (MakesBlocks self.old.engine.memory past.old.many.items (wanted_by said)
+            past.new.many.items []) }
         ensures passed { HasPassed past.old.many.items (wanted_by said) past.new.many.items result
             (seen_by self.old (W.contents out.old)) (seen_by self.new (W.contents out.new)) }
     {
@@ -212,6 +227,8 @@ impl<D: Disk> Server<D> {
         ensures engine { self.new.engine ≡ self.old.engine }
         ensures names { OnOk result (Names past.old.many.items past.old.end (wanted_of script.now)
             past.new.many.items past.new.end [] self.old.bases.items self.new.bases.items) }
+        ensures made { OnOk result (MakesBlocks self.old.engine.memory past.old.many.items (wanted_of script.now)
+            past.new.many.items []) }
         ensures passed { HasPassed past.old.many.items (wanted_of script.now) past.new.many.items result
             (seen_by self.old (W.contents out.old)) (seen_by self.new (W.contents out.new)) }
     {

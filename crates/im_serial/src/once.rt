@@ -1,10 +1,13 @@
 //! A script's requests, each served once, whatever stopped before.
-ghost use Rattle.std.specs.Prelude.{◌≡◌, MatchResult};
+ghost use Rattle.std.specs.Prelude.{◌≡◌, ◌⊎◌, MatchResult};
 ghost use Rattle.im_serial.specs.Asked.{wanted_by, wanted_of};
-ghost use Rattle.im_serial.specs.Once.{Breaks, HasServedOnce, HasShown, met_all, news, numbers_had};
+ghost use Rattle.im_serial.specs.Had.{met_all, news, numbers_had};
+ghost use Rattle.im_serial.specs.Fitting.{FitsScript};
+ghost use Rattle.im_serial.specs.Once.{Breaks, HasServedOnce, HasShown};
 ghost use Rattle.im_serial.specs.Serving.{HasServed, seen_by};
 
-use crate::past::{Past, compare_script};
+use crate::comparing::compare_script;
+use crate::past::Past;
 use crate::server::Server;
 use im_disk::Disk;
 use im_script::{Reader, Said, Script, ScriptFault, split_line};
@@ -81,6 +84,9 @@ impl<D: Disk> Server<D> {
             (λ _. Breaks (numbers_had self.old.engine.memory) (wanted_of script.now)
             (seen_by self.old (W.contents out.old)) (seen_by self.new (W.contents out.new))) }
         ensures engine { self.new.engine ≡ self.old.engine }
+        ensures fit { MatchResult result (λ _. FitsScript self.old.engine.memory (wanted_of script.now))
+            (λ _. FitsScript self.old.engine.memory (wanted_of script.now)
+            ⊎ (seen_by self.new (W.contents out.new) ≡ seen_by self.old (W.contents out.old))) }
     {
         match compare_script(alloc, self.engine.memory(), script) {
             Ok(()) => {}

@@ -1,14 +1,14 @@
 //! What an image has of a script already.
-ghost use Rattle.std.specs.Prelude.{◌≡◌, ◌-◌, ◌+◌, ℕ, false, true, [], IfOk, IfSome, OnOk, slice_get, string_bytes};
+ghost use Rattle.std.specs.Prelude.{◌≡◌, ◌-◌, ◌+◌, ℕ, false, true, [], IfOk, OnOk, slice_get, string_bytes};
 ghost use Rattle.std.specs.Option.{option_map_or};
 ghost use Rattle.im_types.specs.Window.{next_number};
 ghost use Rattle.im_serial.specs.Asked.{wanted_by};
-ghost use Rattle.im_serial.specs.Once.{done_line, left_of, met, met_all, news, numbers_had};
+ghost use Rattle.im_serial.specs.Fitting.{end_behind_base, base_placed};
+ghost use Rattle.im_serial.specs.Had.{left_of, met, met_all, news, numbers_had};
+ghost use Rattle.im_serial.specs.Once.{done_line};
 
 use im_memory::Memory;
-use im_script::{Allocation, Reader, Said, Script, ScriptFault, split_line};
-use im_text::Reason;
-use im_types::{Entry, Op, Refusal, Reply};
+use im_script::Said;
 use std::alloc::{AllocError, Global};
 
 /// The requests of a script that an image has and that weren't met yet, as the script's lines are read.
@@ -44,6 +44,18 @@ impl Past {
         Ok(Past { many, end: 0 })
     }
 
+    /// Returns how many requests of an element are left.
+    pub fn left(&self, element: u16) -> u64
+        ensures { result ≡ left_of self.now.many.items element }
+    {
+        let at = element as usize;
+        if at < self.many.len() {
+            self.many[at]
+        } else {
+            0
+        }
+    }
+
     /// Meets an element's next request. Returns how many were left before it: 0 if the memory doesn't have it.
     pub fn meet(&mut self, element: u16) -> u64
         ensures left { result ≡ left_of self.old.many.items element }
@@ -77,8 +89,8 @@ impl Past {
     /// Places the next block of the setup behind those before it. Returns its base, or `None` if it ends past the last
     /// address.
     pub fn place(&mut self, length: u32) -> Option<u32>
-        ensures base { IfSome result (λ base. base ≡ self.old.end) }
-        ensures end { IfSome result (λ base. self.new.end ≡ self.old.end + length) }
+        ensures base { result ≡ base_placed self.old.end length }
+        ensures end { self.new.end ≡ end_behind_base self.old.end length result }
         ensures many { self.new.many ≡ self.old.many }
     {
         let base = self.end;
@@ -98,132 +110,4 @@ pub fn make_done(line: &mut String, element: u16, number: u64) -> Result<(), All
 {
     line.clear();
     writeln!(line, "{element}.{number} done")
-}
-
-// Compares an element's next request with the one that is kept under its number, if there is one.
-fn compare(
-    memory: &Memory,
-    past: &mut Past,
-    element: u16,
-    op: Option<Op>,
-    base: Option<u32>,
-) -> Result<(), Reason> {
-    let left = past.meet(element);
-    if left == 0 {
-        return Ok(());
-    }
-    let number = match memory.window(element) {
-        Ok((_, next)) => next.saturating_sub(left),
-        Err(refusal) => return Err(Reason::Request(element, refusal)),
-    };
-    let Some(kept) = memory.kept(element, number) else {
-        return Ok(()); // It was confirmed.
-    };
-    let is_there = match (kept.entry, base) {
-        (Entry::Answered(Reply::Base(there)), Some(base)) => there == base,
-        _ => true,
-    };
-    if op == Some(kept.op) && is_there {
-        Ok(())
-    } else {
-        Err(Reason::Request(element, Refusal::Mismatch))
-    }
-}
-
-// Compares a block of the setup.
-fn compare_block(
-    memory: &Memory,
-    past: &mut Past,
-    bases: &mut Vec<u32>,
-    block: Allocation,
-) -> Result<(), Reason> {
-    let base = past.place(block.length);
-    if let Some(base) = base {
-        if bases.push(base).is_err() {
-            return Err(Reason::Memory);
-        }
-    }
-    compare(
-        memory,
-        past,
-        0,
-        Some(Op::Alloc(block.kind, block.length)),
-        base,
-    )
-}
-
-// Compares what a line says.
-fn compare_said(
-    memory: &Memory,
-    past: &mut Past,
-    bases: &mut Vec<u32>,
-    said: Said,
-) -> Result<(), Reason> {
-    match said {
-        Said::Nothing | Said::Begins(_) => Ok(()),
-        Said::Block(block) => compare_block(memory, past, bases, block),
-        Said::Asks(line) => {
-            let op = line.action.op(bases.as_slice());
-            compare(memory, past, line.element, op, None)
-        }
-    }
-}
-
-// Compares all lines of a script.
-fn compare_all(
-    alloc: Global,
-    memory: &Memory,
-    past: &mut Past,
-    script: &Script<'_>,
-) -> Result<(), Reason> {
-    let mut reader = Reader::new(alloc);
-    let mut bases = Vec::new(alloc);
-    let mut rest = Some(script.text());
-    for number in 1..usize::MAX {
-        let text = match rest {
-            Some(text) => text,
-            None => return Ok(()),
-        };
-        let (line, behind) = split_line(text);
-        rest = behind;
-        let said = match reader.read(alloc, number, line) {
-            Ok(said) => said,
-            Err(fault) => return Err(Reason::Script(fault)), // There was no memory for it.
-        };
-        match compare_said(memory, past, &mut bases, said) {
-            Ok(()) => {}
-            Err(reason) => return Err(reason),
-        }
-    }
-    Err(Reason::Script(ScriptFault::TooLarge)) // No script has so many lines.
-}
-
-// Whether an element's window begins beyond the script: more of its requests are left than are kept.
-fn is_beyond(memory: &Memory, past: &mut Past, element: u16) -> bool {
-    match memory.window(element) {
-        Ok((base, next)) => past.meet(element) > next.saturating_sub(base),
-        Err(_) => false,
-    }
-}
-
-/// Compares a script with what a memory has of it. Changes nothing.
-///
-/// Errors: `Mismatch` if under a number of the script another operation is kept, or for a block of the setup another
-/// base than the script's setup has in a new image; `BadScript` if a window begins beyond the script. Another script
-/// used this image then. `NoMemory`.
-pub fn compare_script(alloc: Global, memory: &Memory, script: &Script<'_>) -> Result<(), Reason> {
-    let mut past = match Past::new(alloc, memory) {
-        Ok(past) => past,
-        Err(_) => return Err(Reason::Memory),
-    };
-    match compare_all(alloc, memory, &mut past, script) {
-        Ok(()) => {}
-        Err(reason) => return Err(reason),
-    }
-    for element in 0..memory.elements() {
-        if is_beyond(memory, &mut past, element) {
-            return Err(Reason::Request(element, Refusal::BadScript));
-        }
-    }
-    Ok(())
 }

@@ -2,7 +2,10 @@
 ghost use Rattle.std.specs.Prelude.{◌≡◌, ◌≤◌, [], false, IsOk};
 ghost use Rattle.im_disk.specs.Since.{LeavesNow};
 ghost use Rattle.im_engine.specs.State.{MeansState};
-ghost use Rattle.im_serial.specs.Once.{ClosedOnce, HasServedNothing, SerialOnceOn};
+ghost use Rattle.im_types.specs.declared.sizes.Limits.{Limits};
+ghost use Rattle.im_serial.specs.Asked.{wanted_of};
+ghost use Rattle.im_serial.specs.Begun.{KeepsBegun, MeansBegun};
+ghost use Rattle.im_serial.specs.Once.{ClosesOnce, HasServedNothing, SerialOnceOn, ServesOnceOn};
 ghost use Rattle.im_serial.specs.Serving.{Closed, SerialOn, seen_by};
 
 use crate::server::{Desk, Server};
@@ -125,6 +128,10 @@ fn serve_on<D: Disk, W: Write, N: Observer>(
 /// All else is as [`serial_on`] says: what it refuses, what is confirmed, when lines are written, what a crash leaves,
 /// and the status. The commands that were put are those requests of the script that the image didn't have, in their
 /// order, each with its element's next number, and confirmations. If the status is 0, they are all of those.
+///
+/// So stops may come anywhere, and any number of them. From a new image on, all such runs of one script are together
+/// what one run of [`serial_on`] is: its requests were put in their order, each once and with its element's next number,
+/// and names stand for the bases that were answered. If the status is 0, they are all its requests.
 pub fn serial_once_on<D: Disk, W: Write, N: Observer>(
     alloc: Global,
     disk: D,
@@ -135,6 +142,24 @@ pub fn serial_once_on<D: Disk, W: Write, N: Observer>(
     ensures status { result.0 ≤ 1 }
     ensures served { D.honest result.1
         → SerialOnceOn D.Disk script.now disk result.1 (W.contents out.old) (W.contents out.new) result.0 }
+    ensures keeps { D.honest result.1 → (limits : Limits)
+        → LeavesNow (D.now disk) (MeansBegun limits (wanted_of script.now))
+        → KeepsBegun D.now D.past limits (wanted_of script.now) disk result.1 result.0 }
+    ensures honest { D.honest result.1 → D.honest disk }
+{
+    open_and_serve_once(alloc, disk, script, out, observer)
+}
+
+// Opens the image of a disk, and serves what it doesn't have of a script. Returns the status and the disk.
+fn open_and_serve_once<D: Disk, W: Write, N: Observer>(
+    alloc: Global,
+    disk: D,
+    script: &Script<'_>,
+    out: &mut W,
+    observer: &mut N,
+) -> (u8, D)
+    ensures status { result.0 ≤ 1 }
+    ensures served { ServesOnceOn D.Disk script.now disk result.1 (W.contents out.old) (W.contents out.new) result.0 }
     ensures honest { D.honest result.1 → D.honest disk }
 {
     let desk = match Desk::new(alloc) {
@@ -163,8 +188,8 @@ fn serve_once_on<D: Disk, W: Write, N: Observer>(
 ) -> (u8, D)
     requires works { HasServedNothing D.Disk (seen_by server (W.contents out.old)) server.bases.items }
     ensures status { result.0 ≤ 1 }
-    ensures closed { D.honest result.1 → ClosedOnce D.now D.past D.failures script.now server.engine result.1
-        (W.contents out.old) (W.contents out.new) result.0 }
+    ensures closed { ClosesOnce D.Disk script.now server.engine result.1 (W.contents out.old) (W.contents out.new)
+        result.0 }
     ensures honest { D.honest result.1 → D.honest server.engine.disk }
 {
     let served = server.serve_once(alloc, script, out, observer);

@@ -1,5 +1,5 @@
 use Rattle.std.proofs.Common.{◌≡◌, take}
-use Rattle.im_serial.specs.Once.{numbers_had}
+use Rattle.im_serial.specs.Had.{numbers_had}
 use Rattle.im_serial.proofs.past.Past.new.Given as goal
 
 abbrev pub invariant-loop-element : goal.invariant-loop-element

@@ -1,9 +1,11 @@
-use Rattle.std.proofs.Common.{◌∙◌, [], ◌∷◌, List, ℕ, ap, arith, subst, sym}
+use Rattle.std.proofs.Common.{◌∙◌, [], ◌∷◌, List, ℕ, ap, arith, refl, subst, sym}
 use Rattle.im_types.specs.Contents.{Contents}
 use Rattle.im_types.specs.Window.{bounds}
-use Rattle.im_serial.specs.Once.{HasPassed, met}
+use Rattle.im_serial.specs.Had.{met, who_next}
+use Rattle.im_serial.specs.Once.{HasPassed}
 use Rattle.im_serial.specs.Serving.{server_of}
-use Rattle.im_serial.proofs.OnceLemmas.{breaks_here, has_some, meets_refl, passed_had, who_is_next}
+use Rattle.im_serial.proofs.LeftLemmas.{has_some}
+use Rattle.im_serial.proofs.OnceLemmas.{breaks_here, found_of, had_of, meets_refl, passed_had, who_is_next}
 use Rattle.im_serial.proofs.server.Server.meet.Goals as goal
 
 pub returns-in-Ok-clause-passed : goal.returns-in-Ok-clause-passed
@@ -27,6 +29,26 @@ returns-in-Ok-clause-passed g c = λ w element.
     element (ap (λ (x : Contents). bounds x.windows c.args.element) (sym c.memory.ensures) ∙ sym c.window.ensures
     ∙ c.in-Ok.is) c.meet-left.ensures.left (omega (arith, c.saturating_sub-number.ensures)))
     t.ensures.others t.ensures.unmarked t.result t.ensures.pushed t.ensures.mark t.ensures.more)
+
+pub returns-in-Ok-clause-had : goal.returns-in-Ok-clause-had
+returns-in-Ok-clause-had g c = had_of c.tell_past.result c.args.self.now.engine.memory c.args.past.now.many.items
+    (record {
+      element = c.args.element;
+      number = c.saturating_sub-number.result;
+    }) c.args.element c.meet-left.result c.meet-left.ensures.left c.if-left-eq0.false c.tell_past.ensures.found
+
+pub returns-in-Ok-clause-found : goal.returns-in-Ok-clause-found
+returns-in-Ok-clause-found g c =
+    let was = c.args.self.now in
+    found_of c.tell_past.result was.engine.memory (record {
+      element = c.args.element;
+      number = c.saturating_sub-number.result;
+    }) (who_next was.engine.memory c.args.past.now.many.items c.args.element)
+    (who_is_next was.engine.memory c.args.past.now.many.items c.args.element c.args.element _ c.in-Ok.next
+    c.meet-left.result c.saturating_sub-number.result
+    refl (ap (λ (x : Contents). bounds x.windows c.args.element) (sym c.memory.ensures) ∙ sym c.window.ensures
+    ∙ c.in-Ok.is) c.meet-left.ensures.left (omega (arith, c.saturating_sub-number.ensures)))
+    c.tell_past.ensures.found
 
 pub returns-in-Err-clause-passed : goal.returns-in-Err-clause-passed
 returns-in-Err-clause-passed g c = λ w element.

@@ -1,9 +1,11 @@
-use Rattle.std.proofs.Common.{◌∙◌}
+use Rattle.std.proofs.Common.{◌∙◌, [], subst}
+use Rattle.im_engine.specs.State.{EngineState}
 use Rattle.im_script.specs.Script.{draft_of, lines_of}
-use Rattle.im_serial.specs.Asked.{wanted_in, wanted_of}
+use Rattle.im_serial.specs.Asked.{wanted_by, wanted_in, wanted_of}
+use Rattle.im_serial.specs.Once.{MakesBlocks}
 use Rattle.im_serial.specs.Serving.{server_of}
-use Rattle.im_serial.proofs.OnceLemmas.{breaks_here, line_breaks, line_meets, line_names, meets_none}
-use Rattle.im_serial.proofs.OnceLemmas.{meets_some, names_none, names_some}
+use Rattle.im_serial.proofs.OnceLemmas.{breaks_here, line_breaks, line_makes, line_meets, line_names, makes_none}
+use Rattle.im_serial.proofs.OnceLemmas.{makes_some, meets_none, meets_some, names_none, names_some}
 use Rattle.im_serial.proofs.server.Server.meet_all.Goals as goal
 
 pub returns-in-None : goal.returns-in-None
@@ -22,8 +24,10 @@ returns-in-None g c =
       names = names_none (λ text. wanted_in (draft_of c.loop-number.reader) (lines_of text.now)) first.many.items
           past.many.items first.end past.end all was.bases.items now.bases.items c.loop-number.rest c.in-None.is
           c.loop-number.invariant.1.0;
+      made = makes_none (λ text. wanted_in (draft_of c.loop-number.reader) (lines_of text.now)) was.engine.memory
+          first.many.items past.many.items all c.loop-number.rest c.in-None.is c.loop-number.invariant.1.1.0;
       passed = meets_none (λ text. wanted_in (draft_of c.loop-number.reader) (lines_of text.now)) first.many.items
-          past.many.items all old mid c.loop-number.rest c.in-None.is c.loop-number.invariant.1.1;
+          past.many.items all old mid c.loop-number.rest c.in-None.is c.loop-number.invariant.1.1.1;
     }
 
 pub returns-in-Err : goal.returns-in-Err
@@ -37,7 +41,8 @@ returns-in-Err g c =
     record {
       engine = c.loop-number.invariant.0;
       names = tt;
-      passed = breaks_here _ _ (wanted_of c.args.script.now) _ old mid c.loop-number.invariant.1.1;
+      made = tt;
+      passed = breaks_here _ _ (wanted_of c.args.script.now) _ old mid c.loop-number.invariant.1.1.1;
     }
 
 pub returns-in-Err-meet_said : goal.returns-in-Err-meet_said
@@ -57,12 +62,13 @@ returns-in-Err-meet_said g c =
     record {
       engine = c.meet_said.ensures.engine ∙ c.loop-number.invariant.0;
       names = tt;
+      made = tt;
       passed = line_breaks all first.many.items past.many.items old mid d (draft_of c.read.new.self)
           c.in-Ok.said c.in-Some.text.now c.split_line.result.0.now c.split_line.result.1 c.split_line.ensures
           c.in-Ok.ensures.ok (meets_some (λ text. wanted_in d (lines_of text.now)) first.many.items past.many.items
           all old mid
           c.loop-number.rest c.in-Some.text c.in-Some.is
-          c.loop-number.invariant.1.1) new c.in-Err-meet_said.ensures.passed;
+          c.loop-number.invariant.1.1.1) new c.in-Err-meet_said.ensures.passed;
     }
 
 pub loop-number-preserved : goal.loop-number-preserved
@@ -88,13 +94,22 @@ loop-number-preserved g c =
             first.end past.end all was.bases.items now.bases.items c.loop-number.rest c.in-Some.text
             c.in-Some.is c.loop-number.invariant.1.0) c.meet_said.new.past.many.items c.meet_said.new.past.end
             s.bases.items c.in-Ok-meet_said.ensures.names,
-        line_meets all first.many.items past.many.items old mid d (draft_of c.read.new.self)
-            c.in-Ok.said c.in-Some.text.now c.split_line.result.0.now c.split_line.result.1 c.split_line.ensures
-            c.in-Ok.ensures.ok (meets_some (λ text. wanted_in d (lines_of text.now)) first.many.items past.many.items
-            all old mid
-            c.loop-number.rest c.in-Some.text c.in-Some.is c.loop-number.invariant.1.1)
-            c.meet_said.new.past.many.items new
-            c.in-Ok-meet_said.ensures.passed,
+        (
+          line_makes was.engine.memory all first.many.items past.many.items d (draft_of c.read.new.self)
+              c.in-Ok.said c.in-Some.text.now c.split_line.result.0.now c.split_line.result.1 c.split_line.ensures
+              c.in-Ok.ensures.ok (makes_some (λ text. wanted_in d (lines_of text.now)) was.engine.memory
+              first.many.items past.many.items all c.loop-number.rest c.in-Some.text c.in-Some.is
+              c.loop-number.invariant.1.1.0) c.meet_said.new.past.many.items
+              (subst (λ (e : EngineState g.row.D.Denot). MakesBlocks e.memory past.many.items (wanted_by c.in-Ok.said)
+              c.meet_said.new.past.many.items []) c.loop-number.invariant.0 c.in-Ok-meet_said.ensures.made),
+          line_meets all first.many.items past.many.items old mid d (draft_of c.read.new.self)
+              c.in-Ok.said c.in-Some.text.now c.split_line.result.0.now c.split_line.result.1 c.split_line.ensures
+              c.in-Ok.ensures.ok (meets_some (λ text. wanted_in d (lines_of text.now)) first.many.items past.many.items
+              all old mid
+              c.loop-number.rest c.in-Some.text c.in-Some.is c.loop-number.invariant.1.1.1)
+              c.meet_said.new.past.many.items new
+              c.in-Ok-meet_said.ensures.passed,
+        ),
       ),
     )
 
@@ -109,5 +124,6 @@ returns g c =
     record {
       engine = c.loop-number.invariant.0;
       names = tt;
-      passed = breaks_here _ _ (wanted_of c.args.script.now) _ old mid c.loop-number.invariant.1.1;
+      made = tt;
+      passed = breaks_here _ _ (wanted_of c.args.script.now) _ old mid c.loop-number.invariant.1.1.1;
     }

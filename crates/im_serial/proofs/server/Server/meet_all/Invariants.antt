@@ -2,7 +2,7 @@ use Rattle.std.specs.Prelude.{◌≡◌, []}
 use Rattle.std.specs.Option.{option_map_or}
 use Rattle.im_script.specs.Script.{draft_of, lines_of}
 use Rattle.im_serial.specs.Asked.{wanted_in, wanted_of}
-use Rattle.im_serial.specs.Once.{Meets, Names}
+use Rattle.im_serial.specs.Once.{MakesBlocks, Meets, Names}
 use Rattle.im_serial.specs.Serving.{server_of}
 use Rattle.im_serial.proofs.server.Server.meet_all.Given as goal
 
@@ -11,8 +11,10 @@ invariant-loop-number g l = (l.self.engine ≡ l.fn.self.engine)
     × (Names l.fn.past.many.items l.fn.past.end (wanted_of l.script) l.past.many.items l.past.end
     (option_map_or (λ text. wanted_in (draft_of l.reader) (lines_of text.now)) l.rest [])
     l.fn.self.bases.items l.self.bases.items
+    × (MakesBlocks l.fn.self.engine.memory l.fn.past.many.items (wanted_of l.script) l.past.many.items
+    (option_map_or (λ text. wanted_in (draft_of l.reader) (lines_of text.now)) l.rest [])
     × Meets l.fn.past.many.items (wanted_of l.script) l.past.many.items
     (option_map_or (λ text. wanted_in (draft_of l.reader) (lines_of text.now)) l.rest [])
     (server_of l.fn.self.engine (g.W.Write.contents l.fn.out) l.fn.self.lines l.fn.self.waited.items
     l.fn.self.places.marks.items)
-    (server_of l.self.engine (g.W.Write.contents l.out) l.self.lines l.self.waited.items l.self.places.marks.items))
+    (server_of l.self.engine (g.W.Write.contents l.out) l.self.lines l.self.waited.items l.self.places.marks.items)))

@@ -1,10 +1,10 @@
-use Rattle.std.proofs.Common.{[], ◌∷◌, List, ℕ, refl, subst, sym}
+use Rattle.std.proofs.Common.{◌∙◌, [], ◌∷◌, List, ℕ, refl, subst, sym}
 use Rattle.std.specs.Prelude.{true}
 use Rattle.im_script.specs.declared.places.Action.TheVariants.{Alloc}
 use Rattle.im_serial.specs.Asked.{Wanted}
 use Rattle.im_serial.specs.Once.{HasPassed, is_had}
 use Rattle.im_serial.specs.Serving.{server_of}
-use Rattle.im_serial.proofs.OnceLemmas.{names_kept, passed_named}
+use Rattle.im_serial.proofs.OnceLemmas.{makes_block, names_kept, passed_named}
 use Rattle.im_serial.proofs.server.Server.meet_block.Goals as goal
 
 pub returns-in-Err-clause-passed : goal.returns-in-Err-clause-passed
@@ -21,6 +21,15 @@ returns-clause-names g c = names_kept c.name_past.result c.args.past.now.many.it
   named = true;
 }) c.args.self.now.bases.items _ _ _ _ _ _ refl c.name_past.ensures.many c.in-Ok.ensures.many c.in-Ok.ensures.bases
     c.in-Ok.ensures.end (is_had c.in-Ok.met) c.in-Ok.ensures.had c.name_past.ensures.new c.name_past.ensures.had
+
+pub returns-clause-made : goal.returns-clause-made
+returns-clause-made g c = makes_block c.name_past.result c.args.self.now.engine.memory c.args.past.now.many.items _
+    (record {
+      element = 0;
+      action = Alloc c.args.block.kind c.args.block.length;
+      named = true;
+    }) c.in-Ok.met (c.name_past.ensures.many ∙ c.in-Ok.ensures.many) c.in-Ok.ensures.had c.in-Ok.ensures.found
+    c.name_past.ensures.made
 
 pub returns-clause-passed : goal.returns-clause-passed
 returns-clause-passed g c =

@@ -1,7 +1,7 @@
 use Rattle.std.proofs.Common.{◌∙◌, List, ℕ, ap}
 use Rattle.im_engine.specs.State.{EngineState}
 use Rattle.im_serial.specs.Asked.{wanted_of}
-use Rattle.im_serial.specs.Once.{news, numbers_had}
+use Rattle.im_serial.specs.Had.{news, numbers_had}
 use Rattle.im_text.specs.declared.reasons.Reason.TheVariants.{Memory}
 use Rattle.im_serial.specs.Serving.{server_of}
 use Rattle.im_serial.proofs.OnceLemmas.{once_unbegun, shown_ends, shown_serves}
@@ -17,7 +17,7 @@ returns-in-Err g c =
     let all = wanted_of c.args.script.now in
     record {
       served = once_unbegun g.D.Disk (Unit {0}) c.in-Err.reason all old mid was.bases.items c.show_past.ensures.engine
-          c.in-Err.ensures.shown;
+          c.in-Err.ensures.shown c.in-Err.ensures.fit;
     }
 
 pub returns-in-Err-new : goal.returns-in-Err-new
@@ -29,7 +29,7 @@ returns-in-Err-new g c =
     let mid = server_of s.engine (g.W.Write.contents c.show_past.new.out) s.lines s.waited.items s.places.marks.items in
     let all = wanted_of c.args.script.now in
     record {
-      served = shown_ends g.D.Disk all was.bases.items s.bases.items old mid c.in-Ok.ensures.shown (Unit {0}) Memory;
+      served = shown_ends g.D.Disk all was.bases.items s.bases.items old mid c.in-Ok.ensures.shown c.in-Ok.ensures.fit (Unit {0}) Memory;
     }
 
 pub returns : goal.returns
@@ -44,7 +44,7 @@ returns g c =
     let new = server_of r.engine (g.W.Write.contents c.serve_rest.new.out) r.lines r.waited.items r.places.marks.items
     in
     record {
-      served = shown_serves g.D.Disk all was.bases.items s.bases.items old mid c.in-Ok.ensures.shown c.serve_rest.result
+      served = shown_serves g.D.Disk all was.bases.items s.bases.items old mid c.in-Ok.ensures.shown c.in-Ok.ensures.fit c.serve_rest.result
           r.bases.items new (news c.in-Ok-new.past.many.items all)
           (ap (λ (l : List ℕ). news l all) (c.in-Ok-new.ensures.many ∙ ap numbers_had (c.memory.ensures
           ∙ ap (λ (e : EngineState g.row.D.Denot). e.memory) c.show_past.ensures.engine)))

@@ -1,6 +1,6 @@
 use Rattle.im_script.specs.Script.{draft_of, lines_of}
 use Rattle.im_serial.specs.Asked.{wanted_in}
-use Rattle.im_serial.specs.Once.{news}
+use Rattle.im_serial.specs.Had.{news}
 use Rattle.im_serial.specs.Serving.{server_of}
 use Rattle.im_serial.proofs.OnceLemmas.{left_some, left_none, news_line, part_ends, part_serves}
 use Rattle.im_serial.proofs.ScriptedLemmas.{ends_here, has_served}

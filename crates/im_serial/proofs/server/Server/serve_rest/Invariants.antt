@@ -2,7 +2,7 @@ use Rattle.std.specs.Prelude.{[]}
 use Rattle.std.specs.Option.{option_map_or}
 use Rattle.im_script.specs.Script.{draft_of, lines_of}
 use Rattle.im_serial.specs.Asked.{wanted_in, wanted_of}
-use Rattle.im_serial.specs.Once.{news}
+use Rattle.im_serial.specs.Had.{news}
 use Rattle.im_serial.specs.Serving.{Passes, server_of}
 use Rattle.im_serial.proofs.server.Server.serve_rest.Given as goal
 

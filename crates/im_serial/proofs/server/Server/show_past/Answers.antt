@@ -1,8 +1,11 @@
-use Rattle.std.proofs.Common.{◌∙◌, [], List, ℕ, ap, subst}
+use Rattle.std.proofs.Common.{inl, ◌∙◌, [], List, ℕ, ap, subst}
+use Rattle.im_types.specs.Contents.{Contents}
 use Rattle.im_serial.specs.Asked.{wanted_of}
-use Rattle.im_serial.specs.Once.{Breaks, Meets, Names, numbers_had}
+use Rattle.im_serial.specs.Had.{numbers_had}
+use Rattle.im_serial.specs.Once.{Breaks, MakesBlocks, Meets, Names}
+use Rattle.im_serial.specs.Fitting.{FitsScript}
 use Rattle.im_serial.specs.Serving.{server_of}
-use Rattle.im_serial.proofs.OnceLemmas.{breaks_here, meets_refl, shown_by}
+use Rattle.im_serial.proofs.OnceLemmas.{breaks_here, either_way, meets_refl, shown_by}
 use Rattle.im_serial.proofs.server.Server.show_past.Goals as goal
 
 pub returns-in-Err-clause-shown : goal.returns-in-Err-clause-shown
@@ -40,6 +43,7 @@ returns-in-Ok-meet_all-clause-shown g c =
     (subst (λ (l : List ℕ). Names l 0 all past.many.items past.end [] was.bases.items s.bases.items) many (subst (λ (n :
     ℕ). Names c.in-Ok-new.past.many.items n all past.many.items past.end [] was.bases.items s.bases.items)
     c.in-Ok-new.ensures.end c.in-Ok-meet_all.ensures.names))
+    (subst (λ (l : List ℕ). MakesBlocks was.engine.memory l all past.many.items []) many c.in-Ok-meet_all.ensures.made)
     c.flush.ensures.on c.flush.ensures.pending c.flush.ensures.works
 
 pub returns-clause-shown : goal.returns-clause-shown
@@ -51,3 +55,17 @@ returns-clause-shown g c =
     let mid = server_of s.engine (g.W.Write.contents c.meet_all.new.out) s.lines s.waited.items s.places.marks.items in
     let many = c.in-Ok-new.ensures.many ∙ ap numbers_had c.memory-2.ensures in
     subst (λ (l : List ℕ). Breaks l (wanted_of c.args.script.now) old mid) many c.in-Err-meet_all.ensures.passed
+
+pub returns-in-Err-new-clause-fit : goal.returns-in-Err-new-clause-fit
+returns-in-Err-new-clause-fit g c = inl (subst (λ (m : Contents). FitsScript m (wanted_of c.args.script.now))
+    c.memory.ensures (c.in-Ok.ensures.fits, c.in-Ok.ensures.within))
+
+pub returns-in-Ok-meet_all-clause-fit : goal.returns-in-Ok-meet_all-clause-fit
+returns-in-Ok-meet_all-clause-fit g c = either_way c.flush.result _ _ (subst (λ (m : Contents). FitsScript m (wanted_of
+    c.args.script.now)) c.memory.ensures (c.in-Ok.ensures.fits, c.in-Ok.ensures.within))
+
+pub returns-clause-fit : goal.returns-clause-fit
+returns-clause-fit g c = inl (subst (λ (m : Contents). FitsScript m (wanted_of c.args.script.now)) c.memory.ensures (
+  c.in-Ok.ensures.fits,
+  c.in-Ok.ensures.within,
+))

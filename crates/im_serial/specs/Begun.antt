@@ -1,0 +1,49 @@
+-- What was put of a script from a new image on, whatever stopped it and however often. (Own.)
+use Rattle.std.specs.Prelude.{◌≡◌, ℕ, List, [], ◌++◌, length, Some}
+use Rattle.im_types.specs.declared.commands.Command.{Command}
+use Rattle.im_types.specs.declared.sizes.Limits.{Limits}
+use Rattle.im_types.specs.Contents.{Contents, empty_contents}
+use Rattle.im_types.specs.Meaning.{Means, accept_each}
+use Rattle.im_types.specs.Run.{after}
+use Rattle.im_disk.specs.Moment.{Moment}
+use Rattle.im_disk.specs.Since.{Leaves, LeavesNow}
+use Rattle.im_serial.specs.Asked.{IsAsked, Leads, Wanted}
+
+-- the memory of a new image
+abbrev pub new_memory : Limits → Contents
+new_memory limits = empty_contents limits.cells limits.elements
+
+-- These commands lead from a new image to this memory, each accepted in its turn. They are, confirmations aside, the
+-- first requests of the script, in their order, each with its element's next number, and the names stand for the bases
+-- in the blocks' answers. So a run of the script that was stopped, or done, has put them.
+pub record HasComeTo (limits : Limits) (script : List Wanted) (put : List Command) (m : Contents) : Type 0 where
+  pub left : List Wanted
+  pub leads : Leads (new_memory limits) [] script put left
+  pub accepted : accept_each (new_memory limits) put ≡ Some m
+
+-- A run went on from a memory, and put these commands. With those before them it is, from a new image on, what a run is
+-- that was never stopped: with status 0 they are all requests of the script, each once.
+pub record HasGoneOn (limits : Limits) (script : List Wanted) (m : Contents) (put : List Command)
+    (status : ℕ) : Type 0 where
+  pub earlier : List Command
+  pub begun : accept_each (new_memory limits) earlier ≡ Some m
+  pub accepted : accept_each (new_memory limits) (earlier ++ put) ≡ Some (after m put)
+  pub asked : IsAsked (new_memory limits) [] script (earlier ++ put) status
+
+-- the file means a memory that a run of the script came to
+abbrev pub MeansBegun : Limits → List Wanted → List ℕ → Type 0
+MeansBegun limits script file = (put : List Command) × ((m : Contents) × (HasComeTo limits script put m
+    × Means m (length put) 0 file))
+
+-- the file means the memory after all requests of the script, each once
+abbrev pub MeansDone : Limits → List Wanted → List ℕ → Type 0
+MeansDone limits script file = (put : List Command) × ((m : Contents) × (IsAsked (new_memory limits) [] script put 0
+    × ((accept_each (new_memory limits) put ≡ Some m) × Means m (length put) 0 file)))
+
+-- Each file that a crash left before the run means a memory that a run of the script came to. So does each that a crash
+-- leaves within it or after it. If the status is 0, each that is left after it means the memory after all requests.
+pub record KeepsBegun {D : Type 0} (now : D → Moment) (past : D → List Moment) (limits : Limits) (script : List Wanted)
+    (old new : D) (status : ℕ) : Type 0 where
+  pub within : Leaves (now old) (now new) (past old) (past new) (MeansBegun limits script)
+  pub after : LeavesNow (now new) (MeansBegun limits script)
+  pub done : status ≡ 0 → LeavesNow (now new) (MeansDone limits script)
