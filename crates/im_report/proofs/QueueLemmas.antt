@@ -1,7 +1,7 @@
 -- How many requests can wait at one cell: each has a Waiting entry of its own, and a window has few entries. (Own.)
-use Rattle.std.proofs.Common.{◌≡◌, ◌∙◌, ⊎_elim, ℕ, suc, ◌+◌, ◌*◌, ◌≤◌, List, [], ◌∷◌, length, Some, None, true, false, ap, arith}
-use Rattle.std.specs.Prelude.{Option, slice_get}
-use Rattle.im_types.specs.declared.TheConstants.{WINDOW, MAX_ELEMENTS}
+use Rattle.std.proofs.Common.{◌≡◌, ◌∙◌, ⊎_elim, ℕ, suc, ◌+◌, ◌≤◌, List, [], ◌∷◌, length, true, false, ap, arith}
+use Rattle.std.specs.Prelude.{Option}
+use Rattle.im_types.specs.declared.TheConstants.{MAX_ELEMENTS}
 use Rattle.im_types.specs.declared.operations.Reply.TheVariants.{Stored}
 use Rattle.im_types.specs.declared.operations.Waiter.{Waiter}
 use Rattle.im_types.specs.Contents.{Contents, Held, Window, held_at, kept_for, waiters_at}

@@ -1,5 +1,5 @@
 -- Sums, greatest values and rows, one number after another. (Own.)
-use Rattle.std.proofs.Common.{◌≡◌, ◌∙◌, ℕ, zero, suc, ◌+◌, ◌*◌, ◌≤◌, List, refl, ap, sym, arith, Bool, true, false}
+use Rattle.std.proofs.Common.{◌≡◌, ◌∙◌, ℕ, suc, ◌+◌, ◌*◌, ◌≤◌, List, refl, ap, sym, arith, Bool, true, false}
 use Rattle.std.specs.Prelude.{Option, max, nat_lt, is_none, if◌then◌else◌, ◌==◌}
 use Rattle.im_types.specs.Contents.{Held, block_at}
 use Rattle.im_report.specs.declared.figures.FreeFigures.{FreeFigures}

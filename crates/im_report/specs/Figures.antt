@@ -1,5 +1,5 @@
 -- The numbers that are counted of a memory. (Own.)
-use Rattle.std.specs.Prelude.{ℕ, zero, suc, ◌+◌, List, length, Bool, true, false, not, max, nat_lt, ◌==◌, ◌&&◌}
+use Rattle.std.specs.Prelude.{ℕ, zero, suc, ◌+◌, List, length, Bool, false, not, max, nat_lt, ◌==◌, ◌&&◌}
 use Rattle.std.specs.Prelude.{if◌then◌else◌, Option, None, Some, is_none, slice_get}
 use Rattle.im_types.specs.declared.TheConstants.{WINDOW}
 use Rattle.im_types.specs.declared.operations.Kind.{Kind}

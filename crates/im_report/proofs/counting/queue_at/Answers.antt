@@ -1,6 +1,5 @@
-use Rattle.std.proofs.Common.{◌≡◌, ◌+◌, ◌≤◌, ◌∙◌, List, ap, length, arith}
+use Rattle.std.proofs.Common.{◌∙◌, List, ap, length, arith}
 use Rattle.im_types.specs.declared.operations.Waiter.{Waiter}
-use Rattle.im_types.specs.Contents.{waiters_at}
 use Rattle.im_report.proofs.QueueLemmas.{queue_few, none_left, one_left}
 use Rattle.im_report.proofs.counting.queue_at.Goals as goal
 
