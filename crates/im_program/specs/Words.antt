@@ -1,7 +1,8 @@
 -- What the words of the command line ask for. (Own.)
 use Rattle.std.specs.Prelude.{ℕ, Bool, List, [], ◌∷◌, Option, Some, None}
-use Rattle.std.specs.Prelude.{◌==◌, if◌then◌else◌, codes, true, false, unwrap_or}
+use Rattle.std.specs.Prelude.{◌==◌, if◌then◌else◌, codes, true, false, unwrap_or, length, nat_le, nat_lt}
 use Rattle.std.specs.Option.{option_map, option_and_then, option_map_or}
+use Rattle.std.specs.List.{before_first, after_first, position_or_len}
 use Rattle.std.specs.Str.{bytes_eq}
 use Rattle.clap.specs.declared.builder.action.ArgAction.TheVariants.{SetTrue}
 use Rattle.clap.specs.declared.builder.value_parser.ValueParser.TheVariants.{Unsigned}
@@ -11,6 +12,10 @@ use Rattle.im_program.specs.declared.words.Work.TheVariants.{Alone, Run, Migrate
 use Rattle.im_program.specs.declared.words.Job.{Job}
 use Rattle.im_program.specs.declared.words.Job.TheVariants.{Demonstration, Format, Serial, Serve, Inspect, Dump, Load}
 use Rattle.im_migration.specs.declared.asked.Asked.{Asked}
+use Rattle.im_report.specs.declared.look.Filter.{Filter}
+use Rattle.im_report.specs.declared.look.Look.{Look}
+use Rattle.im_report.specs.declared.look.Look.TheVariants.{Report, Stat, StatJson}
+use Rattle.im_report.specs.declared.look.Span.{Span}
 use Rattle.im_script.specs.Grammar.{number_up_to}
 
 -- ---- what the parser knows of the command line
@@ -55,9 +60,14 @@ run_app = with_rule (with_rule (script_app (codes "run")) (flag_rule (codes "pla
 abbrev pub serve_app : App
 serve_app = with_rule (file_app (codes "serve") (codes "IMAGE")) (flag_rule (codes "watch"))
 
--- inspect IMAGE [--statuses] [--wait SECONDS]
+-- inspect IMAGE [--cells FROM-TO] [--element K] [--waiting] [--statuses] [--wait SECONDS]
 abbrev pub inspect_app : App
-inspect_app = file_app (codes "inspect") (codes "IMAGE")
+inspect_app = with_rule (with_rule (with_rule (file_app (codes "inspect") (codes "IMAGE"))
+    (option_rule (codes "cells"))) (option_rule (codes "element"))) (flag_rule (codes "waiting"))
+
+-- stat IMAGE [--json] [--statuses] [--wait SECONDS]
+abbrev pub stat_app : App
+stat_app = with_rule (file_app (codes "stat") (codes "IMAGE")) (flag_rule (codes "json"))
 
 -- migrate OLD NEW [--statuses] [--wait SECONDS]
 abbrev pub migrate_app : App
@@ -96,7 +106,8 @@ earlier_app = with_subcommand (with_subcommand (with_subcommand (with_subcommand
 
 -- imem, alone or with one of its subcommands
 abbrev pub imem_app : App
-imem_app = with_subcommand (with_subcommand (with_subcommand earlier_app copy_app.top) dump_app.top) load_app.top
+imem_app = with_subcommand (with_subcommand (with_subcommand (with_subcommand earlier_app copy_app.top) dump_app.top)
+    load_app.top) stat_app.top
 
 -- ---- what is asked for
 
@@ -107,7 +118,7 @@ pub data Task : Type 0 where
   serial : (image script : List ℕ) (once : Bool) → Task
   run : (image script : List ℕ) (planned : Bool) (trace : Option (List ℕ)) → Task
   serve : (image : List ℕ) (watch : Bool) → Task
-  inspect : (image : List ℕ) → Task
+  inspect : (image : List ℕ) (look : Look) → Task
   migrate : (old new : List ℕ) → Task
   copy : (old new : List ℕ) (asked : Asked) → Task
   dump : (image : List ℕ) → Task
@@ -119,7 +130,7 @@ task_of_job Demonstration = demonstration
 task_of_job (Format image cells elements slots is_new) = format image.now cells elements slots is_new
 task_of_job (Serial image script once) = serial image.now script.now once
 task_of_job (Serve image watch) = serve image.now watch
-task_of_job (Inspect image) = inspect image.now
+task_of_job (Inspect image look) = inspect image.now look
 task_of_job (Dump image) = dump image.now
 task_of_job (Load text new asked) = load text.now new.now asked
 
@@ -176,9 +187,47 @@ run_task rows =
 abbrev pub serve_task : List Row → Task
 serve_task rows = serve (path_in rows (codes "IMAGE")) (is_given rows (codes "watch"))
 
--- the task of inspect, by its path
-abbrev pub inspect_task : List Row → Task
-inspect_task rows = inspect (path_in rows (codes "IMAGE"))
+-- the addresses from one number to another, if both are in decimal digits below 2^32 and in order
+abbrev pub span_of : Text → Text → Option Span
+span_of first last = option_and_then (λ from. option_and_then
+    (λ to. if nat_le from to then Some (record { from = from; to = to }) else None)
+    (number_up_to 4294967295 last)) (number_up_to 4294967295 first)
+
+-- whether a byte is a dash
+abbrev pub is_dash : ℕ → Bool
+is_dash byte = byte == 45
+
+-- the addresses of a text FROM-TO
+abbrev pub span_in : Text → Option Span
+span_in text =
+    if nat_lt (position_or_len is_dash text) (length text) then span_of (before_first is_dash text) (after_first is_dash text)
+    else None
+
+-- the addresses that a text gives
+abbrev pub span_given : Text → Option (Option Span)
+span_given text = option_map Some (span_in text)
+
+-- the addresses that are given for cells, if they are right
+abbrev pub given_cells : List Row → Option (Option Span)
+given_cells rows = option_map_or span_given (first_of (codes "cells") rows) (Some None)
+
+-- the filter of inspect, if what is given is right
+abbrev pub filter_in : List Row → Option Filter
+filter_in rows = option_and_then (λ cells. option_map (λ element.
+    record { cells = cells; element = element; waiting = is_given rows (codes "waiting") })
+    (given_in rows (codes "element"))) (given_cells rows)
+
+-- the task of inspect, by its path and its filter
+abbrev pub inspect_task : List Row → Option Task
+inspect_task rows = option_map (λ filter. inspect (path_in rows (codes "IMAGE")) (Report filter)) (filter_in rows)
+
+-- what stat prints
+abbrev pub stat_look : Bool → Look
+stat_look json = if json then StatJson else Stat
+
+-- the task of stat, by its path and its form
+abbrev pub stat_task : List Row → Task
+stat_task rows = inspect (path_in rows (codes "IMAGE")) (stat_look (is_given rows (codes "json")))
 
 -- the task of migrate, by its two paths
 abbrev pub migrate_task : List Row → Task
@@ -207,7 +256,7 @@ task_in (Some met) =
     else if bytes_eq met.0 (codes "serve") then Some (serve_task met.1) else if bytes_eq met.0 (codes "migrate")
     then Some (migrate_task met.1) else if bytes_eq met.0 (codes "copy") then copy_task met.1
     else if bytes_eq met.0 (codes "dump") then Some (dump_task met.1) else if bytes_eq met.0 (codes "load")
-    then load_task met.1 else Some (inspect_task met.1)
+    then load_task met.1 else if bytes_eq met.0 (codes "stat") then Some (stat_task met.1) else inspect_task met.1
 
 -- whether the exit status of the subcommand that was found tells refusals apart
 abbrev pub has_statuses : Option (Text × List Row) → Bool

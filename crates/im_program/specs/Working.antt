@@ -4,7 +4,7 @@ use Rattle.im_types.specs.Sizes.{AreLimits}
 use Rattle.im_disk.specs.Moment.{Moment}
 use Rattle.im_disk.specs.Since.{LeavesNow, ReadsOnly}
 use Rattle.im_image.specs.Fresh.{new_image}
-use Rattle.im_report.specs.Inspecting.{Tells}
+use Rattle.im_report.specs.Look.{Looks}
 use Rattle.im_serial.specs.Once.{ServedOnceFrom}
 use Rattle.im_serial.specs.Serving.{ServedFrom}
 use Rattle.im_dialogue.specs.Dialogue.{TalkedFrom}
@@ -33,7 +33,7 @@ DoneOn now past failures first (serial image script once) was is status disk = S
 DoneOn now past failures first (run image script planned trace) was is status disk =
     (calls : TraceState) × RanFrom now past failures first disk was is calls status
 DoneOn now past failures first (serve image watch) was is status disk = TalkedFrom watch now past first disk was is status
-DoneOn now past failures first (inspect image) was is status disk = (status ≡ 0 → Tells first.bytes was is) × ReadsOnly first (now disk) [] (past disk)
+DoneOn now past failures first (inspect image look) was is status disk = (status ≡ 0 → Looks look first.bytes was is) × ReadsOnly first (now disk) [] (past disk)
 DoneOn now past failures first (migrate old new) was is status disk = Unit {0}
 DoneOn now past failures first (copy old new asked) was is status disk = Unit {0}
 DoneOn now past failures first (dump image) was is status disk = (status ≡ 0 → Dumps first.bytes was is) × ReadsOnly first (now disk) [] (past disk)
@@ -46,7 +46,7 @@ IsOfTwo (format image cells elements slots is_new) = ⊥
 IsOfTwo (serial image script once) = ⊥
 IsOfTwo (run image script planned trace) = ⊥
 IsOfTwo (serve image watch) = ⊥
-IsOfTwo (inspect image) = ⊥
+IsOfTwo (inspect image look) = ⊥
 IsOfTwo (migrate old new) = Unit {0}
 IsOfTwo (copy old new asked) = Unit {0}
 IsOfTwo (dump image) = ⊥
@@ -60,7 +60,7 @@ module _ {S T : Type 0} (start : Ghosts S) (other : Ghosts T) where
   MovedBy (serial image script once) was is status old new = ⊥
   MovedBy (run image script planned trace) was is status old new = ⊥
   MovedBy (serve image watch) was is status old new = ⊥
-  MovedBy (inspect image) was is status old new = ⊥
+  MovedBy (inspect image look) was is status old new = ⊥
   MovedBy (migrate from to) was is status old new = MigratedFrom start other was is status old new
   MovedBy (copy from to asked) was is status old new = CopiedFrom start other asked was is status old new
   MovedBy (dump image) was is status old new = ⊥

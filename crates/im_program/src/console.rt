@@ -81,7 +81,7 @@ impl<'a, R: Eprint + AllocGlobal> Console<'a, R> {
         let (image, script) = match *work {
             Work::Alone(Job::Demonstration) => ("", ""),
             Work::Alone(Job::Format { image, .. })
-            | Work::Alone(Job::Inspect { image })
+            | Work::Alone(Job::Inspect { image, .. })
             | Work::Alone(Job::Dump { image }) => (image, ""),
             Work::Alone(Job::Serial { image, script, .. }) | Work::Run { image, script, .. } => {
                 (image, script)

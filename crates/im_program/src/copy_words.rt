@@ -147,7 +147,7 @@ fn number_of(text: &[u8]) -> Option<Option<u32>>
 }
 
 // Returns the number of an option, if it is given. Returns `None` if its text is not the decimal number of a u32.
-fn number_given(found: &ArgMatches, id: &str) -> Option<Option<u32>>
+pub(crate) fn number_given(found: &ArgMatches, id: &str) -> Option<Option<u32>>
     ensures { result ≡ given_in (rows_of (found_of found.now)) id.now }
 {
     match found.get_str(id) {

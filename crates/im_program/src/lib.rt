@@ -8,6 +8,7 @@ mod copying;
 mod descriptors;
 mod dumping;
 mod loading;
+mod look_words;
 mod moving;
 mod opening;
 mod overwriting;

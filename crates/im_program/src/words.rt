@@ -5,8 +5,8 @@ ghost use Rattle.clap.specs.Words.{app_of, fault_of, first_of, found_of, kind_of
 ghost use Rattle.clap.specs.Words.{subcommand_rows_of, takes};
 ghost use Rattle.clap.specs.declared.builder.command.Command.TheViews.{out-Command};
 ghost use Rattle.im_script.specs.Grammar.{texts};
-ghost use Rattle.im_program.specs.Words.{asked, asks_statuses, file_app, flag_rule, format_app, format_task};
-ghost use Rattle.im_program.specs.Words.{has_statuses, imem_app, inspect_app, inspect_task};
+ghost use Rattle.im_program.specs.Words.{asked, asks_statuses, earlier_app, file_app, flag_rule, format_app, format_task};
+ghost use Rattle.im_program.specs.Words.{has_statuses, imem_app};
 ghost use Rattle.im_program.specs.Words.{is_given, migrate_app, migrate_task, number_in, option_rule, path_in};
 ghost use Rattle.im_program.specs.Words.{path_rule, run_app, run_task, script_app};
 ghost use Rattle.im_program.specs.Words.{serial_app, serial_task, serve_app, serve_task, task_in, task_of, top_app};
@@ -15,10 +15,12 @@ ghost use Rattle.im_program.specs.Words.{asks_wait, behind_plus, seconds_of, wai
 use crate::copy_words::{
     copy_command, copy_work, dump_command, dump_work, load_command, load_work,
 };
+use crate::look_words::{bad_look, inspect_command, inspect_work, stat_command, stat_work};
 use clap::builder::ValueParser;
 use clap::error::ErrorKind;
 use clap::{Arg, ArgAction, ArgMatches, Command, Error};
 use im_migration::Asked;
+use im_report::Look;
 use im_script::read_u32;
 use std::alloc::{AllocError, Global};
 
@@ -102,10 +104,12 @@ pub enum Job<'a> {
         /// Whether the answers to requests that waited are printed when they come.
         watch: bool,
     },
-    /// Print what an image means.
+    /// Print what an image means, or some numbers of it.
     Inspect {
         /// The image's path.
         image: &'a str,
+        /// What is printed.
+        look: Look,
     },
     /// Print the dump of an image.
     Dump {
@@ -280,27 +284,6 @@ Example: the lines '1.1 alloc i 1', '1.2 fetch 0' and '2.1 store 0 5' in the fil
 Exit status: 0 the input ended; 1 the image was refused, a call of the disk failed, or the output
 can't be written, with 'refused N NAME' as the last line; 2 a bad command line.";
 
-const INSPECT: &str = "Print what an image means, and change nothing";
-
-const INSPECT_EXAMPLES: &str = "The lines, in this order:
-  version V
-  limits CELLS ELEMENTS SLOTS
-  header H generation G area H count C    the header in force
-  journal J room R                        J commands after the header, and room for R more
-  block BASE KIND LENGTH                  each block, by base
-  cell A full V                           each cell that isn't empty, by address
-  cell A clashed V                        the cell was written again while it was full
-  cell A waiting K.N K.N ..               the requests that wait at the cell, in their order
-  element K base B kept N                 each element that has asked something
-  entry K.N OPERATION -> REPLY            each entry that is kept for the element, by number
-An image that isn't whole is refused: 'refused N NAME' names its first fault.
-
-Example: the image a.img after 'imem format a.img'
-  imem inspect a.img
-
-Exit status: 0 the whole report is printed; 1 refused, with 'refused N NAME' as the last line; 2 a bad
-command line. If an image is damaged, standard error says where.";
-
 const MIGRATE: &str = "Move an image of layout version 1 to a new file of the version in use";
 
 const MIGRATE_EXAMPLES: &str =
@@ -319,7 +302,7 @@ of the version in use, 12 WrongLength if NEW has another length, 22 NotBlank if 
 2 a bad command line. A refusal also has a line on standard error, which says why.";
 
 /// An option with a value, which the help names.
-fn value_option<'a>(alloc: Global, id: &'a str, value: &'a str, help: &'a str) -> Arg<'a>
+pub(crate) fn value_option<'a>(alloc: Global, id: &'a str, value: &'a str, help: &'a str) -> Arg<'a>
     ensures rule { rule_of result ≡ option_rule id.entry.now }
     ensures local { result.global ≡ false }
 {
@@ -336,7 +319,7 @@ pub(crate) fn number_option<'a>(alloc: Global, id: &'a str, help: &'a str) -> Ar
 }
 
 /// A flag: an option without a value.
-fn flag_option<'a>(alloc: Global, id: &'a str, help: &'a str) -> Arg<'a>
+pub(crate) fn flag_option<'a>(alloc: Global, id: &'a str, help: &'a str) -> Arg<'a>
     ensures rule { rule_of result ≡ flag_rule id.entry.now }
     ensures local { result.global ≡ false }
 {
@@ -437,7 +420,7 @@ fn format_command<'a>(alloc: Global) -> Result<Command<'a>, AllocError>
 }
 
 /// A subcommand that takes an image.
-fn image_command<'a>(
+pub(crate) fn image_command<'a>(
     alloc: Global,
     name: &'a str,
     about: &'a str,
@@ -528,14 +511,6 @@ fn serve_command<'a>(alloc: Global) -> Result<Command<'a>, AllocError>
     Ok(one)
 }
 
-/// The subcommand `inspect`.
-fn inspect_command<'a>(alloc: Global) -> Result<Command<'a>, AllocError>
-    ensures app { IfOk result (λ c. app_of c ≡ inspect_app) }
-    ensures local { IfOk result (λ c. (out-Command c).has_globals ≡ false) }
-{
-    image_command(alloc, "inspect", INSPECT, INSPECT_EXAMPLES)
-}
-
 /// The subcommand `migrate`.
 fn migrate_command<'a>(alloc: Global) -> Result<Command<'a>, AllocError>
     ensures app { IfOk result (λ c. app_of c ≡ migrate_app) }
@@ -564,9 +539,9 @@ fn top_command<'a>(alloc: Global) -> Command<'a>
         .after_help(EXAMPLES)
 }
 
-/// The whole command line.
-fn imem_command<'a>(alloc: Global) -> Result<Command<'a>, AllocError>
-    ensures app { IfOk result (λ c. app_of c ≡ imem_app) }
+/// The command line with the first six subcommands.
+fn earlier_command<'a>(alloc: Global) -> Result<Command<'a>, AllocError>
+    ensures app { IfOk result (λ c. app_of c ≡ earlier_app) }
 {
     let empty = top_command(alloc);
     let format = format_command(alloc)?;
@@ -575,19 +550,29 @@ fn imem_command<'a>(alloc: Global) -> Result<Command<'a>, AllocError>
     let serve = serve_command(alloc)?;
     let inspect = inspect_command(alloc)?;
     let migrate = migrate_command(alloc)?;
-    let copy = copy_command(alloc)?;
-    let dump = dump_command(alloc)?;
-    let load = load_command(alloc)?;
     let one = empty.subcommand(format)?;
     let two = one.subcommand(serial)?;
     let three = two.subcommand(run)?;
     let four = three.subcommand(serve)?;
     let five = four.subcommand(inspect)?;
     let six = five.subcommand(migrate)?;
+    Ok(six)
+}
+
+/// The whole command line.
+fn imem_command<'a>(alloc: Global) -> Result<Command<'a>, AllocError>
+    ensures app { IfOk result (λ c. app_of c ≡ imem_app) }
+{
+    let six = earlier_command(alloc)?;
+    let copy = copy_command(alloc)?;
+    let dump = dump_command(alloc)?;
+    let load = load_command(alloc)?;
+    let stat = stat_command(alloc)?;
     let seven = six.subcommand(copy)?;
     let eight = seven.subcommand(dump)?;
     let nine = eight.subcommand(load)?;
-    Ok(nine)
+    let ten = nine.subcommand(stat)?;
+    Ok(ten)
 }
 
 /// Returns the number of an option, or `fallback` if the option is not given. Returns `None` if its text is not the
@@ -619,7 +604,7 @@ fn path_if<'a>(found: &ArgMatches<'a>, id: &str) -> Option<&'a str>
 }
 
 /// Whether a flag is given.
-fn is_given(found: &ArgMatches, id: &str) -> bool
+pub(crate) fn is_given(found: &ArgMatches, id: &str) -> bool
     ensures { result ≡ is_given (rows_of (found_of found.now)) id.now }
 {
     path_of(found, id) == "true"
@@ -688,14 +673,6 @@ fn serve_work<'a>(found: &ArgMatches<'a>) -> Work<'a>
     Work::Alone(Job::Serve { image, watch })
 }
 
-/// What `inspect` is asked for.
-fn inspect_work<'a>(found: &ArgMatches<'a>) -> Work<'a>
-    ensures { task_of result ≡ inspect_task (rows_of (found_of found.now)) }
-{
-    let image = path_of(found, "IMAGE");
-    Work::Alone(Job::Inspect { image })
-}
-
 /// What `migrate` is asked for.
 fn migrate_work<'a>(found: &ArgMatches<'a>) -> Work<'a>
     ensures { task_of result ≡ migrate_task (rows_of (found_of found.now)) }
@@ -729,8 +706,10 @@ fn work_of<'a>(matches: &ArgMatches<'a>) -> Option<Work<'a>>
                 Some(dump_work(found))
             } else if name == "load" {
                 load_work(found)
+            } else if name == "stat" {
+                Some(stat_work(found))
             } else {
-                Some(inspect_work(found))
+                inspect_work(found)
             }
         }
     }
@@ -829,17 +808,26 @@ fn sized_command<'a>(alloc: Global, name: &str) -> Result<Command<'a>, AllocErro
     }
 }
 
-/// The error for a text that is no number, with the usage of the subcommand.
-fn bad_number(alloc: Global, matches: &ArgMatches<'_>) -> Result<Error, AllocError> {
-    let (name, (id, text)) = match matches.subcommand() {
-        Some((name, found)) => (name, bad_option(found).unwrap_or(("cells", ""))),
-        None => ("format", ("cells", "")),
+/// The error for a size that is no number, with the usage of the subcommand.
+fn bad_size(alloc: Global, name: &str, found: Option<&ArgMatches>) -> Result<Error, AllocError> {
+    let (id, text) = match found {
+        Some(found) => bad_option(found).unwrap_or(("cells", "")),
+        None => ("cells", ""),
     };
     let message = format!(in alloc;
         "invalid value {text:?} for '--{id} <N>': a decimal number below 4294967296 is expected"
     )?;
     let mut command = sized_command(alloc, name)?;
     command.error(ErrorKind::ValueValidation, message.as_str())
+}
+
+/// The error for a text that is no number, with the usage of the subcommand.
+fn bad_number(alloc: Global, matches: &ArgMatches<'_>) -> Result<Error, AllocError> {
+    match matches.subcommand() {
+        Some(("inspect", found)) => bad_look(alloc, found),
+        Some((name, found)) => bad_size(alloc, name, Some(found)),
+        None => bad_size(alloc, "format", None),
+    }
 }
 
 /// The fault for a text that is no number, or `NoMemory` if there is no memory for its message.

@@ -7,7 +7,7 @@ ghost use Rattle.im_types.specs.Layout.{sizes_of};
 ghost use Rattle.im_types.specs.Sizes.{AreLimits};
 ghost use Rattle.im_disk.specs.Since.{LeavesNow, ReadsOnly};
 ghost use Rattle.im_image.specs.Fresh.{new_image};
-ghost use Rattle.im_report.specs.Inspecting.{Tells};
+ghost use Rattle.im_report.specs.Look.{Looks};
 ghost use Rattle.im_text.specs.Printing.{Begins, IsLast};
 ghost use Rattle.im_dialogue.specs.Dialogue.{NotOpened, Talked, TalkedFrom};
 ghost use Rattle.im_run.specs.Running.{RanFrom};
@@ -35,7 +35,7 @@ use im_files::{
 use im_image::image_length;
 use im_listening::Ear;
 use im_migration::Follower;
-use im_report::inspect_on;
+use im_report::{Look, look_on};
 use im_run::{STALLED, Trace, run_on};
 use im_script::{Script, ScriptFault, TextFault, read_script, read_script_with_glances, read_text};
 use im_serial::{serial_on, serial_once_on};
@@ -398,29 +398,30 @@ pub(crate) fn warn<N: Observer>(is_unsynced: bool, observer: &mut N) {
     }
 }
 
-/// Prints the report of the image of a file. Returns the status of [`inspect_on`] and the image's disk; [`inspect_on`]
-/// also says which lines are printed.
+/// Prints what is wanted of the image of a file. Returns the status of [`look_on`] and the image's disk; [`look_on`] also
+/// says which lines are printed.
 ///
 /// The clauses hold for whatever the image held when it was opened (`S`), as long as the file was honest. With status 0
-/// the report of those bytes is written to `out`. A crash leaves nothing that the file couldn't leave when it was
+/// what is wanted of those bytes is written to `out`. A crash leaves nothing that the file couldn't leave when it was
 /// opened.
 ///
 /// Returns `Device`, with nothing printed and the image as it was, if the image can't be opened: it isn't a regular
 /// file, an opening that writes has its lock, or a call of the system fails. The observer is told why. If
-/// [`inspect_on`] refuses, its status and its last line say so.
+/// [`look_on`] refuses, its status and its last line say so.
 ///
 /// No clause says that an image is ever opened, because nothing is known about the contents of a folder.
 pub fn inspect_file<R: Files<File = File> + AllocGlobal, S: Start, W: Write, N: Observer>(
     rt: &R,
     _held: &Descriptors,
     image: &str,
+    look: &Look,
     out: &mut W,
     observer: &mut N,
     start: S,
 ) -> Result<(u8, FileDisk<S>), Refusal>
     ensures status { IfOk result (λ r. r.0 ≤ 1) }
     ensures told { IfOk result (λ r. ⟦<FileDisk<S> as Disk>⟧.honest r.1 → r.0 ≡ 0 →
-        Tells S.first.bytes (W.contents out.old) (W.contents out.new)) }
+        Looks look.now S.first.bytes (W.contents out.old) (W.contents out.new)) }
     ensures reads { IfOk result (λ r. ⟦<FileDisk<S> as Disk>⟧.honest r.1 →
         ReadsOnly S.first (⟦<FileDisk<S> as Disk>⟧.now r.1) [] (⟦<FileDisk<S> as Disk>⟧.past r.1)) }
     ensures refused { IfErr result (λ refusal. refusal ≡ Device) }
@@ -429,7 +430,7 @@ pub fn inspect_file<R: Files<File = File> + AllocGlobal, S: Start, W: Write, N: 
     match open_image_to_read(rt, image, start) {
         Ok((disk, is_unsynced)) => {
             warn(is_unsynced, observer);
-            Ok(inspect_on(rt.alloc(), disk, out, observer))
+            Ok(look_on(rt.alloc(), disk, look, out, observer))
         }
         Err(fault) => Err(refusal_of(rt, image, fault, observer)),
     }
@@ -548,7 +549,9 @@ fn do_job<
             Ok((status, disk)) => Ok((status, Some(disk))),
             Err(refusal) => Err(refusal),
         },
-        Job::Inspect { image } => match inspect_file(rt, held, image, out, observer, start) {
+        Job::Inspect { image, look } => match inspect_file(
+            rt, held, image, &look, out, observer, start,
+        ) {
             Ok((status, disk)) => Ok((status, Some(disk))),
             Err(refusal) => Err(refusal),
         },
@@ -575,7 +578,7 @@ fn do_job<
 fn image_of<'a>(job: &Job<'a>) -> &'a str {
     match *job {
         Job::Demonstration => "",
-        Job::Format { image, .. } | Job::Inspect { image } | Job::Dump { image } => image,
+        Job::Format { image, .. } | Job::Inspect { image, .. } | Job::Dump { image } => image,
         Job::Serial { image, .. } | Job::Serve { image, .. } => image,
         Job::Load { new, .. } => new,
     }

@@ -1,2 +1,4 @@
 pub mod ReportLemmas
 pub mod InspectingLemmas
+pub mod SumLemmas
+pub mod QueueLemmas

@@ -1,2 +1,5 @@
 pub mod Report
 pub mod Inspecting
+pub mod Figures
+pub mod Stat
+pub mod Look

@@ -1,12 +1,15 @@
 //! Prints what an image means, line by line.
-ghost use Rattle.std.specs.Prelude.{◌≡◌, ◌≤◌, IfOk, OnOk, string_bytes};
+ghost use Rattle.std.specs.Prelude.{◌≡◌, ◌≤◌, ◌++◌, IfOk, OnOk, string_bytes};
 ghost use Rattle.im_image.specs.Headers.{seen};
 ghost use Rattle.im_disk.specs.Runs.{ReadsAlone};
 ghost use Rattle.im_disk.specs.Since.{ReadsOnly};
 ghost use Rattle.im_report.specs.Inspecting.{Tells};
-ghost use Rattle.im_report.specs.Report.{report_text};
+ghost use Rattle.im_report.specs.Look.{Looks, looked_text};
 
-use crate::report::add_report;
+use crate::filtering::add_filtered;
+use crate::look::{Filter, Look};
+use crate::stat::add_stat;
+use crate::stat_json::add_stat_json;
 use im_damage::{Older, find_older};
 use im_disk::Disk;
 use im_image::{Report, inspect};
@@ -14,29 +17,46 @@ use im_text::{Observer, Reason, Warning, diagnose, end, put_through};
 use std::alloc::{AllocError, Global};
 use std::io::Write;
 
-// The text of a report.
-fn text_of(alloc: Global, report: &Report) -> Result<String, AllocError>
-    ensures { IfOk result (λ text. string_bytes text
-        ≡ report_text (seen report.now.header) report.now.run report.now.room report.now.memory.contents) }
+// Adds what is wanted of an image.
+fn add_looked(out: &mut String, report: &Report, look: &Look) -> Result<(), AllocError>
+    ensures { OnOk result (string_bytes out.new ≡ string_bytes out.old ++ looked_text look.now
+        (seen report.now.header) report.now.run report.now.room report.now.memory.contents) }
+{
+    match look {
+        Look::Report(filter) => add_filtered(out, report, filter),
+        Look::Stat => add_stat(out, report),
+        Look::StatJson => add_stat_json(out, report),
+    }
+}
+
+// The text of what is wanted of an image.
+fn text_of(alloc: Global, report: &Report, look: &Look) -> Result<String, AllocError>
+    ensures { IfOk result (λ text. string_bytes text ≡ looked_text look.now
+        (seen report.now.header) report.now.run report.now.room report.now.memory.contents) }
 {
     let mut text = String::new(alloc);
-    match add_report(&mut text, report) {
+    match add_looked(&mut text, report, look) {
         Ok(()) => Ok(text),
         Err(error) => Err(error),
     }
 }
 
-/// Writes the report of the image on a disk.
-fn tell<D: Disk, W: Write>(alloc: Global, disk: &mut D, out: &mut W) -> Result<(), Reason>
+/// Writes what is wanted of the image on a disk.
+fn tell<D: Disk, W: Write>(
+    alloc: Global,
+    disk: &mut D,
+    look: &Look,
+    out: &mut W,
+) -> Result<(), Reason>
     ensures told { OnOk result (D.honest disk.new →
-        Tells (D.now disk.old).bytes (W.contents out.old) (W.contents out.new)) }
+        Looks look.now (D.now disk.old).bytes (W.contents out.old) (W.contents out.new)) }
     ensures reads { ReadsAlone D.Disk disk.old disk.new }
 {
     let report = match inspect(alloc, disk) {
         Ok(report) => report,
         Err(refusal) => return Err(diagnose(alloc, disk, refusal)),
     };
-    match text_of(alloc, &report) {
+    match text_of(alloc, &report, look) {
         Ok(text) => put_through(out, text.as_str()),
         Err(_) => Err(Reason::Memory),
     }
@@ -49,18 +69,19 @@ fn warn<N: Observer>(older: Option<Older>, observer: &mut N) {
     }
 }
 
-// Writes the report of the image on a disk, and then looks for an old open slot.
+// Writes what is wanted of the image on a disk, and then looks for an old open slot.
 fn tell_all<D: Disk, W: Write, N: Observer>(
     alloc: Global,
     disk: &mut D,
+    look: &Look,
     out: &mut W,
     observer: &mut N,
 ) -> Result<(), Reason>
     ensures told { OnOk result (D.honest disk.new →
-        Tells (D.now disk.old).bytes (W.contents out.old) (W.contents out.new)) }
+        Looks look.now (D.now disk.old).bytes (W.contents out.old) (W.contents out.new)) }
     ensures reads { ReadsAlone D.Disk disk.old disk.new }
 {
-    match tell(alloc, disk, out) {
+    match tell(alloc, disk, look, out) {
         Ok(()) => {
             warn(find_older(alloc, disk), observer);
             Ok(())
@@ -85,7 +106,7 @@ fn tell_all<D: Disk, W: Write, N: Observer>(
 /// gets a warning if a slot of the journal stands open that is too old to be there.
 pub fn inspect_on<D: Disk, W: Write, N: Observer>(
     alloc: Global,
-    mut disk: D,
+    disk: D,
     out: &mut W,
     observer: &mut N,
 ) -> (u8, D)
@@ -95,6 +116,44 @@ pub fn inspect_on<D: Disk, W: Write, N: Observer>(
     ensures reads { D.honest result.1 → ReadsOnly (D.now disk) (D.now result.1) (D.past disk) (D.past result.1) }
     ensures honest { D.honest result.1 → D.honest disk }
 {
-    let told = tell_all(alloc, &mut disk, out, observer);
+    let whole = Filter {
+        cells: None,
+        element: None,
+        waiting: false,
+    };
+    look_on(alloc, disk, &Look::Report(whole), out, observer)
+}
+
+/// Prints what is wanted of the image on a disk, and gives the disk back. It reads, refuses and warns as [`inspect_on`]
+/// does. The text goes to `out`, and depends on `look`:
+///
+/// - `Report`: the report, as [`inspect_on`] prints it. A filter with a request leaves only these of its lines: with
+///   `cells` or `waiting` the lines `cell A`, of addresses in the span if there is one, and of cells that somebody
+///   waits for if `waiting`; with `element` the line `element K` of that element, and its lines `entry K.N`. An element
+///   that isn't there, or has asked nothing, has none.
+/// - `Stat`: some numbers. First the lines `version`, `limits` and `header` of a report. `journal J room R stale S`
+///   gives the slots with commands behind the header, with room, and with commands that are in the area already.
+///   `count C` is the number of commands so far. `next area A pages P` says which area the next checkpoint writes, and
+///   how many pages, if it is the first one after an opening; an image of the first version has no such line.
+///   `i blocks B empty E waiting W full F clashed C`, and the same for `m`, are the blocks of one kind and their cells
+///   in each state. `free F holes H longest L` gives the cells in no block, the rows that they stand in, and the length
+///   of the longest. `waiting R longest L at A` gives the requests that wait, and the longest queue of them, with the
+///   lowest address of such a cell. `windows E kept N full F` gives the elements that have asked anything, the entries
+///   that are kept, and the windows that are full.
+/// - `StatJson`: the same numbers as one object of JSON, on one line.
+pub fn look_on<D: Disk, W: Write, N: Observer>(
+    alloc: Global,
+    mut disk: D,
+    look: &Look,
+    out: &mut W,
+    observer: &mut N,
+) -> (u8, D)
+    ensures status { result.0 ≤ 1 }
+    ensures told { D.honest result.1 → result.0 ≡ 0 →
+        Looks look.now (D.now disk).bytes (W.contents out.old) (W.contents out.new) }
+    ensures reads { D.honest result.1 → ReadsOnly (D.now disk) (D.now result.1) (D.past disk) (D.past result.1) }
+    ensures honest { D.honest result.1 → D.honest disk }
+{
+    let told = tell_all(alloc, &mut disk, look, out, observer);
     (end(alloc, told, out, observer), disk)
 }

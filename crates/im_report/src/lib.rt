@@ -1,7 +1,14 @@
-//! Prints what an image means, line by line.
+//! Prints what an image means, line by line, and statistics of it.
 #![tactic(auto)]
 
+mod counting;
+mod figures;
+mod filtering;
 mod inspecting;
+mod look;
 mod report;
+mod stat;
+mod stat_json;
 
-pub use inspecting::inspect_on;
+pub use inspecting::{inspect_on, look_on};
+pub use look::{Filter, Look, Span};

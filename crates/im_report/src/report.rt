@@ -15,7 +15,7 @@ use im_types::{Block, Cell, Kept, Limits, Waiter};
 use std::alloc::AllocError;
 
 /// Adds the line of the layout's version.
-fn add_version(out: &mut String, header: &Header) -> Result<(), AllocError>
+pub(crate) fn add_version(out: &mut String, header: &Header) -> Result<(), AllocError>
     ensures { OnOk result (string_bytes out.new ≡ string_bytes out.old ++ version_line (seen header.now)) }
 {
     let version = header.version;
@@ -23,7 +23,7 @@ fn add_version(out: &mut String, header: &Header) -> Result<(), AllocError>
 }
 
 /// Adds the line of the sizes.
-fn add_limits(out: &mut String, header: &Header) -> Result<(), AllocError>
+pub(crate) fn add_limits(out: &mut String, header: &Header) -> Result<(), AllocError>
     ensures { OnOk result (string_bytes out.new ≡ string_bytes out.old ++ limits_line (seen header.now)) }
 {
     let Limits {
@@ -36,7 +36,7 @@ fn add_limits(out: &mut String, header: &Header) -> Result<(), AllocError>
 }
 
 /// Adds the line of the header in force.
-fn add_header(out: &mut String, header: &Header) -> Result<(), AllocError>
+pub(crate) fn add_header(out: &mut String, header: &Header) -> Result<(), AllocError>
     ensures { OnOk result (string_bytes out.new ≡ string_bytes out.old ++ header_line (seen header.now)) }
 {
     let area = header.area;
@@ -111,7 +111,7 @@ fn add_waiting(out: &mut String, memory: &Memory, a: u32) -> Result<(), AllocErr
 }
 
 /// Adds the line of a cell if it isn't empty.
-fn add_cell(out: &mut String, memory: &Memory, a: u32) -> Result<(), AllocError>
+pub(crate) fn add_cell(out: &mut String, memory: &Memory, a: u32) -> Result<(), AllocError>
     ensures { OnOk result (string_bytes out.new ≡ string_bytes out.old
         ++ cell_line a (presence_in (held_at memory.now.contents.cells a)) (waiters_at memory.now.contents.cells a)) }
 {
@@ -185,7 +185,7 @@ fn add_bounds(out: &mut String, element: u16, base: u64, kept: u64) -> Result<()
 }
 
 /// Adds the lines of an element if it has asked anything.
-fn add_element(out: &mut String, memory: &Memory, element: u16) -> Result<(), AllocError>
+pub(crate) fn add_element(out: &mut String, memory: &Memory, element: u16) -> Result<(), AllocError>
     ensures { OnOk result (string_bytes out.new ≡ string_bytes out.old
         ++ window_text element (slice_get memory.now.contents.windows element)) }
 {

@@ -812,3 +812,113 @@ printed 0 = refused 16 BadRecord
 told 0 = slot 0 of the journal: the memory before command 0 doesn't accept it
 serve = 1
 told 0 = slot 0 of the journal: the memory before command 0 doesn't accept it
+
+# What an image holds is told in numbers
+-- 4,096 cells stand on 32 pages, the 1,024 nodes for those who wait on 4, and each of the 16 windows on one.
+disk 450560 = 450560 bytes
+format 4096 16 256 = formatted
+stat = 0
+printed = 11 lines
+printed 0 = version 2
+printed 1 = limits 4096 16 256
+printed 2 = header 0 generation 1 area 0 count 0
+printed 3 = journal 0 room 256 stale 0
+printed 4 = count 0
+printed 5 = next area 1 pages 52
+printed 6 = i blocks 0 empty 0 waiting 0 full 0 clashed 0
+printed 7 = m blocks 0 empty 0 waiting 0 full 0 clashed 0
+printed 8 = free 4096 holes 1 longest 4096
+printed 9 = waiting 0 longest 0 at 0
+printed 10 = windows 0 kept 0 full 0
+-- Block a has the cells 0 to 3, b 4 to 6, c 7 and 8, and d 9. Once c is released there are two holes.
+script setup / alloc a i 4 / alloc b m 3 / alloc c i 2 / alloc d m 1 / = 5 lines
+script element 1 / fetch a / fetch a+1 / store a+2 5 / store a+2 6 / store a+3 9 / = 11 lines
+script element 2 / fetch a+1 / fetch a+1 / put b 7 / take b+1 / put d 1 / put d 2 / = 18 lines
+script element 0 / release c / = 20 lines
+read = 4 blocks, 3 parts, 16 requests
+serve = 0
+mark = 450560 bytes
+stat = 0
+printed = 11 lines
+printed 2 = header 0 generation 1 area 0 count 0
+printed 3 = journal 16 room 240 stale 0
+printed 4 = count 16
+printed 5 = next area 1 pages 52
+printed 6 = i blocks 1 empty 0 waiting 2 full 1 clashed 1
+printed 7 = m blocks 2 empty 1 waiting 1 full 1 clashed 1
+printed 8 = free 4088 holes 2 longest 4086
+printed 9 = waiting 5 longest 3 at 1
+printed 10 = windows 3 kept 16 full 0
+as marked = yes
+
+# The lines of a report that a filter names are told alone
+disk 450560 = 450560 bytes
+format 4096 16 256 = formatted
+script setup / alloc a i 4 / alloc b m 3 / element 1 / fetch a / fetch a+1 / store a+2 5 / = 7 lines
+script element 2 / fetch a+1 / put b 7 / take b+1 / = 11 lines
+read = 2 blocks, 2 parts, 8 requests
+serve = 0
+inspect cells 1 4 = 0
+printed = 3 lines
+printed 0 = cell 1 waiting 1.2 2.1
+printed 1 = cell 2 full 5
+printed 2 = cell 4 full 7
+inspect cells 4 4 = 0
+printed = 1 lines
+printed 0 = cell 4 full 7
+inspect cells 6 4294967295 = 0
+printed = 0 lines
+inspect waiting = 0
+printed = 3 lines
+printed 0 = cell 0 waiting 1.1
+printed 1 = cell 1 waiting 1.2 2.1
+printed 2 = cell 5 waiting 2.3
+inspect cells 1 4 waiting = 0
+printed = 1 lines
+printed 0 = cell 1 waiting 1.2 2.1
+inspect element 2 = 0
+printed = 4 lines
+printed 0 = element 2 base 1 kept 3
+printed 1 = entry 2.1 fetch 1 -> waiting
+printed 2 = entry 2.2 put 4 7 -> stored
+printed 3 = entry 2.3 take 5 -> waiting
+inspect waiting element 1 = 0
+printed = 7 lines
+printed 0 = cell 0 waiting 1.1
+printed 3 = element 1 base 1 kept 3
+printed 6 = entry 1.3 store 2 5 -> stored
+-- An element that has asked nothing has no lines, and one that isn't there hasn't any either.
+inspect element 3 = 0
+printed = 0 lines
+inspect element 65536 = 0
+printed = 0 lines
+
+# A slot whose command is in the area already is stale
+disk 33792 = 33792 bytes
+format 1 1 16 = formatted
+write 16 05 = 00
+-- The slot of command 4 stands open behind eleven slots with room, and four.
+write 33024 a5 01 04 00 00 00 00 00 04 = 00 00 00 00 00 00 00 00 00
+stat = 0
+printed 2 = header 0 generation 1 area 0 count 5
+printed 3 = journal 0 room 15 stale 1
+printed 4 = count 5
+printed 5 = next area 1 pages 3
+
+# Numbers of an image of the first version are told, and of a damaged one its fault
+old image 4096 16 256 = 327680 bytes
+stat = 0
+printed = 10 lines
+printed 0 = version 1
+printed 3 = journal 0 room 256 stale 0
+printed 4 = count 0
+printed 5 = i blocks 0 empty 0 waiting 0 full 0 clashed 0
+write 0 00 = a5
+stat = 1
+printed = 1 lines
+printed 0 = refused 13 NoHeader
+stat json = 1
+printed = 1 lines
+printed 0 = refused 13 NoHeader
+inspect waiting = 1
+printed 0 = refused 13 NoHeader

@@ -201,3 +201,26 @@ says imem 0.1.0, image layout 2 = yes
 says commit ------------, not proved = yes
 imem -V = status 0
 imem inspect --version = status 2
+
+# Words ask for numbers of an image, or for some lines of its report
+imem stat a.img = count in a.img
+imem stat a.img --json = count in a.img, as JSON
+imem stat --statuses a.img --wait 2 = count in a.img, by statuses, waiting 2 s
+imem stat = status 2
+imem stat a.img --cells 0-9 = status 2
+imem inspect a.img --cells 0-99 = tell of a.img, cells 0 to 99
+imem inspect a.img --cells 7-7 --waiting = tell of a.img, cells 7 to 7, who waits
+imem inspect a.img --element 3 = tell of a.img, 3 is the element
+imem inspect a.img --waiting --element 3 = tell of a.img, 3 is the element, who waits
+imem inspect a.img --json = status 2
+imem inspect a.img --cells 9 = status 2
+says invalid value "9" for '--cells <FROM-TO>': two addresses below 4294967296 are expected, as 0-99 = yes
+says Usage: imem inspect = yes
+imem inspect a.img --cells 9-8 = status 2
+imem inspect a.img --cells 1-2-3 = status 2
+imem inspect a.img --cells 0-4294967296 = status 2
+imem inspect a.img --cells 0- = status 2
+imem inspect a.img --element x = status 2
+says invalid value "x" for '--element <N>': a decimal number below 4294967296 is expected = yes
+imem stat --help = status 0
+says jq .journal.room = yes

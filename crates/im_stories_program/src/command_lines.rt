@@ -4,6 +4,7 @@ use crate::spelling::{add_text, add_word};
 use anyhow::{Result, anyhow};
 use im_migration::Asked;
 use im_program::{Job, Order, WordFault, Work, read_words};
+use im_report::Look;
 use std::alloc::{AllocError, Global};
 
 /// What was said about the last bad command line.
@@ -23,6 +24,21 @@ fn add_sizes(said: &mut String, asked: Asked) -> Result<(), AllocError> {
     add_size(said, asked.cells, "cells")?;
     add_size(said, asked.elements, "elements")?;
     add_size(said, asked.slots, "slots")
+}
+
+fn add_look(said: &mut String, image: &str, look: Look) -> Result<(), AllocError> {
+    let filter = match look {
+        Look::Stat => return write!(said, "count in {image}"),
+        Look::StatJson => return write!(said, "count in {image}, as JSON"),
+        Look::Report(filter) => filter,
+    };
+    write!(said, "tell of {image}")?;
+    if let Some(span) = filter.cells {
+        let (from, to) = (span.from, span.to);
+        write!(said, ", cells {from} to {to}")?;
+    }
+    add_size(said, filter.element, "is the element")?;
+    said.push_str(if filter.waiting { ", who waits" } else { "" })
 }
 
 fn add_job(said: &mut String, job: &Job) -> Result<(), AllocError> {
@@ -53,7 +69,7 @@ fn add_job(said: &mut String, job: &Job) -> Result<(), AllocError> {
             let how = if watch { "watched" } else { "unwatched" };
             write!(said, "talk on {image}, {how}")
         }
-        Job::Inspect { image } => write!(said, "tell of {image}"),
+        Job::Inspect { image, look } => add_look(said, image, look),
         Job::Dump { image } => write!(said, "dump {image}"),
         Job::Load { text, new, asked } => {
             write!(said, "load {text} into {new}")?;

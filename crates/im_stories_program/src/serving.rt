@@ -8,7 +8,7 @@ use anyhow::{Result, anyhow};
 use im_damage::Damage;
 use im_disk::{FuseDisk, Mode};
 use im_program::refuse;
-use im_report::inspect_on;
+use im_report::{Filter, Look, Span, inspect_on, look_on};
 use im_script::{Script, read_script};
 use im_serial::serial_on;
 use im_story::{address, element, number, place};
@@ -91,13 +91,62 @@ fn serve_to(alloc: Global, desk: &mut Desk, bytes: usize, said: &mut String) -> 
 }
 
 fn inspect(alloc: Global, desk: &mut Desk, ends: Ends, said: &mut String) -> Result<()> {
+    look(alloc, desk, ends, None, said)
+}
+
+// Prints what is wanted of the image, or the report.
+fn look(
+    alloc: Global,
+    desk: &mut Desk,
+    ends: Ends,
+    wanted: Option<Look>,
+    said: &mut String,
+) -> Result<()> {
     let disk = FuseDisk::new(desk.image.take()?, ends.passes, ends.mode);
     let mut out = Paper::new(alloc, ends.bytes);
     let mut notes = Notes::new(alloc);
-    let (status, disk) = inspect_on(alloc, disk, &mut out, &mut notes);
+    let (status, disk) = match wanted {
+        Some(wanted) => look_on(alloc, disk, &wanted, &mut out, &mut notes),
+        None => inspect_on(alloc, disk, &mut out, &mut notes),
+    };
     desk.image.set(disk.into_inner());
     desk.printed.set(out.into_text()?, notes);
     Ok(write!(said, "{status}")?)
+}
+
+// What these words want to see of an image.
+fn look_in(words: &[&str]) -> Result<Option<Look>> {
+    let (cells, element, waiting) = match words {
+        ["stat"] => return Ok(Some(Look::Stat)),
+        ["stat", "json"] => return Ok(Some(Look::StatJson)),
+        ["inspect", "cells", from, to] => (Some((address(from)?, address(to)?)), None, false),
+        ["inspect", "cells", from, to, "waiting"] => {
+            (Some((address(from)?, address(to)?)), None, true)
+        }
+        ["inspect", "element", number] => (None, Some(address(number)?), false),
+        ["inspect", "waiting"] => (None, None, true),
+        ["inspect", "waiting", "element", number] => (None, Some(address(number)?), true),
+        _ => return Ok(None),
+    };
+    let cells = match cells {
+        Some((from, to)) => Some(Span { from, to }),
+        None => None,
+    };
+    Ok(Some(Look::Report(Filter {
+        cells,
+        element,
+        waiting,
+    })))
+}
+
+// Prints what these words want to see of an image. Returns whether they do.
+fn look_by(alloc: Global, desk: &mut Desk, words: &[&str], said: &mut String) -> Result<bool> {
+    let wanted = look_in(words)?;
+    if wanted.is_none() {
+        return Ok(false);
+    }
+    look(alloc, desk, ENDLESS, wanted, said)?;
+    Ok(true)
 }
 
 // Prints that there was no memory.
@@ -193,7 +242,7 @@ pub fn tell(alloc: Global, desk: &mut Desk, words: &[&str], said: &mut String) -
         ["reason", reason @ ..] => add_reason(said, reason)?,
         ["status", "of", reason @ ..] => add_status(said, reason)?,
         ["refuse", "NoMemory"] => refuse_memory(alloc, desk, said)?,
-        _ => return Ok(false),
+        _ => return look_by(alloc, desk, words, said),
     }
     Ok(true)
 }

@@ -1,14 +1,6 @@
-use Rattle.std.specs.Io.KnownBytes.{Keeps}
-use Rattle.im_report.specs.Inspecting.{Tells}
-use Rattle.im_report.proofs.InspectingLemmas.{done_at_zero, tells_kept}
+use Rattle.im_report.proofs.InspectingLemmas.{tells_whole}
 use Rattle.im_report.proofs.inspecting.inspect_on.Goals as goal
 
 pub returns-clause-told : goal.returns-clause-told
-returns-clause-told g c = λ honest zero.
-    let bytes = (g.D.Disk.now c.args.disk).bytes in
-    let was = g.W.Write.contents c.args.out.now in
-    let mid = g.W.Write.contents c.tell_all-told.new.out in
-    let is = g.W.Write.contents c.end.new.out in
-    let told = done_at_zero c.tell_all-told.result c.end.result (g.D.Disk.honest c.tell_all-told.new.disk → Tells bytes was mid) c.end.ensures.refused zero c.tell_all-told.ensures.told in
-    let same = done_at_zero c.tell_all-told.result c.end.result (Keeps mid is) c.end.ensures.refused zero c.end.ensures.same in
-    tells_kept bytes was mid is (told honest) same
+returns-clause-told g c = λ honest zero. tells_whole (g.D.Disk.now c.args.disk).bytes (g.W.Write.contents c.args.out.now)
+    (g.W.Write.contents c.look_on.new.out) (c.look_on.ensures.told honest zero)

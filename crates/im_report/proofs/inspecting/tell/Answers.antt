@@ -2,8 +2,8 @@ use Rattle.std.proofs.Common.{◌≡◌, ◌∙◌, subst}
 use Rattle.std.specs.Io.KnownBytes.{Appends}
 use Rattle.std.proofs.lemmas.Result.{on_ok_weaker}
 use Rattle.im_image.specs.Headers.{seen}
-use Rattle.im_report.specs.Report.{report_text}
-use Rattle.im_report.proofs.InspectingLemmas.{tells}
+use Rattle.im_report.specs.Look.{looked_text}
+use Rattle.im_report.proofs.InspectingLemmas.{looks}
 use Rattle.im_report.proofs.inspecting.tell.Goals as goal
 
 pub returns-in-Ok-text_of-clause-told : goal.returns-in-Ok-text_of-clause-told
@@ -11,5 +11,5 @@ returns-in-Ok-text_of-clause-told g c = on_ok_weaker c.put_through.result (λ wh
     let report = c.in-Ok.report in
     let was = g.W.Write.contents c.args.out.now in
     let is = g.W.Write.contents c.put_through.new.out in
-    let text : c.as_str.result.now ≡ report_text (seen report.header) report.run report.room report.memory.contents = c.as_str.ensures.value ∙ c.in-Ok-text_of.ensures in
-    tells (g.D.Disk.now c.args.disk.now).bytes (seen report.header) report.run report.room report.memory.contents was is (c.in-Ok.ensures.header honest) (c.in-Ok.ensures.means honest) (subst (Appends was is) text whole)) c.put_through.ensures.whole
+    let text : c.as_str.result.now ≡ looked_text c.args.look.now (seen report.header) report.run report.room report.memory.contents = c.as_str.ensures.value ∙ c.in-Ok-text_of.ensures in
+    looks c.args.look.now (g.D.Disk.now c.args.disk.now).bytes (seen report.header) report.run report.room report.memory.contents was is (c.in-Ok.ensures.header honest) (c.in-Ok.ensures.means honest) (subst (Appends was is) text whole)) c.put_through.ensures.whole

@@ -1,0 +1,12 @@
+use Rattle.std.proofs.Common.{◌∙◌, ap₂}
+use Rattle.clap.specs.Words.{with_rule}
+use Rattle.im_program.proofs.look_words.inspect_command.Goals as goal
+
+pub returns-clause-app : goal.returns-clause-app
+returns-clause-app c =
+    let cells = c.value_option-cells in
+    let element = c.number_option-element in
+    let flag = c.flag_option-waiting in
+    let one = c.in_ok-one.ensures.shape cells.ensures.local ∙ ap₂ with_rule c.in_ok-image.ensures.app cells.ensures.rule in
+    let two = c.in_ok-two.ensures.shape element.ensures.local ∙ ap₂ with_rule one element.ensures.rule in
+    c.in_ok-three.ensures.shape flag.ensures.local ∙ ap₂ with_rule two flag.ensures.rule

@@ -1,0 +1,22 @@
+use Rattle.std.proofs.Common.{◌≡◌, ◌+◌, ◌∙◌, ap, length, arith}
+use Rattle.std.specs.Prelude.{if◌then◌else◌}
+use Rattle.im_types.specs.Contents.{block_at}
+use Rattle.im_report.specs.Figures.{is_base, sum_below}
+use Rattle.im_report.proofs.SumLemmas.{sums_none, sums_more, one_few}
+use Rattle.im_report.proofs.counting.bases.Goals as goal
+
+pub loop-a-init : goal.loop-a-init
+loop-a-init c = sums_none _ 1
+
+pub loop-a-preserved : goal.loop-a-preserved
+loop-a-preserved c =
+    let cells = c.args.memory.now.contents.cells in
+    let begins = c.is_base.ensures ∙ ap (is_base c.args.kind c.loop-a.a) c.block.ensures in
+    sums_more _ 1 c.loop-a.a c.loop-a.count (c.loop-a.count + c.one_if-count.result)
+    (one_few (is_base c.args.kind c.loop-a.a (block_at cells c.loop-a.a))) c.loop-a.invariant
+    (ap (λ n. c.loop-a.count + n) (c.one_if-count.ensures.is ∙ ap (λ t. if t then 1 else 0) begins))
+
+pub returns : goal.returns
+returns c =
+    let all : c.loop-a.a ≡ length c.args.memory.now.contents.cells = omega arith in
+    c.loop-a.invariant.is ∙ ap (sum_below _) all

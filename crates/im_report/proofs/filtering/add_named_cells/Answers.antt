@@ -1,0 +1,17 @@
+use Rattle.std.proofs.Common.{◌++◌, ◌∙◌, ap, string_bytes}
+use Rattle.im_types.specs.Contents.{held_at, waiters_at}
+use Rattle.im_types.specs.Presences.{presence_in}
+use Rattle.im_text.proofs.TextLemmas.{written_none, written_more}
+use Rattle.im_report.specs.Report.{cell_line}
+use Rattle.im_report.specs.Look.{names_cell, text_if}
+use Rattle.im_report.proofs.filtering.add_named_cells.Goals as goal
+
+pub loop-a-init : goal.loop-a-init
+loop-a-init c = written_none _ _
+
+pub loop-a-preserved : goal.loop-a-preserved
+loop-a-preserved c = written_more _ _ _ _ _ c.loop-a.invariant
+    (c.in_ok-add_cell_if.ensures ∙ ap (λ w. string_bytes c.loop-a.out ++ text_if w (cell_line c.loop-a.a
+    (presence_in (held_at c.args.memory.now.contents.cells c.loop-a.a))
+    (waiters_at c.args.memory.now.contents.cells c.loop-a.a)))
+    (c.names_cell-wanted.ensures ∙ ap (names_cell c.args.filter.now c.loop-a.a) c.cell.ensures))

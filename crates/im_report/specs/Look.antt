@@ -1,0 +1,72 @@
+-- What is printed of an image, by what a person wants to see. (Own.)
+use Rattle.std.specs.Prelude.{ℕ, ◌+◌, List, [], ◌++◌, length, Bool, true, false, not, ◌&&◌, ◌||◌, ◌==◌, nat_le}
+use Rattle.std.specs.Prelude.{if◌then◌else◌, Option, None, Some, is_none, is_some, slice_get, Ok}
+use Rattle.std.specs.Io.KnownBytes.{Appends}
+use Rattle.im_types.specs.declared.cells.Cell.{Cell}
+use Rattle.im_types.specs.Contents.{Contents, held_at, waiters_at}
+use Rattle.im_types.specs.Header.{Header, header_of, layout_in}
+use Rattle.im_types.specs.Meaning.{Reads}
+use Rattle.im_types.specs.Presences.{presence_in}
+use Rattle.im_text.specs.Texts.{texts_below}
+use Rattle.im_report.specs.declared.look.Span.{Span}
+use Rattle.im_report.specs.declared.look.Filter.{Filter}
+use Rattle.im_report.specs.declared.look.Look.{Look}
+use Rattle.im_report.specs.declared.look.Look.TheVariants.{Report, Stat, StatJson}
+use Rattle.im_report.specs.Figures.{tag_of}
+use Rattle.im_report.specs.Report.{cell_line, report_text, window_text}
+use Rattle.im_report.specs.Stat.{stat_json, stat_text}
+
+-- a filter that asks for nothing
+abbrev pub is_whole : Filter → Bool
+is_whole f = is_none f.cells && is_none f.element && not f.waiting
+
+-- an address lies in a span; each does if there is none
+abbrev pub lies_in : ℕ → Option Span → Bool
+lies_in a None = true
+lies_in a (Some s) = nat_le s.from a && nat_le a s.to
+
+-- somebody waits for a cell
+abbrev pub is_awaited : Option Cell → Bool
+is_awaited None = false
+is_awaited (Some cell) = tag_of cell == 1
+
+-- a filter that asks for cells names the line of this one
+abbrev pub names_cell : Filter → ℕ → Option Cell → Bool
+names_cell f a cell = (is_some f.cells || f.waiting) && lies_in a f.cells && (not f.waiting || is_awaited cell)
+
+-- a filter names the lines of an element
+abbrev pub names_element : Option ℕ → ℕ → Bool
+names_element None k = false
+names_element (Some element) k = element == k
+
+-- a text, if it is wanted
+abbrev pub text_if : Bool → List ℕ → List ℕ
+text_if wanted text = if wanted then text else []
+
+-- the lines of the cells that a filter names, by address
+abbrev pub named_cells : Filter → Contents → List ℕ
+named_cells f m = texts_below (λ a. text_if (names_cell f a (presence_in (held_at m.cells a)))
+    (cell_line a (presence_in (held_at m.cells a)) (waiters_at m.cells a))) (length m.cells)
+
+-- the lines of the element that a filter names
+abbrev pub named_elements : Filter → Contents → List ℕ
+named_elements f m = texts_below (λ k. text_if (names_element f.element k) (window_text k (slice_get m.windows k)))
+    (length m.windows)
+
+-- the lines of a report that a filter names
+abbrev pub filtered_text : Filter → Header → ℕ → ℕ → Contents → List ℕ
+filtered_text f h run room m = if is_whole f then report_text h run room m else named_cells f m ++ named_elements f m
+
+-- what is printed
+abbrev pub looked_text : Look → Header → ℕ → ℕ → Contents → List ℕ
+looked_text (Report f) h run room m = filtered_text f h run room m
+looked_text Stat h run room m = stat_text h run room m
+looked_text StatJson h run room m = stat_json h run room m
+
+-- The bytes of a file mean a memory, and what is wanted of it, with the header in force, was written.
+pub record Looks (look : Look) (file : List ℕ) (was now : Option (List ℕ)) : Type 0 where
+  pub memory : Contents
+  pub run : ℕ
+  pub room : ℕ
+  pub reads : Reads (layout_in file) file (Ok (record { contents = memory; count = (header_of file).count + run; room = room }))
+  pub added : Appends was now (looked_text look (header_of file) run room memory)

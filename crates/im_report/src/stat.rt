@@ -1,0 +1,180 @@
+//! The statistic of an image, line by line.
+ghost use Rattle.std.specs.Prelude.{◌≡◌, ◌++◌, OnOk, string_bytes};
+ghost use Rattle.im_image.specs.Headers.{seen};
+ghost use Rattle.im_report.specs.Figures.{free_figures, kind_figures, queue_figures, window_figures};
+ghost use Rattle.im_report.specs.Stat.{blocks_part, count_line, free_line, kind_line, member, next_line, other_area, pages_of, queue_line};
+ghost use Rattle.im_report.specs.Stat.{slots_line, stale_slots, stat_head, states_part, stat_memory, stat_text, window_line};
+
+use crate::counting::{count_free, count_kind, count_queues, count_windows};
+use crate::figures::KindFigures;
+use crate::report::{add_header, add_limits, add_version};
+use im_image::{Header, Report};
+use im_memory::Memory;
+use im_text::kind_text;
+use im_types::Kind;
+use std::alloc::AllocError;
+
+/// Returns how many slots of the journal are neither of the run nor room.
+pub(crate) fn stale_slots(header: &Header, run: u64, room: u32) -> u64
+    ensures { result ≡ stale_slots (seen header.now) run room }
+{
+    let slots = u64::from(header.limits.slots);
+    slots.saturating_sub(run).saturating_sub(u64::from(room))
+}
+
+/// Returns the area that the next checkpoint writes.
+pub(crate) fn other_area(header: &Header) -> u8
+    ensures { result ≡ other_area (seen header.now) }
+{
+    if header.area == 0 { 1 } else { 0 }
+}
+
+/// Returns the number of pages that the first checkpoint after an opening writes.
+pub(crate) fn pages_of(header: &Header) -> usize
+    ensures { result ≡ pages_of (seen header.now) }
+{
+    header.layout().area_pages(header.limits)
+}
+
+/// Adds a text.
+pub(crate) fn add_text(out: &mut String, text: &str) -> Result<(), AllocError>
+    ensures { OnOk result (string_bytes out.new ≡ string_bytes out.old ++ text.now) }
+{
+    out.push_str(text)
+}
+
+/// Adds a word, and a number behind it.
+#[tactic(auto, unfolding(crate::specs::Stat::member))]
+pub(crate) fn add_member(out: &mut String, word: &str, number: u64) -> Result<(), AllocError>
+    ensures { OnOk result (string_bytes out.new ≡ string_bytes out.old ++ member word.now number) }
+{
+    write!(out, "{word}{number}")
+}
+
+/// Adds the line of the journal's slots.
+fn add_slots(out: &mut String, header: &Header, run: u64, room: u32) -> Result<(), AllocError>
+    ensures { OnOk result (string_bytes out.new ≡ string_bytes out.old
+        ++ slots_line (seen header.now) run room) }
+{
+    add_member(out, "journal ", run)?;
+    add_member(out, " room ", u64::from(room))?;
+    add_member(out, " stale ", stale_slots(header, run, room))?;
+    add_text(out, "\n")
+}
+
+/// Adds the line of the commands so far.
+fn add_count(out: &mut String, header: &Header, run: u64) -> Result<(), AllocError>
+    ensures { OnOk result (string_bytes out.new ≡ string_bytes out.old ++ count_line (seen header.now) run) }
+{
+    let count = u128::from(header.count) + u128::from(run);
+    writeln!(out, "count {count}")
+}
+
+/// Adds the line of what the next checkpoint writes. An image of the first version has none.
+fn add_next(out: &mut String, header: &Header) -> Result<(), AllocError>
+    ensures { OnOk result (string_bytes out.new ≡ string_bytes out.old ++ next_line (seen header.now)) }
+{
+    if header.is_old() {
+        return Ok(());
+    }
+    let area = other_area(header);
+    let pages = pages_of(header);
+    writeln!(out, "next area {area} pages {pages}")
+}
+
+// Adds the blocks of one kind and their empty cells.
+fn add_blocks(out: &mut String, kind: Kind, f: &KindFigures) -> Result<(), AllocError>
+    ensures { OnOk result (string_bytes out.new ≡ string_bytes out.old ++ blocks_part kind f.now) }
+{
+    add_text(out, kind_text(kind))?;
+    add_member(out, " blocks ", f.blocks)?;
+    add_member(out, " empty ", f.empty)
+}
+
+// Adds their other cells.
+fn add_states(out: &mut String, f: &KindFigures) -> Result<(), AllocError>
+    ensures { OnOk result (string_bytes out.new ≡ string_bytes out.old ++ states_part f.now) }
+{
+    add_member(out, " waiting ", f.waiting)?;
+    add_member(out, " full ", f.full)?;
+    add_member(out, " clashed ", f.clashed)?;
+    add_text(out, "\n")
+}
+
+/// Adds the line of the blocks of one kind and of their cells.
+fn add_kind(out: &mut String, memory: &Memory, kind: Kind) -> Result<(), AllocError>
+    ensures { OnOk result (string_bytes out.new ≡ string_bytes out.old
+        ++ kind_line kind (kind_figures memory.now.contents kind)) }
+{
+    let f = count_kind(memory, kind);
+    add_blocks(out, kind, &f)?;
+    add_states(out, &f)
+}
+
+/// Adds the line of the cells in no block.
+fn add_free(out: &mut String, memory: &Memory) -> Result<(), AllocError>
+    ensures { OnOk result (string_bytes out.new ≡ string_bytes out.old
+        ++ free_line (free_figures memory.now.contents)) }
+{
+    let f = count_free(memory);
+    add_member(out, "free ", f.cells)?;
+    add_member(out, " holes ", f.holes)?;
+    add_member(out, " longest ", f.longest)?;
+    add_text(out, "\n")
+}
+
+/// Adds the line of the requests that wait.
+fn add_queue(out: &mut String, memory: &Memory) -> Result<(), AllocError>
+    ensures { OnOk result (string_bytes out.new ≡ string_bytes out.old
+        ++ queue_line (queue_figures memory.now.contents)) }
+{
+    let f = count_queues(memory);
+    add_member(out, "waiting ", f.requests)?;
+    add_member(out, " longest ", f.longest)?;
+    add_member(out, " at ", u64::from(f.at))?;
+    add_text(out, "\n")
+}
+
+/// Adds the line of the windows.
+fn add_window(out: &mut String, memory: &Memory) -> Result<(), AllocError>
+    ensures { OnOk result (string_bytes out.new ≡ string_bytes out.old
+        ++ window_line (window_figures memory.now.contents)) }
+{
+    let f = count_windows(memory);
+    add_member(out, "windows ", f.asked)?;
+    add_member(out, " kept ", f.kept)?;
+    add_member(out, " full ", f.full)?;
+    add_text(out, "\n")
+}
+
+/// Adds the lines of the header and the journal.
+fn add_head(out: &mut String, header: &Header, run: u64, room: u32) -> Result<(), AllocError>
+    ensures { OnOk result (string_bytes out.new ≡ string_bytes out.old ++ stat_head (seen header.now) run room) }
+{
+    add_version(out, header)?;
+    add_limits(out, header)?;
+    add_header(out, header)?;
+    add_slots(out, header, run, room)?;
+    add_count(out, header, run)?;
+    add_next(out, header)
+}
+
+/// Adds the lines of the memory.
+fn add_memory(out: &mut String, memory: &Memory) -> Result<(), AllocError>
+    ensures { OnOk result (string_bytes out.new ≡ string_bytes out.old ++ stat_memory memory.now.contents) }
+{
+    add_kind(out, memory, Kind::I)?;
+    add_kind(out, memory, Kind::M)?;
+    add_free(out, memory)?;
+    add_queue(out, memory)?;
+    add_window(out, memory)
+}
+
+/// Adds the statistic of an image.
+pub fn add_stat(out: &mut String, report: &Report) -> Result<(), AllocError>
+    ensures { OnOk result (string_bytes out.new ≡ string_bytes out.old
+        ++ stat_text (seen report.now.header) report.now.run report.now.room report.now.memory.contents) }
+{
+    add_head(out, &report.header, report.run, report.room)?;
+    add_memory(out, &report.memory)
+}

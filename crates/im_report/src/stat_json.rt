@@ -1,0 +1,198 @@
+//! The statistic of an image, as an object of JSON.
+ghost use Rattle.std.specs.Prelude.{◌≡◌, ◌++◌, OnOk, string_bytes};
+ghost use Rattle.im_image.specs.Headers.{seen};
+ghost use Rattle.im_report.specs.Figures.{free_figures, kind_figures, queue_figures, window_figures};
+ghost use Rattle.im_report.specs.Stat.{blocks_json, count_json, free_json, head_json, header_json, kind_json, memory_json};
+ghost use Rattle.im_report.specs.Stat.{next_json, pages_json, queue_json, ring_json, sizes_json, slots_json, stat_json, states_json, window_json};
+
+use crate::counting::{count_free, count_kind, count_queues, count_windows};
+use crate::figures::{FreeFigures, KindFigures, QueueFigures, WindowFigures};
+use crate::stat::{add_member, add_text, other_area, pages_of, stale_slots};
+use im_image::{Header, Report};
+use im_memory::Memory;
+use im_text::kind_text;
+use im_types::Kind;
+use std::alloc::AllocError;
+
+/// Adds the version and the sizes.
+fn add_sizes(out: &mut String, header: &Header) -> Result<(), AllocError>
+    ensures { OnOk result (string_bytes out.new ≡ string_bytes out.old ++ sizes_json (seen header.now)) }
+{
+    add_member(out, "{\"version\":", header.version as u64)?;
+    add_member(out, ",\"limits\":{\"cells\":", header.limits.cells as u64)?;
+    add_member(out, ",\"elements\":", header.limits.elements as u64)?;
+    add_member(out, ",\"slots\":", header.limits.slots as u64)?;
+    add_text(out, "}")
+}
+
+/// Adds the header in force.
+fn add_header(out: &mut String, header: &Header) -> Result<(), AllocError>
+    ensures { OnOk result (string_bytes out.new ≡ string_bytes out.old ++ header_json (seen header.now)) }
+{
+    add_member(out, ",\"header\":{\"area\":", header.area as u64)?;
+    add_member(out, ",\"generation\":\"", header.generation)?;
+    add_member(out, "\",\"count\":\"", header.count)?;
+    add_text(out, "\"}")
+}
+
+// Adds how many slots of the journal are in each state.
+fn add_ring(out: &mut String, run: u64, room: u32, stale: u64) -> Result<(), AllocError>
+    ensures { OnOk result (string_bytes out.new ≡ string_bytes out.old ++ ring_json run room stale) }
+{
+    add_member(out, ",\"journal\":{\"run\":", run)?;
+    add_member(out, ",\"room\":", room as u64)?;
+    add_member(out, ",\"stale\":", stale)?;
+    add_text(out, "}")
+}
+
+/// Adds the journal's slots.
+fn add_slots(out: &mut String, header: &Header, run: u64, room: u32) -> Result<(), AllocError>
+    ensures { OnOk result (string_bytes out.new ≡ string_bytes out.old ++ slots_json (seen header.now) run room) }
+{
+    add_ring(out, run, room, stale_slots(header, run, room))
+}
+
+/// Adds the commands so far.
+fn add_count(out: &mut String, header: &Header, run: u64) -> Result<(), AllocError>
+    ensures { OnOk result (string_bytes out.new ≡ string_bytes out.old ++ count_json (seen header.now) run) }
+{
+    let count = u128::from(header.count) + u128::from(run);
+    write!(out, ",\"count\":\"{count}\"")
+}
+
+/// Adds the area that the next checkpoint writes, and how many pages.
+fn add_pages(out: &mut String, area: u8, pages: usize) -> Result<(), AllocError>
+    ensures { OnOk result (string_bytes out.new ≡ string_bytes out.old ++ pages_json area pages) }
+{
+    add_member(out, ",\"next\":{\"area\":", area as u64)?;
+    add_member(out, ",\"pages\":", pages as u64)?;
+    add_text(out, "}")
+}
+
+/// Adds what the next checkpoint writes.
+fn add_next(out: &mut String, header: &Header) -> Result<(), AllocError>
+    ensures { OnOk result (string_bytes out.new ≡ string_bytes out.old ++ next_json (seen header.now)) }
+{
+    if header.is_old() {
+        return out.push_str(",\"next\":null");
+    }
+    add_pages(out, other_area(header), pages_of(header))
+}
+
+// Adds the blocks of one kind and their empty cells.
+fn add_blocks(out: &mut String, kind: Kind, f: &KindFigures) -> Result<(), AllocError>
+    ensures { OnOk result (string_bytes out.new ≡ string_bytes out.old ++ blocks_json kind f.now) }
+{
+    add_text(out, ",\"")?;
+    add_text(out, kind_text(kind))?;
+    add_member(out, "\":{\"blocks\":", f.blocks)?;
+    add_member(out, ",\"empty\":", f.empty)
+}
+
+// Adds their other cells.
+fn add_states(out: &mut String, f: &KindFigures) -> Result<(), AllocError>
+    ensures { OnOk result (string_bytes out.new ≡ string_bytes out.old ++ states_json f.now) }
+{
+    add_member(out, ",\"waiting\":", f.waiting)?;
+    add_member(out, ",\"full\":", f.full)?;
+    add_member(out, ",\"clashed\":", f.clashed)?;
+    add_text(out, "}")
+}
+
+/// Adds the blocks of one kind and their cells.
+fn add_kind(out: &mut String, memory: &Memory, kind: Kind) -> Result<(), AllocError>
+    ensures { OnOk result (string_bytes out.new ≡ string_bytes out.old
+        ++ kind_json kind (kind_figures memory.now.contents kind)) }
+{
+    let f = count_kind(memory, kind);
+    add_blocks(out, kind, &f)?;
+    add_states(out, &f)
+}
+
+// Adds the numbers of the cells in no block.
+fn add_holes(out: &mut String, f: &FreeFigures) -> Result<(), AllocError>
+    ensures { OnOk result (string_bytes out.new ≡ string_bytes out.old ++ free_json f.now) }
+{
+    add_member(out, ",\"free\":{\"cells\":", f.cells)?;
+    add_member(out, ",\"holes\":", f.holes)?;
+    add_member(out, ",\"longest\":", f.longest)?;
+    add_text(out, "}")
+}
+
+/// Adds the cells in no block.
+fn add_free(out: &mut String, memory: &Memory) -> Result<(), AllocError>
+    ensures { OnOk result (string_bytes out.new ≡ string_bytes out.old
+        ++ free_json (free_figures memory.now.contents)) }
+{
+    let f = count_free(memory);
+    add_holes(out, &f)
+}
+
+// Adds the numbers of the requests that wait.
+fn add_requests(out: &mut String, f: &QueueFigures) -> Result<(), AllocError>
+    ensures { OnOk result (string_bytes out.new ≡ string_bytes out.old ++ queue_json f.now) }
+{
+    add_member(out, ",\"waiting\":{\"requests\":", f.requests)?;
+    add_member(out, ",\"longest\":", f.longest)?;
+    add_member(out, ",\"at\":", f.at as u64)?;
+    add_text(out, "}")
+}
+
+/// Adds the requests that wait.
+fn add_queue(out: &mut String, memory: &Memory) -> Result<(), AllocError>
+    ensures { OnOk result (string_bytes out.new ≡ string_bytes out.old
+        ++ queue_json (queue_figures memory.now.contents)) }
+{
+    let f = count_queues(memory);
+    add_requests(out, &f)
+}
+
+// Adds the numbers of the windows, and ends the object.
+fn add_entries(out: &mut String, f: &WindowFigures) -> Result<(), AllocError>
+    ensures { OnOk result (string_bytes out.new ≡ string_bytes out.old ++ window_json f.now) }
+{
+    add_member(out, ",\"windows\":{\"asked\":", f.asked)?;
+    add_member(out, ",\"kept\":", f.kept)?;
+    add_member(out, ",\"full\":", f.full)?;
+    add_text(out, "}}\n")
+}
+
+/// Adds the windows, and ends the object.
+fn add_window(out: &mut String, memory: &Memory) -> Result<(), AllocError>
+    ensures { OnOk result (string_bytes out.new ≡ string_bytes out.old
+        ++ window_json (window_figures memory.now.contents)) }
+{
+    let f = count_windows(memory);
+    add_entries(out, &f)
+}
+
+/// Adds the members of the header and the journal.
+fn add_head(out: &mut String, header: &Header, run: u64, room: u32) -> Result<(), AllocError>
+    ensures { OnOk result (string_bytes out.new ≡ string_bytes out.old ++ head_json (seen header.now) run room) }
+{
+    add_sizes(out, header)?;
+    add_header(out, header)?;
+    add_slots(out, header, run, room)?;
+    add_count(out, header, run)?;
+    add_next(out, header)
+}
+
+/// Adds the members of the memory.
+fn add_memory(out: &mut String, memory: &Memory) -> Result<(), AllocError>
+    ensures { OnOk result (string_bytes out.new ≡ string_bytes out.old ++ memory_json memory.now.contents) }
+{
+    add_kind(out, memory, Kind::I)?;
+    add_kind(out, memory, Kind::M)?;
+    add_free(out, memory)?;
+    add_queue(out, memory)?;
+    add_window(out, memory)
+}
+
+/// Adds the statistic of an image as an object of JSON, on one line.
+pub fn add_stat_json(out: &mut String, report: &Report) -> Result<(), AllocError>
+    ensures { OnOk result (string_bytes out.new ≡ string_bytes out.old
+        ++ stat_json (seen report.now.header) report.now.run report.now.room report.now.memory.contents) }
+{
+    add_head(out, &report.header, report.run, report.room)?;
+    add_memory(out, &report.memory)
+}
