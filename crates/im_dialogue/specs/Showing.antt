@@ -13,7 +13,8 @@ use Rattle.im_types.specs.Window.{bounds}
 use Rattle.im_types.specs.Presences.{presence_in}
 use Rattle.im_text.specs.Texts.{kind_text, line_feed}
 use Rattle.im_dialogue.specs.declared.sort.Sort.TheVariants.{Base, Empty, Waiting, Full, Clashed}
-use Rattle.im_dialogue.specs.Counting.{many_cells, many_kept, many_deferred}
+use Rattle.im_report.specs.Figures.{queue_figures, window_figures}
+use Rattle.im_dialogue.specs.Counting.{many_cells}
 
 -- ---- a request and what is kept for it
 
@@ -73,9 +74,10 @@ abbrev pub states_said : Contents → List ℕ
 states_said m = codes " empty " ++ decimal (many_cells Empty m) ++ codes " waiting " ++ decimal (many_cells Waiting m)
     ++ codes " full " ++ decimal (many_cells Full m) ++ codes " clashed " ++ decimal (many_cells Clashed m)
 
--- kept K deferred D: how many entries are kept, and how many of them wait
+-- kept K deferred D: how many entries are kept, and how many requests wait
 abbrev pub entries_said : Contents → List ℕ
-entries_said m = codes " kept " ++ decimal (many_kept m) ++ codes " deferred " ++ decimal (many_deferred m) ++ line_feed
+entries_said m = codes " kept " ++ decimal (window_figures m).kept ++ codes " deferred "
+    ++ decimal (queue_figures m).requests ++ line_feed
 
 -- what `stat` says of a memory
 abbrev pub stat_line : Contents → List ℕ

@@ -7,10 +7,11 @@ ghost use Rattle.im_dialogue.specs.Showing.{block_said, blocks_said, cell_said, 
 ghost use Rattle.im_dialogue.specs.Showing.{queue_text, recall, stat_line, state_text, states_said};
 
 use crate::answers::{add_kept, add_operation, add_request_refused};
-use crate::counting::{count_cells, count_deferred, count_kept};
+use crate::counting::count_cells;
 use crate::look::Look;
 use crate::sort::Sort;
 use im_memory::Memory;
+use im_report::{count_queues, count_windows};
 use im_text::kind_text;
 use im_types::{Block, Cell, Kept, Refusal, Waiter};
 use std::alloc::AllocError;
@@ -146,8 +147,8 @@ fn add_states(out: &mut String, memory: &Memory) -> Result<(), AllocError>
 fn add_entries(out: &mut String, memory: &Memory) -> Result<(), AllocError>
     ensures { OnOk result (string_bytes out.new ≡ string_bytes out.old ++ entries_said memory.now.contents) }
 {
-    let kept = count_kept(memory);
-    let deferred = count_deferred(memory);
+    let kept = count_windows(memory).kept;
+    let deferred = count_queues(memory).requests;
     write!(out, " kept {kept} deferred {deferred}\n")
 }
 

@@ -159,7 +159,7 @@ fn first_most(at: u32, longest: u64, a: u32, queue: u64) -> u32
 }
 
 /// Counts the requests that wait, and finds the longest queue.
-pub(crate) fn count_queues(memory: &Memory) -> QueueFigures
+pub fn count_queues(memory: &Memory) -> QueueFigures
     ensures { result ≡ queue_figures memory.now.contents }
 {
     let mut requests = 0;
@@ -201,7 +201,7 @@ fn has_asked(memory: &Memory, element: u16) -> bool
 }
 
 /// Counts the windows in use, their entries, and the windows that are full.
-pub(crate) fn count_windows(memory: &Memory) -> WindowFigures
+pub fn count_windows(memory: &Memory) -> WindowFigures
     ensures { result ≡ window_figures memory.now.contents }
 {
     let mut asked = 0;

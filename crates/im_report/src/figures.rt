@@ -28,22 +28,22 @@ pub(crate) struct FreeFigures {
 
 /// The numbers of the requests that wait.
 #[derive(Clone, Copy, Debug, PartialEq, Eq)]
-pub(crate) struct QueueFigures {
+pub struct QueueFigures {
     /// The number of these requests.
-    pub(crate) requests: u64,
+    pub requests: u64,
     /// How many of them wait at the cell with the longest queue.
-    pub(crate) longest: u64,
+    pub longest: u64,
     /// The lowest address of such a cell.
-    pub(crate) at: u32,
+    pub at: u32,
 }
 
 /// The numbers of the windows.
 #[derive(Clone, Copy, Debug, PartialEq, Eq)]
-pub(crate) struct WindowFigures {
+pub struct WindowFigures {
     /// The number of elements that have asked anything.
-    pub(crate) asked: u64,
+    pub asked: u64,
     /// The number of entries that are kept.
-    pub(crate) kept: u64,
+    pub kept: u64,
     /// The number of windows that have no room for another request.
-    pub(crate) full: u64,
+    pub full: u64,
 }

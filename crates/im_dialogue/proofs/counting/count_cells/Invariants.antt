@@ -1,5 +1,6 @@
 use Rattle.std.proofs.Common.{◌≡◌, ◌≤◌}
-use Rattle.im_dialogue.specs.Counting.{counted_at, sum_below}
+use Rattle.im_report.specs.Figures.{sum_below}
+use Rattle.im_dialogue.specs.Counting.{counted_at}
 use Rattle.im_dialogue.proofs.counting.count_cells.Given as goal
 
 abbrev pub invariant-loop-a : goal.invariant-loop-a
