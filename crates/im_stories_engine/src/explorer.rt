@@ -7,21 +7,22 @@ use crate::walks::Walk;
 use anyhow::{Result, anyhow};
 use arrayvec::ArrayVec;
 use im_disk::{Crash, FuseDisk};
-use im_engine::{Engine, are_apart};
+use im_engine::Engine;
 use im_plain::PlainMemory;
-use im_types::{Command, Limits, Outcome, Refusal, Request, Served};
+use im_types::{Command, Limits, Outcome, Refusal, Served};
 use std::alloc::Global;
 
 /// The cells of the memory.
 pub const CELLS: u32 = 24;
 
 /// What was answered: the memory after it, and how many commands that is. It also has the commands of the last call,
-/// which are in doubt: all of them or none are on the disk.
+/// which are in doubt, and the room for them: all that are accepted and have room are on the disk, or none.
 #[derive(Drop)]
 pub struct Answered {
     plain: PlainMemory,
     count: u64,
     doubt: ArrayVec<Command, 16>,
+    room: usize,
 }
 
 /// Starts with nothing answered.
@@ -30,6 +31,7 @@ pub fn nothing(alloc: Global, limits: Limits) -> Result<Answered> {
         plain: PlainMemory::new(alloc, limits)?,
         count: 0,
         doubt: ArrayVec::new(),
+        room: 0,
     })
 }
 
@@ -69,6 +71,7 @@ fn serves(engine: &mut Engine<FuseDisk>, known: &mut Answered, command: Command)
             let mut doubt = ArrayVec::new();
             doubt.push(command);
             known.doubt = doubt;
+            known.room = 1;
             Ok(false)
         }
         Err(Refusal::JournalFull) if is_accepted && engine.room() == 0 => Ok(true),
@@ -82,20 +85,22 @@ fn serves(engine: &mut Engine<FuseDisk>, known: &mut Answered, command: Command)
     }
 }
 
-// Returns the commands of those members that are accepted and find room. None of them acts.
-fn accepted(
-    plain: &PlainMemory,
-    members: &ArrayVec<Request, 16>,
-    room: usize,
-) -> ArrayVec<Command, 16> {
-    let mut commands = ArrayVec::new();
-    for member in members.as_slice() {
-        let command = Command::Request(*member);
-        if commands.len() < room && plain.judge(&command) == Ok(true) {
-            let _is_full = commands.try_push(command);
-        }
+// Returns whether one of these commands is accepted if they act one after another.
+fn is_one_accepted(plain: &PlainMemory, members: &[Command]) -> bool {
+    let mut found = false;
+    for member in members {
+        found = found || plain.judge(member) == Ok(true);
     }
-    commands
+    found
+}
+
+// Returns the first commands of a group.
+fn first(members: &ArrayVec<Command, 16>, count: usize) -> ArrayVec<Command, 16> {
+    let mut taken = ArrayVec::new();
+    for member in members.as_slice().iter().take(count) {
+        let _is_full = taken.try_push(*member);
+    }
+    taken
 }
 
 // Returns what a member of a group has to be answered, given how many may still be accepted. The plain memory has it
@@ -120,32 +125,38 @@ fn is_answer(served: Served, answer: Result<Outcome, Refusal>) -> bool {
     }
 }
 
-// Serves a group, whose members have to be answered as by the plain memory one after another. Returns whether the disk
-// still works.
+// Returns whether a group ends where it may: behind its last member, or behind another and before a confirmation.
+fn ends_well(members: &[Command], count: usize) -> bool {
+    match members.get(count) {
+        None => true,
+        Some(next) => count > 0 && matches!(next, Command::Confirm { .. }),
+    }
+}
+
+// Serves a group, whose members have to be answered as by the plain memory one after another. Those behind its end are
+// dropped. Returns whether the disk still works.
 fn serves_group(
     engine: &mut Engine<FuseDisk>,
     known: &mut Answered,
-    members: &ArrayVec<Request, 16>,
+    members: &ArrayVec<Command, 16>,
 ) -> Result<bool> {
-    if !are_apart(members.as_slice()) {
-        return Err(anyhow!("two requests of one element"));
-    }
-    let room = engine.room() as usize;
-    let commands = accepted(&known.plain, members, room);
+    let mut left = engine.room() as usize;
     let mut served = ArrayVec::new();
-    engine.serve_group(members, &mut served);
-    if !commands.is_empty() && are_refused(&served, Refusal::Device) {
-        known.doubt = commands;
+    engine.serve_commands(members, &mut served);
+    let taken = first(members, served.len());
+    let acts = left > 0 && is_one_accepted(&known.plain, taken.as_slice());
+    if acts && are_refused(&served, Refusal::Device) {
+        known.doubt = taken;
+        known.room = left;
         return Ok(false);
     }
-    let mut left = room;
-    for (member, answer) in members.as_slice().iter().zip(served.as_slice()) {
-        if !is_answer(
-            *answer,
-            expected(known, Command::Request(*member), &mut left),
-        ) {
+    for (member, answer) in taken.as_slice().iter().zip(served.as_slice()) {
+        if !is_answer(*answer, expected(known, *member, &mut left)) {
             return Err(anyhow!("a member is answered otherwise"));
         }
+    }
+    if !ends_well(members.as_slice(), served.len()) {
+        return Err(anyhow!("a group ends too early"));
     }
     Ok(true)
 }
@@ -164,7 +175,7 @@ fn goes(engine: &mut Engine<FuseDisk>, known: &mut Answered, walk: &mut Walk) ->
             serves_group(engine, known, &members)
         }
         _ => {
-            let command = walk.command(&known.plain, CELLS);
+            let command = walk.command(&known.plain, &[], CELLS);
             serves(engine, known, command)
         }
     }
@@ -190,9 +201,9 @@ pub fn goes_on(
 /// then on.
 pub fn has_all(engine: &Engine<FuseDisk>, known: &mut Answered, limits: Limits) -> Result<()> {
     if engine.count() != known.count {
-        for command in known.doubt.as_slice() {
-            let _answer = known.plain.step(command);
-            known.count = known.count.saturating_add(1);
+        let mut left = known.room;
+        for command in first(&known.doubt, 16).as_slice() {
+            let _answer = expected(known, *command, &mut left);
         }
     }
     known.doubt = ArrayVec::new();

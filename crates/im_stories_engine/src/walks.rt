@@ -20,13 +20,20 @@ struct Asker {
     next: u64,
 }
 
-fn asker_of(plain: &PlainMemory, element: u16) -> Asker {
+// Returns the window of an element behind the commands that go before it: they take that many of its numbers.
+fn asker_behind(plain: &PlainMemory, before: &[Command], element: u16) -> Asker {
     let (base, next) = plain.window(element).unwrap_or((1, 1));
-    Asker {
+    let mut asker = Asker {
         element,
         base,
         next,
+    };
+    for command in before {
+        if matches!(command, Command::Request(request) if request.element == element) {
+            asker.next = asker.next.saturating_add(1);
+        }
     }
+    asker
 }
 
 impl Walk {
@@ -103,15 +110,11 @@ impl Walk {
         }
     }
 
-    // Returns a request of an element.
-    fn request(&mut self, plain: &PlainMemory, element: u16, cells: u32) -> Request {
-        self.asked(plain, asker_of(plain, element), cells)
-    }
-
-    /// Returns a command of an element of a memory, or of one element more. One in five confirms.
-    pub fn command(&mut self, plain: &PlainMemory, cells: u32) -> Command {
+    /// Returns a command of an element of a memory, or of one element more, behind commands that haven't acted yet. One
+    /// in five confirms.
+    pub fn command(&mut self, plain: &PlainMemory, before: &[Command], cells: u32) -> Command {
         let element = self.below(plain.elements() as u64 + 1) as u16;
-        let asker = asker_of(plain, element);
+        let asker = asker_behind(plain, before, element);
         if self.below(5) == 0 {
             let upto = asker.base.saturating_add(self.below(18));
             return Command::Confirm { element, upto };
@@ -119,17 +122,12 @@ impl Walk {
         Command::Request(self.asked(plain, asker, cells))
     }
 
-    /// Returns at most one request for each element of a memory, each of another element of it, or of one element more.
-    /// Memories have six or sixteen elements here. Seven and seventeen are prime numbers, so any step goes through all
-    /// of them.
-    pub fn group(&mut self, plain: &PlainMemory, cells: u32) -> ArrayVec<Request, 16> {
+    /// Returns up to sixteen commands of any elements, some of one element: each behind those before it.
+    pub fn group(&mut self, plain: &PlainMemory, cells: u32) -> ArrayVec<Command, 16> {
         let mut members = ArrayVec::new();
-        let elements = if plain.elements() == 6 { 6 } else { 16 };
-        let step = self.below(elements) + 1;
-        let mut element = self.below(elements + 1);
-        for _ in 0..self.below(elements) + 1 {
-            element = element.wrapping_add(step) % (elements + 1);
-            let _is_full = members.try_push(self.request(plain, element as u16, cells));
+        for _ in 0..self.below(16) + 1 {
+            let member = self.command(plain, members.as_slice(), cells);
+            let _is_full = members.try_push(member);
         }
         members
     }

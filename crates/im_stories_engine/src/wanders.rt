@@ -49,7 +49,7 @@ fn walk_both(fast: &mut Memory, plain: &mut PlainMemory, commands: u64, seed: u6
     let mut walk = Walk::new(seed);
     let mut accepted: u64 = 0;
     for turn in 0..commands {
-        let command = walk.command(plain, CELLS);
+        let command = walk.command(plain, &[], CELLS);
         if step_both(fast, plain, command)? {
             accepted = accepted.saturating_add(1);
         }
