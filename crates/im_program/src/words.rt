@@ -270,10 +270,14 @@ Each request has a number, and a request that is sent again acts only once:
   entry E.N             what it asked, and the reply that is kept for it now
   confirm E UPTO        drop E's entries below UPTO: 'E confirmed UPTO'
   window E              'E window BASE NEXT': the first number that is kept, and the next new one
+  cell A                'cell A KIND STATE', with its value or all that wait at it, in order
+  block A               'block BASE KIND LENGTH': the block that A lies in
+  stat                  how many blocks, cells of each state, and kept entries there are
   room                  how many more commands there is room for
   turn                  one turn of a checkpoint
   count                 how many commands there have been
   about                 the version of the layout, the sizes, the count and the room
+  help                  these lines, in one
   quit                  the end
 Any other line is answered 'error LINE: ' and what was expected, and changes nothing. With --watch, a
 request that waited prints 'E.N now REPLY' right after the line that brought its answer.

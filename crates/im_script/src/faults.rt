@@ -77,7 +77,7 @@ impl Expected {
             Expected::Ascii => "ASCII",
             Expected::AsciiRemark => "ASCII, in a remark as elsewhere,",
             Expected::Asked =>
-                "E.N, collect, entry, confirm, window, room, turn, count, about or quit",
+                "E.N, collect, entry, confirm, window, cell, block, stat, room, turn, count, about, help or quit",
             Expected::Waiter => {
                 "E.N, with an element's number E from 0 to 65535 and a request's number N,"
             }
