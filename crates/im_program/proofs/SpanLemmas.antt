@@ -5,7 +5,7 @@ use Rattle.std.specs.List.{before_first, after_first, position_or_len}
 use Rattle.std.proofs.lemmas.Bool.Decides.{nat_tests}
 use Rattle.std.proofs.lemmas.Str.Pattern.{split_once_first, IsSplitOnceResult}
 use Rattle.im_report.specs.declared.look.Span.{Span}
-use Rattle.im_program.specs.Words.{is_dash, span_in, span_of}
+use Rattle.im_program.specs.Words.{is_dash, span_in, span_between}
 
 is_below : (a b : ℕ) → a < b → nat_lt a b ≡ true
 is_below a b less = grind (arith, nat_tests)
@@ -14,16 +14,16 @@ not_below_itself : (a b : ℕ) → a ≡ b → nat_lt a b ≡ false
 not_below_itself a b same = grind (arith, nat_tests)
 
 abbrev parts : List ℕ → Option Span
-parts bs = span_of (before_first is_dash bs) (after_first is_dash bs)
+parts bs = span_between (before_first is_dash bs) (after_first is_dash bs)
 
 -- the parts round the dash
 pub span_found : (bs : List ℕ) (r : Option (Bor (List ℕ) × Bor (List ℕ))) → IsSplitOnceResult 45 bs r
-    → (x : Bor (List ℕ) × Bor (List ℕ)) → r ≡ Some x → span_of x.0.now x.1.now ≡ span_in bs
+    → (x : Bor (List ℕ) × Bor (List ℕ)) → r ≡ Some x → span_between x.0.now x.1.now ≡ span_in bs
 span_found bs None h x is = absurd (cc)
 span_found bs (Some y) h x is =
     let same : x ≡ y = cc in
     let m = split_once_first 45 bs (Some y) h (omega arith) in
-    ap (λ (z : Bor (List ℕ) × Bor (List ℕ)). span_of z.0.now z.1.now) same ∙ ap₂ span_of m.1 m.2
+    ap (λ (z : Bor (List ℕ) × Bor (List ℕ)). span_between z.0.now z.1.now) same ∙ ap₂ span_between m.1 m.2
     ∙ sym (ap (λ (t : Bool). if t then parts bs else None) (is_below (position_or_len is_dash bs) (length bs) m.0))
 
 -- no dash

@@ -188,8 +188,8 @@ abbrev pub serve_task : List Row → Task
 serve_task rows = serve (path_in rows (codes "IMAGE")) (is_given rows (codes "watch"))
 
 -- the addresses from one number to another, if both are in decimal digits below 2^32 and in order
-abbrev pub span_of : Text → Text → Option Span
-span_of first last = option_and_then (λ from. option_and_then
+abbrev pub span_between : Text → Text → Option Span
+span_between first last = option_and_then (λ from. option_and_then
     (λ to. if nat_le from to then Some (record { from = from; to = to }) else None)
     (number_up_to 4294967295 last)) (number_up_to 4294967295 first)
 
@@ -200,7 +200,7 @@ is_dash byte = byte == 45
 -- the addresses of a text FROM-TO
 abbrev pub span_in : Text → Option Span
 span_in text =
-    if nat_lt (position_or_len is_dash text) (length text) then span_of (before_first is_dash text) (after_first is_dash text)
+    if nat_lt (position_or_len is_dash text) (length text) then span_between (before_first is_dash text) (after_first is_dash text)
     else None
 
 -- the addresses that a text gives

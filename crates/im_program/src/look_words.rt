@@ -3,7 +3,7 @@ ghost use Rattle.std.specs.Prelude.{◌≡◌, false, IfOk, codes};
 ghost use Rattle.std.specs.Option.{option_map};
 ghost use Rattle.clap.specs.Words.{app_of, found_of, rows_of};
 ghost use Rattle.clap.specs.declared.builder.command.Command.TheViews.{out-Command};
-ghost use Rattle.im_program.specs.Words.{filter_in, given_cells, inspect_app, inspect_task, span_given, span_in, span_of};
+ghost use Rattle.im_program.specs.Words.{filter_in, given_cells, inspect_app, inspect_task, span_given, span_in, span_between};
 ghost use Rattle.im_program.specs.Words.{stat_app, stat_look, stat_task, task_of};
 
 use crate::copy_words::number_given;
@@ -52,7 +52,10 @@ const STAT_EXAMPLES: &str = "The lines, in this order:
   free F holes H longest L      cells in no block, the rows that they stand in, and the longest of them
   waiting R longest L at A      requests that wait, and the longest queue of them, at the lowest such cell
   windows E kept N full F       elements that have asked, entries that are kept, windows with no room
-With --json, the same numbers as one object on one line. Numbers that may pass 2^53 are strings there.
+With --json, the same numbers as one object on one line; generation and count are strings, since they may
+pass 2^53. Its keys: version, limits {cells, elements, slots}, header {area, generation, count},
+journal {run, room, stale}, count, next {area, pages} or null, i and m {blocks, empty, waiting, full,
+clashed}, free {cells, holes, longest}, waiting {requests, longest, at}, windows {asked, kept, full}.
 An image that isn't whole is refused: 'refused N NAME' names its first fault.
 
 Example: the numbers of a.img, and one of them
@@ -99,8 +102,8 @@ pub(crate) fn stat_command<'a>(alloc: Global) -> Result<Command<'a>, AllocError>
 
 // The addresses from one number to another. Returns `None` if one of them is not the decimal number of a u32, or if
 // they aren't in order.
-fn span_of(first: &[u8], last: &[u8]) -> Option<Span>
-    ensures { result ≡ span_of first.now last.now }
+fn span_between(first: &[u8], last: &[u8]) -> Option<Span>
+    ensures { result ≡ span_between first.now last.now }
 {
     let from = read_u32(first)?;
     let to = read_u32(last)?;
@@ -116,7 +119,7 @@ fn read_span(text: &str) -> Option<Span>
     ensures { result ≡ span_in text.now }
 {
     match text.split_once('-') {
-        Some((first, last)) => span_of(first.as_bytes(), last.as_bytes()),
+        Some((first, last)) => span_between(first.as_bytes(), last.as_bytes()),
         None => None,
     }
 }
