@@ -58,10 +58,7 @@ element_told element found w base kept start mid now at from many asked line ent
     ∙ ap (λ (test : Bool). start ++ (if test then [] else element_line element w.base (length w.kept) ++ entries_text element w)) (sym asked ∙ ap₂ (λ (base : ℕ) (kept : ℕ). (base == 1) && (kept == 0)) from many)
     ∙ ap (λ found. start ++ window_text element found) (sym at)
 
--- two, five and six texts, written one after another
-pub two_written : (start one two a b : List ℕ) → one ≡ start ++ a → two ≡ one ++ b → two ≡ start ++ (a ++ b)
-two_written start one two a b i ii = joined start a b i ii
-
+-- five and six texts, written one after another
 pub five_written : (start one two three four five a b c d e : List ℕ)
     → one ≡ start ++ a → two ≡ one ++ b → three ≡ two ++ c → four ≡ three ++ d → five ≡ four ++ e
     → five ≡ start ++ (a ++ b ++ c ++ d ++ e)

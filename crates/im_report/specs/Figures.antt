@@ -38,17 +38,17 @@ first_most f (suc n) = if nat_lt (most_below f n) (f n) then n else first_most f
 -- ---- cells
 
 -- the number of a presence tag
-abbrev pub tag_of : Cell → ℕ
-tag_of Empty = 0
-tag_of Waiting = 1
-tag_of (Full v) = 2
-tag_of (Clashed v) = 3
+abbrev pub cell_tag : Cell → ℕ
+cell_tag Empty = 0
+cell_tag Waiting = 1
+cell_tag (Full v) = 2
+cell_tag (Clashed v) = 3
 
 -- whether a cell of a block is of this kind and has the tag with this number
 abbrev pub is_tagged : Kind → ℕ → Option Block → Option Cell → Bool
 is_tagged kind tag None cell = false
 is_tagged kind tag (Some b) None = false
-is_tagged kind tag (Some b) (Some cell) = same_kind kind b.kind && (tag_of cell == tag)
+is_tagged kind tag (Some b) (Some cell) = same_kind kind b.kind && (cell_tag cell == tag)
 
 -- how many cells of this kind have the tag with this number
 abbrev pub cells_tagged : Contents → Kind → ℕ → ℕ

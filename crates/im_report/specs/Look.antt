@@ -12,7 +12,7 @@ use Rattle.im_report.specs.declared.look.Span.{Span}
 use Rattle.im_report.specs.declared.look.Filter.{Filter}
 use Rattle.im_report.specs.declared.look.Look.{Look}
 use Rattle.im_report.specs.declared.look.Look.TheVariants.{Report, Stat, StatJson}
-use Rattle.im_report.specs.Figures.{tag_of}
+use Rattle.im_report.specs.Figures.{cell_tag}
 use Rattle.im_report.specs.Report.{cell_line, report_text, window_text}
 use Rattle.im_report.specs.Stat.{stat_json, stat_text}
 
@@ -28,7 +28,7 @@ lies_in a (Some s) = nat_le s.from a && nat_le a s.to
 -- somebody waits for a cell
 abbrev pub is_awaited : Option Cell → Bool
 is_awaited None = false
-is_awaited (Some cell) = tag_of cell == 1
+is_awaited (Some cell) = cell_tag cell == 1
 
 -- a filter that asks for cells names the line of this one
 abbrev pub names_cell : Filter → ℕ → Option Cell → Bool

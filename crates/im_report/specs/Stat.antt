@@ -20,23 +20,27 @@ abbrev pub stale_slots : Header → ℕ → ℕ → ℕ
 stale_slots h run room = h.sizes.slots - run - room
 
 -- the area that the next checkpoint writes
-abbrev pub other_area : Header → ℕ
-other_area h = if h.area == 0 then 1 else 0
+abbrev pub area_written : Header → ℕ
+area_written h = if h.area == 0 then 1 else 0
 
 -- the pages of an area: after an opening, the first checkpoint writes them all
-abbrev pub pages_of : Header → ℕ
-pages_of h = area_pages (layout_named h.version) h.sizes
+abbrev pub pages_written : Header → ℕ
+pages_written h = area_pages (layout_named h.version) h.sizes
 
 -- ---- lines
 
 -- a word, and a number behind it
-unfoldable pub member : List ℕ → ℕ → List ℕ
-member word n = word ++ decimal n
+unfoldable pub numbered : List ℕ → ℕ → List ℕ
+numbered word n = word ++ decimal n
+
+-- three words, each with a number behind it, and an end
+unfoldable pub three_words : List ℕ → ℕ → List ℕ → ℕ → List ℕ → ℕ → List ℕ → List ℕ
+three_words one a two b three c end = numbered one a ++ numbered two b ++ numbered three c ++ end
 
 -- the slots of the journal
 abbrev pub slots_line : Header → ℕ → ℕ → List ℕ
-slots_line h run room = member (codes "journal ") run ++ member (codes " room ") room
-    ++ member (codes " stale ") (stale_slots h run room) ++ line_feed
+slots_line h run room = three_words (codes "journal ") run (codes " room ") room
+    (codes " stale ") (stale_slots h run room) line_feed
 
 -- the commands so far: those that the area holds, and those of the run
 abbrev pub count_line : Header → ℕ → List ℕ
@@ -46,16 +50,16 @@ count_line h run = codes "count " ++ decimal (h.count + run) ++ line_feed
 abbrev pub next_line : Header → List ℕ
 next_line h =
     if h.version == 1 then []
-    else codes "next area " ++ decimal (other_area h) ++ codes " pages " ++ decimal (pages_of h) ++ line_feed
+    else codes "next area " ++ decimal (area_written h) ++ codes " pages " ++ decimal (pages_written h) ++ line_feed
 
 -- the blocks of one kind, and their empty cells
 abbrev pub blocks_part : Kind → KindFigures → List ℕ
-blocks_part kind f = kind_text kind ++ member (codes " blocks ") f.blocks ++ member (codes " empty ") f.empty
+blocks_part kind f = kind_text kind ++ numbered (codes " blocks ") f.blocks ++ numbered (codes " empty ") f.empty
 
 -- their other cells
 abbrev pub states_part : KindFigures → List ℕ
-states_part f = member (codes " waiting ") f.waiting ++ member (codes " full ") f.full
-    ++ member (codes " clashed ") f.clashed ++ line_feed
+states_part f = three_words (codes " waiting ") f.waiting (codes " full ") f.full
+    (codes " clashed ") f.clashed line_feed
 
 -- the blocks of one kind, and their cells in each state
 abbrev pub kind_line : Kind → KindFigures → List ℕ
@@ -63,18 +67,17 @@ kind_line kind f = blocks_part kind f ++ states_part f
 
 -- the cells in no block
 abbrev pub free_line : FreeFigures → List ℕ
-free_line f = member (codes "free ") f.cells ++ member (codes " holes ") f.holes
-    ++ member (codes " longest ") f.longest ++ line_feed
+free_line f = three_words (codes "free ") f.cells (codes " holes ") f.holes
+    (codes " longest ") f.longest line_feed
 
 -- the requests that wait
 abbrev pub queue_line : QueueFigures → List ℕ
-queue_line f = member (codes "waiting ") f.requests ++ member (codes " longest ") f.longest
-    ++ member (codes " at ") f.at ++ line_feed
+queue_line f = three_words (codes "waiting ") f.requests (codes " longest ") f.longest
+    (codes " at ") f.at line_feed
 
 -- the windows
-abbrev pub window_line : WindowFigures → List ℕ
-window_line f = member (codes "windows ") f.asked ++ member (codes " kept ") f.kept
-    ++ member (codes " full ") f.full ++ line_feed
+abbrev pub windows_line : WindowFigures → List ℕ
+windows_line f = three_words (codes "windows ") f.asked (codes " kept ") f.kept (codes " full ") f.full line_feed
 
 -- the lines of the header and the journal
 abbrev pub stat_head : Header → ℕ → ℕ → List ℕ
@@ -84,7 +87,7 @@ stat_head h run room = version_line h ++ limits_line h ++ header_line h ++ slots
 -- the lines of the memory
 abbrev pub stat_memory : Contents → List ℕ
 stat_memory m = kind_line I (kind_figures m I) ++ kind_line M (kind_figures m M) ++ free_line (free_figures m)
-    ++ queue_line (queue_figures m) ++ window_line (window_figures m)
+    ++ queue_line (queue_figures m) ++ windows_line (window_figures m)
 
 -- all lines
 abbrev pub stat_text : Header → ℕ → ℕ → Contents → List ℕ
@@ -94,22 +97,18 @@ stat_text h run room m = stat_head h run room ++ stat_memory m
 
 -- the version and the sizes
 abbrev pub sizes_json : Header → List ℕ
-sizes_json h = member (codes "{\"version\":") h.version ++ member (codes ",\"limits\":{\"cells\":") h.sizes.cells
-    ++ member (codes ",\"elements\":") h.sizes.elements ++ member (codes ",\"slots\":") h.sizes.slots ++ codes "}"
+sizes_json h = numbered (codes "{\"version\":") h.version ++ numbered (codes ",\"limits\":{\"cells\":") h.sizes.cells
+    ++ numbered (codes ",\"elements\":") h.sizes.elements ++ numbered (codes ",\"slots\":") h.sizes.slots ++ codes "}"
 
 -- the header in force
 abbrev pub header_json : Header → List ℕ
-header_json h = member (codes ",\"header\":{\"area\":") h.area ++ member (codes ",\"generation\":\"") h.generation
-    ++ member (codes "\",\"count\":\"") h.count ++ codes "\"}"
-
--- how many slots of the journal are of the run, room, and stale
-abbrev pub ring_json : ℕ → ℕ → ℕ → List ℕ
-ring_json run room stale = member (codes ",\"journal\":{\"run\":") run ++ member (codes ",\"room\":") room
-    ++ member (codes ",\"stale\":") stale ++ codes "}"
+header_json h = three_words (codes ",\"header\":{\"area\":") h.area (codes ",\"generation\":\"") h.generation
+    (codes "\",\"count\":\"") h.count (codes "\"}")
 
 -- the slots of the journal
 abbrev pub slots_json : Header → ℕ → ℕ → List ℕ
-slots_json h run room = ring_json run room (stale_slots h run room)
+slots_json h run room = three_words (codes ",\"journal\":{\"run\":") run (codes ",\"room\":") room
+    (codes ",\"stale\":") (stale_slots h run room) (codes "}")
 
 -- the commands so far
 abbrev pub count_json : Header → ℕ → List ℕ
@@ -117,21 +116,21 @@ count_json h run = codes ",\"count\":\"" ++ decimal (h.count + run) ++ codes "\"
 
 -- an area, and how many pages of it are written
 abbrev pub pages_json : ℕ → ℕ → List ℕ
-pages_json area pages = member (codes ",\"next\":{\"area\":") area ++ member (codes ",\"pages\":") pages ++ codes "}"
+pages_json area pages = numbered (codes ",\"next\":{\"area\":") area ++ numbered (codes ",\"pages\":") pages ++ codes "}"
 
 -- what the next checkpoint writes; nothing writes to an image of the first version
 abbrev pub next_json : Header → List ℕ
-next_json h = if h.version == 1 then codes ",\"next\":null" else pages_json (other_area h) (pages_of h)
+next_json h = if h.version == 1 then codes ",\"next\":null" else pages_json (area_written h) (pages_written h)
 
 -- the blocks of one kind, and their empty cells
 abbrev pub blocks_json : Kind → KindFigures → List ℕ
-blocks_json kind f = codes ",\"" ++ kind_text kind ++ member (codes "\":{\"blocks\":") f.blocks
-    ++ member (codes ",\"empty\":") f.empty
+blocks_json kind f = codes ",\"" ++ kind_text kind ++ numbered (codes "\":{\"blocks\":") f.blocks
+    ++ numbered (codes ",\"empty\":") f.empty
 
 -- their other cells
 abbrev pub states_json : KindFigures → List ℕ
-states_json f = member (codes ",\"waiting\":") f.waiting ++ member (codes ",\"full\":") f.full
-    ++ member (codes ",\"clashed\":") f.clashed ++ codes "}"
+states_json f = three_words (codes ",\"waiting\":") f.waiting (codes ",\"full\":") f.full
+    (codes ",\"clashed\":") f.clashed (codes "}")
 
 -- the blocks of one kind, and their cells in each state
 abbrev pub kind_json : Kind → KindFigures → List ℕ
@@ -139,18 +138,18 @@ kind_json kind f = blocks_json kind f ++ states_json f
 
 -- the cells in no block
 abbrev pub free_json : FreeFigures → List ℕ
-free_json f = member (codes ",\"free\":{\"cells\":") f.cells ++ member (codes ",\"holes\":") f.holes
-    ++ member (codes ",\"longest\":") f.longest ++ codes "}"
+free_json f = three_words (codes ",\"free\":{\"cells\":") f.cells (codes ",\"holes\":") f.holes
+    (codes ",\"longest\":") f.longest (codes "}")
 
 -- the requests that wait
 abbrev pub queue_json : QueueFigures → List ℕ
-queue_json f = member (codes ",\"waiting\":{\"requests\":") f.requests ++ member (codes ",\"longest\":") f.longest
-    ++ member (codes ",\"at\":") f.at ++ codes "}"
+queue_json f = three_words (codes ",\"waiting\":{\"requests\":") f.requests (codes ",\"longest\":") f.longest
+    (codes ",\"at\":") f.at (codes "}")
 
 -- the windows, and the end of the object
 abbrev pub window_json : WindowFigures → List ℕ
-window_json f = member (codes ",\"windows\":{\"asked\":") f.asked ++ member (codes ",\"kept\":") f.kept
-    ++ member (codes ",\"full\":") f.full ++ codes "}}\n"
+window_json f = three_words (codes ",\"windows\":{\"asked\":") f.asked (codes ",\"kept\":") f.kept
+    (codes ",\"full\":") f.full (codes "}}\n")
 
 -- the members of the header and the journal
 abbrev pub head_json : Header → ℕ → ℕ → List ℕ

@@ -3,7 +3,7 @@ ghost use Rattle.std.specs.Prelude.{◌≡◌, ◌≤◌, ◌+◌, ◌==◌, ◌
 ghost use Rattle.im_types.specs.Act.{same_kind};
 ghost use Rattle.im_types.specs.Contents.{block_at};
 ghost use Rattle.im_report.specs.Figures.{cells_tagged, count_below, free_figures, has_asked, is_base, is_tagged};
-ghost use Rattle.im_report.specs.Figures.{kept_in, kind_figures, queue_at, queue_figures, row_after, tag_of};
+ghost use Rattle.im_report.specs.Figures.{kept_in, kind_figures, queue_at, queue_figures, row_after, cell_tag};
 ghost use Rattle.im_report.specs.Figures.{window_figures};
 
 use crate::figures::{FreeFigures, KindFigures, QueueFigures, WindowFigures};
@@ -19,8 +19,8 @@ fn one_if(test: bool) -> u64
 }
 
 // The number of a presence tag.
-fn tag_of(cell: Cell) -> u8
-    ensures { result ≡ tag_of cell }
+fn cell_tag(cell: Cell) -> u8
+    ensures { result ≡ cell_tag cell }
 {
     match cell {
         Cell::Empty => 0,
@@ -49,7 +49,7 @@ fn is_tagged(kind: Kind, tag: u8, block: Option<Block>, cell: Option<Cell>) -> b
     let Some(cell) = cell else {
         return false;
     };
-    is_same_kind(kind, block.kind) && tag_of(cell) == tag
+    is_same_kind(kind, block.kind) && cell_tag(cell) == tag
 }
 
 // How many cells of this kind have the tag with this number.

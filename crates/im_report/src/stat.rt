@@ -2,8 +2,8 @@
 ghost use Rattle.std.specs.Prelude.{◌≡◌, ◌++◌, OnOk, string_bytes};
 ghost use Rattle.im_image.specs.Headers.{seen};
 ghost use Rattle.im_report.specs.Figures.{free_figures, kind_figures, queue_figures, window_figures};
-ghost use Rattle.im_report.specs.Stat.{blocks_part, count_line, free_line, kind_line, member, next_line, other_area, pages_of, queue_line};
-ghost use Rattle.im_report.specs.Stat.{slots_line, stale_slots, stat_head, states_part, stat_memory, stat_text, window_line};
+ghost use Rattle.im_report.specs.Stat.{blocks_part, count_line, free_line, kind_line, next_line, numbered, area_written, pages_written, queue_line};
+ghost use Rattle.im_report.specs.Stat.{slots_line, stale_slots, stat_head, states_part, three_words, stat_memory, stat_text, windows_line};
 
 use crate::counting::{count_free, count_kind, count_queues, count_windows};
 use crate::figures::KindFigures;
@@ -23,15 +23,15 @@ pub(crate) fn stale_slots(header: &Header, run: u64, room: u32) -> u64
 }
 
 /// Returns the area that the next checkpoint writes.
-pub(crate) fn other_area(header: &Header) -> u8
-    ensures { result ≡ other_area (seen header.now) }
+pub(crate) fn area_written(header: &Header) -> u8
+    ensures { result ≡ area_written (seen header.now) }
 {
     if header.area == 0 { 1 } else { 0 }
 }
 
 /// Returns the number of pages that the first checkpoint after an opening writes.
-pub(crate) fn pages_of(header: &Header) -> usize
-    ensures { result ≡ pages_of (seen header.now) }
+pub(crate) fn pages_written(header: &Header) -> usize
+    ensures { result ≡ pages_written (seen header.now) }
 {
     header.layout().area_pages(header.limits)
 }
@@ -44,11 +44,29 @@ pub(crate) fn add_text(out: &mut String, text: &str) -> Result<(), AllocError>
 }
 
 /// Adds a word, and a number behind it.
-#[tactic(auto, unfolding(crate::specs::Stat::member))]
+#[tactic(auto, unfolding(crate::specs::Stat::numbered))]
 pub(crate) fn add_member(out: &mut String, word: &str, number: u64) -> Result<(), AllocError>
-    ensures { OnOk result (string_bytes out.new ≡ string_bytes out.old ++ member word.now number) }
+    ensures { OnOk result (string_bytes out.new ≡ string_bytes out.old ++ numbered word.now number) }
 {
     write!(out, "{word}{number}")
+}
+
+/// Adds three words, each with a number behind it, and an end.
+pub(crate) fn add_three(
+    out: &mut String,
+    first: (&str, u64),
+    second: (&str, u64),
+    third: (&str, u64),
+    end: &str,
+) -> Result<(), AllocError>
+    ensures { OnOk result (string_bytes out.new ≡ string_bytes out.old
+        ++ three_words first.entry.0.now first.entry.1 second.entry.0.now second.entry.1
+        third.entry.0.now third.entry.1 end.now) }
+{
+    add_member(out, first.0, first.1)?;
+    add_member(out, second.0, second.1)?;
+    add_member(out, third.0, third.1)?;
+    add_text(out, end)
 }
 
 /// Adds the line of the journal's slots.
@@ -56,10 +74,14 @@ fn add_slots(out: &mut String, header: &Header, run: u64, room: u32) -> Result<(
     ensures { OnOk result (string_bytes out.new ≡ string_bytes out.old
         ++ slots_line (seen header.now) run room) }
 {
-    add_member(out, "journal ", run)?;
-    add_member(out, " room ", u64::from(room))?;
-    add_member(out, " stale ", stale_slots(header, run, room))?;
-    add_text(out, "\n")
+    let stale = stale_slots(header, run, room);
+    add_three(
+        out,
+        ("journal ", run),
+        (" room ", room as u64),
+        (" stale ", stale),
+        "\n",
+    )
 }
 
 /// Adds the line of the commands so far.
@@ -77,8 +99,8 @@ fn add_next(out: &mut String, header: &Header) -> Result<(), AllocError>
     if header.is_old() {
         return Ok(());
     }
-    let area = other_area(header);
-    let pages = pages_of(header);
+    let area = area_written(header);
+    let pages = pages_written(header);
     writeln!(out, "next area {area} pages {pages}")
 }
 
@@ -95,10 +117,13 @@ fn add_blocks(out: &mut String, kind: Kind, f: &KindFigures) -> Result<(), Alloc
 fn add_states(out: &mut String, f: &KindFigures) -> Result<(), AllocError>
     ensures { OnOk result (string_bytes out.new ≡ string_bytes out.old ++ states_part f.now) }
 {
-    add_member(out, " waiting ", f.waiting)?;
-    add_member(out, " full ", f.full)?;
-    add_member(out, " clashed ", f.clashed)?;
-    add_text(out, "\n")
+    add_three(
+        out,
+        (" waiting ", f.waiting),
+        (" full ", f.full),
+        (" clashed ", f.clashed),
+        "\n",
+    )
 }
 
 /// Adds the line of the blocks of one kind and of their cells.
@@ -117,10 +142,13 @@ fn add_free(out: &mut String, memory: &Memory) -> Result<(), AllocError>
         ++ free_line (free_figures memory.now.contents)) }
 {
     let f = count_free(memory);
-    add_member(out, "free ", f.cells)?;
-    add_member(out, " holes ", f.holes)?;
-    add_member(out, " longest ", f.longest)?;
-    add_text(out, "\n")
+    add_three(
+        out,
+        ("free ", f.cells),
+        (" holes ", f.holes),
+        (" longest ", f.longest),
+        "\n",
+    )
 }
 
 /// Adds the line of the requests that wait.
@@ -129,22 +157,28 @@ fn add_queue(out: &mut String, memory: &Memory) -> Result<(), AllocError>
         ++ queue_line (queue_figures memory.now.contents)) }
 {
     let f = count_queues(memory);
-    add_member(out, "waiting ", f.requests)?;
-    add_member(out, " longest ", f.longest)?;
-    add_member(out, " at ", u64::from(f.at))?;
-    add_text(out, "\n")
+    add_three(
+        out,
+        ("waiting ", f.requests),
+        (" longest ", f.longest),
+        (" at ", f.at as u64),
+        "\n",
+    )
 }
 
 /// Adds the line of the windows.
 fn add_window(out: &mut String, memory: &Memory) -> Result<(), AllocError>
     ensures { OnOk result (string_bytes out.new ≡ string_bytes out.old
-        ++ window_line (window_figures memory.now.contents)) }
+        ++ windows_line (window_figures memory.now.contents)) }
 {
     let f = count_windows(memory);
-    add_member(out, "windows ", f.asked)?;
-    add_member(out, " kept ", f.kept)?;
-    add_member(out, " full ", f.full)?;
-    add_text(out, "\n")
+    add_three(
+        out,
+        ("windows ", f.asked),
+        (" kept ", f.kept),
+        (" full ", f.full),
+        "\n",
+    )
 }
 
 /// Adds the lines of the header and the journal.

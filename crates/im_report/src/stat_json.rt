@@ -3,11 +3,11 @@ ghost use Rattle.std.specs.Prelude.{◌≡◌, ◌++◌, OnOk, string_bytes};
 ghost use Rattle.im_image.specs.Headers.{seen};
 ghost use Rattle.im_report.specs.Figures.{free_figures, kind_figures, queue_figures, window_figures};
 ghost use Rattle.im_report.specs.Stat.{blocks_json, count_json, free_json, head_json, header_json, kind_json, memory_json};
-ghost use Rattle.im_report.specs.Stat.{next_json, pages_json, queue_json, ring_json, sizes_json, slots_json, stat_json, states_json, window_json};
+ghost use Rattle.im_report.specs.Stat.{next_json, pages_json, queue_json, sizes_json, slots_json, stat_json, states_json, window_json};
 
 use crate::counting::{count_free, count_kind, count_queues, count_windows};
-use crate::figures::{FreeFigures, KindFigures, QueueFigures, WindowFigures};
-use crate::stat::{add_member, add_text, other_area, pages_of, stale_slots};
+use crate::figures::KindFigures;
+use crate::stat::{add_member, add_text, add_three, area_written, pages_written, stale_slots};
 use im_image::{Header, Report};
 use im_memory::Memory;
 use im_text::kind_text;
@@ -29,27 +29,27 @@ fn add_sizes(out: &mut String, header: &Header) -> Result<(), AllocError>
 fn add_header(out: &mut String, header: &Header) -> Result<(), AllocError>
     ensures { OnOk result (string_bytes out.new ≡ string_bytes out.old ++ header_json (seen header.now)) }
 {
-    add_member(out, ",\"header\":{\"area\":", header.area as u64)?;
-    add_member(out, ",\"generation\":\"", header.generation)?;
-    add_member(out, "\",\"count\":\"", header.count)?;
-    add_text(out, "\"}")
-}
-
-// Adds how many slots of the journal are in each state.
-fn add_ring(out: &mut String, run: u64, room: u32, stale: u64) -> Result<(), AllocError>
-    ensures { OnOk result (string_bytes out.new ≡ string_bytes out.old ++ ring_json run room stale) }
-{
-    add_member(out, ",\"journal\":{\"run\":", run)?;
-    add_member(out, ",\"room\":", room as u64)?;
-    add_member(out, ",\"stale\":", stale)?;
-    add_text(out, "}")
+    add_three(
+        out,
+        (",\"header\":{\"area\":", header.area as u64),
+        (",\"generation\":\"", header.generation),
+        ("\",\"count\":\"", header.count),
+        "\"}",
+    )
 }
 
 /// Adds the journal's slots.
 fn add_slots(out: &mut String, header: &Header, run: u64, room: u32) -> Result<(), AllocError>
     ensures { OnOk result (string_bytes out.new ≡ string_bytes out.old ++ slots_json (seen header.now) run room) }
 {
-    add_ring(out, run, room, stale_slots(header, run, room))
+    let stale = stale_slots(header, run, room);
+    add_three(
+        out,
+        (",\"journal\":{\"run\":", run),
+        (",\"room\":", room as u64),
+        (",\"stale\":", stale),
+        "}",
+    )
 }
 
 /// Adds the commands so far.
@@ -76,7 +76,7 @@ fn add_next(out: &mut String, header: &Header) -> Result<(), AllocError>
     if header.is_old() {
         return out.push_str(",\"next\":null");
     }
-    add_pages(out, other_area(header), pages_of(header))
+    add_pages(out, area_written(header), pages_written(header))
 }
 
 // Adds the blocks of one kind and their empty cells.
@@ -93,10 +93,13 @@ fn add_blocks(out: &mut String, kind: Kind, f: &KindFigures) -> Result<(), Alloc
 fn add_states(out: &mut String, f: &KindFigures) -> Result<(), AllocError>
     ensures { OnOk result (string_bytes out.new ≡ string_bytes out.old ++ states_json f.now) }
 {
-    add_member(out, ",\"waiting\":", f.waiting)?;
-    add_member(out, ",\"full\":", f.full)?;
-    add_member(out, ",\"clashed\":", f.clashed)?;
-    add_text(out, "}")
+    add_three(
+        out,
+        (",\"waiting\":", f.waiting),
+        (",\"full\":", f.full),
+        (",\"clashed\":", f.clashed),
+        "}",
+    )
 }
 
 /// Adds the blocks of one kind and their cells.
@@ -109,33 +112,19 @@ fn add_kind(out: &mut String, memory: &Memory, kind: Kind) -> Result<(), AllocEr
     add_states(out, &f)
 }
 
-// Adds the numbers of the cells in no block.
-fn add_holes(out: &mut String, f: &FreeFigures) -> Result<(), AllocError>
-    ensures { OnOk result (string_bytes out.new ≡ string_bytes out.old ++ free_json f.now) }
-{
-    add_member(out, ",\"free\":{\"cells\":", f.cells)?;
-    add_member(out, ",\"holes\":", f.holes)?;
-    add_member(out, ",\"longest\":", f.longest)?;
-    add_text(out, "}")
-}
-
 /// Adds the cells in no block.
 fn add_free(out: &mut String, memory: &Memory) -> Result<(), AllocError>
     ensures { OnOk result (string_bytes out.new ≡ string_bytes out.old
         ++ free_json (free_figures memory.now.contents)) }
 {
     let f = count_free(memory);
-    add_holes(out, &f)
-}
-
-// Adds the numbers of the requests that wait.
-fn add_requests(out: &mut String, f: &QueueFigures) -> Result<(), AllocError>
-    ensures { OnOk result (string_bytes out.new ≡ string_bytes out.old ++ queue_json f.now) }
-{
-    add_member(out, ",\"waiting\":{\"requests\":", f.requests)?;
-    add_member(out, ",\"longest\":", f.longest)?;
-    add_member(out, ",\"at\":", f.at as u64)?;
-    add_text(out, "}")
+    add_three(
+        out,
+        (",\"free\":{\"cells\":", f.cells),
+        (",\"holes\":", f.holes),
+        (",\"longest\":", f.longest),
+        "}",
+    )
 }
 
 /// Adds the requests that wait.
@@ -144,17 +133,13 @@ fn add_queue(out: &mut String, memory: &Memory) -> Result<(), AllocError>
         ++ queue_json (queue_figures memory.now.contents)) }
 {
     let f = count_queues(memory);
-    add_requests(out, &f)
-}
-
-// Adds the numbers of the windows, and ends the object.
-fn add_entries(out: &mut String, f: &WindowFigures) -> Result<(), AllocError>
-    ensures { OnOk result (string_bytes out.new ≡ string_bytes out.old ++ window_json f.now) }
-{
-    add_member(out, ",\"windows\":{\"asked\":", f.asked)?;
-    add_member(out, ",\"kept\":", f.kept)?;
-    add_member(out, ",\"full\":", f.full)?;
-    add_text(out, "}}\n")
+    add_three(
+        out,
+        (",\"waiting\":{\"requests\":", f.requests),
+        (",\"longest\":", f.longest),
+        (",\"at\":", f.at as u64),
+        "}",
+    )
 }
 
 /// Adds the windows, and ends the object.
@@ -163,7 +148,13 @@ fn add_window(out: &mut String, memory: &Memory) -> Result<(), AllocError>
         ++ window_json (window_figures memory.now.contents)) }
 {
     let f = count_windows(memory);
-    add_entries(out, &f)
+    add_three(
+        out,
+        (",\"windows\":{\"asked\":", f.asked),
+        (",\"kept\":", f.kept),
+        (",\"full\":", f.full),
+        "}}\n",
+    )
 }
 
 /// Adds the members of the header and the journal.

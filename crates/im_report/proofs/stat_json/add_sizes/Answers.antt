@@ -1,16 +1,16 @@
 use Rattle.std.proofs.Common.{◌++◌, codes, string_bytes}
 use Rattle.std.proofs.lemmas.Result.{on_ok_weaker}
-use Rattle.im_report.specs.Stat.{member}
+use Rattle.im_report.specs.Stat.{numbered}
 use Rattle.im_report.proofs.ReportLemmas.{joined}
 use Rattle.im_report.proofs.stat_json.add_sizes.Goals as goal
 
 pub returns : goal.returns
 returns c =
     let start = string_bytes c.args.out.now in
-    let part0 = member (codes "{\"version\":") c.args.header.now.version in
-    let part1 = member (codes ",\"limits\":{\"cells\":") c.args.header.now.limits.cells in
-    let part2 = member (codes ",\"elements\":") c.args.header.now.limits.elements in
-    let part3 = member (codes ",\"slots\":") c.args.header.now.limits.slots in
+    let part0 = numbered (codes "{\"version\":") c.args.header.now.version in
+    let part1 = numbered (codes ",\"limits\":{\"cells\":") c.args.header.now.limits.cells in
+    let part2 = numbered (codes ",\"elements\":") c.args.header.now.limits.elements in
+    let part3 = numbered (codes ",\"slots\":") c.args.header.now.limits.slots in
     let step1 = joined start (part0) part1 c.in_ok-add_member.ensures c.in_ok-add_member-2.ensures in
     let step2 = joined start (part0 ++ part1) part2 step1 c.in_ok-add_member-3.ensures in
     let step3 = joined start (part0 ++ part1 ++ part2) part3 step2 c.in_ok-add_member-4.ensures in
