@@ -26,7 +26,8 @@ looks look file h run room m was now same reads added = record {
 }
 
 -- a status of 0 is that of work that is done
-pub done_at_zero : {T E : Type 0} (r : Result T E) (status : ℕ) (P : Type 0) → OnErr r (status ≡ 1) → status ≡ 0 → OnOk r P → P
+pub done_at_zero : {T E : Type 0} (r : Result T E) (status : ℕ) (P : Type 0) → OnErr r
+    (status ≡ 1) → status ≡ 0 → OnOk r P → P
 done_at_zero (Ok x) status P refused zero done = done
 done_at_zero (Err e) status P refused zero done = absurd (omega arith)
 

@@ -22,5 +22,6 @@ loop-a-preserved c =
 pub returns : goal.returns
 returns c =
     let all : c.loop-a.a ≡ length c.args.memory.now.contents.cells = omega arith in
-    free_counted (c.loop-a.invariant.free.is ∙ ap (sum_below _) all) (c.loop-a.invariant.holes.is ∙ ap (sum_below _) all)
+    free_counted (c.loop-a.invariant.free.is ∙ ap (sum_below _) all) (c.loop-a.invariant.holes.is ∙ ap
+    (sum_below _) all)
     (c.loop-a.invariant.longest_is ∙ ap (most_below _) all)

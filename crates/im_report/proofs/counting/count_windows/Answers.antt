@@ -15,7 +15,8 @@ loop-element-preserved c =
     let few : kept_in found ≤ 64 = omega (arith, is, c.kept_in-here.ensures.few) in (
       sums_more _ 1 k c.loop-element.asked (c.loop-element.asked + c.one_if-asked.result) (one_few (has_asked found))
           c.loop-element.invariant.0
-          (ap (λ n. c.loop-element.asked + n) (c.one_if-asked.ensures.is ∙ ap (λ t. if t then 1 else 0) c.has_asked.ensures)),
+          (ap (λ n. c.loop-element.asked + n) (c.one_if-asked.ensures.is ∙ ap (λ t. if t then 1 else 0)
+          c.has_asked.ensures)),
       sums_more _ 64 k c.loop-element.kept (c.loop-element.kept + c.kept_in-here.result) few c.loop-element.invariant.1
           (ap (λ n. c.loop-element.kept + n) is),
       sums_more _ 1 k c.loop-element.full (c.loop-element.full + c.one_if-full.result) (one_few (kept_in found == 64))

@@ -10,8 +10,10 @@ pub returns : goal.returns
 returns c =
     on_ok_weaker c.add_window.result
     (five_written (string_bytes c.args.out.now)
-    (string_bytes c.add_kind.new.out) (string_bytes c.add_kind-2.new.out) (string_bytes c.add_free.new.out) (string_bytes c.add_queue.new.out) (string_bytes c.add_window.new.out)
-    (kind_line I (kind_figures c.args.memory.now.contents I)) (kind_line M (kind_figures c.args.memory.now.contents M)) (free_line (free_figures c.args.memory.now.contents))
+    (string_bytes c.add_kind.new.out) (string_bytes c.add_kind-2.new.out) (string_bytes c.add_free.new.out)
+    (string_bytes c.add_queue.new.out) (string_bytes c.add_window.new.out)
+    (kind_line I (kind_figures c.args.memory.now.contents I)) (kind_line M (kind_figures
+    c.args.memory.now.contents M)) (free_line (free_figures c.args.memory.now.contents))
     (queue_line (queue_figures c.args.memory.now.contents)) (windows_line (window_figures c.args.memory.now.contents))
     c.in_ok-add_kind.ensures c.in_ok-add_kind-2.ensures c.in_ok-add_free.ensures c.in_ok-add_queue.ensures)
     c.add_window.ensures
