@@ -1,46 +1,42 @@
 //! Bytes, in words and in answers. A byte is two hex digits; eight or more equal bytes in a row are `00*8`.
 
-use anyhow::{Result, anyhow};
-use std::alloc::{AllocError, Global};
+use im_story::Saying;
+use std::alloc::Global;
 
 /// Reads a byte: two hex digits.
-pub fn hex_byte(word: &str) -> Result<u8> {
-    match u8::from_str_radix(word, 16) {
-        Ok(byte) => Ok(byte),
-        Err(_) => Err(anyhow!("{word} is no byte")),
-    }
+pub fn hex_byte(word: &str) -> Option<u8> {
+    u8::from_str_radix(word, 16).ok()
 }
 
 /// Reads bytes: two hex digits each.
-pub fn hex_bytes(alloc: Global, words: &[&str]) -> Result<Vec<u8>> {
+pub fn hex_bytes(alloc: Global, words: &[&str]) -> Option<Vec<u8>> {
     let mut bytes = Vec::new(alloc);
     for word in words {
-        bytes.push(hex_byte(word)?)?;
+        bytes.push(hex_byte(word)?).ok()?;
     }
-    Ok(bytes)
+    Some(bytes)
 }
 
 // Adds the same byte, `count` times.
-fn add_run(said: &mut String, byte: u8, count: usize) -> Result<(), AllocError> {
+fn add_run(said: &mut Saying, byte: u8, count: usize) {
     if count >= 8 {
         return write!(said, "{byte:02x}*{count} ");
     }
     for _ in 0..count {
-        write!(said, "{byte:02x} ")?;
+        write!(said, "{byte:02x} ");
     }
-    Ok(())
 }
 
 /// Adds the bytes.
-pub fn add_bytes(said: &mut String, bytes: &[u8]) -> Result<(), AllocError> {
+pub fn add_bytes(said: &mut Saying, bytes: &[u8]) {
     let mut run = (0, 0usize);
     for byte in bytes {
         if *byte == run.0 {
             run.1 = run.1.saturating_add(1);
         } else {
-            add_run(said, run.0, run.1)?;
+            add_run(said, run.0, run.1);
             run = (*byte, 1);
         }
     }
-    add_run(said, run.0, run.1)
+    add_run(said, run.0, run.1);
 }

@@ -8,16 +8,14 @@
 ghost use Rattle.std.specs.Prelude.{◌≡◌};
 
 use crate::blind::Blind;
-use crate::journals::sizes;
 use crate::place::Place;
-use anyhow::{Result, anyhow};
 use im_checkpoint::{Checkpoint, TurnDone};
 use im_image::{Header, VERSION};
 use im_journal::Journal;
 use im_memory::Memory;
-use im_story::{add_outcome, add_refusal, command};
+use im_story::{Call, Saying, command};
 use im_types::{Command, Limits, Outcome, Refusal};
-use std::alloc::{AllocError, Global};
+use std::alloc::Global;
 use std::marker::Model;
 
 /// A memory with its journal and its checkpoint, of one image.
@@ -73,48 +71,49 @@ impl Kept {
     }
 }
 
-fn add_turn(said: &mut String, answer: Result<TurnDone, Refusal>) -> Result<(), AllocError> {
+fn add_turn(said: &mut Saying, answer: Result<TurnDone, Refusal>) {
     match answer {
-        Ok(TurnDone::Idle) => said.push_str("idle"),
-        Ok(TurnDone::Began) => said.push_str("began"),
+        Ok(TurnDone::Idle) => said.text("idle"),
+        Ok(TurnDone::Began) => said.text("began"),
         Ok(TurnDone::Page(page)) => write!(said, "page {page}"),
-        Ok(TurnDone::Synced) => said.push_str("synced"),
-        Ok(TurnDone::InForce) => said.push_str("in force"),
-        Ok(TurnDone::Swept) => said.push_str("swept"),
-        Err(refusal) => add_refusal(said, refusal),
+        Ok(TurnDone::Synced) => said.text("synced"),
+        Ok(TurnDone::InForce) => said.text("in force"),
+        Ok(TurnDone::Swept) => said.text("swept"),
+        Err(refusal) => said.refusal(refusal),
     }
 }
 
-// Returns the disk, and what goes to it.
-fn both(here: &mut Place) -> Result<(&mut Blind, &mut Kept)> {
-    match (&mut here.disk, &mut here.kept) {
-        (Some(disk), Some(kept)) => Ok((disk, kept)),
-        _ => Err(anyhow!("there is no checkpoint of a disk")),
+fn make(here: &mut Place, call: &Call, said: &mut Saying) {
+    let Some(limits) = call.limits(0) else {
+        return said.fail("there are no such sizes");
+    };
+    match Kept::new(call.alloc(), limits) {
+        Ok(kept) => {
+            here.kept = Some(kept);
+            said.text("idle")
+        }
+        Err(refusal) => said.refusal(refusal),
     }
 }
 
-/// Makes a call on the checkpoint. Returns whether the words name one.
-pub fn tell_of_checkpoint(
-    alloc: Global,
-    here: &mut Place,
-    words: &[&str],
-    said: &mut String,
-) -> Result<bool> {
-    match words {
-        ["checkpoint", cells, elements, slots] => {
-            here.kept = Some(Kept::new(alloc, sizes(cells, elements, slots)?)?);
-            said.push_str("idle")?;
-        }
-        ["serve", rest @ ..] => {
-            let command = command(rest)?;
-            let (disk, kept) = both(here)?;
-            add_outcome(said, kept.serve(disk, &command))?;
-        }
-        ["turn"] => {
-            let (disk, kept) = both(here)?;
-            add_turn(said, kept.turn(disk))?;
-        }
-        _ => return Ok(false),
+fn serve(disk: &mut Blind, kept: &mut Kept, words: &[&str], said: &mut Saying) {
+    match command(words) {
+        Ok(command) => said.outcome(kept.serve(disk, &command)),
+        Err(_) => said.fail("no command"),
     }
-    Ok(true)
+}
+
+/// Makes a call on the checkpoint.
+pub fn tell_of_checkpoint(here: &mut Place, call: &Call, said: &mut Saying) {
+    if let "checkpoint _ _ _" = call.form() {
+        return make(here, call, said);
+    }
+    let (Some(disk), Some(kept)) = (&mut here.disk, &mut here.kept) else {
+        return said.fail("that is no call");
+    };
+    match call.words() {
+        ["serve", rest @ ..] => serve(disk, kept, rest, said),
+        ["turn"] => add_turn(said, kept.turn(disk)),
+        _ => said.fail("that is no call"),
+    }
 }

@@ -14,174 +14,201 @@
 
 use crate::blind::Blind;
 use crate::bytes::{add_bytes, hex_byte, hex_bytes};
+use crate::journals::tell_of_journal;
 use crate::place::Place;
-use crate::tries::crash_kind;
-use anyhow::{Result, anyhow};
 use im_disk::{DeviceFault, Disk, MemDisk, Mode, open_gate, write_behind_gate};
-use im_story::{add_refusal, number, place};
+use im_story::{Call, Saying};
 use im_types::layout::OPEN;
-use std::alloc::{AllocError, Global};
 
 /// Adds `ok`, or that the call failed.
-pub fn add_passed(said: &mut String, answer: Result<(), DeviceFault>) -> Result<(), AllocError> {
-    match answer {
-        Ok(()) => said.push_str("ok"),
-        Err(_) => said.push_str("fault"),
-    }
+pub fn add_passed(said: &mut Saying, answer: Result<(), DeviceFault>) {
+    said.either(answer.is_ok(), "ok", "fault")
 }
 
-fn mode(words: &[&str]) -> Result<(Mode, u64)> {
-    match words {
-        ["stop", passes] => Ok((Mode::Stop, number(passes)?)),
-        ["once", passes] => Ok((Mode::Once, number(passes)?)),
-        ["scar", passes, byte] => Ok((Mode::Scar(hex_byte(byte)?), number(passes)?)),
-        _ => Err(anyhow!("that is no fuse")),
+// Reads how a fuse fails. The byte of a scar is the last word.
+fn mode(how: &str, last: &str) -> Option<Mode> {
+    match how {
+        "stop" => Some(Mode::Stop),
+        "once" => Some(Mode::Once),
+        "scar" => Some(Mode::Scar(hex_byte(last)?)),
+        _ => None,
     }
 }
 
 // Takes the disk without its fuse, to be put back.
-fn taken(here: &mut Place) -> Result<MemDisk> {
+fn taken(here: &mut Place, said: &mut Saying) -> Option<MemDisk> {
     match here.disk.take() {
-        Some(disk) => Ok(disk.into_inner()),
-        None => Err(anyhow!("there is no disk")),
+        Some(disk) => Some(disk.into_inner()),
+        None => {
+            said.fail("there is no disk");
+            None
+        }
     }
 }
 
-fn make(alloc: Global, here: &mut Place, len: usize, said: &mut String) -> Result<()> {
-    match MemDisk::new(alloc, len) {
+fn make(here: &mut Place, call: &Call, said: &mut Saying) {
+    match MemDisk::new(call.alloc(), call.place(0)) {
         Ok(disk) => {
             here.disk = Some(Blind::new(disk));
-            said.push_str("blank")?;
+            said.text("blank")
         }
-        Err(refusal) => add_refusal(said, refusal)?,
+        Err(refusal) => said.refusal(refusal),
     }
-    Ok(())
 }
 
-fn fuse(here: &mut Place, words: &[&str]) -> Result<()> {
-    let (mode, passes) = mode(words)?;
-    let disk = taken(here)?;
-    here.disk = Some(Blind::fused(disk, passes, mode));
-    Ok(())
+// Sets a fuse: `fuse stop N`, `fuse once N`, or `fuse scar N BYTE`.
+fn fuse(here: &mut Place, call: &Call, said: &mut Saying) {
+    let words = call.words();
+    let (Some(how), Some(last)) = (words.get(1), words.last()) else {
+        return said.fail("that is no fuse");
+    };
+    let Some(mode) = mode(how, last) else {
+        return said.fail("that is no fuse");
+    };
+    let Some(disk) = taken(here, said) else {
+        return;
+    };
+    here.disk = Some(Blind::fused(disk, call.number(0), mode));
+    said.text("so")
 }
 
 // Tells what is read there, or that the call failed.
-fn read(alloc: Global, disk: &mut Blind, at: usize, count: usize, said: &mut String) -> Result<()> {
-    let mut bytes = vec![in alloc; 0; count]?;
-    match disk.read(at, &mut bytes) {
-        Ok(()) => add_bytes(said, &bytes)?,
-        Err(_) => said.push_str("fault")?,
+fn read(disk: &mut Blind, call: &Call, said: &mut Saying) {
+    let Ok(mut bytes) = vec![in call.alloc(); 0; call.place(1)] else {
+        return said.fail("no memory is left");
+    };
+    match disk.read(call.place(0), &mut bytes) {
+        Ok(()) => add_bytes(said, &bytes),
+        Err(_) => said.text("fault"),
     }
-    Ok(())
 }
 
 // Makes a write that fails.
-fn fail_write(here: &mut Place, at: usize, count: usize, byte: Option<u8>) -> Result<()> {
-    let mut disk = taken(here)?;
+fn fail_write(here: &mut Place, call: &Call, byte: Option<u8>, said: &mut Saying) {
+    let (at, count) = (call.place(0), call.place(1));
+    let Some(mut disk) = taken(here, said) else {
+        return;
+    };
     let size = disk.bytes().len();
     if at > size || count > size - at {
-        return Err(anyhow!("that is past the end"));
+        return said.fail("that is past the end");
     }
     disk.fail_write(at, count, byte);
     here.disk = Some(Blind::new(disk));
-    Ok(())
+    said.text("so")
+}
+
+// Makes a write that fails and leaves a byte all over its range.
+fn scar(here: &mut Place, call: &Call, said: &mut Saying) {
+    match call.words() {
+        [.., byte] if hex_byte(byte).is_some() => fail_write(here, call, hex_byte(byte), said),
+        _ => said.fail("that is no byte"),
+    }
 }
 
 // Makes a sync that fails.
-fn fail_sync(here: &mut Place) -> Result<()> {
-    let mut disk = taken(here)?;
+fn fail_sync(here: &mut Place, said: &mut Saying) {
+    let Some(mut disk) = taken(here, said) else {
+        return;
+    };
     disk.fail_call();
     here.disk = Some(Blind::new(disk));
-    Ok(())
+    said.text("so")
 }
 
 // Tells all bytes of the disk.
-fn bytes(here: &mut Place, said: &mut String) -> Result<()> {
-    let disk = taken(here)?;
-    add_bytes(said, disk.bytes())?;
+fn bytes(here: &mut Place, said: &mut Saying) {
+    let Some(disk) = taken(here, said) else {
+        return;
+    };
+    add_bytes(said, disk.bytes());
     here.disk = Some(Blind::new(disk));
-    Ok(())
-}
-
-fn letter(failed: bool) -> char {
-    if failed { 'x' } else { '.' }
 }
 
 // Makes a write of 1 at 0, a read, a sync, a write of 2 at 1, a read and a sync. Tells a letter for each.
-fn six_calls(disk: &mut Blind, said: &mut String) -> Result<(), AllocError> {
+fn six_calls(disk: &mut Blind, said: &mut Saying) {
     let mut buf = [0];
-    said.push(letter(disk.write_at(0, &[1]).is_err()))?;
-    said.push(letter(disk.read(0, &mut buf).is_err()))?;
-    said.push(letter(disk.sync().is_err()))?;
-    said.push(letter(disk.write_at(1, &[2]).is_err()))?;
-    said.push(letter(disk.read(1, &mut buf).is_err()))?;
-    said.push(letter(disk.sync().is_err()))
+    said.either(disk.write_at(0, &[1]).is_ok(), ".", "x");
+    said.either(disk.read(0, &mut buf).is_ok(), ".", "x");
+    said.either(disk.sync().is_ok(), ".", "x");
+    said.either(disk.write_at(1, &[2]).is_ok(), ".", "x");
+    said.either(disk.read(1, &mut buf).is_ok(), ".", "x");
+    said.either(disk.sync().is_ok(), ".", "x")
 }
 
 // Writes the bytes behind their gate, which is the first of them.
-fn gate(disk: &mut Blind, at: usize, bytes: &[u8], said: &mut String) -> Result<()> {
+fn gate(disk: &mut Blind, at: usize, bytes: &[u8], said: &mut Saying) {
     if at == usize::MAX {
-        return Err(anyhow!("that is past the end"));
+        return said.fail("that is past the end");
     }
     if bytes.is_empty() || bytes[0] != OPEN {
-        return Err(anyhow!("that gate isn't open"));
+        return said.fail("that gate isn't open");
     }
-    add_passed(said, write_behind_gate(disk, at, bytes))?;
-    Ok(())
+    add_passed(said, write_behind_gate(disk, at, bytes))
 }
 
-fn length(disk: &mut Blind, said: &mut String) -> Result<(), AllocError> {
+fn length(disk: &mut Blind, said: &mut Saying) {
     match disk.len() {
-        Ok(len) => write!(said, "{len}"),
-        Err(_) => said.push_str("fault"),
+        Ok(len) => said.number(len as u64),
+        Err(_) => said.text("fault"),
+    }
+}
+
+// Writes the bytes that the words behind the place name.
+fn write(disk: &mut Blind, call: &Call, said: &mut Saying) {
+    let ["write" | "gate", _, rest @ ..] = call.words() else {
+        return said.fail("no bytes");
+    };
+    let Some(bytes) = hex_bytes(call.alloc(), rest) else {
+        return said.fail("no bytes");
+    };
+    match call.words() {
+        ["gate", ..] => gate(disk, call.place(0), &bytes, said),
+        _ => add_passed(said, disk.write_at(call.place(0), &bytes)),
+    }
+}
+
+// Makes a call on a disk that is there.
+fn tell_of_its_bytes(disk: &mut Blind, call: &Call, said: &mut Saying) {
+    match call.form() {
+        "read _ _" => read(disk, call, said),
+        "sync" => add_passed(said, disk.sync()),
+        "gate _" => add_passed(said, open_gate(disk, call.place(0))),
+        "six calls" => six_calls(disk, said),
+        "length" => length(disk, said),
+        "calls" => said.number(disk.calls()),
+        _ => write(disk, call, said),
     }
 }
 
 // Makes calls that fail, and lets the disk change by other hands.
-fn tell_of_fate(here: &mut Place, words: &[&str], said: &mut String) -> Result<bool> {
-    match words {
-        ["fuse", rest @ ..] => fuse(here, rest)?,
-        ["fail", "write", at, count] => fail_write(here, place(at)?, place(count)?, None)?,
-        ["fail", "write", at, count, byte] => {
-            let byte = hex_byte(byte)?;
-            fail_write(here, place(at)?, place(count)?, Some(byte))?;
-        }
-        ["fail", "sync"] => fail_sync(here)?,
-        ["crash", kind] => here.crash(crash_kind(kind)?)?,
-        _ => return Ok(false),
+fn tell_of_fate(here: &mut Place, call: &Call, said: &mut Saying) {
+    match call.form() {
+        "fail write _ _" => fail_write(here, call, None, said),
+        "fail sync" => fail_sync(here, said),
+        _ => match call.words() {
+            ["crash", kind] => said.so(here.crash(kind), "so"),
+            ["fuse", ..] => fuse(here, call, said),
+            _ => scar(here, call, said),
+        },
     }
-    said.push_str("so")?;
-    Ok(true)
 }
 
-/// Makes a call on the disk. Returns whether the words name one.
-pub fn tell_of_disk(
-    alloc: Global,
-    here: &mut Place,
-    words: &[&str],
-    said: &mut String,
-) -> Result<bool> {
-    match words {
-        ["disk", len] => make(alloc, here, place(len)?, said)?,
-        ["read", at, count] => read(alloc, here.disk()?, place(at)?, place(count)?, said)?,
-        ["write", at, rest @ ..] => {
-            let bytes = hex_bytes(alloc, rest)?;
-            add_passed(said, here.disk()?.write_at(place(at)?, &bytes))?;
+/// Makes a call on the disk, or else one of those of a journal.
+pub fn tell_of_disk(here: &mut Place, call: &Call, said: &mut Saying) {
+    match call.words() {
+        ["disk", _] => make(here, call, said),
+        ["bytes"] => bytes(here, said),
+        ["fuse" | "fail" | "crash", ..] => tell_of_fate(here, call, said),
+        [
+            "read" | "write" | "sync" | "gate" | "six" | "length" | "calls",
+            ..
+        ] => {
+            match &mut here.disk {
+                Some(disk) => tell_of_its_bytes(disk, call, said),
+                None => said.fail("there is no disk"),
+            }
         }
-        ["sync"] => add_passed(said, here.disk()?.sync())?,
-        ["gate", at] => add_passed(said, open_gate(here.disk()?, place(at)?))?,
-        ["gate", at, rest @ ..] => {
-            let bytes = hex_bytes(alloc, rest)?;
-            gate(here.disk()?, place(at)?, &bytes, said)?;
-        }
-        ["six", "calls"] => six_calls(here.disk()?, said)?,
-        ["length"] => length(here.disk()?, said)?,
-        ["bytes"] => bytes(here, said)?,
-        ["calls"] => {
-            let calls = here.disk()?.calls();
-            write!(said, "{calls}")?;
-        }
-        _ => return tell_of_fate(here, words, said),
+        _ => tell_of_journal(here, call, said),
     }
-    Ok(true)
 }

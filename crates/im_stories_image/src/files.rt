@@ -14,9 +14,8 @@ ghost use Rattle.std.specs.Prelude.{◌≡◌, ◌+◌, ◌≤◌, true, length}
 
 use crate::bytes::{add_bytes, hex_bytes};
 use crate::disks::add_passed;
-use anyhow::{Result, anyhow};
 use im_disk::{Disk, Failure, FileDisk, OpenFault, Unknown};
-use im_story::{add_refusal, place};
+use im_story::{Call, Saying};
 use im_types::Refusal;
 use std::alloc::{AllocError, Global};
 use std::fs;
@@ -31,10 +30,10 @@ pub struct Opened {
 }
 
 impl Opened {
-    fn new(mut disk: FileDisk<Unknown>) -> Result<Opened> {
+    fn new(mut disk: FileDisk<Unknown>) -> Option<Opened> {
         match disk.len() {
-            Ok(size) => Ok(Opened { disk, size }),
-            Err(_) => Err(anyhow!("the length can't be read")),
+            Ok(size) => Some(Opened { disk, size }),
+            Err(_) => None,
         }
     }
 
@@ -45,44 +44,41 @@ impl Opened {
         at <= self.size && count <= self.size - at
     }
 
-    fn read(&mut self, alloc: Global, at: usize, count: usize, said: &mut String) -> Result<()> {
+    fn read(&mut self, call: &Call, said: &mut Saying) {
+        let (at, count) = (call.place(0), call.place(1));
         if !self.has(at, count) {
-            return Err(anyhow!("that is past the end"));
+            return said.fail("that is past the end");
         }
-        let mut bytes = vec![in alloc; 0; count]?;
+        let Ok(mut bytes) = vec![in call.alloc(); 0; count] else {
+            return said.fail("no memory is left");
+        };
         match self.disk.read(at, &mut bytes) {
-            Ok(()) => add_bytes(said, &bytes)?,
-            Err(_) => said.push_str("fault")?,
+            Ok(()) => add_bytes(said, &bytes),
+            Err(_) => said.text("fault"),
         }
-        Ok(())
     }
 
-    fn write(&mut self, at: usize, bytes: &[u8], said: &mut String) -> Result<()> {
+    fn write(&mut self, at: usize, bytes: &[u8], said: &mut Saying) {
         if !self.has(at, bytes.len()) {
-            return Err(anyhow!("that is past the end"));
+            return said.fail("that is past the end");
         }
-        add_passed(said, self.disk.write_at(at, bytes))?;
-        Ok(())
+        add_passed(said, self.disk.write_at(at, bytes))
     }
 
-    fn sync(&mut self, said: &mut String) -> Result<(), AllocError> {
-        add_passed(said, self.disk.sync())
-    }
-
-    fn failure(&self, said: &mut String) -> Result<(), AllocError> {
-        said.push_str(match self.disk.failure() {
+    fn failure(&self) -> &'static str {
+        match self.disk.failure() {
             None => "none",
             Some(Failure::Length) => "length",
             Some(Failure::Read(_)) => "read",
             Some(Failure::Write(_)) => "write",
             Some(Failure::Sync(_)) => "sync",
-        })
+        }
     }
 
-    fn len(&mut self, said: &mut String) -> Result<(), AllocError> {
+    fn len(&mut self, said: &mut Saying) {
         match self.disk.len() {
-            Ok(length) => write!(said, "{length}"),
-            Err(_) => said.push_str("fault"),
+            Ok(length) => said.number(length as u64),
+            Err(_) => said.text("fault"),
         }
     }
 }
@@ -93,6 +89,16 @@ pub struct Files {
     open: Option<Opened>,
 }
 
+// Tells why a file wasn't opened.
+fn add_fault(said: &mut Saying, fault: OpenFault) {
+    match fault {
+        OpenFault::InUse => said.text("in use"),
+        OpenFault::Exists => said.text("exists"),
+        OpenFault::NotFile => said.text("no regular file"),
+        fault => said.refusal(Refusal::from(fault)),
+    }
+}
+
 impl Files {
     /// Starts with no file open.
     pub fn new() -> Files {
@@ -100,125 +106,109 @@ impl Files {
     }
 
     // Takes the file that was opened. If none was, tells why, and the file that was open before stays open.
-    fn take(
-        &mut self,
-        made: Result<FileDisk<Unknown>, OpenFault>,
-        said: &mut String,
-    ) -> Result<()> {
+    fn take(&mut self, made: Result<FileDisk<Unknown>, OpenFault>, said: &mut Saying) {
         match made {
             Ok(disk) => {
-                self.open = Some(Opened::new(disk)?);
-                said.push_str("open")?;
+                self.open = Opened::new(disk);
+                said.so(self.open.is_some(), "open")
             }
-            Err(OpenFault::InUse) => said.push_str("in use")?,
-            Err(OpenFault::Exists) => said.push_str("exists")?,
-            Err(OpenFault::NotFile) => said.push_str("no regular file")?,
-            Err(fault) => add_refusal(said, Refusal::from(fault))?,
+            Err(fault) => add_fault(said, fault),
         }
-        Ok(())
     }
 
     // Takes away the name of the file that is open.
-    fn remove(&mut self, rt: &HostRuntime, path: &str, said: &mut String) -> Result<()> {
-        match self.open.take() {
-            Some(opened) => match opened.disk.remove(rt, path) {
-                Ok(()) => said.push_str("gone")?,
-                Err(OpenFault::Exists) => said.push_str("exists")?,
-                Err(fault) => add_refusal(said, Refusal::from(fault))?,
-            },
-            None => return Err(anyhow!("no file is open")),
-        }
-        Ok(())
-    }
-
-    fn opened(&mut self) -> Result<&mut Opened> {
-        match &mut self.open {
-            Some(opened) => Ok(opened),
-            None => Err(anyhow!("no file is open")),
+    fn remove(&mut self, rt: &HostRuntime, path: &str, said: &mut Saying) {
+        let Some(opened) = self.open.take() else {
+            return said.fail("no file is open");
+        };
+        match opened.disk.remove(rt, path) {
+            Ok(()) => said.text("gone"),
+            Err(fault) => add_fault(said, fault),
         }
     }
 }
 
-// Makes an empty folder.
-fn make_folder(rt: &HostRuntime, name: &str) -> Result<()> {
+// Makes an empty folder. Returns whether it is there.
+fn make_folder(rt: &HostRuntime, name: &str) -> bool {
     let _ = fs::remove_dir_all(rt, name);
-    fs::create_dir(rt, name)?;
-    Ok(())
+    fs::create_dir(rt, name).is_ok()
 }
 
-// Makes a file with this text.
-fn put(rt: &HostRuntime, path: &str, words: &[&str]) -> Result<()> {
-    let mut text = String::new(rt.alloc());
+// Puts words together, with a blank between two of them.
+fn joined(alloc: Global, words: &[&str]) -> Result<String, AllocError> {
+    let mut text = String::new(alloc);
     for word in words {
         if !text.as_str().is_empty() {
             text.push(' ')?;
         }
         text.push_str(word)?;
     }
-    fs::write(rt, path, text.as_str())?;
-    Ok(())
+    Ok(text)
 }
 
-// Does to the folder what other hands do.
-fn tell_of_folders(rt: &HostRuntime, words: &[&str], said: &mut String) -> Result<bool> {
-    match words {
-        ["folder", name] => make_folder(rt, name)?,
-        ["remove", name] => fs::remove_dir_all(rt, name)?,
-        ["put", path, text @ ..] if !text.is_empty() => put(rt, path, text)?,
-        _ => return Ok(false),
+// Makes a file with this text. Returns whether it is there.
+fn put(rt: &HostRuntime, path: &str, words: &[&str]) -> bool {
+    match joined(rt.alloc(), words) {
+        Ok(text) => fs::write(rt, path, text.as_str()).is_ok(),
+        Err(_) => false,
     }
-    said.push_str("so")?;
-    Ok(true)
+}
+
+// Writes the bytes that the words behind the place name.
+fn write(file: &mut Opened, call: &Call, said: &mut Saying) {
+    let ["file", "write", _, rest @ ..] = call.words() else {
+        return said.fail("that is no call of a file");
+    };
+    match hex_bytes(call.alloc(), rest) {
+        Some(bytes) => file.write(call.place(0), &bytes, said),
+        None => said.fail("no bytes"),
+    }
 }
 
 // Makes a call on the file that is open.
-fn tell_of_file(
-    alloc: Global,
-    file: &mut Opened,
-    words: &[&str],
-    said: &mut String,
-) -> Result<bool> {
-    match words {
-        ["read", at, count] => file.read(alloc, place(at)?, place(count)?, said)?,
-        ["write", at, rest @ ..] => {
-            let bytes = hex_bytes(alloc, rest)?;
-            file.write(place(at)?, &bytes, said)?;
-        }
-        ["sync"] => file.sync(said)?,
-        ["length"] => file.len(said)?,
-        ["failure"] => file.failure(said)?,
-        _ => return Ok(false),
+fn tell_of_file(file: &mut Opened, call: &Call, said: &mut Saying) {
+    match call.form() {
+        "file read _ _" => file.read(call, said),
+        "file sync" => add_passed(said, file.disk.sync()),
+        "file length" => file.len(said),
+        "file failure" => said.text(file.failure()),
+        _ => write(file, call, said),
     }
-    Ok(true)
+}
+
+// Opens a file, or makes one of as many zero bytes as the call's number says.
+fn open(rt: &HostRuntime, call: &Call) -> Result<FileDisk<Unknown>, OpenFault> {
+    match call.words() {
+        ["create", "new", path, _] => FileDisk::create_new(rt, path, call.place(0), Unknown),
+        ["create", path, _] => FileDisk::create(rt, path, call.place(0), Unknown),
+        [_, path, "to", "read"] => FileDisk::open_to_read(rt, path, Unknown),
+        [_, path, ..] => FileDisk::open(rt, path, Unknown),
+        _ => Err(OpenFault::NotFile),
+    }
+}
+
+// Makes a call on the file that is open, or takes it away.
+fn tell_of_open(rt: &HostRuntime, files: &mut Files, call: &Call, said: &mut Saying) {
+    match (call.words(), &mut files.open) {
+        (["file", "close"], _) => {
+            files.open = None;
+            said.text("closed")
+        }
+        (["file", "gone", path], _) => files.remove(rt, path, said),
+        (_, Some(file)) => tell_of_file(file, call, said),
+        _ => said.fail("no file is open"),
+    }
 }
 
 /// Makes a call on files. Returns whether the words name one.
-pub fn tell_of_files(
-    rt: &HostRuntime,
-    files: &mut Files,
-    words: &[&str],
-    said: &mut String,
-) -> Result<bool> {
-    match words {
-        ["create", path, len] => {
-            let made = FileDisk::create(rt, path, place(len)?, Unknown);
-            files.take(made, said)?;
-        }
-        ["create", "new", path, len] => {
-            let made = FileDisk::create_new(rt, path, place(len)?, Unknown);
-            files.take(made, said)?;
-        }
-        ["open", path] => files.take(FileDisk::open(rt, path, Unknown), said)?,
-        ["open", path, "to", "read"] => {
-            files.take(FileDisk::open_to_read(rt, path, Unknown), said)?
-        }
-        ["file", "close"] => {
-            files.open = None;
-            said.push_str("closed")?;
-        }
-        ["file", "gone", path] => files.remove(rt, path, said)?,
-        ["file", rest @ ..] => return tell_of_file(rt.alloc(), files.opened()?, rest, said),
-        _ => return tell_of_folders(rt, words, said),
+pub fn tell_of_files(rt: &HostRuntime, files: &mut Files, call: &Call, said: &mut Saying) -> bool {
+    match call.words() {
+        ["create" | "open", ..] => files.take(open(rt, call), said),
+        ["file", ..] => tell_of_open(rt, files, call, said),
+        ["folder", name] => said.so(make_folder(rt, name), "so"),
+        ["remove", name] => said.so(fs::remove_dir_all(rt, name).is_ok(), "so"),
+        ["put", path, text @ ..] if !text.is_empty() => said.so(put(rt, path, text), "so"),
+        _ => return false,
     }
-    Ok(true)
+    true
 }

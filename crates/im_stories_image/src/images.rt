@@ -14,19 +14,18 @@
 //! ```
 
 use crate::blind::Blind;
-use crate::journals::sizes;
+use crate::faults::tell_of_faults;
 use crate::place::Place;
-use anyhow::{Result, anyhow};
 use im_disk::{Disk, MemDisk};
 use im_image::{
     Header, PAGE, VERSION, area_at, area_pages, encode, inspect, new_image, read_header,
     read_to_open,
 };
 use im_memory::Memory;
-use im_story::{add_refusal, number, old_image, place};
+use im_story::{Call, Saying, old_image};
 use im_types::layout::Version;
 use im_types::{Limits, Refusal};
-use std::alloc::{AllocError, Global};
+use std::alloc::Global;
 
 /// Makes a disk with these bytes.
 pub fn disk_of(alloc: Global, bytes: &[u8]) -> Result<MemDisk, Refusal> {
@@ -35,219 +34,251 @@ pub fn disk_of(alloc: Global, bytes: &[u8]) -> Result<MemDisk, Refusal> {
     Ok(disk)
 }
 
-fn layout(version: Version, limits: Limits, said: &mut String) -> Result<(), AllocError> {
+fn layout(version: Version, limits: Limits, said: &mut Saying) {
     let (pages, at) = (version.area_pages(limits), version.journal_at(limits));
     let length = version.image_length(limits);
     write!(said, "{pages} pages, journal at {at}, {length} bytes")
 }
 
-// Makes an image on a disk of its own.
-fn image(
-    alloc: Global,
-    here: &mut Place,
-    bytes: &[u8],
-    limits: Limits,
-    said: &mut String,
-) -> Result<()> {
+// Makes a disk with these bytes, and tells how many there are.
+fn lay(here: &mut Place, alloc: Global, bytes: &[u8], said: &mut Saying) {
     let length = bytes.len();
-    here.disk = Some(Blind::new(disk_of(alloc, bytes)?));
-    here.limits = Some(limits);
-    write!(said, "{length} bytes")?;
-    Ok(())
+    match disk_of(alloc, bytes) {
+        Ok(disk) => {
+            here.disk = Some(Blind::new(disk));
+            write!(said, "{length} bytes")
+        }
+        Err(refusal) => said.refusal(refusal),
+    }
+}
+
+// Makes an image on a disk of its own.
+fn image(here: &mut Place, alloc: Global, bytes: Option<Vec<u8>>, said: &mut Saying) {
+    match bytes {
+        Some(bytes) => lay(here, alloc, &bytes, said),
+        None => said.fail("no memory is left"),
+    }
 }
 
 /// Reads all bytes of the disk.
-pub fn all_bytes(alloc: Global, disk: &mut Blind) -> Result<Vec<u8>> {
-    let Ok(length) = disk.len() else {
-        return Err(anyhow!("the length can't be read"));
-    };
-    let mut bytes = vec![in alloc; 0; length]?;
+pub fn all_bytes(alloc: Global, disk: &mut Blind) -> Option<Vec<u8>> {
+    let length = disk.len().ok()?;
+    let mut bytes = vec![in alloc; 0; length].ok()?;
     match disk.read(0, &mut bytes) {
-        Ok(()) => Ok(bytes),
-        Err(_) => Err(anyhow!("the disk can't be read")),
+        Ok(()) => Some(bytes),
+        Err(_) => None,
     }
 }
 
-fn cut(alloc: Global, here: &mut Place, length: usize, said: &mut String) -> Result<()> {
-    let bytes = all_bytes(alloc, here.disk()?)?;
-    let Some(short) = bytes.get(..length) else {
-        return Err(anyhow!("the disk is shorter"));
+fn cut(here: &mut Place, alloc: Global, length: usize, said: &mut Saying) {
+    let Some(disk) = &mut here.disk else {
+        return said.fail("there is no disk");
     };
-    here.disk = Some(Blind::new(disk_of(alloc, short)?));
-    write!(said, "{length} bytes")?;
-    Ok(())
+    let Some(bytes) = all_bytes(alloc, disk) else {
+        return said.fail("the disk can't be read");
+    };
+    match bytes.get(..length) {
+        Some(short) => lay(here, alloc, short, said),
+        None => said.fail("the disk is shorter"),
+    }
 }
 
 // Returns where the header of an area stands.
-fn header_at(area: u8) -> Result<usize> {
-    match area {
-        0 => Ok(0),
-        1 => Ok(PAGE),
-        _ => Err(anyhow!("there is no such area")),
+fn header_at(area: u8) -> usize {
+    if area == 0 { 0 } else { PAGE }
+}
+
+// Reads the number of an area.
+fn area(number: u64) -> Option<u8> {
+    match number {
+        0 => Some(0),
+        1 => Some(1),
+        _ => None,
     }
 }
 
-fn area(word: &str) -> Result<u8> {
-    match word {
-        "0" => Ok(0),
-        "1" => Ok(1),
-        _ => Err(anyhow!("there is no such area")),
-    }
-}
-
-// Spells a header in its place.
-fn put_header(here: &mut Place, header: &Header) -> Result<()> {
-    let at = header_at(header.area)?;
-    match here.disk()?.write_at(at, &header.spell()) {
-        Ok(()) => Ok(()),
-        Err(_) => Err(anyhow!("the header can't be written")),
-    }
-}
-
-fn add_header(said: &mut String, header: Header) -> Result<(), AllocError> {
+fn add_header(said: &mut Saying, header: Header) {
     let (version, area) = (header.version, header.area);
     let (generation, count) = (header.generation, header.count);
+    write!(
+        said,
+        "version {version}, area {area}, generation {generation}, count {count}, "
+    );
     let (cells, elements, slots) = (
         header.limits.cells,
         header.limits.elements,
         header.limits.slots,
     );
-    write!(
-        said,
-        "version {version}, area {area}, generation {generation}, count {count}, "
-    )?;
     write!(said, "sizes {cells} {elements} {slots}")
 }
 
 // Tells the header that stands behind the gate of an area's place.
-fn header_behind_gate(disk: &mut Blind, area: u8, said: &mut String) -> Result<()> {
+fn header_behind_gate(disk: &mut Blind, area: u8, said: &mut Saying) {
     let mut bytes = [0; 64];
-    let Ok(()) = disk.read(header_at(area)?, &mut bytes) else {
-        return Err(anyhow!("the header can't be read"));
-    };
-    match Header::read(&bytes, area) {
-        Some(header) => add_header(said, header)?,
-        None => said.push_str("none")?,
+    if disk.read(header_at(area), &mut bytes).is_err() {
+        return said.fail("the header can't be read");
     }
-    Ok(())
+    match Header::read(&bytes, area) {
+        Some(header) => add_header(said, header),
+        None => said.text("none"),
+    }
 }
 
-fn header_in_force(disk: &mut Blind, said: &mut String) -> Result<(), AllocError> {
+fn header_in_force(disk: &mut Blind, said: &mut Saying) {
     match read_header(disk) {
         Ok(header) => add_header(said, header),
-        Err(refusal) => add_refusal(said, refusal),
+        Err(refusal) => said.refusal(refusal),
     }
 }
 
 // Adds what an image means: its header, its run and its room.
-fn add_meaning(said: &mut String, header: &Header, run: u64, room: u32) -> Result<(), AllocError> {
+fn add_meaning(said: &mut Saying, header: &Header, run: u64, room: u32) {
     let (generation, count) = (header.generation, header.count);
-    write!(
-        said,
-        "generation {generation}, count {count}, run {run}, room {room}"
-    )
+    write!(said, "generation {generation}, count {count}, ");
+    write!(said, "run {run}, room {room}")
 }
 
 // Tells what the image means. From then on the story is about its memory.
-fn inspected(alloc: Global, here: &mut Place, said: &mut String) -> Result<()> {
-    match inspect(alloc, here.disk()?) {
+fn inspected(disk: &mut Blind, alloc: Global, said: &mut Saying) -> Option<Memory> {
+    match inspect(alloc, disk) {
         Ok(report) => {
-            add_meaning(said, &report.header, report.run, report.room)?;
-            here.memory = Some(report.memory);
+            add_meaning(said, &report.header, report.run, report.room);
+            Some(report.memory)
         }
-        Err(refusal) => add_refusal(said, refusal)?,
+        Err(refusal) => {
+            said.refusal(refusal);
+            None
+        }
     }
-    Ok(())
 }
 
 // Tells the same of an image that is to be opened.
-fn opened(alloc: Global, here: &mut Place, said: &mut String) -> Result<()> {
-    match read_to_open(alloc, here.disk()?) {
+fn opened(disk: &mut Blind, alloc: Global, said: &mut Saying) -> Option<Memory> {
+    match read_to_open(alloc, disk) {
         Ok(image) => {
             let run = image.journal.count().saturating_sub(image.header.count);
-            add_meaning(said, &image.header, run, image.journal.room())?;
-            here.memory = Some(image.memory);
+            add_meaning(said, &image.header, run, image.journal.room());
+            Some(image.memory)
         }
-        Err(refusal) => add_refusal(said, refusal)?,
+        Err(refusal) => {
+            said.refusal(refusal);
+            None
+        }
     }
-    Ok(())
 }
 
-/// Returns the pages of a memory, written over other bytes. It is an error if the memory has other sizes.
-pub fn area_of(alloc: Global, memory: &Memory, limits: Limits) -> Result<Vec<u8>> {
-    let mut area = vec![in alloc; 0xEE; PAGE * area_pages(limits)]?;
+// Keeps the memory of an image, if it is one.
+fn keep(memory: &mut Option<Memory>, read: Option<Memory>) {
+    if read.is_some() {
+        *memory = read;
+    }
+}
+
+/// Returns the pages of a memory, written over other bytes. There are none if the memory has other sizes.
+pub fn area_of(alloc: Global, memory: &Memory, limits: Limits) -> Option<Vec<u8>> {
+    let mut area = vec![in alloc; 0xEE; PAGE * area_pages(limits)].ok()?;
     if memory.cells() != limits.cells || memory.elements() != limits.elements {
-        return Err(anyhow!("a memory of other sizes"));
+        return None;
     }
     encode(memory, limits, &mut area);
-    Ok(area)
+    Some(area)
 }
 
-fn put_pages(alloc: Global, here: &mut Place, number: u8, said: &mut String) -> Result<()> {
-    let limits = here.limits()?;
-    let Some(memory) = &here.memory else {
-        return Err(anyhow!("there is no memory"));
+fn put_pages(here: &mut Place, call: &Call, said: &mut Saying) {
+    let (Some(disk), Some(memory), Some(limits)) = (&mut here.disk, &here.memory, here.limits)
+    else {
+        return said.fail("there is no disk or no memory");
     };
-    let pages = area_of(alloc, memory, limits)?;
+    let Some(pages) = area_of(call.alloc(), memory, limits) else {
+        return said.fail("a memory of other sizes");
+    };
+    let number = call.place(0);
     if number > 1 {
-        return Err(anyhow!("there is no such area"));
+        return said.fail("there is no such area");
     }
-    let at = area_at(limits, number as usize);
-    match here.disk()?.write_at(at, &pages) {
-        Ok(()) => said.push_str("ok")?,
-        Err(_) => said.push_str("fault")?,
-    }
-    Ok(())
+    let at = area_at(limits, number);
+    said.either(disk.write_at(at, &pages).is_ok(), "ok", "fault")
 }
 
-// Makes calls on headers.
-fn tell_of_headers(here: &mut Place, words: &[&str], said: &mut String) -> Result<bool> {
-    match words {
-        ["header", "at", of] => header_behind_gate(here.disk()?, area(of)?, said)?,
-        ["header", of, generation, count, cells, elements, slots] => {
-            let header = Header {
-                version: VERSION,
-                area: area(of)?,
-                generation: number(generation)?,
-                count: number(count)?,
-                limits: sizes(cells, elements, slots)?,
-            };
-            put_header(here, &header)?;
-            said.push_str("ok")?;
-        }
-        ["in", "force"] => header_in_force(here.disk()?, said)?,
-        _ => return Ok(false),
-    }
-    Ok(true)
+// Reads a header: an area, a generation, a count and sizes.
+fn header(call: &Call) -> Option<Header> {
+    Some(Header {
+        version: VERSION,
+        area: area(call.number(0))?,
+        generation: call.number(1),
+        count: call.number(2),
+        limits: call.limits(3)?,
+    })
 }
 
-/// Makes a call on the image. Returns whether the words name one.
-pub fn tell_of_image(
-    alloc: Global,
-    here: &mut Place,
-    words: &[&str],
-    said: &mut String,
-) -> Result<bool> {
-    match words {
-        ["layout", cells, elements, slots] => {
-            layout(Version::Two, sizes(cells, elements, slots)?, said)?
-        }
-        ["old", "layout", cells, elements, slots] => {
-            layout(Version::One, sizes(cells, elements, slots)?, said)?
-        }
-        ["image", cells, elements, slots] => {
-            let limits = sizes(cells, elements, slots)?;
-            image(alloc, here, &new_image(alloc, limits)?, limits, said)?
-        }
-        ["old", "image", cells, elements, slots] => {
-            let limits = sizes(cells, elements, slots)?;
-            image(alloc, here, &old_image(alloc, limits)?, limits, said)?
-        }
-        ["cut", length] => cut(alloc, here, place(length)?, said)?,
-        ["inspect"] => inspected(alloc, here, said)?,
-        ["to", "open"] => opened(alloc, here, said)?,
-        ["encode", of] => put_pages(alloc, here, area(of)?, said)?,
-        _ => return tell_of_headers(here, words, said),
+// Spells a header in its place.
+fn put_header(disk: &mut Blind, call: &Call, said: &mut Saying) {
+    let Some(header) = header(call) else {
+        return said.fail("there is no such header");
+    };
+    let is_put = disk
+        .write_at(header_at(header.area), &header.spell())
+        .is_ok();
+    said.so(is_put, "ok")
+}
+
+// Makes a call on the image of a disk.
+fn tell_of_its_image(here: &mut Place, call: &Call, said: &mut Saying) {
+    let Some(disk) = &mut here.disk else {
+        return said.fail("there is no disk");
+    };
+    match call.form() {
+        "inspect" => keep(&mut here.memory, inspected(disk, call.alloc(), said)),
+        "to open" => keep(&mut here.memory, opened(disk, call.alloc(), said)),
+        "in force" => header_in_force(disk, said),
+        "header at _" => match area(call.number(0)) {
+            Some(area) => header_behind_gate(disk, area, said),
+            None => said.fail("there is no such area"),
+        },
+        _ => put_header(disk, call, said),
     }
-    Ok(true)
+}
+
+// Makes a call that names sizes.
+fn tell_of_sizes(here: &mut Place, call: &Call, said: &mut Saying) {
+    let Some(limits) = call.limits(0) else {
+        return said.fail("there are no such sizes");
+    };
+    match call.form() {
+        "layout _ _ _" => layout(Version::Two, limits, said),
+        "old layout _ _ _" => layout(Version::One, limits, said),
+        "image _ _ _" => {
+            here.limits = Some(limits);
+            image(
+                here,
+                call.alloc(),
+                new_image(call.alloc(), limits).ok(),
+                said,
+            )
+        }
+        _ => {
+            here.limits = Some(limits);
+            image(
+                here,
+                call.alloc(),
+                old_image(call.alloc(), limits).ok(),
+                said,
+            )
+        }
+    }
+}
+
+/// Makes a call on the image, or else one of those of its faults.
+pub fn tell_of_image(here: &mut Place, call: &Call, said: &mut Saying) {
+    match call.form() {
+        "layout _ _ _" | "old layout _ _ _" | "image _ _ _" | "old image _ _ _" => {
+            tell_of_sizes(here, call, said)
+        }
+        "cut _" => cut(here, call.alloc(), call.place(0), said),
+        "encode _" => put_pages(here, call, said),
+        "inspect" | "to open" | "in force" | "header at _" | "header _ _ _ _ _ _" => {
+            tell_of_its_image(here, call, said)
+        }
+        _ => tell_of_faults(here, call, said),
+    }
 }

@@ -17,46 +17,34 @@
 use crate::blind::Blind;
 use crate::commands::add_command;
 use crate::disks::add_passed;
+use crate::images::tell_of_image;
 use crate::place::Place;
-use anyhow::{Result, anyhow};
 use im_disk::Disk;
 use im_journal::{Journal, read, spell};
-use im_story::{add_refusal, address, command, element, number, place};
+use im_story::{Call, Saying, command};
 use im_types::layout::Version;
-use im_types::{Command, LAST, Limits, MAX_GROUP, Op, Refusal, Request};
-use std::alloc::{AllocError, Global};
+use im_types::{Command, LAST, MAX_GROUP, Op, Request};
+use std::alloc::Global;
 
-fn fresh(here: &mut Place, limits: Limits) {
-    here.limits = Some(limits);
+fn fresh(here: &mut Place, call: &Call, said: &mut Saying) {
+    here.limits = call.limits(0);
+    let Some(limits) = here.limits else {
+        return said.fail("there are no such sizes");
+    };
     here.journal = Some(Journal::fresh(limits));
     here.commands = None;
+    said.text("fresh")
 }
 
-/// Adds `ok`, or the refusal.
-pub fn add_done(said: &mut String, answer: Result<(), Refusal>) -> Result<(), AllocError> {
-    match answer {
-        Ok(()) => said.push_str("ok"),
-        Err(refusal) => add_refusal(said, refusal),
+fn append(disk: &mut Blind, journal: &mut Journal, words: &[&str], said: &mut Saying) {
+    match command(words) {
+        Ok(command) => said.done(journal.append(disk, &command), "ok"),
+        Err(_) => said.fail("no command"),
     }
-}
-
-// Returns the disk and the journal.
-fn both(here: &mut Place) -> Result<(&mut Blind, &mut Journal)> {
-    match (&mut here.disk, &mut here.journal) {
-        (Some(disk), Some(journal)) => Ok((disk, journal)),
-        _ => Err(anyhow!("there is no journal on a disk")),
-    }
-}
-
-fn append(here: &mut Place, command: &Command, said: &mut String) -> Result<()> {
-    let (disk, journal) = both(here)?;
-    add_done(said, journal.append(disk, command))?;
-    Ok(())
 }
 
 // Lets element 0 fetch cell 0, by its requests 1 to `upto`.
-fn append_fetches(here: &mut Place, upto: u64, said: &mut String) -> Result<()> {
-    let (disk, journal) = both(here)?;
+fn append_fetches(disk: &mut Blind, journal: &mut Journal, upto: u64, said: &mut Saying) {
     for number in 0..upto {
         let command = Command::Request(Request {
             element: 0,
@@ -64,53 +52,54 @@ fn append_fetches(here: &mut Place, upto: u64, said: &mut String) -> Result<()> 
             op: Op::Fetch(0),
         });
         if let Err(refusal) = journal.append(disk, &command) {
-            add_refusal(said, refusal)?;
-            return Ok(());
+            return said.refusal(refusal);
         }
     }
-    said.push_str("ok")?;
-    Ok(())
+    said.text("ok")
 }
 
 // Reads commands with `and` between them.
-fn several(alloc: Global, words: &[&str]) -> Result<Vec<Command>> {
+fn several(alloc: Global, words: &[&str]) -> Option<Vec<Command>> {
     let mut commands = Vec::new(alloc);
     for part in words.split(|word| *word == "and") {
-        commands.push(command(part)?)?;
+        commands.push(command(part).ok()?).ok()?;
     }
-    Ok(commands)
+    Some(commands)
 }
 
-fn append_group(here: &mut Place, commands: &[Command], said: &mut String) -> Result<()> {
+fn append_group(
+    disk: &mut Blind,
+    journal: &mut Journal,
+    commands: Option<Vec<Command>>,
+    said: &mut Saying,
+) {
+    let Some(commands) = commands else {
+        return said.fail("no commands");
+    };
     if commands.is_empty() || commands.len() > MAX_GROUP {
-        return Err(anyhow!("no group has so many commands"));
+        return said.fail("no group has so many commands");
     }
-    let (disk, journal) = both(here)?;
-    add_done(said, journal.append_group(disk, commands))?;
-    Ok(())
+    said.done(journal.append_group(disk, &commands), "ok")
 }
 
-fn tail(
-    alloc: Global,
-    here: &mut Place,
-    version: Version,
-    from: u64,
-    said: &mut String,
-) -> Result<()> {
-    let limits = here.limits()?;
+// Reads the run from a count on.
+fn tail(here: &mut Place, version: Version, call: &Call, said: &mut Saying) {
+    let from = call.number(0);
+    let (Some(disk), Some(limits)) = (&mut here.disk, here.limits) else {
+        return said.fail("there is no disk, or there are no sizes");
+    };
     if from > LAST {
-        return Err(anyhow!("there is no such count"));
+        return said.fail("there is no such count");
     }
-    match Journal::read_tail(alloc, here.disk()?, version, limits, from) {
+    match Journal::read_tail(call.alloc(), disk, version, limits, from) {
         Ok((journal, commands)) => {
             let (count, room) = (commands.len(), journal.room());
-            write!(said, "{count} commands, room {room}")?;
+            write!(said, "{count} commands, room {room}");
             here.journal = Some(journal);
             here.commands = Some(commands);
         }
-        Err(refusal) => add_refusal(said, refusal)?,
+        Err(refusal) => said.refusal(refusal),
     }
-    Ok(())
 }
 
 fn command_read(here: &Place, at: usize) -> Option<Command> {
@@ -120,140 +109,119 @@ fn command_read(here: &Place, at: usize) -> Option<Command> {
     }
 }
 
-fn begin_later(here: &mut Place, first: u64) -> Result<()> {
-    let Some(journal) = &mut here.journal else {
-        return Err(anyhow!("there is no journal"));
-    };
+fn begin_later(journal: &mut Journal, first: u64, said: &mut Saying) {
     if journal.first() > first || first > journal.count() {
-        return Err(anyhow!("the run has no such command"));
+        return said.fail("the run has no such command");
     }
     journal.begin_later(first);
-    Ok(())
+    said.text("ok")
 }
 
-fn sweep(here: &mut Place, said: &mut String) -> Result<()> {
-    let (disk, journal) = both(here)?;
+fn sweep(disk: &mut Blind, journal: &mut Journal, said: &mut Saying) {
     if journal.to_sweep() == 0 {
-        return Err(anyhow!("there is nothing to sweep"));
+        return said.fail("there is nothing to sweep");
     }
     match journal.sweep_turn(disk) {
-        Ok(gates) => write!(said, "{gates} gates")?,
-        Err(refusal) => add_refusal(said, refusal)?,
+        Ok(gates) => write!(said, "{gates} gates"),
+        Err(refusal) => said.refusal(refusal),
     }
-    Ok(())
 }
 
 // Puts the bytes of a command's slot, from this one on, in its place.
-fn put_slot(
-    here: &mut Place,
-    version: Version,
-    from: usize,
-    sequence: u64,
-    words: &[&str],
-    said: &mut String,
-) -> Result<()> {
-    let limits = here.limits()?;
-    let slot = spell(&command(words)?, sequence);
+fn put_slot(here: &mut Place, version: Version, from: usize, slot: Numbered, said: &mut Saying) {
+    let (Some(disk), Some(limits)) = (&mut here.disk, here.limits) else {
+        return said.fail("there is no disk, or there are no sizes");
+    };
+    let bytes = spell(&slot.command, slot.sequence);
     if from > 1 {
-        return Err(anyhow!("a slot begins at its gate or at its body"));
+        return said.fail("a slot begins at its gate or at its body");
     }
-    let place = (sequence % limits.slots as u64) as usize;
+    let place = (slot.sequence % limits.slots as u64) as usize;
     let at = version.journal_at(limits) + 64 * place + from;
-    add_passed(said, here.disk()?.write_at(at, &slot[from..]))?;
-    Ok(())
+    add_passed(said, disk.write_at(at, &bytes[from..]))
+}
+
+// A command with its count.
+#[derive(Clone, Copy)]
+struct Numbered {
+    sequence: u64,
+    command: Command,
+}
+
+// Reads a slot, which the words behind a call's name tell.
+fn slot(call: &Call) -> Option<Numbered> {
+    let (["slot" | "body" | "spell", _, words @ ..] | ["old", "slot", _, words @ ..]) = call.words()
+    else {
+        return None;
+    };
+    Some(Numbered {
+        sequence: call.number(0),
+        command: command(words).ok()?,
+    })
 }
 
 // Tells the code in a command's slot, and whether the same command is read from it.
-fn spelled(sequence: u64, words: &[&str], said: &mut String) -> Result<()> {
-    let command = command(words)?;
-    let slot = spell(&command, sequence);
-    let code = slot[2];
-    let again = if read(&slot) == Some(command) {
-        "again"
-    } else {
-        "as another"
-    };
-    write!(said, "code {code}, read {again}")?;
-    Ok(())
-}
-
-// Tells what a journal knows of itself.
-fn tell_of_counts(journal: &Journal, words: &[&str], said: &mut String) -> Result<bool> {
-    match words {
-        ["first"] => {
-            let first = journal.first();
-            write!(said, "{first}")?;
-        }
-        ["count"] => {
-            let count = journal.count();
-            write!(said, "{count}")?;
-        }
-        ["room"] => {
-            let room = journal.room();
-            write!(said, "{room}")?;
-        }
-        ["to", "sweep"] => {
-            let slots = journal.to_sweep();
-            write!(said, "{slots}")?;
-        }
-        _ => return Ok(false),
-    }
-    Ok(true)
+fn spelled(slot: Numbered, said: &mut Saying) {
+    let bytes = spell(&slot.command, slot.sequence);
+    let code = bytes[2];
+    write!(said, "code {code}, read ");
+    said.either(read(&bytes) == Some(slot.command), "again", "as another")
 }
 
 // Makes calls on single slots.
-fn tell_of_slots(here: &mut Place, words: &[&str], said: &mut String) -> Result<bool> {
-    match words {
-        ["slot", sequence, rest @ ..] => {
-            put_slot(here, Version::Two, 0, number(sequence)?, rest, said)?
-        }
-        ["body", sequence, rest @ ..] => {
-            put_slot(here, Version::Two, 1, number(sequence)?, rest, said)?
-        }
-        ["old", "slot", sequence, rest @ ..] => {
-            put_slot(here, Version::One, 0, number(sequence)?, rest, said)?
-        }
-        ["spell", sequence, rest @ ..] => spelled(number(sequence)?, rest, said)?,
-        ["command", at] => add_command(said, command_read(here, place(at)?))?,
-        _ => match here.journal() {
-            Some(journal) => return tell_of_counts(journal, words, said),
-            None => return Ok(false),
+fn tell_of_slots(here: &mut Place, call: &Call, said: &mut Saying) {
+    let (Some(slot), Some(kind)) = (slot(call), call.words().first()) else {
+        return tell_of_image(here, call, said);
+    };
+    match *kind {
+        "slot" => put_slot(here, Version::Two, 0, slot, said),
+        "body" => put_slot(here, Version::Two, 1, slot, said),
+        "old" => put_slot(here, Version::One, 0, slot, said),
+        _ => spelled(slot, said),
+    }
+}
+
+// Tells what a journal knows of itself.
+fn tell_of_counts(here: &mut Place, call: &Call, said: &mut Saying) {
+    let Some(journal) = here.journal() else {
+        return tell_of_slots(here, call, said);
+    };
+    match call.form() {
+        "first" => said.number(journal.first()),
+        "count" => said.number(journal.count()),
+        "room" => said.number(journal.room() as u64),
+        "to sweep" => said.number(journal.to_sweep() as u64),
+        _ => tell_of_slots(here, call, said),
+    }
+}
+
+// Makes a call on the journal of a disk.
+fn tell_of_both(here: &mut Place, call: &Call, said: &mut Saying) {
+    let (Some(disk), Some(journal)) = (&mut here.disk, &mut here.journal) else {
+        return said.fail("there is no journal on a disk");
+    };
+    match call.words() {
+        ["append", "fetches", ..] => append_fetches(disk, journal, call.number(1), said),
+        ["append", rest @ ..] => append(disk, journal, rest, said),
+        ["group", rest @ ..] => append_group(disk, journal, several(call.alloc(), rest), said),
+        _ => sweep(disk, journal, said),
+    }
+}
+
+/// Makes a call on the journal, or else one of those of an image.
+pub fn tell_of_journal(here: &mut Place, call: &Call, said: &mut Saying) {
+    match call.form() {
+        "journal _ _ _" => fresh(here, call, said),
+        "tail _" => tail(here, Version::Two, call, said),
+        "old tail _" => tail(here, Version::One, call, said),
+        "begin later _" => match &mut here.journal {
+            Some(journal) => begin_later(journal, call.number(0), said),
+            None => said.fail("there is no journal"),
+        },
+        "command _" => add_command(said, command_read(here, call.place(0))),
+        _ => match call.words() {
+            ["append" | "group" | "sweep", ..] => tell_of_both(here, call, said),
+            _ => tell_of_counts(here, call, said),
         },
     }
-    Ok(true)
-}
-
-/// Reads sizes that are allowed.
-pub fn sizes(cells: &str, elements: &str, slots: &str) -> Result<Limits> {
-    match Limits::new(address(cells)?, element(elements)?, address(slots)?) {
-        Some(limits) => Ok(limits),
-        None => Err(anyhow!("there are no such sizes")),
-    }
-}
-
-/// Makes a call on the journal. Returns whether the words name one.
-pub fn tell_of_journal(
-    alloc: Global,
-    here: &mut Place,
-    words: &[&str],
-    said: &mut String,
-) -> Result<bool> {
-    match words {
-        ["journal", cells, elements, slots] => {
-            fresh(here, sizes(cells, elements, slots)?);
-            said.push_str("fresh")?;
-        }
-        ["append", "fetches", "1", "to", upto] => append_fetches(here, number(upto)?, said)?,
-        ["append", rest @ ..] => append(here, &command(rest)?, said)?,
-        ["group", rest @ ..] => append_group(here, &several(alloc, rest)?, said)?,
-        ["tail", from] => tail(alloc, here, Version::Two, number(from)?, said)?,
-        ["old", "tail", from] => tail(alloc, here, Version::One, number(from)?, said)?,
-        ["begin", "later", from] => {
-            begin_later(here, number(from)?)?;
-            said.push_str("ok")?;
-        }
-        ["sweep"] => sweep(here, said)?,
-        _ => return tell_of_slots(here, words, said),
-    }
-    Ok(true)
 }

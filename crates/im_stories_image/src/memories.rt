@@ -8,84 +8,77 @@
 //! walk TURNS EVERY               a random walk: see walks.rt
 //! ```
 
+use crate::checkpoints::tell_of_checkpoint;
 use crate::commands::add_block;
-use crate::journals::sizes;
 use crate::place::Place;
 use crate::walks::walk;
-use anyhow::{Result, anyhow};
 use im_memory::Memory;
-use im_story::{add_answer, add_outcome, add_window, address, command, element, name};
-use im_types::Limits;
-use std::alloc::{AllocError, Global};
+use im_story::{Call, Saying, command};
 
-fn make(alloc: Global, here: &mut Place, limits: Limits) -> Result<()> {
-    here.memory = Some(Memory::new(alloc, limits)?);
+fn make(here: &mut Place, call: &Call, said: &mut Saying) {
+    let Some(limits) = call.limits(0) else {
+        return said.fail("there are no such sizes");
+    };
     here.limits = Some(limits);
-    Ok(())
+    match Memory::new(call.alloc(), limits) {
+        Ok(memory) => {
+            here.memory = Some(memory);
+            said.text("empty")
+        }
+        Err(refusal) => said.refusal(refusal),
+    }
 }
 
 // Tells who waits at a cell, in order.
-fn waiting(memory: &Memory, a: u32, said: &mut String) -> Result<(), AllocError> {
+fn waiting(memory: &Memory, a: u32, said: &mut Saying) {
     for at in 0..4_097usize {
         let Some(waiter) = memory.waiter(a, at) else {
-            return Ok(());
+            return;
         };
-        let (element, number) = (waiter.element, waiter.number);
-        write!(said, "{element}.{number} ")?;
+        said.name(waiter.element, waiter.number);
+        said.text(" ");
     }
-    said.push_str("and others")
+    said.text("and others")
 }
 
-fn tell_of_contents(memory: &Memory, words: &[&str], said: &mut String) -> Result<bool> {
-    match words {
-        ["block", a] => add_block(said, memory.block(address(a)?))?,
-        ["waiting", a] => waiting(memory, address(a)?, said)?,
-        ["collect", who] => {
-            let (element, number) = name(who)?;
-            add_answer(said, memory.collect(element, number))?;
-        }
-        ["window", of] => add_window(said, memory.window(element(of)?))?,
-        _ => return Ok(false),
+fn step(memory: &mut Memory, words: &[&str], said: &mut Saying) {
+    match command(words) {
+        Ok(command) => said.outcome(memory.step(&command)),
+        Err(_) => said.fail("no command"),
     }
-    Ok(true)
 }
 
-/// Makes a call on the memory. Returns whether the words name one.
-pub fn tell_of_memory(
-    alloc: Global,
-    here: &mut Place,
-    words: &[&str],
-    said: &mut String,
-) -> Result<bool> {
-    match words {
-        ["memory", cells, elements, slots] => {
-            make(alloc, here, sizes(cells, elements, slots)?)?;
-            said.push_str("empty")?;
-        }
-        ["walk", turns, every] => {
-            let limits = here.limits()?;
-            let Some(memory) = &mut here.memory else {
-                return Err(anyhow!("there is no memory"));
-            };
-            walk(
-                alloc,
-                memory,
-                limits,
-                address(turns)?,
-                address(every)?,
-                said,
-            )?;
-        }
-        ["step", rest @ ..] => {
-            let Some(memory) = &mut here.memory else {
-                return Err(anyhow!("there is no memory"));
-            };
-            add_outcome(said, memory.step(&command(rest)?))?;
-        }
-        _ => match &here.memory {
-            Some(memory) => return tell_of_contents(memory, words, said),
-            None => return Ok(false),
+fn walk_over(here: &mut Place, call: &Call, said: &mut Saying) {
+    let (Some(memory), Some(limits)) = (&mut here.memory, here.limits) else {
+        return said.fail("there is no memory");
+    };
+    walk(memory, limits, call, said)
+}
+
+// Makes a call on a memory that is there.
+fn tell_of_contents(memory: &mut Memory, call: &Call, said: &mut Saying) {
+    match call.form() {
+        "block _" => add_block(said, memory.block(call.address(0))),
+        "waiting _" => waiting(memory, call.address(0), said),
+        "collect _._" => said.answer(memory.collect(call.element(0), call.number(1))),
+        "window _" => said.window(memory.window(call.element(0))),
+        _ => match call.words() {
+            ["step", rest @ ..] => step(memory, rest, said),
+            _ => said.fail("that is no call"),
         },
     }
-    Ok(true)
+}
+
+/// Makes a call on the memory, or else one of those of a checkpoint.
+pub fn tell_of_memory(here: &mut Place, call: &Call, said: &mut Saying) {
+    match call.form() {
+        "memory _ _ _" => make(here, call, said),
+        "walk _ _" => walk_over(here, call, said),
+        _ => match (call.words(), &mut here.memory) {
+            (["step" | "block" | "waiting" | "collect" | "window", ..], Some(memory)) => {
+                tell_of_contents(memory, call, said)
+            }
+            _ => tell_of_checkpoint(here, call, said),
+        },
+    }
 }

@@ -1,19 +1,13 @@
 //! What is in memory: a disk, and what was made of it or is to be put on it.
 
 use crate::blind::Blind;
-use crate::checkpoints::{Kept, tell_of_checkpoint};
+use crate::checkpoints::Kept;
 use crate::disks::tell_of_disk;
-use crate::faults::tell_of_faults;
-use crate::images::tell_of_image;
-use crate::journals::tell_of_journal;
-use crate::memories::tell_of_memory;
-use crate::tries::{changes_in, put_back, with_bytes};
-use anyhow::{Result, anyhow};
-use im_disk::Crash;
+use crate::tries::{changes_in, crash_kind, put_back, with_bytes};
 use im_journal::Journal;
 use im_memory::Memory;
+use im_story::{Call, Saying};
 use im_types::{Command, Limits};
-use std::alloc::Global;
 
 /// What the calls of a story act on.
 #[derive(Drop)]
@@ -44,14 +38,6 @@ impl Place {
         }
     }
 
-    /// Returns the disk.
-    pub fn disk(&mut self) -> Result<&mut Blind> {
-        match &mut self.disk {
-            Some(disk) => Ok(disk),
-            None => Err(anyhow!("there is no disk")),
-        }
-    }
-
     /// Returns the journal. It is that of the memory with a checkpoint, if there is one.
     pub fn journal(&self) -> Option<&Journal> {
         match &self.kept {
@@ -60,50 +46,54 @@ impl Place {
         }
     }
 
-    /// Returns the sizes.
-    pub fn limits(&self) -> Result<Limits> {
-        match self.limits {
-            Some(limits) => Ok(limits),
-            None => Err(anyhow!("there are no sizes")),
+    /// Lets the disk crash in this way. Returns whether there is such a way, and a disk.
+    pub fn crash(&mut self, kind: &str) -> bool {
+        let Some(crash) = crash_kind(kind) else {
+            return false;
+        };
+        let Some(disk) = self.disk.take() else {
+            return false;
+        };
+        self.disk = Some(disk.crash(crash));
+        true
+    }
+
+    // Puts the bytes of changes on the disk. Returns what stood there before.
+    fn change(&mut self, call: &Call, changes: &[&str]) -> Option<Vec<(usize, u8)>> {
+        match &mut self.disk {
+            Some(disk) => with_bytes(call.alloc(), disk, changes),
+            None => None,
         }
     }
 
-    /// Lets the disk crash.
-    pub fn crash(&mut self, crash: Crash) -> Result<()> {
-        match self.disk.take() {
-            Some(disk) => {
-                self.disk = Some(disk.crash(crash));
-                Ok(())
-            }
-            None => Err(anyhow!("there is no disk")),
+    // Puts back what stood there before.
+    fn put_back(&mut self, old: &[(usize, u8)], said: &mut Saying) {
+        if let Some(disk) = &mut self.disk {
+            said.so(put_back(disk, old), "")
         }
     }
 
-    // Makes a call, and tells its answer.
-    fn act(&mut self, alloc: Global, words: &[&str], said: &mut String) -> Result<()> {
-        if tell_of_disk(alloc, self, words, said)?
-            || tell_of_journal(alloc, self, words, said)?
-            || tell_of_image(alloc, self, words, said)?
-            || tell_of_faults(alloc, self, words, said)?
-            || tell_of_memory(alloc, self, words, said)?
-            || tell_of_checkpoint(alloc, self, words, said)?
-        {
-            return Ok(());
-        }
-        Err(anyhow!("that is no call"))
+    // Makes a call while these bytes are on the disk.
+    fn tell_with(&mut self, call: &Call, changes: &[&str], words: &[&str], said: &mut Saying) {
+        let Ok(inner) = Call::of(call.alloc(), words) else {
+            return said.fail("no memory is left");
+        };
+        let Some(old) = self.change(call, changes) else {
+            return said.fail("no changes");
+        };
+        tell_of_disk(self, &inner, said);
+        self.put_back(old.as_slice(), said)
     }
 
     /// Makes a call, and tells its answer. With `with AT:BYTE .. CALL` these bytes are on the disk for this call alone.
-    pub fn tell(&mut self, alloc: Global, words: &[&str], said: &mut String) -> Result<()> {
-        let ["with", rest @ ..] = words else {
-            return self.act(alloc, words, said);
+    pub fn tell(&mut self, call: &Call, said: &mut Saying) {
+        let ["with", rest @ ..] = call.words() else {
+            return tell_of_disk(self, call, said);
         };
         let count = changes_in(rest);
-        let (Some(changes), Some(call)) = (rest.get(..count), rest.get(count..)) else {
-            return Err(anyhow!("no changes"));
+        let (Some(changes), Some(words)) = (rest.get(..count), rest.get(count..)) else {
+            return said.fail("no changes");
         };
-        let old = with_bytes(alloc, self.disk()?, changes)?;
-        self.act(alloc, call, said)?;
-        put_back(self.disk()?, old.as_slice())
+        self.tell_with(call, changes, words, said)
     }
 }

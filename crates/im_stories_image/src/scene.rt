@@ -2,10 +2,9 @@
 
 use crate::files::{Files, tell_of_files};
 use crate::place::Place;
-use crate::tries::crash_kind;
 use anyhow::Result;
-use im_story::Scene;
-use std::alloc::Global;
+use im_story::{Call, Layer, Saying, Scene, tell_of};
+use std::alloc::{AllocError, Global};
 
 /// What stories of an image are about.
 #[derive(Drop)]
@@ -29,24 +28,53 @@ impl<'r> Images<'r> {
     }
 
     // Makes another place, on which the same calls were made.
-    fn again(&self, alloc: Global) -> Result<Place> {
+    fn again(&self, alloc: Global) -> Result<Place, AllocError> {
         let mut place = Place::new();
-        let mut said = String::new(alloc);
+        let mut said = Saying::new(alloc);
         for line in &self.told {
             let words: Vec<&str> = line.split_whitespace().collect(alloc)?;
-            place.tell(alloc, words.as_slice(), &mut said)?;
+            place.tell(&Call::of(alloc, words.as_slice())?, &mut said);
         }
         Ok(place)
     }
 
     // Keeps a call, so that it can be made again.
-    fn keep(&mut self, alloc: Global, words: &[&str]) -> Result<()> {
-        let mut line = String::new(alloc);
-        for word in words {
-            write!(line, "{word} ")?;
+    fn keep(&mut self, call: &Call) -> Result<(), AllocError> {
+        let mut line = String::new(call.alloc());
+        for word in call.words() {
+            line.push_str(word)?;
+            line.push_str(" ")?;
         }
         self.told.push(line)?;
         Ok(())
+    }
+
+    // Makes a call on another place, after a crash of it.
+    fn tell_after(&self, kind: &str, words: &[&str], call: &Call, said: &mut Saying) {
+        let (Ok(mut place), Ok(inner)) = (self.again(call.alloc()), Call::of(call.alloc(), words))
+        else {
+            return said.fail("no memory is left");
+        };
+        if place.crash(kind) {
+            place.tell(&inner, said)
+        } else {
+            said.fail("no crash of a disk")
+        }
+    }
+}
+
+impl<'r> Layer for Images<'r> {
+    fn make(&mut self, call: &Call, said: &mut Saying) {
+        if let ["if", kind, rest @ ..] = call.words() {
+            return self.tell_after(kind, rest, call, said);
+        }
+        if tell_of_files(self.rt, &mut self.files, call, said) {
+            return;
+        }
+        if self.keep(call).is_err() {
+            return said.fail("no memory is left");
+        }
+        self.place.tell(call, said)
     }
 }
 
@@ -58,15 +86,6 @@ impl<'r> Scene for Images<'r> {
     }
 
     fn tell(&mut self, alloc: Global, words: &[&str], said: &mut String) -> Result<()> {
-        if let ["if", kind, rest @ ..] = words {
-            let mut place = self.again(alloc)?;
-            place.crash(crash_kind(kind)?)?;
-            return place.tell(alloc, rest, said);
-        }
-        if tell_of_files(self.rt, &mut self.files, words, said)? {
-            return Ok(());
-        }
-        self.keep(alloc, words)?;
-        self.place.tell(alloc, words, said)
+        tell_of(self, alloc, words, said)
     }
 }

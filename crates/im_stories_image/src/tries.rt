@@ -2,35 +2,30 @@
 
 use crate::blind::Blind;
 use crate::bytes::hex_byte;
-use anyhow::{Result, anyhow};
 use im_disk::{Crash, Disk};
-use im_story::place;
 use std::alloc::Global;
 
 /// Reads a kind of crash: `kept`, `lost`, or the byte that it puts over each range in doubt.
-pub fn crash_kind(word: &str) -> Result<Crash> {
+pub fn crash_kind(word: &str) -> Option<Crash> {
     match word {
-        "kept" => Ok(Crash::Kept),
-        "lost" => Ok(Crash::Lost),
-        _ => Ok(Crash::Byte(hex_byte(word)?)),
+        "kept" => Some(Crash::Kept),
+        "lost" => Some(Crash::Lost),
+        _ => Some(Crash::Byte(hex_byte(word)?)),
     }
 }
 
 /// Reads a byte of a disk.
-pub fn byte_at(disk: &mut Blind, at: usize) -> Result<u8> {
+pub fn byte_at(disk: &mut Blind, at: usize) -> Option<u8> {
     let mut byte = [0];
     match disk.read(at, &mut byte) {
-        Ok(()) => Ok(byte[0]),
-        Err(_) => Err(anyhow!("byte {at} can't be read")),
+        Ok(()) => Some(byte[0]),
+        Err(_) => None,
     }
 }
 
-/// Puts a byte on a disk.
-pub fn set_byte(disk: &mut Blind, at: usize, byte: u8) -> Result<()> {
-    match disk.write_at(at, &[byte]) {
-        Ok(()) => Ok(()),
-        Err(_) => Err(anyhow!("byte {at} can't be written")),
-    }
+/// Puts a byte on a disk. Returns whether it is there.
+pub fn set_byte(disk: &mut Blind, at: usize, byte: u8) -> bool {
+    disk.write_at(at, &[byte]).is_ok()
 }
 
 /// Returns how many of the first words are changes of a byte: `AT:BYTE`.
@@ -45,24 +40,31 @@ pub fn changes_in(words: &[&str]) -> usize {
     count
 }
 
-/// Puts bytes on a disk, one for each word. Returns what stood there before.
-pub fn with_bytes(alloc: Global, disk: &mut Blind, words: &[&str]) -> Result<Vec<(usize, u8)>> {
-    let mut old = Vec::new(alloc);
-    for word in words {
-        let Some((at, byte)) = word.split_once(':') else {
-            return Err(anyhow!("{word} is no change"));
-        };
-        let at = place(at)?;
-        old.push((at, byte_at(disk, at)?))?;
-        set_byte(disk, at, hex_byte(byte)?)?;
-    }
-    Ok(old)
+// Reads a place and its byte: `AT:BYTE`.
+fn change(word: &str) -> Option<(usize, u8)> {
+    let (at, byte) = word.split_once(':')?;
+    Some((at.parse::<usize>().ok()?, hex_byte(byte)?))
 }
 
-/// Puts back what stood there before, the newest first.
-pub fn put_back(disk: &mut Blind, old: &[(usize, u8)]) -> Result<()> {
-    for (at, byte) in old.iter().rev() {
-        set_byte(disk, *at, *byte)?;
+/// Puts bytes on a disk, one for each word. Returns what stood there before, or nothing if they couldn't be put.
+pub fn with_bytes(alloc: Global, disk: &mut Blind, words: &[&str]) -> Option<Vec<(usize, u8)>> {
+    let mut old = Vec::new(alloc);
+    for word in words {
+        let (at, byte) = change(word)?;
+        old.push((at, byte_at(disk, at)?)).ok()?;
+        if !set_byte(disk, at, byte) {
+            return None;
+        }
     }
-    Ok(())
+    Some(old)
+}
+
+/// Puts back what stood there before, the newest first. Returns whether it stands there.
+pub fn put_back(disk: &mut Blind, old: &[(usize, u8)]) -> bool {
+    for (at, byte) in old.iter().rev() {
+        if !set_byte(disk, *at, *byte) {
+            return false;
+        }
+    }
+    true
 }

@@ -1,9 +1,9 @@
 //! A random walk over a memory. Its pages are made and read again on the way.
 
 use crate::images::area_of;
-use anyhow::{Result, anyhow};
 use im_image::{PAGE, area_pages, decode};
 use im_memory::Memory;
+use im_story::{Call, Saying};
 use im_types::layout::Version;
 use im_types::{Command, Kind, Limits, Op, Outcome, Request};
 use std::alloc::Global;
@@ -94,20 +94,24 @@ fn have_same_windows(memory: &Memory, other: &Memory, elements: u16) -> bool {
 }
 
 // Returns whether the memory that a memory's pages show has the same cells and the same windows.
-fn is_read_again(alloc: Global, memory: &Memory, limits: Limits) -> Result<bool> {
-    let area = area_of(alloc, memory, limits)?;
+fn is_read_again(alloc: Global, memory: &Memory, limits: Limits) -> bool {
+    let Some(area) = area_of(alloc, memory, limits) else {
+        return false;
+    };
     if area.len() != PAGE * area_pages(limits) {
-        return Err(anyhow!("an area of another length"));
+        return false;
     }
-    let again = decode(alloc, Version::Two, &area, limits)?;
-    Ok(
-        have_same_cells(memory, &again, limits.cells)
-            && have_same_windows(memory, &again, limits.elements),
-    )
+    match decode(alloc, Version::Two, &area, limits) {
+        Ok(again) => {
+            have_same_cells(memory, &again, limits.cells)
+                && have_same_windows(memory, &again, limits.elements)
+        }
+        Err(_) => false,
+    }
 }
 
 // The result of a walk.
-#[derive(Drop)]
+#[derive(Clone, Copy)]
 struct Walked {
     accepted: u32,
     alike: u32,
@@ -122,26 +126,20 @@ impl Walked {
         }
     }
 
-    fn compare(&mut self, alloc: Global, memory: &Memory, limits: Limits) -> Result<()> {
-        if is_read_again(alloc, memory, limits)? {
+    fn compare(&mut self, alloc: Global, memory: &Memory, limits: Limits) {
+        if is_read_again(alloc, memory, limits) {
             self.alike = self.alike.saturating_add(1);
         } else {
             self.others = self.others.saturating_add(1);
         }
-        Ok(())
     }
 }
 
-/// Makes random commands. After the first of each `every`, the pages of the memory are made and read again. Tells how
-/// many memories were the same then, how many weren't, and whether more than 100 requests were accepted.
-pub fn walk(
-    alloc: Global,
-    memory: &mut Memory,
-    limits: Limits,
-    turns: u32,
-    every: u32,
-    said: &mut String,
-) -> Result<()> {
+/// Makes random commands: how many, is the call's first number. After the first of each so many as its second number
+/// says, the pages of the memory are made and read again. Tells how many memories were the same then, how many weren't,
+/// and whether more than 100 requests were accepted.
+pub fn walk(memory: &mut Memory, limits: Limits, call: &Call, said: &mut Saying) {
+    let (turns, every) = (call.address(0), call.address(1));
     let mut walked = Walked {
         accepted: 0,
         alike: 0,
@@ -152,18 +150,11 @@ pub fn walk(
         lot = draw(lot);
         walked.step(memory, lot);
         if every != 0 && turn % every == 0 {
-            walked.compare(alloc, memory, limits)?;
+            walked.compare(call.alloc(), memory, limits);
         }
     }
     let (alike, others) = (walked.alike, walked.others);
-    let more = if walked.accepted > 100 {
-        "more"
-    } else {
-        "no more"
-    };
-    write!(
-        said,
-        "{alike} alike, {others} not, {more} than 100 accepted"
-    )?;
-    Ok(())
+    write!(said, "{alike} alike, {others} not, ");
+    said.either(walked.accepted > 100, "more", "no more");
+    said.text(" than 100 accepted")
 }

@@ -2,7 +2,6 @@
 
 use crate::rows::Rows;
 use crate::values::Sizes;
-use anyhow::{Result, anyhow};
 use im_records::{
     AreaRecords, CELLS_ON_A_PAGE, NODES_ON_A_PAGE, PAGE, SESSIONS_ON_A_PAGE, WindowRecord,
     put_cell, put_node, put_session, read_area,
@@ -37,38 +36,39 @@ fn page_of_sessions(windows: &[WindowRecord]) -> [u8; PAGE] {
     page
 }
 
-/// Returns the three pages of an area with few records.
-pub fn pages(alloc: Global, rows: &Rows) -> Result<Vec<u8>> {
+/// Returns the three pages of an area with few records. There are none if a page can't hold the records of its kind.
+pub fn pages(alloc: Global, rows: &Rows) -> Option<Vec<u8>> {
     if rows.cells.len() > CELLS_ON_A_PAGE
         || rows.nodes.len() > NODES_ON_A_PAGE
         || rows.windows.len() > SESSIONS_ON_A_PAGE
     {
-        return Err(anyhow!("too many records for a page of each kind"));
+        return None;
     }
-    let mut bytes = Vec::new(alloc);
-    bytes.extend_from_slice(&page_of_cells(&rows.cells))?;
-    bytes.extend_from_slice(&page_of_nodes(&rows.nodes))?;
-    bytes.extend_from_slice(&page_of_sessions(&rows.windows))?;
-    Ok(bytes)
+    let mut bytes = Vec::with_capacity(alloc, 3 * PAGE).ok()?;
+    bytes.extend_from_slice(&page_of_cells(&rows.cells)).ok()?;
+    bytes.extend_from_slice(&page_of_nodes(&rows.nodes)).ok()?;
+    bytes
+        .extend_from_slice(&page_of_sessions(&rows.windows))
+        .ok()?;
+    Some(bytes)
 }
 
-/// Returns a page of old bytes, with a session record at one place.
-pub fn page_with(alloc: Global, window: &WindowRecord, place: usize) -> Result<Vec<u8>> {
+/// Returns a page of old bytes, with a session record at one place. There is none if no page has such a place.
+pub fn page_with(alloc: Global, window: &WindowRecord, place: usize) -> Option<Vec<u8>> {
     if place >= SESSIONS_ON_A_PAGE {
-        return Err(anyhow!("there is no place {place} on a page"));
+        return None;
     }
     let mut page = [OLD; PAGE];
     put_session(&mut page, place, Some(window));
-    Ok(Vec::from_slice(alloc, &page)?)
+    Vec::from_slice(alloc, &page).ok()
 }
 
-/// Returns the records of an area with these bytes, or why there are none.
-pub fn area(alloc: Global, sizes: Sizes, bytes: &[u8]) -> Result<Result<AreaRecords, Refusal>> {
-    let Some(limits) = sizes.limits else {
-        return Err(anyhow!("there are no limits"));
-    };
+/// Returns the records of an area with these bytes, or why there are none. It returns nothing if there are no limits,
+/// or an area has another length.
+pub fn area(alloc: Global, sizes: Sizes, bytes: &[u8]) -> Option<Result<AreaRecords, Refusal>> {
+    let limits = sizes.limits?;
     if bytes.len() != PAGE * sizes.version.area_pages(limits) {
-        return Err(anyhow!("an area isn't so long"));
+        return None;
     }
-    Ok(read_area(alloc, sizes.version, bytes, limits))
+    Some(read_area(alloc, sizes.version, bytes, limits))
 }

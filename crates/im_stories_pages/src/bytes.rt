@@ -1,59 +1,50 @@
 //! Bytes as they are written in a story.
 
-use anyhow::{Result, anyhow};
-use im_story::place;
-use std::alloc::{AllocError, Global};
+use im_story::Saying;
+use std::alloc::Global;
 
 // Adds the same byte, `count` times.
-fn add_run(said: &mut String, byte: u8, count: usize) -> Result<(), AllocError> {
+fn add_run(said: &mut Saying, byte: u8, count: usize) {
     if count > 2 {
-        write!(said, " {byte:02x}*{count}")
-    } else {
-        for _ in 0..count {
-            write!(said, " {byte:02x}")?;
-        }
-        Ok(())
+        return write!(said, " {byte:02x}*{count}");
+    }
+    for _ in 0..count {
+        write!(said, " {byte:02x}");
     }
 }
 
 /// Adds bytes. A run of more than two equal bytes is added as `00*14`.
-pub fn add_bytes(said: &mut String, bytes: &[u8]) -> Result<(), AllocError> {
+pub fn add_bytes(said: &mut Saying, bytes: &[u8]) {
     let (mut run, mut count) = (0, 0usize);
     for byte in bytes {
         if *byte == run {
             count = count.saturating_add(1);
         } else {
-            add_run(said, run, count)?;
+            add_run(said, run, count);
             (run, count) = (*byte, 1);
         }
     }
     add_run(said, run, count)
 }
 
-fn byte(word: &str) -> Result<u8> {
-    match u8::from_str_radix(word, 16) {
-        Ok(byte) => Ok(byte),
-        Err(_) => Err(anyhow!("{word} is no byte")),
+// Reads a byte and how often it comes: `0a`, once, or `0a*3`.
+fn run_of(word: &str) -> Option<(u8, usize)> {
+    match word.split_once('*') {
+        Some((run, count)) => Some((
+            u8::from_str_radix(run, 16).ok()?,
+            count.parse::<usize>().ok()?,
+        )),
+        None => Some((u8::from_str_radix(word, 16).ok()?, 1)),
     }
-}
-
-// Adds the bytes of a word, `0a` or `0a*3`.
-fn push_run(bytes: &mut Vec<u8>, word: &str) -> Result<()> {
-    let (run, count) = match word.split_once('*') {
-        Some((run, count)) => (byte(run)?, place(count)?),
-        None => (byte(word)?, 1),
-    };
-    for _ in 0..count {
-        bytes.push(run)?;
-    }
-    Ok(())
 }
 
 /// Reads bytes in this form.
-pub fn bytes(alloc: Global, words: &[&str]) -> Result<Vec<u8>> {
+pub fn bytes(alloc: Global, words: &[&str]) -> Option<Vec<u8>> {
     let mut bytes = Vec::new(alloc);
     for word in words {
-        push_run(&mut bytes, word)?;
+        let (run, count) = run_of(word)?;
+        let length = bytes.len().saturating_add(count);
+        bytes.resize(length, run).ok()?;
     }
-    Ok(bytes)
+    Some(bytes)
 }

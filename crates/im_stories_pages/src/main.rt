@@ -19,7 +19,7 @@ use crate::shown::Shown;
 use crate::spelled::Spelled;
 use crate::values::{Sizes, tell_refusal};
 use anyhow::Result;
-use im_story::{Scene, walk_files};
+use im_story::{Call, Layer, Saying, Scene, tell_of, walk_files};
 use std::alloc::Global;
 use std::process::ExitCode;
 
@@ -43,6 +43,23 @@ impl Pages {
     }
 }
 
+impl Layer for Pages {
+    fn make(&mut self, call: &Call, said: &mut Saying) {
+        match call.words() {
+            ["limits" | "version", ..] => self.sizes.tell(call, said),
+            ["refusal", name] => tell_refusal(call.alloc(), name, said),
+            [
+                "cells" | "nodes" | "windows" | "cell" | "node" | "window" | "keep",
+                ..
+            ] => { self.rows.tell(call, said) }
+            ["blocks" | "lists" | "waiting" | "agree" | "contents", ..] => {
+                self.shown.tell(self.sizes.limits, &self.rows, call, said)
+            }
+            _ => self.spelled.tell(self.sizes, &self.rows, call, said),
+        }
+    }
+}
+
 impl Scene for Pages {
     fn begin(&mut self) {
         self.sizes = Sizes::new();
@@ -52,21 +69,7 @@ impl Scene for Pages {
     }
 
     fn tell(&mut self, alloc: Global, words: &[&str], said: &mut String) -> Result<()> {
-        match words {
-            ["limits" | "version", ..] => self.sizes.tell(words, said),
-            ["refusal", name] => tell_refusal(alloc, name, said),
-            [
-                "cells" | "nodes" | "windows" | "cell" | "node" | "window" | "keep",
-                ..
-            ] => { self.rows.tell(words, said) }
-            ["blocks" | "lists" | "waiting" | "agree" | "contents", ..] => {
-                self.shown
-                    .tell(alloc, self.sizes.limits, &self.rows, words, said)
-            }
-            _ => self
-                .spelled
-                .tell(alloc, self.sizes, &self.rows, words, said),
-        }
+        tell_of(self, alloc, words, said)
     }
 }
 

@@ -10,9 +10,8 @@
 //! ```
 
 use crate::texts::{cell, kept, node};
-use anyhow::{Result, anyhow};
 use im_records::WindowRecord;
-use im_story::{number, place};
+use im_story::{Call, Saying};
 use im_types::{CellRecord, Entry, Kept, NONE, NodeRecord, Op, Reply, WINDOW};
 use std::alloc::Global;
 
@@ -33,13 +32,41 @@ pub fn clashing(value: u64) -> Kept {
 }
 
 // Adds an entry to a window, if it has room. Returns the number of the entry.
-fn keep(window: &mut WindowRecord, entry: Kept) -> Result<u64> {
+fn keep(window: &mut WindowRecord, entry: Kept) -> Option<u64> {
     let count = window.kept().len();
     if count >= WINDOW as usize {
-        return Err(anyhow!("the window is full"));
+        return None;
     }
     window.push(entry);
-    Ok(window.base().saturating_add(count as u64))
+    Some(window.base().saturating_add(count as u64))
+}
+
+// Keeps an entry, and tells its number: that of the window is told first.
+fn keep_one(window: &mut WindowRecord, call: &Call, said: &mut Saying) {
+    let ["keep", at, words @ ..] = call.words() else {
+        return said.fail("no record");
+    };
+    let Some(entry) = kept(words) else {
+        return said.fail("no entry");
+    };
+    match keep(window, entry) {
+        Some(number) => write!(said, "{at}.{number}"),
+        None => said.fail("the window is full"),
+    }
+}
+
+// Keeps so many stores that clashed, and tells the numbers of the first and the last.
+fn keep_stores(window: &mut WindowRecord, call: &Call, said: &mut Saying) {
+    let (mut first, mut last) = (0, 0);
+    for value in 0..call.number(1) {
+        let Some(number) = keep(window, clashing(value)) else {
+            return said.fail("the window is full");
+        };
+        last = number;
+        first = if value == 0 { last } else { first };
+    }
+    said.name(call.element(0), first);
+    write!(said, " to {last}")
 }
 
 impl Rows {
@@ -57,112 +84,85 @@ impl Rows {
         self.windows.clear();
     }
 
-    fn free_cells(&mut self, count: usize) -> Result<()> {
+    // Makes a row of free cells. Returns whether there is memory for it, as the next two do.
+    fn free_cells(&mut self, count: usize) -> bool {
         self.cells.clear();
-        for _ in 0..count {
-            self.cells.push(CellRecord::Free {
-                hole: 0,
-                next: NONE,
-            })?;
-        }
-        Ok(())
+        let free = CellRecord::Free {
+            hole: 0,
+            next: NONE,
+        };
+        self.cells.resize(count, free).is_ok()
     }
 
-    fn free_nodes(&mut self, count: usize) -> Result<()> {
+    fn free_nodes(&mut self, count: usize) -> bool {
         self.nodes.clear();
-        for _ in 0..count {
-            self.nodes.push(NodeRecord::Free { next: NONE })?;
-        }
-        Ok(())
+        self.nodes
+            .resize(count, NodeRecord::Free { next: NONE })
+            .is_ok()
     }
 
-    fn new_windows(&mut self, count: usize) -> Result<()> {
+    fn new_windows(&mut self, count: usize) -> bool {
         self.windows.clear();
         for _ in 0..count {
-            self.windows.push(WindowRecord::new(1))?;
+            if self.windows.push(WindowRecord::new(1)).is_err() {
+                return false;
+            }
         }
-        Ok(())
+        true
     }
 
-    fn set_cell(&mut self, at: &str, words: &[&str]) -> Result<()> {
-        let Some(here) = self.cells.get_mut(place(at)?) else {
-            return Err(anyhow!("there is no cell {at}"));
+    fn set_cell(&mut self, call: &Call, words: &[&str]) -> bool {
+        let (Some(here), Some(cell)) = (self.cells.get_mut(call.place(0)), cell(words)) else {
+            return false;
         };
-        *here = cell(words)?;
-        Ok(())
+        *here = cell;
+        true
     }
 
-    fn set_node(&mut self, at: &str, words: &[&str]) -> Result<()> {
-        let Some(here) = self.nodes.get_mut(place(at)?) else {
-            return Err(anyhow!("there is no node {at}"));
+    fn set_node(&mut self, call: &Call, words: &[&str]) -> bool {
+        let (Some(here), Some(node)) = (self.nodes.get_mut(call.place(0)), node(words)) else {
+            return false;
         };
-        *here = node(words)?;
-        Ok(())
+        *here = node;
+        true
     }
 
-    fn set_window(&mut self, at: &str, base: &str) -> Result<()> {
-        let Some(here) = self.windows.get_mut(place(at)?) else {
-            return Err(anyhow!("there is no window {at}"));
+    fn set_window(&mut self, call: &Call) -> bool {
+        let Some(here) = self.windows.get_mut(call.place(0)) else {
+            return false;
         };
-        *here = WindowRecord::new(number(base)?);
-        Ok(())
+        *here = WindowRecord::new(call.number(1));
+        true
     }
 
-    fn keep(&mut self, at: &str, words: &[&str], said: &mut String) -> Result<()> {
-        let Some(window) = self.windows.get_mut(place(at)?) else {
-            return Err(anyhow!("there is no window {at}"));
+    fn keep(&mut self, call: &Call, said: &mut Saying) {
+        let Some(window) = self.windows.get_mut(call.place(0)) else {
+            return said.fail("there is no such window");
         };
-        let number = keep(window, kept(words)?)?;
-        write!(said, "{at}.{number}")?;
-        Ok(())
-    }
-
-    fn keep_stores(&mut self, at: &str, count: u64, said: &mut String) -> Result<()> {
-        let Some(window) = self.windows.get_mut(place(at)?) else {
-            return Err(anyhow!("there is no window {at}"));
-        };
-        let (mut first, mut last) = (0, 0);
-        for value in 0..count {
-            last = keep(window, clashing(value))?;
-            first = if value == 0 { last } else { first };
-        }
-        write!(said, "{at}.{first} to {last}")?;
-        Ok(())
-    }
-
-    fn set(&mut self, words: &[&str]) -> Result<()> {
-        match words {
-            ["cell", at, of @ ..] => self.set_cell(at, of),
-            ["node", at, of @ ..] => self.set_node(at, of),
-            ["window", at, base] => self.set_window(at, base),
-            _ => Err(anyhow!("no record")),
+        match call.form() {
+            "keep _ _ stores" => keep_stores(window, call, said),
+            _ => keep_one(window, call, said),
         }
     }
 
-    fn make(&mut self, what: &str, count: usize) -> Result<()> {
+    // Makes a row of records. Returns whether there is memory for it.
+    fn make(&mut self, what: &str, count: usize) -> bool {
         match what {
             "cells" => self.free_cells(count),
             "nodes" => self.free_nodes(count),
-            "windows" => self.new_windows(count),
-            _ => Err(anyhow!("no kind of records")),
+            _ => self.new_windows(count),
         }
     }
 
     /// Makes rows of records, or sets one.
-    pub fn tell(&mut self, words: &[&str], said: &mut String) -> Result<()> {
-        match words {
-            ["keep", at, count, "stores"] => self.keep_stores(at, number(count)?, said),
-            ["keep", at, of @ ..] => self.keep(at, of, said),
-            [what, count] => {
-                self.make(what, place(count)?)?;
-                said.push_str(count)?;
-                Ok(())
-            }
-            _ => {
-                self.set(words)?;
-                said.push_str("set")?;
-                Ok(())
-            }
+    pub fn tell(&mut self, call: &Call, said: &mut Saying) {
+        match call.words() {
+            ["keep", ..] => self.keep(call, said),
+            ["cell", _, of @ ..] => said.so(self.set_cell(call, of), "set"),
+            ["node", _, of @ ..] => said.so(self.set_node(call, of), "set"),
+            ["window", _, _] => said.so(self.set_window(call), "set"),
+            [what, count] => said.so(self.make(what, call.place(0)), count),
+            _ => said.fail("no records"),
         }
     }
 }

@@ -9,12 +9,10 @@
 //! ```
 
 use crate::rows::Rows;
-use anyhow::{Result, anyhow};
 use im_cell::CellRow;
 use im_contents::{Lists, agree, are_blocks, read_contents, read_lists};
-use im_story::{add_refusal, place};
+use im_story::{Call, Saying};
 use im_types::{Limits, NONE, Refusal};
-use std::alloc::Global;
 
 /// The lists of waiters that were last read.
 #[derive(Drop)]
@@ -22,51 +20,68 @@ pub struct Shown {
     lists: Option<Lists>,
 }
 
-fn say(said: &mut String, yes: bool) -> Result<()> {
-    said.push_str(if yes { "yes" } else { "no" })?;
-    Ok(())
-}
-
 // Tells how many lists there are, or why there are none, and returns the lists.
-fn told(read: Result<Lists, Refusal>, said: &mut String) -> Result<Option<Lists>> {
+fn told(read: Result<Lists, Refusal>, said: &mut Saying) -> Option<Lists> {
     match read {
         Ok(lists) => {
-            let count = lists.len();
-            write!(said, "{count}")?;
-            Ok(Some(lists))
+            said.number(lists.len() as u64);
+            Some(lists)
         }
         Err(refusal) => {
-            add_refusal(said, refusal)?;
-            Ok(None)
+            said.refusal(refusal);
+            None
         }
     }
 }
 
 // Returns the lists of waiters of some cells.
-fn lists_of(alloc: Global, rows: &Rows, said: &mut String) -> Result<Option<Lists>> {
+fn lists_of(call: &Call, cells: &CellRow, rows: &Rows, said: &mut Saying) -> Option<Lists> {
     if rows.nodes.len() > NONE as usize {
-        return Err(anyhow!("too many nodes"));
+        said.fail("too many nodes");
+        return None;
     }
-    let cells = CellRow::of(alloc, &rows.cells)?;
-    told(read_lists(alloc, &rows.nodes, &cells), said)
+    told(read_lists(call.alloc(), &rows.nodes, cells), said)
 }
 
 // Returns the lists of waiters of a memory.
 fn contents_of(
-    alloc: Global,
+    call: &Call,
     limits: Option<Limits>,
+    cells: &CellRow,
     rows: &Rows,
-    said: &mut String,
-) -> Result<Option<Lists>> {
+    said: &mut Saying,
+) -> Option<Lists> {
     let Some(limits) = limits else {
-        return Err(anyhow!("there are no limits"));
+        said.fail("there are no limits");
+        return None;
     };
     if rows.nodes.len() > NONE as usize {
-        return Err(anyhow!("too many nodes"));
+        said.fail("too many nodes");
+        return None;
     }
-    let cells = CellRow::of(alloc, &rows.cells)?;
-    let read = read_contents(alloc, limits, &cells, &rows.nodes, &rows.windows);
+    let read = read_contents(call.alloc(), limits, cells, &rows.nodes, &rows.windows);
     told(read, said)
+}
+
+// Tells who waits in a list.
+fn tell_waiting(lists: &Lists, cell: usize, said: &mut Saying) {
+    if cell >= lists.len() {
+        return said.fail("there is no such list");
+    }
+    for who in lists.at(cell) {
+        said.text(" ");
+        said.name(who.element, who.number);
+    }
+}
+
+fn tell_agree(call: &Call, lists: &Lists, cells: &CellRow, said: &mut Saying) {
+    if lists.len() != cells.len() {
+        return said.fail("the lists are those of other cells");
+    }
+    match agree(call.alloc(), cells, lists, &[]) {
+        Ok(is_so) => said.either(is_so, "yes", "no"),
+        Err(_) => said.fail("no memory is left"),
+    }
 }
 
 impl Shown {
@@ -78,59 +93,28 @@ impl Shown {
         self.lists = None;
     }
 
-    fn lists(&self) -> Result<&Lists> {
-        match &self.lists {
-            Some(lists) => Ok(lists),
-            None => Err(anyhow!("no lists were read")),
+    // Tells of the lists that were read.
+    fn tell_of_lists(&self, cells: &CellRow, call: &Call, said: &mut Saying) {
+        let Some(lists) = &self.lists else {
+            return said.fail("no lists were read");
+        };
+        match call.form() {
+            "waiting _" => tell_waiting(lists, call.place(0), said),
+            "agree" => tell_agree(call, lists, cells, said),
+            _ => said.fail("no such call"),
         }
-    }
-
-    fn tell_waiting(&self, cell: usize, said: &mut String) -> Result<()> {
-        let lists = self.lists()?;
-        if cell >= lists.len() {
-            return Err(anyhow!("there is no list {cell}"));
-        }
-        for who in lists.at(cell) {
-            let (element, number) = (who.element, who.number);
-            write!(said, " {element}.{number}")?;
-        }
-        Ok(())
-    }
-
-    fn tell_agree(&self, alloc: Global, rows: &Rows, said: &mut String) -> Result<()> {
-        let lists = self.lists()?;
-        if lists.len() != rows.cells.len() {
-            return Err(anyhow!("the lists are those of other cells"));
-        }
-        let cells = CellRow::of(alloc, &rows.cells)?;
-        say(said, agree(alloc, &cells, lists, &[])?)
     }
 
     /// Tells what the records show.
-    pub fn tell(
-        &mut self,
-        alloc: Global,
-        limits: Option<Limits>,
-        rows: &Rows,
-        words: &[&str],
-        said: &mut String,
-    ) -> Result<()> {
-        match words {
-            ["blocks"] => {
-                let cells = CellRow::of(alloc, &rows.cells)?;
-                say(said, are_blocks(&cells))
-            }
-            ["lists"] => {
-                self.lists = lists_of(alloc, rows, said)?;
-                Ok(())
-            }
-            ["contents"] => {
-                self.lists = contents_of(alloc, limits, rows, said)?;
-                Ok(())
-            }
-            ["waiting", cell] => self.tell_waiting(place(cell)?, said),
-            ["agree"] => self.tell_agree(alloc, rows, said),
-            _ => Err(anyhow!("no such call")),
+    pub fn tell(&mut self, limits: Option<Limits>, rows: &Rows, call: &Call, said: &mut Saying) {
+        let Ok(cells) = CellRow::of(call.alloc(), &rows.cells) else {
+            return said.fail("no memory is left");
+        };
+        match call.form() {
+            "blocks" => said.either(are_blocks(&cells), "yes", "no"),
+            "lists" => self.lists = lists_of(call, &cells, rows, said),
+            "contents" => self.lists = contents_of(call, limits, &cells, rows, said),
+            _ => self.tell_of_lists(&cells, call, said),
         }
     }
 }

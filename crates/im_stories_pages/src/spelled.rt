@@ -21,38 +21,41 @@ use crate::rows::{Rows, clashing};
 use crate::texts::{add_cell, add_kept, add_node, cell, kept, node};
 use crate::values::Sizes;
 use crate::verdicts::{Form, Verdict, add_run, add_verdict, form_of, grown, look};
-use anyhow::{Result, anyhow};
 use im_records::{
     AreaRecords, WindowRecord, read_cell, read_node, read_place, read_session, spell_cell,
     spell_node, spell_place, spell_session,
 };
-use im_story::{add_refusal, byte, number, place};
-use im_types::{CellRecord, NodeRecord};
+use im_story::{Call, Saying};
+use im_types::{CellRecord, Kept, NodeRecord};
 use std::alloc::{AllocError, Global};
 
-fn add_window_or(
-    said: &mut String,
-    window: Option<&WindowRecord>,
-    none: &str,
-) -> Result<(), AllocError> {
+fn add_window_or(said: &mut Saying, window: Option<&WindowRecord>, none: &str) {
     let Some(window) = window else {
-        return said.push_str(none);
+        return said.text(none);
     };
     let (base, count) = (window.base(), window.kept().len());
     write!(said, "base {base} with {count}")
 }
 
-fn add_cell_or(said: &mut String, cell: Option<CellRecord>, none: &str) -> Result<(), AllocError> {
+fn add_cell_or(said: &mut Saying, cell: Option<CellRecord>, none: &str) {
     match cell {
         Some(cell) => add_cell(said, cell),
-        None => said.push_str(none),
+        None => said.text(none),
     }
 }
 
-fn add_node_or(said: &mut String, node: Option<NodeRecord>, none: &str) -> Result<(), AllocError> {
+fn add_node_or(said: &mut Saying, node: Option<NodeRecord>, none: &str) {
     match node {
         Some(node) => add_node(said, node),
-        None => said.push_str(none),
+        None => said.text(none),
+    }
+}
+
+// Adds an entry that was read, if one was.
+fn add_place(said: &mut Saying, place: Option<Option<Kept>>) {
+    match place {
+        Some(entry) => add_kept(said, entry),
+        None => said.text("refused"),
     }
 }
 
@@ -66,18 +69,42 @@ fn cell_of(area: &AreaRecords, at: usize) -> Option<CellRecord> {
     }
 }
 
-fn add_area(said: &mut String, area: &AreaRecords) -> Result<(), AllocError> {
+fn add_area(said: &mut Saying, area: &AreaRecords) {
     let (cells, nodes) = (area.cells().len(), area.nodes().len());
     let windows = area.windows().len();
     write!(said, "{cells} cells {nodes} nodes {windows} windows")
 }
 
 // Reads the first and the last place of `4..15`, or of `4`, which is both.
-fn places(word: &str) -> Result<(usize, usize)> {
+fn places(word: &str) -> Option<(usize, usize)> {
     match word.split_once("..") {
-        Some((from, to)) => Ok((place(from)?, place(to)?)),
-        None => Ok((place(word)?, place(word)?)),
+        Some((from, to)) => Some((from.parse::<usize>().ok()?, to.parse::<usize>().ok()?)),
+        None => {
+            let both = word.parse::<usize>().ok()?;
+            Some((both, both))
+        }
     }
+}
+
+// Tells what was kept under a number of a window.
+fn tell_kept(window: &WindowRecord, sent: u64, said: &mut Saying) {
+    let Some(past) = sent.checked_sub(window.base()) else {
+        return said.fail("the number lies below the window");
+    };
+    let place = usize::try_from(past).unwrap_or(usize::MAX);
+    add_kept(said, window.kept().get(place).copied())
+}
+
+// Tells how many of the first entries are of stores of 0, 1, .. in cell 0 that clashed.
+fn tell_stores(window: &WindowRecord, said: &mut Saying) {
+    let mut stores = 0u64;
+    for kept in window.kept() {
+        if *kept != clashing(stores) {
+            break;
+        }
+        stores = stores.saturating_add(1);
+    }
+    said.number(stores)
 }
 
 /// Bytes, what they are read as, and the session and the area that were last read.
@@ -105,247 +132,200 @@ impl Spelled {
         self.area = None;
     }
 
-    // Takes these bytes.
-    fn lay(&mut self, form: Form, bytes: &[u8]) -> Result<()> {
+    // Takes these bytes. Returns whether there is memory for them.
+    fn lay(&mut self, form: Form, bytes: &[u8]) -> bool {
         self.form = form;
         self.bytes.clear();
-        self.bytes.extend_from_slice(bytes)?;
-        Ok(())
+        self.bytes.extend_from_slice(bytes).is_ok()
     }
 
-    fn lay_record(&mut self, words: &[&str]) -> Result<()> {
+    // Spells a record. Returns whether the words tell one.
+    fn lay_record(&mut self, words: &[&str]) -> Option<bool> {
         match words {
-            ["cell", of @ ..] => self.lay(Form::Cell, &spell_cell(&cell(of)?)),
-            ["node", of @ ..] => self.lay(Form::Node, &spell_node(&node(of)?)),
-            ["entry", "none"] => self.lay(Form::Entry, &spell_place(None)),
-            ["entry", of @ ..] => self.lay(Form::Entry, &spell_place(Some(kept(of)?))),
-            _ => Err(anyhow!("no record")),
+            ["cell", of @ ..] => Some(self.lay(Form::Cell, &spell_cell(&cell(of)?))),
+            ["node", of @ ..] => Some(self.lay(Form::Node, &spell_node(&node(of)?))),
+            ["entry", "none"] => Some(self.lay(Form::Entry, &spell_place(None))),
+            ["entry", of @ ..] => Some(self.lay(Form::Entry, &spell_place(Some(kept(of)?)))),
+            _ => None,
         }
     }
 
-    fn spell(&mut self, words: &[&str], said: &mut String) -> Result<()> {
-        self.lay_record(words)?;
-        add_bytes(said, &self.bytes)?;
-        Ok(())
+    fn spell(&mut self, words: &[&str], said: &mut Saying) {
+        match self.lay_record(words) {
+            Some(true) => add_bytes(said, &self.bytes),
+            _ => said.fail("no record"),
+        }
     }
 
-    fn spell_window(&mut self, rows: &Rows, of: &str, said: &mut String) -> Result<()> {
-        let Some(window) = rows.windows.get(place(of)?) else {
-            return Err(anyhow!("there is no window {of}"));
+    // Takes bytes that may have been made, and tells how many there are.
+    fn take(&mut self, form: Form, bytes: Option<Vec<u8>>, said: &mut Saying) {
+        self.form = form;
+        match bytes {
+            Some(bytes) => {
+                said.number(bytes.len() as u64);
+                self.bytes = bytes;
+            }
+            None => said.fail("there are no such bytes"),
+        }
+    }
+
+    fn spell_window(&mut self, rows: &Rows, call: &Call, said: &mut Saying) {
+        let (alloc, Some(window)) = (call.alloc(), rows.windows.get(call.place(0))) else {
+            return said.fail("there is no such window");
         };
-        self.lay(Form::Session, &spell_session(window))?;
-        self.tell_length(said)
-    }
-
-    fn put_window(
-        &mut self,
-        alloc: Global,
-        rows: &Rows,
-        of: &str,
-        at: usize,
-        said: &mut String,
-    ) -> Result<()> {
-        let Some(window) = rows.windows.get(place(of)?) else {
-            return Err(anyhow!("there is no window {of}"));
+        let bytes = match call.form() {
+            "spell session _" => Vec::from_slice(alloc, &spell_session(window)).ok(),
+            _ => page_with(alloc, window, call.place(1)),
         };
-        self.bytes = page_with(alloc, window, at)?;
-        self.form = Form::Session;
-        self.tell_length(said)
+        self.take(Form::Session, bytes, said)
     }
 
-    fn make_pages(&mut self, alloc: Global, rows: &Rows, said: &mut String) -> Result<()> {
-        self.bytes = pages(alloc, rows)?;
-        self.form = Form::Area;
-        self.tell_length(said)
+    fn tell_bytes(&self, at: usize, count: usize, said: &mut Saying) {
+        match self.bytes.get(at..at.saturating_add(count)) {
+            Some(some) => add_bytes(said, some),
+            None => said.fail("there aren't so many bytes"),
+        }
     }
 
-    fn tell_length(&self, said: &mut String) -> Result<()> {
-        let length = self.bytes.len();
-        write!(said, "{length}")?;
-        Ok(())
-    }
-
-    fn tell_bytes(&self, at: usize, count: usize, said: &mut String) -> Result<()> {
-        let Some((_, behind)) = self.bytes.split_at_checked(at) else {
-            return Err(anyhow!("there is no byte {at}"));
-        };
-        let Some((some, _)) = behind.split_at_checked(count) else {
-            return Err(anyhow!("there aren't so many bytes"));
-        };
-        add_bytes(said, some)?;
-        Ok(())
-    }
-
-    fn read_session(&mut self, sizes: Sizes, said: &mut String) -> Result<()> {
+    fn read_session(&mut self, sizes: Sizes, said: &mut Saying) {
         self.session = read_session(sizes.version, &self.bytes);
-        add_window_or(said, self.session.as_ref(), "refused")?;
-        Ok(())
+        add_window_or(said, self.session.as_ref(), "refused")
     }
 
-    fn read_area(&mut self, alloc: Global, sizes: Sizes, said: &mut String) -> Result<()> {
-        match area(alloc, sizes, &self.bytes)? {
-            Ok(area) => {
-                add_area(said, &area)?;
+    fn read_area(&mut self, alloc: Global, sizes: Sizes, said: &mut Saying) {
+        let read = area(alloc, sizes, &self.bytes);
+        self.area = None;
+        match read {
+            Some(Ok(area)) => {
+                add_area(said, &area);
                 self.area = Some(area);
             }
-            Err(refusal) => {
-                add_refusal(said, refusal)?;
-                self.area = None;
-            }
+            Some(Err(refusal)) => said.refusal(refusal),
+            None => said.fail("no area is so long"),
         }
-        Ok(())
     }
 
-    // Reads the bytes as a cell, a waiter node or an entry.
-    fn read_record(&self, said: &mut String) -> Result<()> {
-        let told = match self.form {
+    fn read(&mut self, alloc: Global, sizes: Sizes, said: &mut Saying) {
+        match self.form {
             Form::Cell => add_cell_or(said, read_cell(&self.bytes), "refused"),
             Form::Node => add_node_or(said, read_node(&self.bytes), "refused"),
-            _ => match read_place(&self.bytes) {
-                Some(entry) => add_kept(said, entry),
-                None => said.push_str("refused"),
-            },
-        };
-        told?;
-        Ok(())
-    }
-
-    fn read(&mut self, alloc: Global, sizes: Sizes, said: &mut String) -> Result<()> {
-        match self.form {
+            Form::Entry => add_place(said, read_place(&self.bytes)),
             Form::Session => self.read_session(sizes, said),
             Form::Area => self.read_area(alloc, sizes, said),
-            _ => self.read_record(said),
         }
     }
 
-    fn tell_short(&self, alloc: Global, sizes: Sizes, said: &mut String) -> Result<()> {
-        let Some((_, rest)) = self.bytes.split_last() else {
-            return Err(anyhow!("there is no byte"));
+    // Reads the bytes that the words spell.
+    fn read_words(&mut self, sizes: Sizes, call: &Call, said: &mut Saying) {
+        let ["read", of, words @ ..] = call.words() else {
+            return said.fail("no such call");
         };
-        add_verdict(said, look(alloc, self.form, sizes, rest)?)?;
-        Ok(())
+        let (Some(form), Some(bytes)) = (form_of(of), bytes(call.alloc(), words)) else {
+            return said.fail("no bytes of a record");
+        };
+        self.form = form;
+        self.bytes = bytes;
+        self.read(call.alloc(), sizes, said)
+    }
+
+    fn tell_short(&self, alloc: Global, sizes: Sizes, said: &mut Saying) {
+        match self.bytes.split_last() {
+            Some((_, rest)) => add_verdict(said, look(alloc, self.form, sizes, rest)),
+            None => said.fail("there is no byte"),
+        }
+    }
+
+    // Returns the bytes with one of them changed, if there is such a byte.
+    fn changed(&self, alloc: Global, at: usize, byte: u8) -> Result<Vec<u8>, AllocError> {
+        let mut changed = Vec::from_slice(alloc, &self.bytes)?;
+        if let Some(place) = changed.get_mut(at) {
+            *place = byte;
+        }
+        Ok(changed)
     }
 
     // Returns whether the bytes are read with one of them changed.
-    fn with_byte(&self, alloc: Global, sizes: Sizes, at: usize, byte: u8) -> Result<Verdict> {
-        let mut changed = Vec::from_slice(alloc, &self.bytes)?;
-        let Some(place) = changed.get_mut(at) else {
-            return Err(anyhow!("there is no byte {at}"));
-        };
-        *place = byte;
-        look(alloc, self.form, sizes, &changed)
+    fn with_byte(&self, alloc: Global, sizes: Sizes, at: usize, byte: u8) -> Verdict {
+        match self.changed(alloc, at, byte) {
+            Ok(changed) if at < changed.len() => look(alloc, self.form, sizes, &changed),
+            _ => Verdict::Unread,
+        }
     }
 
-    fn tell_byte(
-        &self,
-        alloc: Global,
-        sizes: Sizes,
-        (from, to): (usize, usize),
-        byte: u8,
-        said: &mut String,
-    ) -> Result<()> {
+    // Tells what is read with a byte at each of some places.
+    fn tell_byte(&self, sizes: Sizes, call: &Call, byte: u8, said: &mut Saying) {
+        let [_, word, _] = call.words() else {
+            return said.fail("no such call");
+        };
+        let Some((from, to)) = places(word) else {
+            return said.fail("there are no such places");
+        };
         let mut run = None;
         for at in from..=to {
-            let verdict = self.with_byte(alloc, sizes, at, byte)?;
-            run = Some(grown(said, run, at, verdict)?);
+            let verdict = self.with_byte(call.alloc(), sizes, at, byte);
+            run = Some(grown(said, run, at, verdict));
         }
-        add_run(said, run)?;
-        Ok(())
+        add_run(said, run)
     }
 
-    fn tell_values(&self, alloc: Global, sizes: Sizes, at: usize, said: &mut String) -> Result<()> {
+    fn tell_values(&self, sizes: Sizes, call: &Call, said: &mut Saying) {
         let mut run = None;
         for byte in 0..=255u8 {
-            let verdict = self.with_byte(alloc, sizes, at, byte)?;
-            run = Some(grown(said, run, byte as usize, verdict)?);
+            let verdict = self.with_byte(call.alloc(), sizes, call.place(0), byte);
+            run = Some(grown(said, run, byte as usize, verdict));
         }
-        add_run(said, run)?;
-        Ok(())
+        add_run(said, run)
     }
 
-    fn tell_kept(&self, sent: u64, said: &mut String) -> Result<()> {
+    // Tells of the session that was read.
+    fn tell_session(&self, call: &Call, said: &mut Saying) {
         let Some(window) = &self.session else {
-            return Err(anyhow!("no session was read"));
+            return said.fail("no session was read");
         };
-        let Some(past) = sent.checked_sub(window.base()) else {
-            return Err(anyhow!("the number lies below the window"));
-        };
-        add_kept(said, window.kept().get(usize::try_from(past)?).copied())?;
-        Ok(())
-    }
-
-    // Tells how many of the first entries are of stores of 0, 1, .. in cell 0 that clashed.
-    fn tell_stores(&self, said: &mut String) -> Result<()> {
-        let Some(window) = &self.session else {
-            return Err(anyhow!("no session was read"));
-        };
-        let mut stores = 0u64;
-        for kept in window.kept() {
-            if *kept != clashing(stores) {
-                break;
-            }
-            stores = stores.saturating_add(1);
+        match call.form() {
+            "kept stores" => tell_stores(window, said),
+            _ => tell_kept(window, call.number(0), said),
         }
-        write!(said, "{stores}")?;
-        Ok(())
     }
 
-    fn tell_area(&self, of: &str, at: usize, said: &mut String) -> Result<()> {
-        let Some(area) = &self.area else {
-            return Err(anyhow!("no area was read"));
+    // Tells of the area that was read.
+    fn tell_area(&self, call: &Call, said: &mut Saying) {
+        let (at, Some(area)) = (call.place(0), &self.area) else {
+            return said.fail("no area was read");
         };
-        let told = match of {
-            "cell" => add_cell_or(said, cell_of(area, at), "none"),
-            "node" => add_node_or(said, area.nodes().get(at).copied(), "none"),
-            _ => add_window_or(said, area.windows().get(at), "none"),
-        };
-        told?;
-        Ok(())
+        match call.form() {
+            "area cell _" => add_cell_or(said, cell_of(area, at), "none"),
+            "area node _" => add_node_or(said, area.nodes().get(at).copied(), "none"),
+            "area window _" => add_window_or(said, area.windows().get(at), "none"),
+            _ => said.fail("an area has none of that"),
+        }
     }
 
     // Reads bytes with some of them changed.
-    fn tell_changed(
-        &self,
-        alloc: Global,
-        sizes: Sizes,
-        words: &[&str],
-        said: &mut String,
-    ) -> Result<()> {
-        match words {
-            ["short"] => self.tell_short(alloc, sizes, said),
-            ["byte", at, to] => self.tell_byte(alloc, sizes, places(at)?, byte(to)?, said),
-            ["values", at] => self.tell_values(alloc, sizes, place(at)?, said),
-            _ => Err(anyhow!("no such call")),
+    fn tell_changed(&self, sizes: Sizes, call: &Call, said: &mut Saying) {
+        match call.words() {
+            ["short"] => self.tell_short(call.alloc(), sizes, said),
+            ["values", _] => self.tell_values(sizes, call, said),
+            ["byte", _, to] => match to.parse::<u8>() {
+                Ok(byte) => self.tell_byte(sizes, call, byte, said),
+                Err(_) => said.fail("no byte"),
+            },
+            _ => said.fail("no such call"),
         }
     }
 
     /// Spells a record, reads one, or tells what was read.
-    pub fn tell(
-        &mut self,
-        alloc: Global,
-        sizes: Sizes,
-        rows: &Rows,
-        words: &[&str],
-        said: &mut String,
-    ) -> Result<()> {
-        match words {
-            ["spell", "session", of] => self.spell_window(rows, of, said),
-            ["spell", "session", of, "at", at] => {
-                self.put_window(alloc, rows, of, place(at)?, said)
-            }
+    pub fn tell(&mut self, sizes: Sizes, rows: &Rows, call: &Call, said: &mut Saying) {
+        match call.words() {
+            ["spell", "session", ..] => self.spell_window(rows, call, said),
             ["spell", of @ ..] => self.spell(of, said),
-            ["pages"] => self.make_pages(alloc, rows, said),
-            ["bytes", at, count] => self.tell_bytes(place(at)?, place(count)?, said),
-            ["read"] => self.read(alloc, sizes, said),
-            ["read", of, rest @ ..] => {
-                self.bytes = bytes(alloc, rest)?;
-                self.form = form_of(of)?;
-                self.read(alloc, sizes, said)
-            }
-            ["kept", "stores"] => self.tell_stores(said),
-            ["kept", sent] => self.tell_kept(number(sent)?, said),
-            ["area", of, at] => self.tell_area(of, place(at)?, said),
-            _ => self.tell_changed(alloc, sizes, words, said),
+            ["pages"] => self.take(Form::Area, pages(call.alloc(), rows), said),
+            ["bytes", _, _] => self.tell_bytes(call.place(0), call.place(1), said),
+            ["read"] => self.read(call.alloc(), sizes, said),
+            ["read", ..] => self.read_words(sizes, call, said),
+            ["kept", _] => self.tell_session(call, said),
+            ["area", ..] => self.tell_area(call, said),
+            _ => self.tell_changed(sizes, call, said),
         }
     }
 }

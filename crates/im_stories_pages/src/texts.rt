@@ -8,34 +8,41 @@
 //! fetch 5 -> waiting                       a kept entry
 //! ```
 
-use anyhow::{Result, anyhow};
-use im_story::{add_entry, address, name, number, op};
+use im_story::{Saying, name, op};
 use im_types::{
-    Block, CellRecord, Entry, Kept, Kind, NONE, NodeRecord, Op, PresenceTag, Reply, Waiter,
+    Block, CellRecord, Entry, Kept, Kind, NONE, NodeRecord, PresenceTag, Reply, Waiter,
 };
-use std::alloc::AllocError;
+
+// Reads an address or a count.
+fn address(word: &str) -> Option<u32> {
+    word.parse::<u32>().ok()
+}
+
+fn number(word: &str) -> Option<u64> {
+    word.parse::<u64>().ok()
+}
 
 // Reads a link to a cell or a node.
-fn link(word: &str) -> Result<u32> {
+fn link(word: &str) -> Option<u32> {
     match word {
-        "none" => Ok(NONE),
+        "none" => Some(NONE),
         _ => address(word),
     }
 }
 
-fn add_link(said: &mut String, link: u32) -> Result<(), AllocError> {
+fn add_link(said: &mut Saying, link: u32) {
     if link == NONE {
-        said.push_str("none")
+        said.text("none")
     } else {
-        write!(said, "{link}")
+        said.number(link as u64)
     }
 }
 
-fn kind(word: &str) -> Result<Kind> {
+fn kind(word: &str) -> Option<Kind> {
     match word {
-        "i" => Ok(Kind::I),
-        "m" => Ok(Kind::M),
-        _ => Err(anyhow!("{word} is no kind")),
+        "i" => Some(Kind::I),
+        "m" => Some(Kind::M),
+        _ => None,
     }
 }
 
@@ -46,26 +53,30 @@ fn letter(kind: Kind) -> &'static str {
     }
 }
 
-fn tag(words: &[&str]) -> Result<PresenceTag> {
+fn waiting(first: &str, last: &str) -> Option<PresenceTag> {
+    Some(PresenceTag::Waiting {
+        first: link(first)?,
+        last: link(last)?,
+    })
+}
+
+fn tag(words: &[&str]) -> Option<PresenceTag> {
     match words {
-        ["empty"] => Ok(PresenceTag::Empty),
-        ["waiting", first, last] => Ok(PresenceTag::Waiting {
-            first: link(first)?,
-            last: link(last)?,
-        }),
-        ["full", value] => Ok(PresenceTag::Full(number(value)?)),
-        ["clashed", value] => Ok(PresenceTag::Clashed(number(value)?)),
-        _ => Err(anyhow!("no presence tag")),
+        ["empty"] => Some(PresenceTag::Empty),
+        ["waiting", first, last] => waiting(first, last),
+        ["full", value] => Some(PresenceTag::Full(number(value)?)),
+        ["clashed", value] => Some(PresenceTag::Clashed(number(value)?)),
+        _ => None,
     }
 }
 
-fn add_tag(said: &mut String, tag: PresenceTag) -> Result<(), AllocError> {
+fn add_tag(said: &mut Saying, tag: PresenceTag) {
     match tag {
-        PresenceTag::Empty => said.push_str("empty"),
+        PresenceTag::Empty => said.text("empty"),
         PresenceTag::Waiting { first, last } => {
-            said.push_str("waiting ")?;
-            add_link(said, first)?;
-            said.push_str(" ")?;
+            said.text("waiting ");
+            add_link(said, first);
+            said.text(" ");
             add_link(said, last)
         }
         PresenceTag::Full(value) => write!(said, "full {value}"),
@@ -73,141 +84,145 @@ fn add_tag(said: &mut String, tag: PresenceTag) -> Result<(), AllocError> {
     }
 }
 
+// Reads `BASE of LENGTH KIND`.
+fn block(words: &[&str]) -> Option<Block> {
+    let [base, "of", length, letter] = words else {
+        return None;
+    };
+    Some(Block {
+        base: address(base)?,
+        length: address(length)?,
+        kind: kind(letter)?,
+    })
+}
+
+fn free(hole: &str, next: &str) -> Option<CellRecord> {
+    Some(CellRecord::Free {
+        hole: address(hole)?,
+        next: link(next)?,
+    })
+}
+
+// Reads a cell of a block, whose tag these words are, and whose block the others.
+fn held(tagged: &[&str], words: &[&str]) -> Option<CellRecord> {
+    Some(CellRecord::Held {
+        block: block(words)?,
+        tag: tag(tagged)?,
+    })
+}
+
 /// Reads the record of a cell.
-pub fn cell(words: &[&str]) -> Result<CellRecord> {
-    match words {
-        ["free", "hole", hole, "next", next] => Ok(CellRecord::Free {
-            hole: address(hole)?,
-            next: link(next)?,
-        }),
-        [of @ .., "in", "block", base, "of", length, letter] => Ok(CellRecord::Held {
-            block: Block {
-                base: address(base)?,
-                length: address(length)?,
-                kind: kind(letter)?,
-            },
-            tag: tag(of)?,
-        }),
-        _ => Err(anyhow!("no cell")),
+pub fn cell(words: &[&str]) -> Option<CellRecord> {
+    if let ["free", "hole", hole, "next", next] = words {
+        return free(hole, next);
+    }
+    let within = words.iter().position(|word| *word == "in")?;
+    let (tagged, place) = words.split_at_checked(within)?;
+    match place {
+        ["in", "block", of @ ..] => held(tagged, of),
+        _ => None,
     }
 }
 
 /// Adds the record of a cell.
-pub fn add_cell(said: &mut String, cell: CellRecord) -> Result<(), AllocError> {
+pub fn add_cell(said: &mut Saying, cell: CellRecord) {
     match cell {
         CellRecord::Free { hole, next } => {
-            write!(said, "free hole {hole} next ")?;
+            write!(said, "free hole {hole} next ");
             add_link(said, next)
         }
         CellRecord::Held { block, tag } => {
             let (base, length, kind) = (block.base, block.length, letter(block.kind));
-            add_tag(said, tag)?;
+            add_tag(said, tag);
             write!(said, " in block {base} of {length} {kind}")
         }
     }
 }
 
+fn listed(who: &str, next: &str) -> Option<NodeRecord> {
+    let (element, number) = name(who).ok()?;
+    Some(NodeRecord::Listed {
+        next: link(next)?,
+        waiter: Waiter { element, number },
+    })
+}
+
 /// Reads a waiter node.
-pub fn node(words: &[&str]) -> Result<NodeRecord> {
+pub fn node(words: &[&str]) -> Option<NodeRecord> {
     match words {
-        ["free", "next", next] => Ok(NodeRecord::Free { next: link(next)? }),
-        [who, "next", next] => {
-            let (element, number) = name(who)?;
-            Ok(NodeRecord::Listed {
-                next: link(next)?,
-                waiter: Waiter { element, number },
-            })
-        }
-        _ => Err(anyhow!("no node")),
+        ["free", "next", next] => Some(NodeRecord::Free { next: link(next)? }),
+        [who, "next", next] => listed(who, next),
+        _ => None,
     }
 }
 
 /// Adds a waiter node.
-pub fn add_node(said: &mut String, node: NodeRecord) -> Result<(), AllocError> {
+pub fn add_node(said: &mut Saying, node: NodeRecord) {
     match node {
         NodeRecord::Free { next } => {
-            said.push_str("free next ")?;
+            said.text("free next ");
             add_link(said, next)
         }
         NodeRecord::Listed { next, waiter } => {
-            let (element, number) = (waiter.element, waiter.number);
-            write!(said, "{element}.{number} next ")?;
+            said.name(waiter.element, waiter.number);
+            said.text(" next ");
             add_link(said, next)
         }
     }
 }
 
 // Reads the reply to an operation on a cell, if it isn't a value.
-fn reply_of_cell(word: &str) -> Result<Reply> {
+fn reply_of_cell(word: &str) -> Option<Reply> {
     match word {
-        "stored" => Ok(Reply::Stored),
-        "clash" => Ok(Reply::Clash),
-        "nocell" => Ok(Reply::NoCell),
-        "wrongkind" => Ok(Reply::WrongKind),
-        _ => Err(anyhow!("{word} is no reply")),
+        "stored" => Some(Reply::Stored),
+        "clash" => Some(Reply::Clash),
+        "nocell" => Some(Reply::NoCell),
+        "wrongkind" => Some(Reply::WrongKind),
+        _ => None,
     }
 }
 
 // Reads the reply to an operation, if it is no base and no value.
-fn reply(word: &str) -> Result<Reply> {
+fn reply(word: &str) -> Option<Reply> {
     match word {
-        "nospace" => Ok(Reply::NoSpace),
-        "badlength" => Ok(Reply::BadLength),
-        "released" => Ok(Reply::Released),
-        "noblock" => Ok(Reply::NoBlock),
-        "stillwaiting" => Ok(Reply::StillWaiting),
-        "cleared" => Ok(Reply::Cleared),
+        "nospace" => Some(Reply::NoSpace),
+        "badlength" => Some(Reply::BadLength),
+        "released" => Some(Reply::Released),
+        "noblock" => Some(Reply::NoBlock),
+        "stillwaiting" => Some(Reply::StillWaiting),
+        "cleared" => Some(Reply::Cleared),
         _ => reply_of_cell(word),
     }
 }
 
-fn entry(words: &[&str]) -> Result<Entry> {
+fn entry(words: &[&str]) -> Option<Entry> {
     match words {
-        ["->", "waiting"] => Ok(Entry::Waiting),
-        ["->", "base", base] => Ok(Entry::Answered(Reply::Base(address(base)?))),
-        ["->", "value", value] => Ok(Entry::Answered(Reply::Value(number(value)?))),
-        ["->", word] => Ok(Entry::Answered(reply(word)?)),
-        _ => Err(anyhow!("no entry")),
+        ["->", "waiting"] => Some(Entry::Waiting),
+        ["->", "base", base] => Some(Entry::Answered(Reply::Base(address(base)?))),
+        ["->", "value", value] => Some(Entry::Answered(Reply::Value(number(value)?))),
+        ["->", word] => Some(Entry::Answered(reply(word)?)),
+        _ => None,
     }
 }
 
 /// Reads a kept entry.
-pub fn kept(words: &[&str]) -> Result<Kept> {
-    let Some(arrow) = words.iter().position(|word| *word == "->") else {
-        return Err(anyhow!("nothing came of it"));
-    };
-    let Some((asked, came)) = words.split_at_checked(arrow) else {
-        return Err(anyhow!("nothing came of it"));
-    };
-    Ok(Kept {
-        op: op(asked)?,
+pub fn kept(words: &[&str]) -> Option<Kept> {
+    let arrow = words.iter().position(|word| *word == "->")?;
+    let (asked, came) = words.split_at_checked(arrow)?;
+    Some(Kept {
+        op: op(asked).ok()?,
         entry: entry(came)?,
     })
 }
 
-fn add_op(said: &mut String, op: Op) -> Result<(), AllocError> {
-    match op {
-        Op::Alloc(kind, length) => {
-            let kind = letter(kind);
-            write!(said, "alloc {kind} {length}")
-        }
-        Op::Release(base) => write!(said, "release {base}"),
-        Op::Reset(base) => write!(said, "reset {base}"),
-        Op::Fetch(cell) => write!(said, "fetch {cell}"),
-        Op::Store(cell, value) => write!(said, "store {cell} {value}"),
-        Op::Take(cell) => write!(said, "take {cell}"),
-        Op::Put(cell, value) => write!(said, "put {cell} {value}"),
-    }
-}
-
 /// Adds a kept entry, or `none`.
-pub fn add_kept(said: &mut String, kept: Option<Kept>) -> Result<(), AllocError> {
+pub fn add_kept(said: &mut Saying, kept: Option<Kept>) {
     match kept {
         Some(kept) => {
-            add_op(said, kept.op)?;
-            said.push_str(" -> ")?;
-            add_entry(said, kept.entry)
+            said.op(kept.op);
+            said.text(" -> ");
+            said.entry(kept.entry)
         }
-        None => said.push_str("none"),
+        None => said.text("none"),
     }
 }

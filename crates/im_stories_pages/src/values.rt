@@ -6,8 +6,7 @@
 //! refusal Gap = refused 1 Gap
 //! ```
 
-use anyhow::{Result, anyhow};
-use im_story::{add_refusal, address, element};
+use im_story::{Call, Saying};
 use im_types::layout::Version;
 use im_types::{Limits, Refusal};
 use std::alloc::Global;
@@ -29,33 +28,30 @@ impl Sizes {
     }
 
     /// Takes limits or a version.
-    pub fn tell(&mut self, words: &[&str], said: &mut String) -> Result<()> {
-        match words {
-            ["limits", sizes @ ..] => self.limits = tell_limits(sizes, said)?,
-            ["version", number @ ("1" | "2")] => {
-                self.version = Version::named(element(number)?);
-                said.push_str(number)?;
+    pub fn tell(&mut self, call: &Call, said: &mut Saying) {
+        match call.form() {
+            "limits _ _ _" => {
+                self.limits = call.limits(0);
+                add_limits(said, self.limits)
             }
-            _ => return Err(anyhow!("no sizes")),
+            "version _" if call.number(0) == 1 || call.number(0) == 2 => {
+                self.version = Version::named(call.element(0));
+                said.number(call.number(0))
+            }
+            _ => said.fail("no sizes"),
         }
-        Ok(())
     }
 }
 
-// Makes limits of these cells, elements and slots, and tells them, or `none` if they aren't allowed.
-fn tell_limits(sizes: &[&str], said: &mut String) -> Result<Option<Limits>> {
-    let [cells, elements, slots] = sizes else {
-        return Err(anyhow!("no sizes"));
-    };
-    let limits = Limits::new(address(cells)?, element(elements)?, address(slots)?);
+// Adds limits, or `none` if they aren't allowed.
+fn add_limits(said: &mut Saying, limits: Option<Limits>) {
     match limits {
         Some(made) => {
             let (cells, elements, slots) = (made.cells, made.elements, made.slots);
-            write!(said, "{cells} {elements} {slots}")?;
+            write!(said, "{cells} {elements} {slots}")
         }
-        None => said.push_str("none")?,
+        None => said.text("none"),
     }
-    Ok(limits)
 }
 
 const REFUSALS: [Refusal; 24] = [
@@ -86,12 +82,13 @@ const REFUSALS: [Refusal; 24] = [
 ];
 
 /// Tells the number and the text of the refusal that has this name in the code.
-pub fn tell_refusal(alloc: Global, name: &str, said: &mut String) -> Result<()> {
+pub fn tell_refusal(alloc: Global, name: &str, said: &mut Saying) {
     for refusal in &REFUSALS {
-        let known = format!(in alloc; "{refusal:?}")?;
+        let Ok(known) = format!(in alloc; "{refusal:?}") else {
+            return said.fail("no memory is left");
+        };
         if known.as_str() == name {
-            add_refusal(said, *refusal)?;
+            said.refusal(*refusal);
         }
     }
-    Ok(())
 }

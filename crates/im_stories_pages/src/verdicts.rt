@@ -2,11 +2,10 @@
 
 use crate::areas::area;
 use crate::values::Sizes;
-use anyhow::{Result, anyhow};
 use im_records::{AreaRecords, read_cell, read_node, read_place, read_session};
-use im_story::add_refusal;
+use im_story::Saying;
 use im_types::Refusal;
-use std::alloc::{AllocError, Global};
+use std::alloc::Global;
 
 /// The form in which bytes are read.
 #[derive(Clone, Copy)]
@@ -19,14 +18,14 @@ pub enum Form {
 }
 
 /// Returns the kind of record that has this name.
-pub fn form_of(word: &str) -> Result<Form> {
+pub fn form_of(word: &str) -> Option<Form> {
     match word {
-        "cell" => Ok(Form::Cell),
-        "node" => Ok(Form::Node),
-        "entry" => Ok(Form::Entry),
-        "session" => Ok(Form::Session),
-        "area" => Ok(Form::Area),
-        _ => Err(anyhow!("{word} is no kind of record")),
+        "cell" => Some(Form::Cell),
+        "node" => Some(Form::Node),
+        "entry" => Some(Form::Entry),
+        "session" => Some(Form::Session),
+        "area" => Some(Form::Area),
+        _ => None,
     }
 }
 
@@ -36,6 +35,8 @@ pub enum Verdict {
     Read,
     Refused,
     For(Refusal),
+    /// There are no limits to read an area by.
+    Unread,
 }
 
 fn of_record(is_read: bool) -> Verdict {
@@ -46,30 +47,32 @@ fn of_record(is_read: bool) -> Verdict {
     }
 }
 
-fn of_area(read: Result<AreaRecords, Refusal>) -> Verdict {
+fn of_area(read: Option<Result<AreaRecords, Refusal>>) -> Verdict {
     match read {
-        Ok(_) => Verdict::Read,
-        Err(refusal) => Verdict::For(refusal),
+        Some(Ok(_)) => Verdict::Read,
+        Some(Err(refusal)) => Verdict::For(refusal),
+        None => Verdict::Unread,
     }
 }
 
 /// Returns whether bytes are read as this kind of record.
-pub fn look(alloc: Global, form: Form, sizes: Sizes, bytes: &[u8]) -> Result<Verdict> {
+pub fn look(alloc: Global, form: Form, sizes: Sizes, bytes: &[u8]) -> Verdict {
     match form {
-        Form::Cell => Ok(of_record(read_cell(bytes).is_some())),
-        Form::Node => Ok(of_record(read_node(bytes).is_some())),
-        Form::Entry => Ok(of_record(read_place(bytes).is_some())),
-        Form::Session => Ok(of_record(read_session(sizes.version, bytes).is_some())),
-        Form::Area => Ok(of_area(area(alloc, sizes, bytes)?)),
+        Form::Cell => of_record(read_cell(bytes).is_some()),
+        Form::Node => of_record(read_node(bytes).is_some()),
+        Form::Entry => of_record(read_place(bytes).is_some()),
+        Form::Session => of_record(read_session(sizes.version, bytes).is_some()),
+        Form::Area => of_area(area(alloc, sizes, bytes)),
     }
 }
 
 /// Adds a verdict.
-pub fn add_verdict(said: &mut String, verdict: Verdict) -> Result<(), AllocError> {
+pub fn add_verdict(said: &mut Saying, verdict: Verdict) {
     match verdict {
-        Verdict::Read => said.push_str("read"),
-        Verdict::Refused => said.push_str("refused"),
-        Verdict::For(refusal) => add_refusal(said, refusal),
+        Verdict::Read => said.text("read"),
+        Verdict::Refused => said.text("refused"),
+        Verdict::For(refusal) => said.refusal(refusal),
+        Verdict::Unread => said.fail("no area is so long"),
     }
 }
 
@@ -82,14 +85,14 @@ pub struct Run {
 }
 
 /// Adds a run: its verdict, and its first and last case.
-pub fn add_run(said: &mut String, run: Option<Run>) -> Result<(), AllocError> {
+pub fn add_run(said: &mut Saying, run: Option<Run>) {
     let Some(run) = run else {
-        return Ok(());
+        return;
     };
     if !said.is_empty() {
-        said.push_str(", ")?;
+        said.text(", ");
     }
-    add_verdict(said, run.verdict)?;
+    add_verdict(said, run.verdict);
     let (from, to) = (run.from, run.to);
     if from == to {
         write!(said, " {from}")
@@ -99,20 +102,16 @@ pub fn add_run(said: &mut String, run: Option<Run>) -> Result<(), AllocError> {
 }
 
 /// Returns the run with one more case. If the run ends there, it is told.
-pub fn grown(said: &mut String, run: Option<Run>, case: usize, verdict: Verdict) -> Result<Run> {
+pub fn grown(said: &mut Saying, run: Option<Run>, case: usize, verdict: Verdict) -> Run {
     match run {
-        Some(old) if old.verdict == verdict => Ok(Run {
-            verdict,
-            from: old.from,
-            to: case,
-        }),
+        Some(old) if old.verdict == verdict => Run { to: case, ..old },
         _ => {
-            add_run(said, run)?;
-            Ok(Run {
+            add_run(said, run);
+            Run {
                 verdict,
                 from: case,
                 to: case,
-            })
+            }
         }
     }
 }

@@ -1,0 +1,107 @@
+//! The call of a line, taken apart once.
+
+use im_types::{Limits, Waiter};
+use std::alloc::{AllocError, Global};
+
+/// The words of a call. Its form has `_` for each number and `_._` for each name of a request: that of `1.4 fetch 0` is
+/// `_._ fetch _`, with the numbers 1, 4 and 0.
+#[derive(Drop)]
+pub struct Call<'a> {
+    alloc: Global,
+    words: &'a [&'a str],
+    form: String,
+    numbers: Vec<u64>,
+}
+
+// Returns the two numbers of a name, `ELEMENT.NUMBER`.
+fn parts(word: &str) -> Option<(u64, u64)> {
+    let (of, sent) = word.split_once('.')?;
+    Some((of.parse::<u64>().ok()?, sent.parse::<u64>().ok()?))
+}
+
+// Adds the numbers of a word. Returns the word as it stands in a form.
+fn numbered<'w>(numbers: &mut Vec<u64>, word: &'w str) -> Result<&'w str, AllocError> {
+    if let Ok(number) = word.parse::<u64>() {
+        numbers.push(number)?;
+        return Ok("_");
+    }
+    let Some((element, number)) = parts(word) else {
+        return Ok(word);
+    };
+    numbers.push(element)?;
+    numbers.push(number)?;
+    Ok("_._")
+}
+
+impl<'a> Call<'a> {
+    /// Takes these words apart.
+    pub fn of(alloc: Global, words: &'a [&'a str]) -> Result<Call<'a>, AllocError> {
+        let (mut form, mut numbers) = (String::new(alloc), Vec::new(alloc));
+        for word in words {
+            if !form.is_empty() {
+                form.push_str(" ")?;
+            }
+            form.push_str(numbered(&mut numbers, word)?)?;
+        }
+        Ok(Call {
+            alloc,
+            words,
+            form,
+            numbers,
+        })
+    }
+
+    /// Returns the allocator of what the call makes.
+    pub fn alloc(&self) -> Global {
+        self.alloc
+    }
+
+    /// Returns the words.
+    pub fn words(&self) -> &'a [&'a str] {
+        self.words
+    }
+
+    /// Returns the form.
+    pub fn form(&self) -> &str {
+        self.form.as_str()
+    }
+
+    /// Returns one of the numbers, or 0 past the last one.
+    pub fn number(&self, at: usize) -> u64 {
+        self.numbers.get(at).copied().unwrap_or(0)
+    }
+
+    /// Returns a number as the address of a cell, or as a count of cells. The greatest one stands for all above it.
+    pub fn address(&self, at: usize) -> u32 {
+        u32::try_from(self.number(at)).unwrap_or(u32::MAX)
+    }
+
+    /// Returns a number as that of an element, in the same way.
+    pub fn element(&self, at: usize) -> u16 {
+        u16::try_from(self.number(at)).unwrap_or(u16::MAX)
+    }
+
+    /// Returns a number as a place or a count, in the same way.
+    pub fn place(&self, at: usize) -> usize {
+        usize::try_from(self.number(at)).unwrap_or(usize::MAX)
+    }
+
+    /// Returns the name of a request whose first number this is.
+    pub fn waiter(&self, at: usize) -> Waiter {
+        Waiter {
+            element: self.element(at),
+            number: self.number(at.saturating_add(1)),
+        }
+    }
+
+    /// Returns sizes, of which this number is the first: those of cells, elements and slots. There are none if they
+    /// aren't allowed.
+    pub fn limits(&self, at: usize) -> Option<Limits> {
+        let (elements, slots) = (at.saturating_add(1), at.saturating_add(2));
+        Limits::new(
+            self.address(at),
+            self.element(elements),
+            self.address(slots),
+        )
+    }
+}
