@@ -181,23 +181,26 @@ class Known:
         return None if kind in NO_CLAUSES or kind in sum(ensured, []) else f"{function} has no clause `{kind}`"
 
 
-def misplaced(crate, path, top):
+def misplaced(folder, path, top):
     """Yields the replacements of an edit, or of its twin, whose old text isn't in its file exactly once."""
     for file, old, _ in pairs(path):
-        source = top / "crates" / crate / file
+        source = folder / file
         found = source.read_text().count(old) if source.is_file() else 0
         if found != 1:
             yield f"{path.relative_to(top)}: stands {found} times in {file}: {old[:60]}"
 
 
 def faults(top=sources.TOP):
-    """Yields the edits that don't say which clause they break, name one that doesn't exist, or whose old text is gone."""
+    """Yields the edits that don't say which clause they break, name one that doesn't exist, or whose old text is gone,
+    those of scripts/threads too."""
     known = Known(top)
+    for path in sorted((top / "scripts" / "threads").rglob("*.edit")):
+        yield from misplaced(top, path, top)
     for crate in known.by_crate:
         for name, path in edits_of(crate, top).items():
             twin = top / "crates" / crate / "edits" / f"{name}.twin"
             for it in filter(Path.is_file, (path, twin)):
-                yield from misplaced(crate, it, top)
+                yield from misplaced(top / "crates" / crate, it, top)
             said = breaks(path)
             if not said or any(len(it) != 2 for it in said):
                 yield f"{path.relative_to(top)}: no line `{BREAKS}FUNCTION CLAUSE`"
