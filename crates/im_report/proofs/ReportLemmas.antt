@@ -13,14 +13,6 @@ use Rattle.im_report.specs.Report.{waiter_text, waiters_text, entry_line, elemen
 pub joined : (start a rest : List ℕ) {was now : List ℕ} → was ≡ start ++ a → now ≡ was ++ rest → now ≡ start ++ (a ++ rest)
 joined start a rest first later = later ∙ ap (λ xs. xs ++ rest) first ∙ append_assoc start a rest
 
--- seven texts, written one after another
-pub seven_written : (start one two three four five six seven a b c d e f g : List ℕ)
-    → one ≡ start ++ a → two ≡ one ++ b → three ≡ two ++ c → four ≡ three ++ d → five ≡ four ++ e → six ≡ five ++ f → seven ≡ six ++ g
-    → seven ≡ start ++ (a ++ b ++ c ++ d ++ e ++ f ++ g)
-seven_written start one two three four five six seven a b c d e f g i ii iii iv v vi vii =
-    joined start (a ++ b ++ c ++ d ++ e ++ f) g (joined start (a ++ b ++ c ++ d ++ e) f (joined start (a ++ b ++ c ++ d) e
-    (joined start (a ++ b ++ c) d (joined start (a ++ b) c (joined start a b i ii) iii) iv) v) vi) vii
-
 -- ---- those that wait
 
 -- nobody is left
@@ -57,17 +49,3 @@ element_told element found w base kept start mid now at from many asked line ent
     ∙ ap₂ (λ base kept. start ++ (element_line element base kept ++ entries_text element w)) from many
     ∙ ap (λ (test : Bool). start ++ (if test then [] else element_line element w.base (length w.kept) ++ entries_text element w)) (sym asked ∙ ap₂ (λ (base : ℕ) (kept : ℕ). (base == 1) && (kept == 0)) from many)
     ∙ ap (λ found. start ++ window_text element found) (sym at)
-
--- five and six texts, written one after another
-pub five_written : (start one two three four five a b c d e : List ℕ)
-    → one ≡ start ++ a → two ≡ one ++ b → three ≡ two ++ c → four ≡ three ++ d → five ≡ four ++ e
-    → five ≡ start ++ (a ++ b ++ c ++ d ++ e)
-five_written start one two three four five a b c d e i ii iii iv v =
-    joined start (a ++ b ++ c ++ d) e
-    (joined start (a ++ b ++ c) d (joined start (a ++ b) c (joined start a b i ii) iii) iv) v
-
-pub six_written : (start one two three four five six a b c d e f : List ℕ)
-    → one ≡ start ++ a → two ≡ one ++ b → three ≡ two ++ c → four ≡ three ++ d → five ≡ four ++ e → six ≡ five ++ f
-    → six ≡ start ++ (a ++ b ++ c ++ d ++ e ++ f)
-six_written start one two three four five six a b c d e f i ii iii iv v vi =
-    joined start (a ++ b ++ c ++ d ++ e) f (five_written start one two three four five a b c d e i ii iii iv v) vi

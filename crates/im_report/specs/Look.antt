@@ -12,9 +12,10 @@ use Rattle.im_report.specs.declared.look.Span.{Span}
 use Rattle.im_report.specs.declared.look.Filter.{Filter}
 use Rattle.im_report.specs.declared.look.Look.{Look}
 use Rattle.im_report.specs.declared.look.Look.TheVariants.{Report, Stat, StatJson}
+use Rattle.im_report.specs.declared.notation.Notation.TheVariants.{Lines, Json}
 use Rattle.im_report.specs.Figures.{cell_tag}
 use Rattle.im_report.specs.Report.{cell_line, report_text, window_text}
-use Rattle.im_report.specs.Stat.{stat_json, stat_text}
+use Rattle.im_report.specs.Stat.{stat_text}
 
 -- a filter that asks for nothing
 abbrev pub is_whole : Filter → Bool
@@ -60,13 +61,14 @@ filtered_text f h run room m = if is_whole f then report_text h run room m else 
 -- what is printed
 abbrev pub looked_text : Look → Header → ℕ → ℕ → Contents → List ℕ
 looked_text (Report f) h run room m = filtered_text f h run room m
-looked_text Stat h run room m = stat_text h run room m
-looked_text StatJson h run room m = stat_json h run room m
+looked_text Stat h run room m = stat_text Lines h run room m
+looked_text StatJson h run room m = stat_text Json h run room m
 
 -- The bytes of a file mean a memory, and what is wanted of it, with the header in force, was written.
 pub record Looks (look : Look) (file : List ℕ) (was now : Option (List ℕ)) : Type 0 where
   pub memory : Contents
   pub run : ℕ
   pub room : ℕ
-  pub reads : Reads (layout_in file) file (Ok (record { contents = memory; count = (header_of file).count + run; room = room }))
+  pub reads : Reads (layout_in file) file
+      (Ok (record { contents = memory; count = (header_of file).count + run; room = room }))
   pub added : Appends was now (looked_text look (header_of file) run room memory)

@@ -5,17 +5,35 @@ ghost use Rattle.im_disk.specs.Runs.{ReadsAlone};
 ghost use Rattle.im_disk.specs.Since.{ReadsOnly};
 ghost use Rattle.im_report.specs.Inspecting.{Tells};
 ghost use Rattle.im_report.specs.Look.{Looks, looked_text};
+ghost use Rattle.im_report.specs.Stat.{stat_text};
 
 use crate::filtering::add_filtered;
 use crate::look::{Filter, Look};
-use crate::stat::add_stat;
-use crate::stat_json::add_stat_json;
+use crate::notation::Notation;
+use crate::{stat, stat_json};
 use im_damage::{Older, find_older};
 use im_disk::Disk;
 use im_image::{Report, inspect};
 use im_text::{Observer, Reason, Warning, diagnose, end, put_through};
 use std::alloc::{AllocError, Global};
 use std::io::Write;
+
+// Adds the statistic of an image.
+fn add_stat(out: &mut String, report: &Report, notation: Notation) -> Result<(), AllocError>
+    ensures { OnOk result (string_bytes out.new ≡ string_bytes out.old ++ stat_text notation
+        (seen report.now.header) report.now.run report.now.room report.now.memory.contents) }
+{
+    match notation {
+        Notation::Lines => {
+            stat::add_head(out, &report.header, report.run, report.room)?;
+            stat::add_memory(out, &report.memory)
+        }
+        Notation::Json => {
+            stat_json::add_head(out, &report.header, report.run, report.room)?;
+            stat_json::add_memory(out, &report.memory)
+        }
+    }
+}
 
 // Adds what is wanted of an image.
 fn add_looked(out: &mut String, report: &Report, look: &Look) -> Result<(), AllocError>
@@ -24,8 +42,8 @@ fn add_looked(out: &mut String, report: &Report, look: &Look) -> Result<(), Allo
 {
     match look {
         Look::Report(filter) => add_filtered(out, report, filter),
-        Look::Stat => add_stat(out, report),
-        Look::StatJson => add_stat_json(out, report),
+        Look::Stat => add_stat(out, report, Notation::Lines),
+        Look::StatJson => add_stat(out, report, Notation::Json),
     }
 }
 

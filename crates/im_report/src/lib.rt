@@ -6,6 +6,7 @@ mod figures;
 mod filtering;
 mod inspecting;
 mod look;
+mod notation;
 mod report;
 mod stat;
 mod stat_json;

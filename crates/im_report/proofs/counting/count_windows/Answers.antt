@@ -1,7 +1,8 @@
 use Rattle.std.proofs.Common.{◌≡◌, ◌+◌, ◌∙◌, ◌≤◌, ℕ, ap, length, arith}
 use Rattle.std.specs.Prelude.{if◌then◌else◌, ◌==◌, slice_get}
 use Rattle.im_report.specs.Figures.{has_asked, kept_in, sum_below}
-use Rattle.im_report.proofs.SumLemmas.{sums_none, sums_more, one_few, windows_counted}
+use Rattle.im_report.specs.declared.figures.WindowFigures.{WindowFigures}
+use Rattle.im_report.proofs.SumLemmas.{sums_none, sums_more, one_few, ap₃}
 use Rattle.im_report.proofs.counting.count_windows.Goals as goal
 
 pub loop-element-init : goal.loop-element-init
@@ -26,5 +27,6 @@ loop-element-preserved c =
 pub returns : goal.returns
 returns c =
     let all : c.loop-element.element ≡ length c.args.memory.now.contents.windows = omega arith in
-    windows_counted (c.loop-element.invariant.0.is ∙ ap (sum_below _) all)
+    ap₃ {T = WindowFigures} (λ asked kept full. record { asked = asked; kept = kept; full = full })
+    (c.loop-element.invariant.0.is ∙ ap (sum_below _) all)
     (c.loop-element.invariant.1.is ∙ ap (sum_below _) all) (c.loop-element.invariant.2.is ∙ ap (sum_below _) all)
