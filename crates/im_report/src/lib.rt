@@ -14,4 +14,4 @@ mod stat_json;
 pub use counting::{count_queues, count_windows};
 pub use figures::{QueueFigures, WindowFigures};
 pub use inspecting::{inspect_on, look_on};
-pub use look::{Filter, Look, Span};
+pub use look::{Filter, Span, View};

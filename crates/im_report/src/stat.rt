@@ -4,7 +4,7 @@ ghost use Rattle.im_image.specs.Headers.{seen};
 ghost use Rattle.im_report.specs.Figures.{kind_figures};
 ghost use Rattle.im_report.specs.Stat.{area_written, blocks_part, count_line, figures_lines, kind_line, next_line};
 ghost use Rattle.im_report.specs.Stat.{numbered, pages_written, slots_line, stale_slots, stat_head, stat_memory};
-ghost use Rattle.im_report.specs.Stat.{states_part, three_words};
+ghost use Rattle.im_report.specs.Stat.{three_words};
 
 use crate::counting::{count_free, count_kind, count_queues, count_windows};
 use crate::figures::KindFigures;
@@ -114,19 +114,6 @@ fn add_blocks(out: &mut String, kind: Kind, f: &KindFigures) -> Result<(), Alloc
     add_member(out, " empty ", f.empty)
 }
 
-// Adds their other cells.
-fn add_states(out: &mut String, f: &KindFigures) -> Result<(), AllocError>
-    ensures { OnOk result (string_bytes out.new ≡ string_bytes out.old ++ states_part f.now) }
-{
-    add_three(
-        out,
-        (" waiting ", f.waiting),
-        (" full ", f.full),
-        (" clashed ", f.clashed),
-        "\n",
-    )
-}
-
 /// Adds the line of the blocks of one kind and of their cells.
 fn add_kind(out: &mut String, memory: &Memory, kind: Kind) -> Result<(), AllocError>
     ensures { OnOk result (string_bytes out.new ≡ string_bytes out.old
@@ -134,7 +121,13 @@ fn add_kind(out: &mut String, memory: &Memory, kind: Kind) -> Result<(), AllocEr
 {
     let f = count_kind(memory, kind);
     add_blocks(out, kind, &f)?;
-    add_states(out, &f)
+    add_three(
+        out,
+        (" waiting ", f.waiting),
+        (" full ", f.full),
+        (" clashed ", f.clashed),
+        "\n",
+    )
 }
 
 /// Adds the lines of the cells in no block, of the requests that wait and of the windows.

@@ -2,8 +2,8 @@
 ghost use Rattle.std.specs.Prelude.{◌≡◌, ◌++◌, OnOk, string_bytes};
 ghost use Rattle.im_image.specs.Headers.{seen};
 ghost use Rattle.im_report.specs.Figures.{kind_figures};
-ghost use Rattle.im_report.specs.Stat.{blocks_json, count_json, figures_json, head_json, header_json, kind_json};
-ghost use Rattle.im_report.specs.Stat.{memory_json, next_json, pages_json, sizes_json, slots_json, states_json};
+ghost use Rattle.im_report.specs.Stat.{blocks_json, count_json, figures_json, head_json, kind_json};
+ghost use Rattle.im_report.specs.Stat.{memory_json, next_json, pages_json, sizes_json, slots_json};
 
 use crate::counting::{count_free, count_kind, count_queues, count_windows};
 use crate::figures::KindFigures;
@@ -23,19 +23,6 @@ fn add_sizes(out: &mut String, header: &Header) -> Result<(), AllocError>
     add_member(out, ",\"elements\":", header.limits.elements as u64)?;
     add_member(out, ",\"slots\":", header.limits.slots as u64)?;
     add_text(out, "}")
-}
-
-/// Adds the header in force.
-fn add_header(out: &mut String, header: &Header) -> Result<(), AllocError>
-    ensures { OnOk result (string_bytes out.new ≡ string_bytes out.old ++ header_json (seen header.now)) }
-{
-    add_three(
-        out,
-        (",\"header\":{\"area\":", header.area as u64),
-        (",\"generation\":\"", header.generation),
-        ("\",\"count\":\"", header.count),
-        "\"}",
-    )
 }
 
 /// Adds the journal's slots.
@@ -89,19 +76,6 @@ fn add_blocks(out: &mut String, kind: Kind, f: &KindFigures) -> Result<(), Alloc
     add_member(out, ",\"empty\":", f.empty)
 }
 
-// Adds their other cells.
-fn add_states(out: &mut String, f: &KindFigures) -> Result<(), AllocError>
-    ensures { OnOk result (string_bytes out.new ≡ string_bytes out.old ++ states_json f.now) }
-{
-    add_three(
-        out,
-        (",\"waiting\":", f.waiting),
-        (",\"full\":", f.full),
-        (",\"clashed\":", f.clashed),
-        "}",
-    )
-}
-
 /// Adds the blocks of one kind and their cells.
 fn add_kind(out: &mut String, memory: &Memory, kind: Kind) -> Result<(), AllocError>
     ensures { OnOk result (string_bytes out.new ≡ string_bytes out.old
@@ -109,7 +83,13 @@ fn add_kind(out: &mut String, memory: &Memory, kind: Kind) -> Result<(), AllocEr
 {
     let f = count_kind(memory, kind);
     add_blocks(out, kind, &f)?;
-    add_states(out, &f)
+    add_three(
+        out,
+        (",\"waiting\":", f.waiting),
+        (",\"full\":", f.full),
+        (",\"clashed\":", f.clashed),
+        "}",
+    )
 }
 
 /// Adds the cells in no block, the requests that wait and the windows, and ends the object.
@@ -152,7 +132,13 @@ pub(crate) fn add_head(
     ensures { OnOk result (string_bytes out.new ≡ string_bytes out.old ++ head_json (seen header.now) run room) }
 {
     add_sizes(out, header)?;
-    add_header(out, header)?;
+    add_three(
+        out,
+        (",\"header\":{\"area\":", header.area as u64),
+        (",\"generation\":\"", header.generation),
+        ("\",\"count\":\"", header.count),
+        "\"}",
+    )?;
     add_slots(out, header, run, room)?;
     add_count(out, header, run)?;
     add_next(out, header)

@@ -11,7 +11,7 @@ returns c =
     let slots = slots_json h c.args.run c.args.room in
     let count = count_json h c.args.run in
     let start = string_bytes c.args.out.now in
-    let two = joined start (sizes_json h) (header_json h) c.in_ok-add_sizes.ensures c.in_ok-add_header.ensures in
+    let two = joined start (sizes_json h) (header_json h) c.in_ok-add_sizes.ensures c.in_ok-add_three.ensures in
     let three = joined start (sizes_json h ++ header_json h) slots two c.in_ok-add_slots.ensures in
     let four = joined start (sizes_json h ++ header_json h ++ slots) count three c.in_ok-add_count.ensures in
     on_ok_weaker c.add_next.result (joined start (sizes_json h ++ header_json h ++ slots ++ count) (next_json h) four)
