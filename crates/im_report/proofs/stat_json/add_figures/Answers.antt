@@ -16,4 +16,5 @@ returns c =
     ∙ ap (λ f. string_bytes c.add_three.new.out ++ queue_json f) c.count_queues-queues.ensures in
     let both = joined start free queue first second in
     on_ok_weaker c.add_three-3.result (λ whole. joined start (free ++ queue) (window_json (window_figures m)) both
-    (whole ∙ ap (λ f. string_bytes c.add_three-2.new.out ++ window_json f) c.count_windows-windows.ensures)) c.add_three-3.ensures
+    (whole ∙ ap (λ f. string_bytes c.add_three-2.new.out ++ window_json f) c.count_windows-windows.ensures))
+    c.add_three-3.ensures
