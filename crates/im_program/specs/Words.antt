@@ -13,8 +13,8 @@ use Rattle.im_program.specs.declared.words.Job.{Job}
 use Rattle.im_program.specs.declared.words.Job.TheVariants.{Demonstration, Format, Serial, Serve, Inspect, Dump, Load}
 use Rattle.im_migration.specs.declared.asked.Asked.{Asked}
 use Rattle.im_report.specs.declared.look.Filter.{Filter}
-use Rattle.im_report.specs.declared.look.Look.{Look}
-use Rattle.im_report.specs.declared.look.Look.TheVariants.{Report, Stat, StatJson}
+use Rattle.im_report.specs.declared.look.View.{View}
+use Rattle.im_report.specs.declared.look.View.TheVariants.{Report, Stat, StatJson}
 use Rattle.im_report.specs.declared.look.Span.{Span}
 use Rattle.im_script.specs.Grammar.{number_up_to}
 
@@ -118,7 +118,7 @@ pub data Task : Type 0 where
   serial : (image script : List ℕ) (once : Bool) → Task
   run : (image script : List ℕ) (planned : Bool) (trace : Option (List ℕ)) → Task
   serve : (image : List ℕ) (watch : Bool) → Task
-  inspect : (image : List ℕ) (look : Look) → Task
+  inspect : (image : List ℕ) (look : View) → Task
   migrate : (old new : List ℕ) → Task
   copy : (old new : List ℕ) (asked : Asked) → Task
   dump : (image : List ℕ) → Task
@@ -222,7 +222,7 @@ abbrev pub inspect_task : List Row → Option Task
 inspect_task rows = option_map (λ filter. inspect (path_in rows (codes "IMAGE")) (Report filter)) (filter_in rows)
 
 -- what stat prints
-abbrev pub stat_look : Bool → Look
+abbrev pub stat_look : Bool → View
 stat_look json = if json then StatJson else Stat
 
 -- the task of stat, by its path and its form

@@ -4,7 +4,7 @@ use Rattle.im_types.specs.Sizes.{AreLimits}
 use Rattle.im_disk.specs.Moment.{Moment}
 use Rattle.im_disk.specs.Since.{LeavesNow, ReadsOnly}
 use Rattle.im_image.specs.Fresh.{new_image}
-use Rattle.im_report.specs.Look.{Looks}
+use Rattle.im_report.specs.Look.{ShowsView}
 use Rattle.im_serial.specs.Once.{ServedOnceFrom}
 use Rattle.im_serial.specs.Serving.{ServedFrom}
 use Rattle.im_dialogue.specs.Dialogue.{TalkedFrom}
@@ -33,7 +33,7 @@ DoneOn now past failures first (serial image script once) was is status disk = S
 DoneOn now past failures first (run image script planned trace) was is status disk =
     (calls : TraceState) × RanFrom now past failures first disk was is calls status
 DoneOn now past failures first (serve image watch) was is status disk = TalkedFrom watch now past first disk was is status
-DoneOn now past failures first (inspect image look) was is status disk = (status ≡ 0 → Looks look first.bytes was is) × ReadsOnly first (now disk) [] (past disk)
+DoneOn now past failures first (inspect image look) was is status disk = (status ≡ 0 → ShowsView look first.bytes was is) × ReadsOnly first (now disk) [] (past disk)
 DoneOn now past failures first (migrate old new) was is status disk = Unit {0}
 DoneOn now past failures first (copy old new asked) was is status disk = Unit {0}
 DoneOn now past failures first (dump image) was is status disk = (status ≡ 0 → Dumps first.bytes was is) × ReadsOnly first (now disk) [] (past disk)

@@ -12,7 +12,7 @@ use crate::words::{
 };
 use clap::error::ErrorKind;
 use clap::{ArgMatches, Command, Error};
-use im_report::{Filter, Look, Span};
+use im_report::{Filter, Span, View};
 use im_script::read_u32;
 use std::alloc::{AllocError, Global};
 
@@ -164,15 +164,15 @@ pub(crate) fn inspect_work<'a>(found: &ArgMatches<'a>) -> Option<Work<'a>>
 {
     let filter = filter_of(found)?;
     let image = path_of(found, "IMAGE");
-    let look = Look::Report(filter);
+    let look = View::Report(filter);
     Some(Work::Alone(Job::Inspect { image, look }))
 }
 
 // What `stat` prints.
-fn stat_look(json: bool) -> Look
+fn stat_look(json: bool) -> View
     ensures { result ≡ stat_look json }
 {
-    if json { Look::StatJson } else { Look::Stat }
+    if json { View::StatJson } else { View::Stat }
 }
 
 /// What `stat` is asked for.

@@ -20,7 +20,7 @@ use clap::builder::ValueParser;
 use clap::error::ErrorKind;
 use clap::{Arg, ArgAction, ArgMatches, Command, Error};
 use im_migration::Asked;
-use im_report::Look;
+use im_report::View;
 use im_script::read_u32;
 use std::alloc::{AllocError, Global};
 
@@ -109,7 +109,7 @@ pub enum Job<'a> {
         /// The image's path.
         image: &'a str,
         /// What is printed.
-        look: Look,
+        look: View,
     },
     /// Print the dump of an image.
     Dump {

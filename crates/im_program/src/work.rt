@@ -7,7 +7,7 @@ ghost use Rattle.im_types.specs.Layout.{sizes_of};
 ghost use Rattle.im_types.specs.Sizes.{AreLimits};
 ghost use Rattle.im_disk.specs.Since.{LeavesNow, ReadsOnly};
 ghost use Rattle.im_image.specs.Fresh.{new_image};
-ghost use Rattle.im_report.specs.Look.{Looks};
+ghost use Rattle.im_report.specs.Look.{ShowsView};
 ghost use Rattle.im_text.specs.Printing.{Begins, IsLast};
 ghost use Rattle.im_dialogue.specs.Dialogue.{NotOpened, Talked, TalkedFrom};
 ghost use Rattle.im_run.specs.Running.{RanFrom};
@@ -35,7 +35,7 @@ use im_files::{
 use im_image::image_length;
 use im_listening::Ear;
 use im_migration::Follower;
-use im_report::{Look, look_on};
+use im_report::{View, look_on};
 use im_run::{STALLED, Trace, run_on};
 use im_script::{Script, ScriptFault, TextFault, read_script, read_script_with_glances, read_text};
 use im_serial::{serial_on, serial_once_on};
@@ -414,14 +414,14 @@ pub fn inspect_file<R: Files<File = File> + AllocGlobal, S: Start, W: Write, N: 
     rt: &R,
     _held: &Descriptors,
     image: &str,
-    look: &Look,
+    look: &View,
     out: &mut W,
     observer: &mut N,
     start: S,
 ) -> Result<(u8, FileDisk<S>), Refusal>
     ensures status { IfOk result (λ r. r.0 ≤ 1) }
     ensures told { IfOk result (λ r. ⟦<FileDisk<S> as Disk>⟧.honest r.1 → r.0 ≡ 0 →
-        Looks look.now S.first.bytes (W.contents out.old) (W.contents out.new)) }
+        ShowsView look.now S.first.bytes (W.contents out.old) (W.contents out.new)) }
     ensures reads { IfOk result (λ r. ⟦<FileDisk<S> as Disk>⟧.honest r.1 →
         ReadsOnly S.first (⟦<FileDisk<S> as Disk>⟧.now r.1) [] (⟦<FileDisk<S> as Disk>⟧.past r.1)) }
     ensures refused { IfErr result (λ refusal. refusal ≡ Device) }

@@ -5,17 +5,17 @@ use Rattle.std.specs.Io.KnownBytes.{Appends, Keeps}
 use Rattle.im_types.specs.Contents.{Contents}
 use Rattle.im_types.specs.Header.{Header, header_of, layout_in}
 use Rattle.im_types.specs.Meaning.{Reads}
-use Rattle.im_report.specs.declared.look.Look.{Look}
-use Rattle.im_report.specs.declared.look.Look.TheVariants.{Report}
-use Rattle.im_report.specs.Look.{Looks, looked_text}
+use Rattle.im_report.specs.declared.look.View.{View}
+use Rattle.im_report.specs.declared.look.View.TheVariants.{Report}
+use Rattle.im_report.specs.Look.{ShowsView, looked_text}
 use Rattle.im_report.specs.Inspecting.{Tells}
 use Rattle.im_text.proofs.PrintingLemmas.{appends_kept}
 
 -- what is wanted was added with the header in force
-pub looks : (look : Look) (file : List ℕ) (h : Header) (run room : ℕ) (m : Contents) (was now : Option (List ℕ))
+pub looks : (look : View) (file : List ℕ) (h : Header) (run room : ℕ) (m : Contents) (was now : Option (List ℕ))
     → h ≡ header_of file
     → Reads (layout_in file) file (Ok (record { contents = m; count = h.count + run; room = room }))
-    → Appends was now (looked_text look h run room m) → Looks look file was now
+    → Appends was now (looked_text look h run room m) → ShowsView look file was now
 looks look file h run room m was now same reads added = record {
   memory = m;
   run = run;
@@ -26,14 +26,13 @@ looks look file h run room m was now same reads added = record {
 }
 
 -- a status of 0 is that of work that is done
-pub done_at_zero : {T E : Type 0} (r : Result T E) (status : ℕ) (P : Type 0) → OnErr r
-    (status ≡ 1) → status ≡ 0 → OnOk r P → P
+pub done_at_zero : {T E : Type 0} (r : Result T E) (status : ℕ) (P : Type 0) → OnErr r (status ≡ 1) → status ≡ 0 → OnOk r P → P
 done_at_zero (Ok x) status P refused zero done = done
 done_at_zero (Err e) status P refused zero done = absurd (omega arith)
 
 -- what is kept is there as it was written
-pub looks_kept : (look : Look) (file : List ℕ) (was mid now : Option (List ℕ)) → Looks look file was mid → Keeps mid now
-    → Looks look file was now
+pub looks_kept : (look : View) (file : List ℕ) (was mid now : Option (List ℕ)) → ShowsView look file was mid → Keeps mid now
+    → ShowsView look file was now
 looks_kept look file was mid now it keeps = record {
   memory = it.memory;
   run = it.run;
@@ -44,6 +43,6 @@ looks_kept look file was mid now it keeps = record {
 
 -- a filter that asks for nothing leaves the whole report
 pub tells_whole : (file : List ℕ) (was now : Option (List ℕ))
-    → Looks (Report (record { cells = None; element = None; waiting = false })) file was now → Tells file was now
+    → ShowsView (Report (record { cells = None; element = None; waiting = false })) file was now → Tells file was now
 tells_whole file was now it =
     record { memory = it.memory; run = it.run; room = it.room; reads = it.reads; added = it.added }

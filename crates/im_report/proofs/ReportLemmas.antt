@@ -10,18 +10,8 @@ use Rattle.im_report.specs.Report.{waiter_text, waiters_text, entry_line, elemen
 -- ---- texts one after another
 
 -- what follows a text is written after it
-pub joined : (start a rest : List ℕ) {was now : List ℕ} → was ≡ start ++ a → now ≡ was ++ rest → now ≡ start ++
-    (a ++ rest)
+pub joined : (start a rest : List ℕ) {was now : List ℕ} → was ≡ start ++ a → now ≡ was ++ rest → now ≡ start ++ (a ++ rest)
 joined start a rest first later = later ∙ ap (λ xs. xs ++ rest) first ∙ append_assoc start a rest
-
--- seven texts, written one after another
-pub seven_written : (start one two three four five six seven a b c d e f g : List ℕ)
-    → one ≡ start ++ a → two ≡ one ++ b → three ≡ two ++ c → four ≡ three ++ d → five ≡ four ++ e → six ≡ five ++ f → seven ≡ six ++ g
-    → seven ≡ start ++ (a ++ b ++ c ++ d ++ e ++ f ++ g)
-seven_written start one two three four five six seven a b c d e f g i ii iii iv v vi vii =
-    joined start (a ++ b ++ c ++ d ++ e ++ f) g (joined start (a ++ b ++ c ++ d ++ e) f (joined start
-    (a ++ b ++ c ++ d) e
-    (joined start (a ++ b ++ c) d (joined start (a ++ b) c (joined start a b i ii) iii) iv) v) vi) vii
 
 -- ---- those that wait
 
@@ -31,8 +21,7 @@ unfolding waiters_text
 waiters_none left was all none rest = sym (append-nil was) ∙ ap (λ ws. was ++ waiters_text ws) (sym none) ∙ rest
 
 -- one more is written
-pub waiters_more : (left after : List Waiter) (who : Waiter)
-    (was now all : List ℕ) → left ≡ who ∷ after → now ≡ was ++ waiter_text who
+pub waiters_more : (left after : List Waiter) (who : Waiter) (was now all : List ℕ) → left ≡ who ∷ after → now ≡ was ++ waiter_text who
     → was ++ waiters_text left ≡ all → now ++ waiters_text after ≡ all
 unfolding waiters_text
 waiters_more left after who was now all is added rest =
@@ -42,8 +31,7 @@ waiters_more left after who was now all is added rest =
 -- ---- windows
 
 -- its line is that of its place in the window
-pub entry_at : (windows : List Window) (element : ℕ) (w : Window) (base number : ℕ)
-    (kept : Option Kept) → slice_get windows element ≡ Some w → base ≡ w.base → base ≤ number
+pub entry_at : (windows : List Window) (element : ℕ) (w : Window) (base number : ℕ) (kept : Option Kept) → slice_get windows element ≡ Some w → base ≡ w.base → base ≤ number
     → kept ≡ kept_for windows (record { element = element; number = number })
     → entry_line element number kept ≡ entry_line element (w.base + (number - base)) (slice_get w.kept (number - base))
 entry_at windows element w base number kept at from below is =
@@ -53,28 +41,11 @@ entry_at windows element w base number kept at from below is =
     ap₂ (entry_line element) n (is ∙ kept_at windows element w number at low ∙ ap (slice_get w.kept) i)
 
 -- the lines of an element that has asked something
-pub element_told : (element : ℕ) (found : Option Window) (w : Window) (base kept : ℕ)
-    (start mid now : List ℕ) → found ≡ Some w → base ≡ w.base → kept ≡ length w.kept
+pub element_told : (element : ℕ) (found : Option Window) (w : Window) (base kept : ℕ) (start mid now : List ℕ) → found ≡ Some w → base ≡ w.base → kept ≡ length w.kept
     → ((base == 1) && (kept == 0)) ≡ false
     → mid ≡ start ++ element_line element base kept → now ≡ mid ++ entries_text element w → now ≡ start ++ window_text element found
 element_told element found w base kept start mid now at from many asked line entries =
     joined start (element_line element base kept) (entries_text element w) line entries
     ∙ ap₂ (λ base kept. start ++ (element_line element base kept ++ entries_text element w)) from many
-    ∙ ap (λ (test : Bool). start ++ (if test then [] else element_line element w.base
-    (length w.kept) ++ entries_text element w)) (sym asked ∙ ap₂ (λ (base : ℕ) (kept : ℕ). (base == 1) &&
-    (kept == 0)) from many)
+    ∙ ap (λ (test : Bool). start ++ (if test then [] else element_line element w.base (length w.kept) ++ entries_text element w)) (sym asked ∙ ap₂ (λ (base : ℕ) (kept : ℕ). (base == 1) && (kept == 0)) from many)
     ∙ ap (λ found. start ++ window_text element found) (sym at)
-
--- five and six texts, written one after another
-pub five_written : (start one two three four five a b c d e : List ℕ)
-    → one ≡ start ++ a → two ≡ one ++ b → three ≡ two ++ c → four ≡ three ++ d → five ≡ four ++ e
-    → five ≡ start ++ (a ++ b ++ c ++ d ++ e)
-five_written start one two three four five a b c d e i ii iii iv v =
-    joined start (a ++ b ++ c ++ d) e
-    (joined start (a ++ b ++ c) d (joined start (a ++ b) c (joined start a b i ii) iii) iv) v
-
-pub six_written : (start one two three four five six a b c d e f : List ℕ)
-    → one ≡ start ++ a → two ≡ one ++ b → three ≡ two ++ c → four ≡ three ++ d → five ≡ four ++ e → six ≡ five ++ f
-    → six ≡ start ++ (a ++ b ++ c ++ d ++ e ++ f)
-six_written start one two three four five six a b c d e f i ii iii iv v vi =
-    joined start (a ++ b ++ c ++ d ++ e) f (five_written start one two three four five a b c d e i ii iii iv v) vi

@@ -2,9 +2,6 @@
 use Rattle.std.proofs.Common.{◌≡◌, ◌∙◌, ℕ, suc, ◌+◌, ◌*◌, ◌≤◌, List, refl, ap, sym, arith, Bool, true, false}
 use Rattle.std.specs.Prelude.{Option, max, nat_lt, is_none, if◌then◌else◌, ◌==◌}
 use Rattle.im_types.specs.Contents.{Held, block_at}
-use Rattle.im_report.specs.declared.figures.FreeFigures.{FreeFigures}
-use Rattle.im_report.specs.declared.figures.QueueFigures.{QueueFigures}
-use Rattle.im_report.specs.declared.figures.WindowFigures.{WindowFigures}
 use Rattle.im_report.specs.Figures.{sum_below, most_below, first_most, free_row, row_after}
 
 -- ---- sums
@@ -117,17 +114,6 @@ rows_more cells n row free holes longest next more begun greatest it after added
 
 -- ---- all numbers of a memory
 
-pub free_counted : {cells holes longest all begun most : ℕ} → cells ≡ all → holes ≡ begun → longest ≡ most
-    → ◌≡◌ {A = FreeFigures} (record { cells = cells; holes = holes; longest = longest })
-    (record { cells = all; holes = begun; longest = most })
-free_counted one two three = cc
-
-pub queues_counted : {requests longest at all most first : ℕ} → requests ≡ all → longest ≡ most → at ≡ first
-    → ◌≡◌ {A = QueueFigures} (record { requests = requests; longest = longest; at = at })
-    (record { requests = all; longest = most; at = first })
-queues_counted one two three = cc
-
-pub windows_counted : {asked kept full some all most : ℕ} → asked ≡ some → kept ≡ all → full ≡ most
-    → ◌≡◌ {A = WindowFigures} (record { asked = asked; kept = kept; full = full })
-    (record { asked = some; kept = all; full = most })
-windows_counted one two three = cc
+-- what is made of three equal numbers is equal
+pub ap₃ : {T : Type 0} (make : ℕ → ℕ → ℕ → T) {a b c x y z : ℕ} → a ≡ x → b ≡ y → c ≡ z → make a b c ≡ make x y z
+ap₃ make one two three = cc

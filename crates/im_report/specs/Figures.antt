@@ -56,14 +56,14 @@ cells_tagged m kind tag =
     count_below (λ a. is_tagged kind tag (block_at m.cells a) (presence_in (held_at m.cells a))) (length m.cells)
 
 -- whether a block of this kind begins at an address
-abbrev pub is_base : Kind → ℕ → Option Block → Bool
-is_base kind a None = false
-is_base kind a (Some b) = same_kind kind b.kind && (b.base == a)
+abbrev pub begins_at : Kind → ℕ → Option Block → Bool
+begins_at kind a None = false
+begins_at kind a (Some b) = same_kind kind b.kind && (b.base == a)
 
 -- the numbers of one kind
 abbrev pub kind_figures : Contents → Kind → KindFigures
 kind_figures m kind = record {
-  blocks = count_below (λ a. is_base kind a (block_at m.cells a)) (length m.cells);
+  blocks = count_below (λ a. begins_at kind a (block_at m.cells a)) (length m.cells);
   empty = cells_tagged m kind 0;
   waiting = cells_tagged m kind 1;
   full = cells_tagged m kind 2;

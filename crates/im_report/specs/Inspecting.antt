@@ -11,5 +11,6 @@ pub record Tells (file : List ℕ) (was now : Option (List ℕ)) : Type 0 where
   pub memory : Contents
   pub run : ℕ
   pub room : ℕ
-  pub reads : Reads (layout_in file) file (Ok (record { contents = memory; count = (header_of file).count + run; room = room }))
+  pub reads : Reads (layout_in file) file
+      (Ok (record { contents = memory; count = (header_of file).count + run; room = room }))
   pub added : Appends was now (report_text (header_of file) run room memory)

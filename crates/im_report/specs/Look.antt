@@ -1,7 +1,8 @@
 -- What is printed of an image, by what a person wants to see. (Own.)
-use Rattle.std.specs.Prelude.{ℕ, ◌+◌, List, [], ◌++◌, length, Bool, true, false, not, ◌&&◌, ◌||◌, ◌==◌, nat_le}
+use Rattle.std.specs.Prelude.{◌≡◌, ℕ, ◌+◌, List, [], ◌++◌, length, Bool, true, false, not, ◌&&◌, ◌||◌, ◌==◌, nat_le}
 use Rattle.std.specs.Prelude.{if◌then◌else◌, Option, None, Some, is_none, is_some, slice_get, Ok}
 use Rattle.std.specs.Io.KnownBytes.{Appends}
+use Rattle.im_disk.specs.declared.disk.Disk.{Ghosts}
 use Rattle.im_types.specs.declared.cells.Cell.{Cell}
 use Rattle.im_types.specs.Contents.{Contents, held_at, waiters_at}
 use Rattle.im_types.specs.Header.{Header, header_of, layout_in}
@@ -10,11 +11,12 @@ use Rattle.im_types.specs.Presences.{presence_in}
 use Rattle.im_text.specs.Texts.{texts_below}
 use Rattle.im_report.specs.declared.look.Span.{Span}
 use Rattle.im_report.specs.declared.look.Filter.{Filter}
-use Rattle.im_report.specs.declared.look.Look.{Look}
-use Rattle.im_report.specs.declared.look.Look.TheVariants.{Report, Stat, StatJson}
+use Rattle.im_report.specs.declared.look.View.{View}
+use Rattle.im_report.specs.declared.look.View.TheVariants.{Report, Stat, StatJson}
+use Rattle.im_report.specs.declared.notation.Notation.TheVariants.{Lines, Json}
 use Rattle.im_report.specs.Figures.{cell_tag}
 use Rattle.im_report.specs.Report.{cell_line, report_text, window_text}
-use Rattle.im_report.specs.Stat.{stat_json, stat_text}
+use Rattle.im_report.specs.Stat.{stat_text}
 
 -- a filter that asks for nothing
 abbrev pub is_whole : Filter → Bool
@@ -58,15 +60,22 @@ abbrev pub filtered_text : Filter → Header → ℕ → ℕ → Contents → Li
 filtered_text f h run room m = if is_whole f then report_text h run room m else named_cells f m ++ named_elements f m
 
 -- what is printed
-abbrev pub looked_text : Look → Header → ℕ → ℕ → Contents → List ℕ
+abbrev pub looked_text : View → Header → ℕ → ℕ → Contents → List ℕ
 looked_text (Report f) h run room m = filtered_text f h run room m
-looked_text Stat h run room m = stat_text h run room m
-looked_text StatJson h run room m = stat_json h run room m
+looked_text Stat h run room m = stat_text Lines h run room m
+looked_text StatJson h run room m = stat_text Json h run room m
 
 -- The bytes of a file mean a memory, and what is wanted of it, with the header in force, was written.
-pub record Looks (look : Look) (file : List ℕ) (was now : Option (List ℕ)) : Type 0 where
+pub record ShowsView (look : View) (file : List ℕ) (was now : Option (List ℕ)) : Type 0 where
   pub memory : Contents
   pub run : ℕ
   pub room : ℕ
-  pub reads : Reads (layout_in file) file (Ok (record { contents = memory; count = (header_of file).count + run; room = room }))
+  pub reads : Reads (layout_in file) file
+      (Ok (record { contents = memory; count = (header_of file).count + run; room = room }))
   pub added : Appends was now (looked_text look (header_of file) run room memory)
+
+-- a run over a disk that ended with status 0 wrote what is wanted of the disk's bytes; that is known only if the disk is
+-- honest at the end
+abbrev pub ShowsAt : {D : Type 0} → Ghosts D → View → D → D → ℕ → Option (List ℕ) → Option (List ℕ) → Type 0
+ShowsAt disk look old new status was now =
+    disk.honest new → status ≡ 0 → ShowsView look (disk.now old).bytes was now

@@ -24,6 +24,10 @@ limits_line h = codes "limits " ++ decimal h.sizes.cells ++ codes " " ++ decimal
 abbrev pub header_line : Header → List ℕ
 header_line h = codes "header " ++ decimal h.area ++ codes " generation " ++ decimal h.generation ++ codes " area " ++ decimal h.area ++ codes " count " ++ decimal h.count ++ line_feed
 
+-- the version, the sizes and the header in force
+abbrev pub opening_lines : Header → List ℕ
+opening_lines h = version_line h ++ limits_line h ++ header_line h
+
 -- how many commands the journal's run has, and the room for more
 abbrev pub journal_line : ℕ → ℕ → List ℕ
 journal_line run room = codes "journal " ++ decimal run ++ codes " room " ++ decimal room ++ line_feed
@@ -84,4 +88,5 @@ elements_text m = texts_below (λ element. window_text element (slice_get m.wind
 
 -- the header in force, the journal's run and room, and the memory after the run
 abbrev pub report_text : Header → ℕ → ℕ → Contents → List ℕ
-report_text h run room m = version_line h ++ limits_line h ++ header_line h ++ journal_line run room ++ blocks_text m ++ cells_text m ++ elements_text m
+report_text h run room m = opening_lines h ++ journal_line run room ++ blocks_text m ++ cells_text m
+    ++ elements_text m

@@ -11,7 +11,9 @@ use Rattle.im_report.specs.declared.figures.FreeFigures.{FreeFigures}
 use Rattle.im_report.specs.declared.figures.QueueFigures.{QueueFigures}
 use Rattle.im_report.specs.declared.figures.WindowFigures.{WindowFigures}
 use Rattle.im_report.specs.Figures.{kind_figures, free_figures, queue_figures, window_figures}
-use Rattle.im_report.specs.Report.{header_line, limits_line, version_line}
+use Rattle.im_report.specs.declared.notation.Notation.{Notation}
+use Rattle.im_report.specs.declared.notation.Notation.TheVariants.{Lines, Json}
+use Rattle.im_report.specs.Report.{opening_lines}
 
 -- ---- what the header and the journal say
 
@@ -79,19 +81,17 @@ queue_line f = three_words (codes "waiting ") f.requests (codes " longest ") f.l
 abbrev pub windows_line : WindowFigures → List ℕ
 windows_line f = three_words (codes "windows ") f.asked (codes " kept ") f.kept (codes " full ") f.full line_feed
 
+-- the lines of the cells in no block, of the requests that wait and of the windows
+abbrev pub figures_lines : Contents → List ℕ
+figures_lines m = free_line (free_figures m) ++ queue_line (queue_figures m) ++ windows_line (window_figures m)
+
 -- the lines of the header and the journal
 abbrev pub stat_head : Header → ℕ → ℕ → List ℕ
-stat_head h run room = version_line h ++ limits_line h ++ header_line h ++ slots_line h run room ++ count_line h run
-    ++ next_line h
+stat_head h run room = opening_lines h ++ slots_line h run room ++ count_line h run ++ next_line h
 
 -- the lines of the memory
 abbrev pub stat_memory : Contents → List ℕ
-stat_memory m = kind_line I (kind_figures m I) ++ kind_line M (kind_figures m M) ++ free_line (free_figures m)
-    ++ queue_line (queue_figures m) ++ windows_line (window_figures m)
-
--- all lines
-abbrev pub stat_text : Header → ℕ → ℕ → Contents → List ℕ
-stat_text h run room m = stat_head h run room ++ stat_memory m
+stat_memory m = kind_line I (kind_figures m I) ++ kind_line M (kind_figures m M) ++ figures_lines m
 
 -- ---- the object of JSON: a number that may pass 2^53 is a string
 
@@ -116,7 +116,8 @@ count_json h run = codes ",\"count\":\"" ++ decimal (h.count + run) ++ codes "\"
 
 -- an area, and how many pages of it are written
 abbrev pub pages_json : ℕ → ℕ → List ℕ
-pages_json area pages = numbered (codes ",\"next\":{\"area\":") area ++ numbered (codes ",\"pages\":") pages ++ codes "}"
+pages_json area pages = numbered (codes ",\"next\":{\"area\":") area ++ numbered (codes ",\"pages\":") pages
+    ++ codes "}"
 
 -- what the next checkpoint writes; nothing writes to an image of the first version
 abbrev pub next_json : Header → List ℕ
@@ -151,15 +152,21 @@ abbrev pub window_json : WindowFigures → List ℕ
 window_json f = three_words (codes ",\"windows\":{\"asked\":") f.asked (codes ",\"kept\":") f.kept
     (codes ",\"full\":") f.full (codes "}}\n")
 
+-- the cells in no block, the requests that wait and the windows, and the end of the object
+abbrev pub figures_json : Contents → List ℕ
+figures_json m = free_json (free_figures m) ++ queue_json (queue_figures m) ++ window_json (window_figures m)
+
 -- the members of the header and the journal
 abbrev pub head_json : Header → ℕ → ℕ → List ℕ
 head_json h run room = sizes_json h ++ header_json h ++ slots_json h run room ++ count_json h run ++ next_json h
 
 -- the members of the memory
 abbrev pub memory_json : Contents → List ℕ
-memory_json m = kind_json I (kind_figures m I) ++ kind_json M (kind_figures m M) ++ free_json (free_figures m)
-    ++ queue_json (queue_figures m) ++ window_json (window_figures m)
+memory_json m = kind_json I (kind_figures m I) ++ kind_json M (kind_figures m M) ++ figures_json m
 
--- the whole object, on one line
-abbrev pub stat_json : Header → ℕ → ℕ → Contents → List ℕ
-stat_json h run room m = head_json h run room ++ memory_json m
+-- ---- all of it
+
+-- all lines, or the whole object on one line
+abbrev pub stat_text : Notation → Header → ℕ → ℕ → Contents → List ℕ
+stat_text Lines h run room m = stat_head h run room ++ stat_memory m
+stat_text Json h run room m = head_json h run room ++ memory_json m

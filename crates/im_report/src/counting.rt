@@ -2,7 +2,7 @@
 ghost use Rattle.std.specs.Prelude.{◌≡◌, ◌≤◌, ◌+◌, ◌==◌, ◌&&◌, IsTrue, if◌then◌else◌, is_none, length, nat_lt, slice_get};
 ghost use Rattle.im_types.specs.Act.{same_kind};
 ghost use Rattle.im_types.specs.Contents.{block_at};
-ghost use Rattle.im_report.specs.Figures.{cells_tagged, count_below, free_figures, has_asked, is_base, is_tagged};
+ghost use Rattle.im_report.specs.Figures.{cells_tagged, count_below, free_figures, has_asked, begins_at, is_tagged};
 ghost use Rattle.im_report.specs.Figures.{kept_in, kind_figures, queue_at, queue_figures, row_after, cell_tag};
 ghost use Rattle.im_report.specs.Figures.{window_figures};
 
@@ -64,8 +64,8 @@ fn cells_tagged(memory: &Memory, kind: Kind, tag: u8) -> u64
 }
 
 // Whether a block of this kind begins at an address.
-fn is_base(kind: Kind, a: u32, block: Option<Block>) -> bool
-    ensures { result ≡ is_base kind a block }
+fn begins_at(kind: Kind, a: u32, block: Option<Block>) -> bool
+    ensures { result ≡ begins_at kind a block }
 {
     match block {
         Some(block) => is_same_kind(kind, block.kind) && block.base == a,
@@ -76,11 +76,11 @@ fn is_base(kind: Kind, a: u32, block: Option<Block>) -> bool
 // How many blocks of this kind there are.
 fn bases(memory: &Memory, kind: Kind) -> u64
     ensures { let m = memory.now.contents in result
-        ≡ count_below (λ a. is_base kind a (block_at m.cells a)) (length m.cells) }
+        ≡ count_below (λ a. begins_at kind a (block_at m.cells a)) (length m.cells) }
 {
     let mut count = 0;
     for a in 0..memory.cells() {
-        count += one_if(is_base(kind, a, memory.block(a)));
+        count += one_if(begins_at(kind, a, memory.block(a)));
     }
     count
 }

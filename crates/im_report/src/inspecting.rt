@@ -4,12 +4,13 @@ ghost use Rattle.im_image.specs.Headers.{seen};
 ghost use Rattle.im_disk.specs.Runs.{ReadsAlone};
 ghost use Rattle.im_disk.specs.Since.{ReadsOnly};
 ghost use Rattle.im_report.specs.Inspecting.{Tells};
-ghost use Rattle.im_report.specs.Look.{Looks, looked_text};
+ghost use Rattle.im_report.specs.Look.{ShowsAt, ShowsView, looked_text};
+ghost use Rattle.im_report.specs.Stat.{stat_text};
 
 use crate::filtering::add_filtered;
-use crate::look::{Filter, Look};
-use crate::stat::add_stat;
-use crate::stat_json::add_stat_json;
+use crate::look::{Filter, View};
+use crate::notation::Notation;
+use crate::{stat, stat_json};
 use im_damage::{Older, find_older};
 use im_disk::Disk;
 use im_image::{Report, inspect};
@@ -17,20 +18,37 @@ use im_text::{Observer, Reason, Warning, diagnose, end, put_through};
 use std::alloc::{AllocError, Global};
 use std::io::Write;
 
+// Adds the statistic of an image.
+fn add_stat(out: &mut String, report: &Report, notation: Notation) -> Result<(), AllocError>
+    ensures { OnOk result (string_bytes out.new ≡ string_bytes out.old ++ stat_text notation
+        (seen report.now.header) report.now.run report.now.room report.now.memory.contents) }
+{
+    match notation {
+        Notation::Lines => {
+            stat::add_head(out, &report.header, report.run, report.room)?;
+            stat::add_memory(out, &report.memory)
+        }
+        Notation::Json => {
+            stat_json::add_head(out, &report.header, report.run, report.room)?;
+            stat_json::add_memory(out, &report.memory)
+        }
+    }
+}
+
 // Adds what is wanted of an image.
-fn add_looked(out: &mut String, report: &Report, look: &Look) -> Result<(), AllocError>
+fn add_looked(out: &mut String, report: &Report, look: &View) -> Result<(), AllocError>
     ensures { OnOk result (string_bytes out.new ≡ string_bytes out.old ++ looked_text look.now
         (seen report.now.header) report.now.run report.now.room report.now.memory.contents) }
 {
     match look {
-        Look::Report(filter) => add_filtered(out, report, filter),
-        Look::Stat => add_stat(out, report),
-        Look::StatJson => add_stat_json(out, report),
+        View::Report(filter) => add_filtered(out, report, filter),
+        View::Stat => add_stat(out, report, Notation::Lines),
+        View::StatJson => add_stat(out, report, Notation::Json),
     }
 }
 
 // The text of what is wanted of an image.
-fn text_of(alloc: Global, report: &Report, look: &Look) -> Result<String, AllocError>
+fn text_of(alloc: Global, report: &Report, look: &View) -> Result<String, AllocError>
     ensures { IfOk result (λ text. string_bytes text ≡ looked_text look.now
         (seen report.now.header) report.now.run report.now.room report.now.memory.contents) }
 {
@@ -45,11 +63,11 @@ fn text_of(alloc: Global, report: &Report, look: &Look) -> Result<String, AllocE
 fn tell<D: Disk, W: Write>(
     alloc: Global,
     disk: &mut D,
-    look: &Look,
+    look: &View,
     out: &mut W,
 ) -> Result<(), Reason>
     ensures told { OnOk result (D.honest disk.new →
-        Looks look.now (D.now disk.old).bytes (W.contents out.old) (W.contents out.new)) }
+        ShowsView look.now (D.now disk.old).bytes (W.contents out.old) (W.contents out.new)) }
     ensures reads { ReadsAlone D.Disk disk.old disk.new }
 {
     let report = match inspect(alloc, disk) {
@@ -73,12 +91,12 @@ fn warn<N: Observer>(older: Option<Older>, observer: &mut N) {
 fn tell_all<D: Disk, W: Write, N: Observer>(
     alloc: Global,
     disk: &mut D,
-    look: &Look,
+    look: &View,
     out: &mut W,
     observer: &mut N,
 ) -> Result<(), Reason>
     ensures told { OnOk result (D.honest disk.new →
-        Looks look.now (D.now disk.old).bytes (W.contents out.old) (W.contents out.new)) }
+        ShowsView look.now (D.now disk.old).bytes (W.contents out.old) (W.contents out.new)) }
     ensures reads { ReadsAlone D.Disk disk.old disk.new }
 {
     match tell(alloc, disk, look, out) {
@@ -121,7 +139,7 @@ pub fn inspect_on<D: Disk, W: Write, N: Observer>(
         element: None,
         waiting: false,
     };
-    look_on(alloc, disk, &Look::Report(whole), out, observer)
+    look_on(alloc, disk, &View::Report(whole), out, observer)
 }
 
 /// Prints what is wanted of the image on a disk, and gives the disk back. It reads, refuses and warns as [`inspect_on`]
@@ -144,15 +162,13 @@ pub fn inspect_on<D: Disk, W: Write, N: Observer>(
 pub fn look_on<D: Disk, W: Write, N: Observer>(
     alloc: Global,
     mut disk: D,
-    look: &Look,
+    look: &View,
     out: &mut W,
     observer: &mut N,
 ) -> (u8, D)
     ensures status { result.0 ≤ 1 }
-    ensures told { D.honest result.1 → result.0 ≡ 0 →
-        Looks look.now (D.now disk).bytes (W.contents out.old) (W.contents out.new) }
-    ensures reads { D.honest result.1 → ReadsOnly (D.now disk) (D.now result.1) (D.past disk) (D.past result.1) }
-    ensures honest { D.honest result.1 → D.honest disk }
+    ensures told { ShowsAt D.Disk look.now disk result.1 result.0 (W.contents out.old) (W.contents out.new) }
+    ensures reads { ReadsAlone D.Disk disk result.1 }
 {
     let told = tell_all(alloc, &mut disk, look, out, observer);
     (end(alloc, told, out, observer), disk)

@@ -22,7 +22,7 @@ pub struct Filter {
 
 /// What is printed of an image.
 #[derive(Clone, Copy, Debug, PartialEq, Eq)]
-pub enum Look {
+pub enum View {
     /// The report, or those of its lines that the filter names.
     Report(Filter),
     /// The statistic.

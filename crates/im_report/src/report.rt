@@ -5,7 +5,7 @@ ghost use Rattle.im_types.specs.Window.{next_number};
 ghost use Rattle.im_image.specs.Headers.{seen};
 ghost use Rattle.im_types.specs.Presences.{presence_in};
 ghost use Rattle.im_report.specs.Report.{block_line, blocks_text, cell_line, cells_text, element_line, elements_text};
-ghost use Rattle.im_report.specs.Report.{entries_text, entry_line, header_line, journal_line, limits_line};
+ghost use Rattle.im_report.specs.Report.{entries_text, entry_line, header_line, journal_line, limits_line, opening_lines};
 ghost use Rattle.im_report.specs.Report.{report_text, version_line, waiter_text, waiters_text, window_text};
 
 use im_image::{Header, Report};
@@ -15,7 +15,7 @@ use im_types::{Block, Cell, Kept, Limits, Waiter};
 use std::alloc::AllocError;
 
 /// Adds the line of the layout's version.
-pub(crate) fn add_version(out: &mut String, header: &Header) -> Result<(), AllocError>
+fn add_version(out: &mut String, header: &Header) -> Result<(), AllocError>
     ensures { OnOk result (string_bytes out.new ≡ string_bytes out.old ++ version_line (seen header.now)) }
 {
     let version = header.version;
@@ -23,7 +23,7 @@ pub(crate) fn add_version(out: &mut String, header: &Header) -> Result<(), Alloc
 }
 
 /// Adds the line of the sizes.
-pub(crate) fn add_limits(out: &mut String, header: &Header) -> Result<(), AllocError>
+fn add_limits(out: &mut String, header: &Header) -> Result<(), AllocError>
     ensures { OnOk result (string_bytes out.new ≡ string_bytes out.old ++ limits_line (seen header.now)) }
 {
     let Limits {
@@ -36,7 +36,7 @@ pub(crate) fn add_limits(out: &mut String, header: &Header) -> Result<(), AllocE
 }
 
 /// Adds the line of the header in force.
-pub(crate) fn add_header(out: &mut String, header: &Header) -> Result<(), AllocError>
+fn add_header(out: &mut String, header: &Header) -> Result<(), AllocError>
     ensures { OnOk result (string_bytes out.new ≡ string_bytes out.old ++ header_line (seen header.now)) }
 {
     let area = header.area;
@@ -46,6 +46,15 @@ pub(crate) fn add_header(out: &mut String, header: &Header) -> Result<(), AllocE
         out,
         "header {area} generation {generation} area {area} count {count}"
     )
+}
+
+/// Adds the lines of the version, of the sizes and of the header in force.
+pub(crate) fn add_opening(out: &mut String, header: &Header) -> Result<(), AllocError>
+    ensures { OnOk result (string_bytes out.new ≡ string_bytes out.old ++ opening_lines (seen header.now)) }
+{
+    add_version(out, header)?;
+    add_limits(out, header)?;
+    add_header(out, header)
 }
 
 /// Adds the line of the journal.
@@ -215,9 +224,7 @@ pub fn add_report(out: &mut String, report: &Report) -> Result<(), AllocError>
     ensures { OnOk result (string_bytes out.new ≡ string_bytes out.old
         ++ report_text (seen report.now.header) report.now.run report.now.room report.now.memory.contents) }
 {
-    add_version(out, &report.header)?;
-    add_limits(out, &report.header)?;
-    add_header(out, &report.header)?;
+    add_opening(out, &report.header)?;
     add_journal(out, report.run, report.room)?;
     add_blocks(out, &report.memory)?;
     add_cells(out, &report.memory)?;

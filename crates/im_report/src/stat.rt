@@ -1,14 +1,15 @@
 //! The statistic of an image, line by line.
 ghost use Rattle.std.specs.Prelude.{◌≡◌, ◌++◌, OnOk, string_bytes};
 ghost use Rattle.im_image.specs.Headers.{seen};
-ghost use Rattle.im_report.specs.Figures.{free_figures, kind_figures, queue_figures, window_figures};
-ghost use Rattle.im_report.specs.Stat.{blocks_part, count_line, free_line, kind_line, next_line, numbered, area_written, pages_written, queue_line};
-ghost use Rattle.im_report.specs.Stat.{slots_line, stale_slots, stat_head, states_part, three_words, stat_memory, stat_text, windows_line};
+ghost use Rattle.im_report.specs.Figures.{kind_figures};
+ghost use Rattle.im_report.specs.Stat.{area_written, blocks_part, count_line, figures_lines, kind_line, next_line};
+ghost use Rattle.im_report.specs.Stat.{numbered, pages_written, slots_line, stale_slots, stat_head, stat_memory};
+ghost use Rattle.im_report.specs.Stat.{three_words};
 
 use crate::counting::{count_free, count_kind, count_queues, count_windows};
 use crate::figures::KindFigures;
-use crate::report::{add_header, add_limits, add_version};
-use im_image::{Header, Report};
+use crate::report::add_opening;
+use im_image::Header;
 use im_memory::Memory;
 use im_text::kind_text;
 use im_types::Kind;
@@ -113,10 +114,13 @@ fn add_blocks(out: &mut String, kind: Kind, f: &KindFigures) -> Result<(), Alloc
     add_member(out, " empty ", f.empty)
 }
 
-// Adds their other cells.
-fn add_states(out: &mut String, f: &KindFigures) -> Result<(), AllocError>
-    ensures { OnOk result (string_bytes out.new ≡ string_bytes out.old ++ states_part f.now) }
+/// Adds the line of the blocks of one kind and of their cells.
+fn add_kind(out: &mut String, memory: &Memory, kind: Kind) -> Result<(), AllocError>
+    ensures { OnOk result (string_bytes out.new ≡ string_bytes out.old
+        ++ kind_line kind (kind_figures memory.now.contents kind)) }
 {
+    let f = count_kind(memory, kind);
+    add_blocks(out, kind, &f)?;
     add_three(
         out,
         (" waiting ", f.waiting),
@@ -126,89 +130,56 @@ fn add_states(out: &mut String, f: &KindFigures) -> Result<(), AllocError>
     )
 }
 
-/// Adds the line of the blocks of one kind and of their cells.
-fn add_kind(out: &mut String, memory: &Memory, kind: Kind) -> Result<(), AllocError>
-    ensures { OnOk result (string_bytes out.new ≡ string_bytes out.old
-        ++ kind_line kind (kind_figures memory.now.contents kind)) }
+/// Adds the lines of the cells in no block, of the requests that wait and of the windows.
+fn add_figures(out: &mut String, memory: &Memory) -> Result<(), AllocError>
+    ensures { OnOk result (string_bytes out.new ≡ string_bytes out.old ++ figures_lines memory.now.contents) }
 {
-    let f = count_kind(memory, kind);
-    add_blocks(out, kind, &f)?;
-    add_states(out, &f)
-}
-
-/// Adds the line of the cells in no block.
-fn add_free(out: &mut String, memory: &Memory) -> Result<(), AllocError>
-    ensures { OnOk result (string_bytes out.new ≡ string_bytes out.old
-        ++ free_line (free_figures memory.now.contents)) }
-{
-    let f = count_free(memory);
+    let free = count_free(memory);
+    let queues = count_queues(memory);
+    let windows = count_windows(memory);
     add_three(
         out,
-        ("free ", f.cells),
-        (" holes ", f.holes),
-        (" longest ", f.longest),
+        ("free ", free.cells),
+        (" holes ", free.holes),
+        (" longest ", free.longest),
         "\n",
-    )
-}
-
-/// Adds the line of the requests that wait.
-fn add_queue(out: &mut String, memory: &Memory) -> Result<(), AllocError>
-    ensures { OnOk result (string_bytes out.new ≡ string_bytes out.old
-        ++ queue_line (queue_figures memory.now.contents)) }
-{
-    let f = count_queues(memory);
+    )?;
     add_three(
         out,
-        ("waiting ", f.requests),
-        (" longest ", f.longest),
-        (" at ", f.at as u64),
+        ("waiting ", queues.requests),
+        (" longest ", queues.longest),
+        (" at ", queues.at as u64),
         "\n",
-    )
-}
-
-/// Adds the line of the windows.
-fn add_window(out: &mut String, memory: &Memory) -> Result<(), AllocError>
-    ensures { OnOk result (string_bytes out.new ≡ string_bytes out.old
-        ++ windows_line (window_figures memory.now.contents)) }
-{
-    let f = count_windows(memory);
+    )?;
     add_three(
         out,
-        ("windows ", f.asked),
-        (" kept ", f.kept),
-        (" full ", f.full),
+        ("windows ", windows.asked),
+        (" kept ", windows.kept),
+        (" full ", windows.full),
         "\n",
     )
 }
 
 /// Adds the lines of the header and the journal.
-fn add_head(out: &mut String, header: &Header, run: u64, room: u32) -> Result<(), AllocError>
+pub(crate) fn add_head(
+    out: &mut String,
+    header: &Header,
+    run: u64,
+    room: u32,
+) -> Result<(), AllocError>
     ensures { OnOk result (string_bytes out.new ≡ string_bytes out.old ++ stat_head (seen header.now) run room) }
 {
-    add_version(out, header)?;
-    add_limits(out, header)?;
-    add_header(out, header)?;
+    add_opening(out, header)?;
     add_slots(out, header, run, room)?;
     add_count(out, header, run)?;
     add_next(out, header)
 }
 
 /// Adds the lines of the memory.
-fn add_memory(out: &mut String, memory: &Memory) -> Result<(), AllocError>
+pub(crate) fn add_memory(out: &mut String, memory: &Memory) -> Result<(), AllocError>
     ensures { OnOk result (string_bytes out.new ≡ string_bytes out.old ++ stat_memory memory.now.contents) }
 {
     add_kind(out, memory, Kind::I)?;
     add_kind(out, memory, Kind::M)?;
-    add_free(out, memory)?;
-    add_queue(out, memory)?;
-    add_window(out, memory)
-}
-
-/// Adds the statistic of an image.
-pub fn add_stat(out: &mut String, report: &Report) -> Result<(), AllocError>
-    ensures { OnOk result (string_bytes out.new ≡ string_bytes out.old
-        ++ stat_text (seen report.now.header) report.now.run report.now.room report.now.memory.contents) }
-{
-    add_head(out, &report.header, report.run, report.room)?;
-    add_memory(out, &report.memory)
+    add_figures(out, memory)
 }

@@ -1,14 +1,14 @@
 //! The statistic of an image, as an object of JSON.
 ghost use Rattle.std.specs.Prelude.{◌≡◌, ◌++◌, OnOk, string_bytes};
 ghost use Rattle.im_image.specs.Headers.{seen};
-ghost use Rattle.im_report.specs.Figures.{free_figures, kind_figures, queue_figures, window_figures};
-ghost use Rattle.im_report.specs.Stat.{blocks_json, count_json, free_json, head_json, header_json, kind_json, memory_json};
-ghost use Rattle.im_report.specs.Stat.{next_json, pages_json, queue_json, sizes_json, slots_json, stat_json, states_json, window_json};
+ghost use Rattle.im_report.specs.Figures.{kind_figures};
+ghost use Rattle.im_report.specs.Stat.{blocks_json, count_json, figures_json, head_json, kind_json};
+ghost use Rattle.im_report.specs.Stat.{memory_json, next_json, pages_json, sizes_json, slots_json};
 
 use crate::counting::{count_free, count_kind, count_queues, count_windows};
 use crate::figures::KindFigures;
 use crate::stat::{add_member, add_text, add_three, area_written, pages_written, stale_slots};
-use im_image::{Header, Report};
+use im_image::Header;
 use im_memory::Memory;
 use im_text::kind_text;
 use im_types::Kind;
@@ -23,19 +23,6 @@ fn add_sizes(out: &mut String, header: &Header) -> Result<(), AllocError>
     add_member(out, ",\"elements\":", header.limits.elements as u64)?;
     add_member(out, ",\"slots\":", header.limits.slots as u64)?;
     add_text(out, "}")
-}
-
-/// Adds the header in force.
-fn add_header(out: &mut String, header: &Header) -> Result<(), AllocError>
-    ensures { OnOk result (string_bytes out.new ≡ string_bytes out.old ++ header_json (seen header.now)) }
-{
-    add_three(
-        out,
-        (",\"header\":{\"area\":", header.area as u64),
-        (",\"generation\":\"", header.generation),
-        ("\",\"count\":\"", header.count),
-        "\"}",
-    )
 }
 
 /// Adds the journal's slots.
@@ -89,10 +76,13 @@ fn add_blocks(out: &mut String, kind: Kind, f: &KindFigures) -> Result<(), Alloc
     add_member(out, ",\"empty\":", f.empty)
 }
 
-// Adds their other cells.
-fn add_states(out: &mut String, f: &KindFigures) -> Result<(), AllocError>
-    ensures { OnOk result (string_bytes out.new ≡ string_bytes out.old ++ states_json f.now) }
+/// Adds the blocks of one kind and their cells.
+fn add_kind(out: &mut String, memory: &Memory, kind: Kind) -> Result<(), AllocError>
+    ensures { OnOk result (string_bytes out.new ≡ string_bytes out.old
+        ++ kind_json kind (kind_figures memory.now.contents kind)) }
 {
+    let f = count_kind(memory, kind);
+    add_blocks(out, kind, &f)?;
     add_three(
         out,
         (",\"waiting\":", f.waiting),
@@ -102,88 +92,63 @@ fn add_states(out: &mut String, f: &KindFigures) -> Result<(), AllocError>
     )
 }
 
-/// Adds the blocks of one kind and their cells.
-fn add_kind(out: &mut String, memory: &Memory, kind: Kind) -> Result<(), AllocError>
-    ensures { OnOk result (string_bytes out.new ≡ string_bytes out.old
-        ++ kind_json kind (kind_figures memory.now.contents kind)) }
+/// Adds the cells in no block, the requests that wait and the windows, and ends the object.
+fn add_figures(out: &mut String, memory: &Memory) -> Result<(), AllocError>
+    ensures { OnOk result (string_bytes out.new ≡ string_bytes out.old ++ figures_json memory.now.contents) }
 {
-    let f = count_kind(memory, kind);
-    add_blocks(out, kind, &f)?;
-    add_states(out, &f)
-}
-
-/// Adds the cells in no block.
-fn add_free(out: &mut String, memory: &Memory) -> Result<(), AllocError>
-    ensures { OnOk result (string_bytes out.new ≡ string_bytes out.old
-        ++ free_json (free_figures memory.now.contents)) }
-{
-    let f = count_free(memory);
+    let free = count_free(memory);
+    let queues = count_queues(memory);
+    let windows = count_windows(memory);
     add_three(
         out,
-        (",\"free\":{\"cells\":", f.cells),
-        (",\"holes\":", f.holes),
-        (",\"longest\":", f.longest),
+        (",\"free\":{\"cells\":", free.cells),
+        (",\"holes\":", free.holes),
+        (",\"longest\":", free.longest),
         "}",
-    )
-}
-
-/// Adds the requests that wait.
-fn add_queue(out: &mut String, memory: &Memory) -> Result<(), AllocError>
-    ensures { OnOk result (string_bytes out.new ≡ string_bytes out.old
-        ++ queue_json (queue_figures memory.now.contents)) }
-{
-    let f = count_queues(memory);
+    )?;
     add_three(
         out,
-        (",\"waiting\":{\"requests\":", f.requests),
-        (",\"longest\":", f.longest),
-        (",\"at\":", f.at as u64),
+        (",\"waiting\":{\"requests\":", queues.requests),
+        (",\"longest\":", queues.longest),
+        (",\"at\":", queues.at as u64),
         "}",
-    )
-}
-
-/// Adds the windows, and ends the object.
-fn add_window(out: &mut String, memory: &Memory) -> Result<(), AllocError>
-    ensures { OnOk result (string_bytes out.new ≡ string_bytes out.old
-        ++ window_json (window_figures memory.now.contents)) }
-{
-    let f = count_windows(memory);
+    )?;
     add_three(
         out,
-        (",\"windows\":{\"asked\":", f.asked),
-        (",\"kept\":", f.kept),
-        (",\"full\":", f.full),
+        (",\"windows\":{\"asked\":", windows.asked),
+        (",\"kept\":", windows.kept),
+        (",\"full\":", windows.full),
         "}}\n",
     )
 }
 
 /// Adds the members of the header and the journal.
-fn add_head(out: &mut String, header: &Header, run: u64, room: u32) -> Result<(), AllocError>
+pub(crate) fn add_head(
+    out: &mut String,
+    header: &Header,
+    run: u64,
+    room: u32,
+) -> Result<(), AllocError>
     ensures { OnOk result (string_bytes out.new ≡ string_bytes out.old ++ head_json (seen header.now) run room) }
 {
     add_sizes(out, header)?;
-    add_header(out, header)?;
+    add_three(
+        out,
+        (",\"header\":{\"area\":", header.area as u64),
+        (",\"generation\":\"", header.generation),
+        ("\",\"count\":\"", header.count),
+        "\"}",
+    )?;
     add_slots(out, header, run, room)?;
     add_count(out, header, run)?;
     add_next(out, header)
 }
 
 /// Adds the members of the memory.
-fn add_memory(out: &mut String, memory: &Memory) -> Result<(), AllocError>
+pub(crate) fn add_memory(out: &mut String, memory: &Memory) -> Result<(), AllocError>
     ensures { OnOk result (string_bytes out.new ≡ string_bytes out.old ++ memory_json memory.now.contents) }
 {
     add_kind(out, memory, Kind::I)?;
     add_kind(out, memory, Kind::M)?;
-    add_free(out, memory)?;
-    add_queue(out, memory)?;
-    add_window(out, memory)
-}
-
-/// Adds the statistic of an image as an object of JSON, on one line.
-pub fn add_stat_json(out: &mut String, report: &Report) -> Result<(), AllocError>
-    ensures { OnOk result (string_bytes out.new ≡ string_bytes out.old
-        ++ stat_json (seen report.now.header) report.now.run report.now.room report.now.memory.contents) }
-{
-    add_head(out, &report.header, report.run, report.room)?;
-    add_memory(out, &report.memory)
+    add_figures(out, memory)
 }

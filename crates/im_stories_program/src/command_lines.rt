@@ -4,7 +4,7 @@ use crate::spelling::{add_text, add_word};
 use anyhow::{Result, anyhow};
 use im_migration::Asked;
 use im_program::{Job, Order, WordFault, Work, read_words};
-use im_report::Look;
+use im_report::View;
 use std::alloc::{AllocError, Global};
 
 /// What was said about the last bad command line.
@@ -26,11 +26,11 @@ fn add_sizes(said: &mut String, asked: Asked) -> Result<(), AllocError> {
     add_size(said, asked.slots, "slots")
 }
 
-fn add_look(said: &mut String, image: &str, look: Look) -> Result<(), AllocError> {
+fn add_look(said: &mut String, image: &str, look: View) -> Result<(), AllocError> {
     let filter = match look {
-        Look::Stat => return write!(said, "count in {image}"),
-        Look::StatJson => return write!(said, "count in {image}, as JSON"),
-        Look::Report(filter) => filter,
+        View::Stat => return write!(said, "count in {image}"),
+        View::StatJson => return write!(said, "count in {image}, as JSON"),
+        View::Report(filter) => filter,
     };
     write!(said, "tell of {image}")?;
     if let Some(span) = filter.cells {

@@ -9,7 +9,7 @@ use im_program::{
     Console, Order, Terminals, Work, act_alone, format_file, inspect_file, read_words, serve_file,
     status_for,
 };
-use im_report::Look;
+use im_report::View;
 use im_types::Limits;
 use std::{fs, io};
 
@@ -81,7 +81,7 @@ fn attempt(desk: &mut Desk, words: &[&str], said: &mut String) -> Result<bool> {
             .is_ok()
         }
         ["inspect", image] => {
-            inspect_file(rt, held, image, &Look::Stat, &mut out, &mut notes, Unknown).is_ok()
+            inspect_file(rt, held, image, &View::Stat, &mut out, &mut notes, Unknown).is_ok()
         }
         ["format", image] => match Limits::new(1, 1, 16) {
             Some(limits) => {

@@ -8,7 +8,7 @@ use anyhow::{Result, anyhow};
 use im_damage::Damage;
 use im_disk::{FuseDisk, Mode};
 use im_program::refuse;
-use im_report::{Filter, Look, Span, inspect_on, look_on};
+use im_report::{Filter, Span, View, inspect_on, look_on};
 use im_script::{Script, read_script};
 use im_serial::serial_on;
 use im_story::{address, element, number, place};
@@ -99,7 +99,7 @@ fn look(
     alloc: Global,
     desk: &mut Desk,
     ends: Ends,
-    wanted: Option<Look>,
+    wanted: Option<View>,
     said: &mut String,
 ) -> Result<()> {
     let disk = FuseDisk::new(desk.image.take()?, ends.passes, ends.mode);
@@ -115,10 +115,10 @@ fn look(
 }
 
 // What these words want to see of an image.
-fn look_in(words: &[&str]) -> Result<Option<Look>> {
+fn look_in(words: &[&str]) -> Result<Option<View>> {
     let (cells, element, waiting) = match words {
-        ["stat"] => return Ok(Some(Look::Stat)),
-        ["stat", "json"] => return Ok(Some(Look::StatJson)),
+        ["stat"] => return Ok(Some(View::Stat)),
+        ["stat", "json"] => return Ok(Some(View::StatJson)),
         ["inspect", "cells", from, to] => (Some((address(from)?, address(to)?)), None, false),
         ["inspect", "cells", from, to, "waiting"] => {
             (Some((address(from)?, address(to)?)), None, true)
@@ -132,7 +132,7 @@ fn look_in(words: &[&str]) -> Result<Option<Look>> {
         Some((from, to)) => Some(Span { from, to }),
         None => None,
     };
-    Ok(Some(Look::Report(Filter {
+    Ok(Some(View::Report(Filter {
         cells,
         element,
         waiting,

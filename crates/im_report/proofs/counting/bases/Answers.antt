@@ -1,7 +1,7 @@
 use Rattle.std.proofs.Common.{◌≡◌, ◌+◌, ◌∙◌, ap, length, arith}
 use Rattle.std.specs.Prelude.{if◌then◌else◌}
 use Rattle.im_types.specs.Contents.{block_at}
-use Rattle.im_report.specs.Figures.{is_base, sum_below}
+use Rattle.im_report.specs.Figures.{begins_at, sum_below}
 use Rattle.im_report.proofs.SumLemmas.{sums_none, sums_more, one_few}
 use Rattle.im_report.proofs.counting.bases.Goals as goal
 
@@ -11,9 +11,9 @@ loop-a-init c = sums_none _ 1
 pub loop-a-preserved : goal.loop-a-preserved
 loop-a-preserved c =
     let cells = c.args.memory.now.contents.cells in
-    let begins = c.is_base.ensures ∙ ap (is_base c.args.kind c.loop-a.a) c.block.ensures in
+    let begins = c.begins_at.ensures ∙ ap (begins_at c.args.kind c.loop-a.a) c.block.ensures in
     sums_more _ 1 c.loop-a.a c.loop-a.count (c.loop-a.count + c.one_if-count.result)
-    (one_few (is_base c.args.kind c.loop-a.a (block_at cells c.loop-a.a))) c.loop-a.invariant
+    (one_few (begins_at c.args.kind c.loop-a.a (block_at cells c.loop-a.a))) c.loop-a.invariant
     (ap (λ n. c.loop-a.count + n) (c.one_if-count.ensures.is ∙ ap (λ t. if t then 1 else 0) begins))
 
 pub returns : goal.returns

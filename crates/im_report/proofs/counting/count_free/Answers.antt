@@ -2,7 +2,8 @@ use Rattle.std.proofs.Common.{◌≡◌, ◌+◌, ◌∙◌, ap, length, arith}
 use Rattle.std.specs.Prelude.{if◌then◌else◌, is_none}
 use Rattle.im_types.specs.Contents.{block_at}
 use Rattle.im_report.specs.Figures.{row_after, sum_below, most_below}
-use Rattle.im_report.proofs.SumLemmas.{rows_none, rows_more, free_counted}
+use Rattle.im_report.specs.declared.figures.FreeFigures.{FreeFigures}
+use Rattle.im_report.proofs.SumLemmas.{rows_none, rows_more, ap₃}
 use Rattle.im_report.proofs.counting.count_free.Goals as goal
 
 pub loop-a-init : goal.loop-a-init
@@ -22,6 +23,6 @@ loop-a-preserved c =
 pub returns : goal.returns
 returns c =
     let all : c.loop-a.a ≡ length c.args.memory.now.contents.cells = omega arith in
-    free_counted (c.loop-a.invariant.free.is ∙ ap (sum_below _) all) (c.loop-a.invariant.holes.is ∙ ap
-    (sum_below _) all)
+    ap₃ {T = FreeFigures} (λ cells holes longest. record { cells = cells; holes = holes; longest = longest })
+    (c.loop-a.invariant.free.is ∙ ap (sum_below _) all) (c.loop-a.invariant.holes.is ∙ ap (sum_below _) all)
     (c.loop-a.invariant.longest_is ∙ ap (most_below _) all)

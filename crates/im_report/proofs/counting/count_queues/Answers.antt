@@ -1,6 +1,7 @@
 use Rattle.std.proofs.Common.{◌≡◌, ◌+◌, ◌∙◌, ◌≤◌, ap, length, arith}
 use Rattle.im_report.specs.Figures.{queue_at, sum_below, most_below, first_most}
-use Rattle.im_report.proofs.SumLemmas.{sums_none, sums_more, tops_none, tops_more, queues_counted}
+use Rattle.im_report.specs.declared.figures.QueueFigures.{QueueFigures}
+use Rattle.im_report.proofs.SumLemmas.{sums_none, sums_more, tops_none, tops_more, ap₃}
 use Rattle.im_report.proofs.counting.count_queues.Goals as goal
 
 pub loop-a-init : goal.loop-a-init
@@ -20,5 +21,6 @@ loop-a-preserved c =
 pub returns : goal.returns
 returns c =
     let all : c.loop-a.a ≡ length c.args.memory.now.contents.cells = omega arith in
-    queues_counted (c.loop-a.invariant.0.is ∙ ap (sum_below _) all)
+    ap₃ {T = QueueFigures} (λ requests longest at. record { requests = requests; longest = longest; at = at })
+    (c.loop-a.invariant.0.is ∙ ap (sum_below _) all)
     (c.loop-a.invariant.1.longest_is ∙ ap (most_below _) all) (c.loop-a.invariant.1.at_is ∙ ap (first_most _) all)

@@ -1,7 +1,8 @@
 use Rattle.std.proofs.Common.{◌≡◌, ◌+◌, ◌∙◌, ◌≤◌, ℕ, ap, length, arith}
 use Rattle.std.specs.Prelude.{if◌then◌else◌, ◌==◌, slice_get}
 use Rattle.im_report.specs.Figures.{has_asked, kept_in, sum_below}
-use Rattle.im_report.proofs.SumLemmas.{sums_none, sums_more, one_few, windows_counted}
+use Rattle.im_report.specs.declared.figures.WindowFigures.{WindowFigures}
+use Rattle.im_report.proofs.SumLemmas.{sums_none, sums_more, one_few, ap₃}
 use Rattle.im_report.proofs.counting.count_windows.Goals as goal
 
 pub loop-element-init : goal.loop-element-init
@@ -15,8 +16,7 @@ loop-element-preserved c =
     let few : kept_in found ≤ 64 = omega (arith, is, c.kept_in-here.ensures.few) in (
       sums_more _ 1 k c.loop-element.asked (c.loop-element.asked + c.one_if-asked.result) (one_few (has_asked found))
           c.loop-element.invariant.0
-          (ap (λ n. c.loop-element.asked + n) (c.one_if-asked.ensures.is ∙ ap (λ t. if t then 1 else 0)
-          c.has_asked.ensures)),
+          (ap (λ n. c.loop-element.asked + n) (c.one_if-asked.ensures.is ∙ ap (λ t. if t then 1 else 0) c.has_asked.ensures)),
       sums_more _ 64 k c.loop-element.kept (c.loop-element.kept + c.kept_in-here.result) few c.loop-element.invariant.1
           (ap (λ n. c.loop-element.kept + n) is),
       sums_more _ 1 k c.loop-element.full (c.loop-element.full + c.one_if-full.result) (one_few (kept_in found == 64))
@@ -27,5 +27,6 @@ loop-element-preserved c =
 pub returns : goal.returns
 returns c =
     let all : c.loop-element.element ≡ length c.args.memory.now.contents.windows = omega arith in
-    windows_counted (c.loop-element.invariant.0.is ∙ ap (sum_below _) all)
+    ap₃ {T = WindowFigures} (λ asked kept full. record { asked = asked; kept = kept; full = full })
+    (c.loop-element.invariant.0.is ∙ ap (sum_below _) all)
     (c.loop-element.invariant.1.is ∙ ap (sum_below _) all) (c.loop-element.invariant.2.is ∙ ap (sum_below _) all)

@@ -1,5 +1,5 @@
 use Rattle.std.specs.Io.KnownBytes.{Keeps}
-use Rattle.im_report.specs.Look.{Looks}
+use Rattle.im_report.specs.Look.{ShowsView}
 use Rattle.im_report.proofs.InspectingLemmas.{done_at_zero, looks_kept}
 use Rattle.im_report.proofs.inspecting.look_on.Goals as goal
 
@@ -9,8 +9,9 @@ returns-clause-told g c = λ honest zero.
     let was = g.W.Write.contents c.args.out.now in
     let mid = g.W.Write.contents c.tell_all-told.new.out in
     let is = g.W.Write.contents c.end.new.out in
-    let told = done_at_zero c.tell_all-told.result c.end.result (g.D.Disk.honest c.tell_all-told.new.disk → Looks
-    c.args.look.now bytes was mid) c.end.ensures.refused zero c.tell_all-told.ensures.told in
-    let same = done_at_zero c.tell_all-told.result c.end.result (Keeps mid is) c.end.ensures.refused zero
-    c.end.ensures.same in
+    let told = done_at_zero c.tell_all-told.result c.end.result
+    (g.D.Disk.honest c.tell_all-told.new.disk → ShowsView c.args.look.now bytes was mid) c.end.ensures.refused zero
+    c.tell_all-told.ensures.told in
+    let same = done_at_zero c.tell_all-told.result c.end.result (Keeps mid is)
+    c.end.ensures.refused zero c.end.ensures.same in
     looks_kept c.args.look.now bytes was mid is (told honest) same

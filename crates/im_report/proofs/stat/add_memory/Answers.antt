@@ -1,19 +1,16 @@
-use Rattle.std.proofs.Common.{string_bytes}
+use Rattle.std.proofs.Common.{◌++◌, string_bytes}
 use Rattle.std.proofs.lemmas.Result.{on_ok_weaker}
 use Rattle.im_types.specs.declared.operations.Kind.TheVariants.{I, M}
-use Rattle.im_report.specs.Figures.{free_figures, kind_figures, queue_figures, window_figures}
-use Rattle.im_report.specs.Stat.{kind_line, free_line, queue_line, windows_line}
-use Rattle.im_report.proofs.ReportLemmas.{five_written}
+use Rattle.im_report.specs.Figures.{kind_figures}
+use Rattle.im_report.specs.Stat.{kind_line, figures_lines}
+use Rattle.im_report.proofs.ReportLemmas.{joined}
 use Rattle.im_report.proofs.stat.add_memory.Goals as goal
 
 pub returns : goal.returns
 returns c =
-    on_ok_weaker c.add_window.result
-    (five_written (string_bytes c.args.out.now)
-    (string_bytes c.add_kind.new.out) (string_bytes c.add_kind-2.new.out) (string_bytes c.add_free.new.out)
-    (string_bytes c.add_queue.new.out) (string_bytes c.add_window.new.out)
-    (kind_line I (kind_figures c.args.memory.now.contents I)) (kind_line M (kind_figures
-    c.args.memory.now.contents M)) (free_line (free_figures c.args.memory.now.contents))
-    (queue_line (queue_figures c.args.memory.now.contents)) (windows_line (window_figures c.args.memory.now.contents))
-    c.in_ok-add_kind.ensures c.in_ok-add_kind-2.ensures c.in_ok-add_free.ensures c.in_ok-add_queue.ensures)
-    c.add_window.ensures
+    let m = c.args.memory.now.contents in
+    let one = kind_line I (kind_figures m I) in
+    let other = kind_line M (kind_figures m M) in
+    let start = string_bytes c.args.out.now in
+    let both = joined start one other c.in_ok-add_kind.ensures c.in_ok-add_kind-2.ensures in
+    on_ok_weaker c.add_figures.result (joined start (one ++ other) (figures_lines m) both) c.add_figures.ensures

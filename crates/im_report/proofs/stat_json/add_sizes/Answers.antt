@@ -14,5 +14,5 @@ returns c =
     let step1 = joined start (part0) part1 c.in_ok-add_member.ensures c.in_ok-add_member-2.ensures in
     let step2 = joined start (part0 ++ part1) part2 step1 c.in_ok-add_member-3.ensures in
     let step3 = joined start (part0 ++ part1 ++ part2) part3 step2 c.in_ok-add_member-4.ensures in
-    on_ok_weaker c.add_text.result (λ whole. joined start (part0 ++ part1 ++ part2 ++ part3)
-    (codes "}") step3 whole) c.add_text.ensures
+    on_ok_weaker c.add_text.result (λ whole. joined start (part0 ++ part1 ++ part2 ++ part3) (codes "}") step3 whole)
+    c.add_text.ensures

@@ -1,0 +1,20 @@
+use Rattle.std.proofs.Common.{◌∙◌, ◌++◌, ap, string_bytes}
+use Rattle.std.proofs.lemmas.Result.{on_ok_weaker}
+use Rattle.im_report.specs.Figures.{free_figures, queue_figures, window_figures}
+use Rattle.im_report.specs.Stat.{free_json, queue_json, window_json}
+use Rattle.im_report.proofs.ReportLemmas.{joined}
+use Rattle.im_report.proofs.stat_json.add_figures.Goals as goal
+
+pub returns : goal.returns
+returns c =
+    let m = c.args.memory.now.contents in
+    let free = free_json (free_figures m) in
+    let queue = queue_json (queue_figures m) in
+    let start = string_bytes c.args.out.now in
+    let first = c.in_ok-add_three.ensures ∙ ap (λ f. start ++ free_json f) c.count_free-free.ensures in
+    let second = c.in_ok-add_three-2.ensures
+    ∙ ap (λ f. string_bytes c.add_three.new.out ++ queue_json f) c.count_queues-queues.ensures in
+    let both = joined start free queue first second in
+    on_ok_weaker c.add_three-3.result (λ whole. joined start (free ++ queue) (window_json (window_figures m)) both
+    (whole ∙ ap (λ f. string_bytes c.add_three-2.new.out ++ window_json f) c.count_windows-windows.ensures))
+    c.add_three-3.ensures
