@@ -8,6 +8,7 @@
 ghost use Rattle.std.specs.Prelude.{◌≡◌};
 
 use crate::blind::Blind;
+use crate::commands::keep;
 use crate::place::Place;
 use im_checkpoint::{Checkpoint, TurnDone};
 use im_image::{Header, VERSION};
@@ -87,13 +88,8 @@ fn make(here: &mut Place, call: &Call, said: &mut Saying) {
     let Some(limits) = call.limits(0) else {
         return said.fail("there are no such sizes");
     };
-    match Kept::new(call.alloc(), limits) {
-        Ok(kept) => {
-            here.kept = Some(kept);
-            said.text("idle")
-        }
-        Err(refusal) => said.refusal(refusal),
-    }
+    let made = Kept::new(call.alloc(), limits);
+    keep(&mut here.kept, made, "idle", said)
 }
 
 fn serve(disk: &mut Blind, kept: &mut Kept, words: &[&str], said: &mut Saying) {

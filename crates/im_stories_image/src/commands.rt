@@ -1,7 +1,7 @@
-//! Commands, in the words of a story.
+//! Commands and blocks, in the words of a story, and the keeping of what a call makes.
 
 use im_story::Saying;
-use im_types::{Block, Command, Kind, Request};
+use im_types::{Block, Command, Kind, Refusal, Request};
 
 /// Returns the letter of a kind of cells.
 pub fn letter(kind: Kind) -> char {
@@ -34,5 +34,21 @@ pub fn add_block(said: &mut Saying, block: Option<Block>) {
             write!(said, "{kind} {length} at {base}")
         }
         None => said.text("none"),
+    }
+}
+
+/// Keeps what was made, and adds this text, or adds why it wasn't made.
+pub fn keep<T: Drop>(
+    place: &mut Option<T>,
+    made: Result<T, Refusal>,
+    text: &str,
+    said: &mut Saying,
+) {
+    match made {
+        Ok(thing) => {
+            *place = Some(thing);
+            said.text(text)
+        }
+        Err(refusal) => said.refusal(refusal),
     }
 }

@@ -9,7 +9,7 @@
 //! ```
 
 use crate::checkpoints::tell_of_checkpoint;
-use crate::commands::add_block;
+use crate::commands::{add_block, keep};
 use crate::place::Place;
 use crate::walks::walk;
 use im_memory::Memory;
@@ -20,13 +20,8 @@ fn make(here: &mut Place, call: &Call, said: &mut Saying) {
         return said.fail("there are no such sizes");
     };
     here.limits = Some(limits);
-    match Memory::new(call.alloc(), limits) {
-        Ok(memory) => {
-            here.memory = Some(memory);
-            said.text("empty")
-        }
-        Err(refusal) => said.refusal(refusal),
-    }
+    let made = Memory::new(call.alloc(), limits);
+    keep(&mut here.memory, made, "empty", said)
 }
 
 // Tells who waits at a cell, in order.
