@@ -27,8 +27,9 @@ fn reread<D: Disk>(alloc: Global, old: &mut D) -> Result<Loaded, Refusal>
 
 /// Moves an image by its dump: the text is loaded into a new file, in the sizes that are asked for. Returns the new
 /// file, which means the old one's memory, in those sizes, after as many commands: each value, who waits and in which
-/// order, each window. Any crash since the start leaves a file that could be left before, no image, or the whole one.
-/// The old file, of either version, is only read. Each refusal gives the new file back.
+/// order, each window. If it is made, any crash since the start leaves a file that could be left before, no image, or
+/// the whole one. The old file, of either version, is only read. Each refusal gives the new file back; what a crash
+/// leaves then is said by [`put_new`] alone.
 ///
 /// - Why the old image isn't read, `Device` if it was a call of its disk. Nothing was written.
 /// - `BadLimits` if what the image means doesn't fit into the sizes. Nothing was written.
