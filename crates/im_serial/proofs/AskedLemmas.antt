@@ -14,10 +14,10 @@ use Rattle.im_types.specs.Run.{after}
 use Rattle.im_laws.proofs.RunLemmas.{after-append}
 use Rattle.im_script.specs.declared.script.Said.{Said}
 use Rattle.im_script.specs.Places.{op_of}
-use Rattle.im_script.specs.Script.{Draft, counted}
+use Rattle.im_script.specs.Script.{Draft}
 use Rattle.im_text.proofs.WindowLemmas.{bounds_found}
 use Rattle.im_serial.specs.Asked.{Course, Wanted, Leads, LeadsIf, Standing, HasReached, bases_by, number_next}
-use Rattle.im_serial.specs.Asked.{request_in, standing, wanted_by, wanted_in}
+use Rattle.im_serial.specs.Asked.{request_in, said_at, standing, wanted_by, wanted_in}
 
 -- ---- one request
 
@@ -108,7 +108,7 @@ put_or_not P c false none one = none
 -- ---- lines
 
 -- a line that says this, and those behind it
-pub wanted_line : (d next : Draft) (said : Said) (line : List ℕ) (lines : List (List ℕ)) → counted d line ≡ Some (
+pub wanted_line : (d next : Draft) (said : Said) (line : List ℕ) (lines : List (List ℕ)) → said_at d line ≡ Some (
   next,
   said,
 ) → wanted_in d (line ∷ lines) ≡ wanted_by said ++ wanted_in next lines

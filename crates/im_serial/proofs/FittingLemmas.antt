@@ -8,10 +8,10 @@ use Rattle.std.specs.Option.{option_map_or}
 use Rattle.im_types.specs.declared.refusals.Refusal.TheVariants.{Mismatch}
 use Rattle.im_types.specs.Contents.{Contents, Window}
 use Rattle.im_script.specs.declared.script.Said.{Said}
-use Rattle.im_script.specs.Script.{Draft, counted, lines_of}
+use Rattle.im_script.specs.Script.{Draft, lines_of}
 use Rattle.im_text.specs.declared.reasons.Reason.{Reason}
 use Rattle.im_text.specs.declared.reasons.Reason.TheVariants.{Request}
-use Rattle.im_serial.specs.Asked.{Wanted, wanted_by, wanted_in}
+use Rattle.im_serial.specs.Asked.{Wanted, said_at, wanted_by, wanted_in}
 use Rattle.im_serial.specs.Fitting.{Compared}
 use Rattle.im_serial.specs.Fitting.{fits_from}
 use Rattle.im_serial.specs.Had.{left_of, met_all}
@@ -22,7 +22,7 @@ use Rattle.im_serial.proofs.OnceLemmas.{line_wanted}
 module _ (m : Contents) (all : List Wanted) (first start : List ℕ) (from : ℕ) (many bases : List ℕ) (end : ℕ) (d next :
     Draft) (said : Said) (text line : List ℕ) (behind : Option (Bor (List ℕ)))
     (lines : lines_of text ≡ line ∷ option_map_or (λ rest. lines_of rest.now) behind [])
-    (read : counted d line ≡ Some (next, said))
+    (read : said_at d line ≡ Some (next, said))
     (so_far : Compared m first start from all many bases end (wanted_in d (lines_of text))) where
   there : (rest : List Wanted) → wanted_in d (lines_of text) ++ rest ≡ wanted_by said ++ (option_map_or (λ rest.
       wanted_in next (lines_of rest.now)) behind [] ++ rest)
@@ -58,13 +58,18 @@ compared_none F m all first start from many bases end rest none it =
       sym (ap (met_all first) (sym (append-nil all)) ∙ (done []).1),
     )
 
+-- what holds of the rest holds of its text
+of_text : (P : List Wanted → Type 0) (F : Bor (List ℕ) → List Wanted) (rest : Option (Bor (List ℕ)))
+    (text : Bor (List ℕ)) → rest ≡ Some text → P (option_map_or F rest []) → P (F text)
+of_text P F rest text some it = subst (λ (o : Option (Bor (List ℕ))). P (option_map_or F o [])) some it
+
 pub compared_some : (F : Bor (List ℕ) → List Wanted) (m : Contents) (all : List Wanted) (first start : List ℕ) (from :
     ℕ)
     (many bases : List ℕ) (end : ℕ) (rest : Option (Bor (List ℕ))) (text : Bor (List ℕ)) → rest ≡ Some text
     → Compared m first start from all many bases end (option_map_or F rest [])
     → Compared m first start from all many bases end (F text)
-compared_some F m all first start from many bases end rest text some it = subst (λ (o : Option (Bor (List ℕ))). Compared
-    m first start from all many bases end (option_map_or F o [])) some it
+compared_some F m all first start from many bases end rest text some it = of_text
+    (Compared m first start from all many bases end) F rest text some it
 
 -- ---- where windows begin
 

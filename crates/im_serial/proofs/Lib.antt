@@ -3,6 +3,7 @@ pub mod ServingLemmas
 pub mod NotedLemmas
 pub mod ScriptedLemmas
 pub mod LeftLemmas
+pub mod SettledLemmas
 pub mod SetupLemmas
 pub mod BegunLemmas
 pub mod KeepsLemmas

@@ -38,8 +38,8 @@ use Rattle.im_serial.specs.declared.waits.Mark.{Mark}
 use Rattle.im_serial.specs.declared.waits.Mark.TheVariants.{Here}
 use Rattle.im_serial.specs.Noted.{AreKnown, AreLast, IsMarked, mark_place, noted_if}
 use Rattle.im_script.specs.declared.script.Said.{Said}
-use Rattle.im_script.specs.Script.{Draft, counted, lines_of}
-use Rattle.im_serial.specs.Asked.{Course, Leads, Wanted, standing, wanted_by, wanted_in, wanted_of}
+use Rattle.im_script.specs.Script.{Draft, lines_of}
+use Rattle.im_serial.specs.Asked.{Course, Leads, Wanted, said_at, standing, wanted_by, wanted_in, wanted_of}
 use Rattle.im_serial.specs.Serving.{EndsAt, GoingAt, HaltsWith, HasServed, Passes, ScriptServer, server_of}
 use Rattle.im_serial.specs.Once.{Breaks, BrokenAt, HasBroken, HasMet, HasPassed, HasShown, IsPrefix, Meets, MetAt}
 use Rattle.im_serial.specs.Had.{bases_had, has_block, has_next, left_of, length_asked}
@@ -62,7 +62,7 @@ use Rattle.im_serial.proofs.ServingLemmas.{goes_none, halts, put_all}
 
 -- what a line asks for, and those behind it
 pub line_wanted : (d next : Draft) (said : Said) (text line : List ℕ) (behind : Option (Bor (List ℕ))) → lines_of text ≡
-    line ∷ option_map_or (λ rest. lines_of rest.now) behind [] → counted d line ≡ Some (next, said)
+    line ∷ option_map_or (λ rest. lines_of rest.now) behind [] → said_at d line ≡ Some (next, said)
     → wanted_in d (lines_of text) ≡ wanted_by said ++ option_map_or (λ rest. wanted_in next (lines_of rest.now)) behind
     []
 line_wanted d next said text line behind lines read = ap (wanted_in d) lines
@@ -346,7 +346,7 @@ makes_plain m many later w plain same = λ rest are. (
 -- what a line asks for
 pub line_makes : (m : Contents) (all : List Wanted) (first many : List ℕ) (d next : Draft) (said : Said) (text line :
     List ℕ) (behind : Option (Bor (List ℕ)))
-    → lines_of text ≡ line ∷ option_map_or (λ rest. lines_of rest.now) behind [] → counted d line ≡ Some (next, said)
+    → lines_of text ≡ line ∷ option_map_or (λ rest. lines_of rest.now) behind [] → said_at d line ≡ Some (next, said)
     → MakesBlocks m first all many (wanted_in d (lines_of text)) → (later : List ℕ) → MakesBlocks m many (wanted_by
     said) later []
     → MakesBlocks m first all later (option_map_or (λ rest. wanted_in next (lines_of rest.now)) behind [])
@@ -458,7 +458,7 @@ module _ {D : Type 0} where
 
   module _ (all : List Wanted) (first many : List ℕ) (old mid : ScriptServer D) (d next : Draft) (said : Said) (text
       line : List ℕ) (behind : Option (Bor (List ℕ)))
-      (lines : lines_of text ≡ line ∷ option_map_or (λ rest. lines_of rest.now) behind []) (read : counted d line ≡
+      (lines : lines_of text ≡ line ∷ option_map_or (λ rest. lines_of rest.now) behind []) (read : said_at d line ≡
       Some (next, said)) where
     module _ (so_far : Meets first all many (wanted_in d (lines_of text)) old mid) where
       meets_there : (script rest : List Wanted) (held : Option (List ℕ)) → MetAt script first (all ++ rest) held old
@@ -578,7 +578,7 @@ news_behind many d None = refl
 
 -- what is new of a line, and of those behind it
 pub news_line : (many later : List ℕ) (d next : Draft) (said : Said) (text line : List ℕ) (behind : Option (Bor (List
-    ℕ))) → lines_of text ≡ line ∷ option_map_or (λ rest. lines_of rest.now) behind [] → counted d line ≡ Some (
+    ℕ))) → lines_of text ≡ line ∷ option_map_or (λ rest. lines_of rest.now) behind [] → said_at d line ≡ Some (
       next,
       said,
     ) → later ≡ met_all many (wanted_by said) → news many (wanted_in d (lines_of text)) ≡ news many (wanted_by said) ++
@@ -793,7 +793,7 @@ module _ {D : Type 0} (disk : Ghosts D) where
     shown_text ready = sym ((subst (λ (e : EngineState D). HasMet e.memory script it.later [] (shown_at ready).0
         mid.waited mid.marks) it.engine (shown_at ready).1.0).lines ∙ append-nil (shown_at ready).0)
 
-    shown_written : HasServedNothing disk old bases
+    pub shown_written : HasServedNothing disk old bases
         → Appends old.held mid.held (lines_had old.engine.memory (numbers_had old.engine.memory) script)
     shown_written ready = subst (Appends old.held mid.held) (shown_text ready) (prints_all old.held mid.held mid.lines
         (shown_at ready).0 it.works it.pending (shown_at ready).1.1)

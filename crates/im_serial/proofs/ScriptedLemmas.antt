@@ -34,7 +34,7 @@ use Rattle.im_engine.specs.State.{EngineState, MeansState, MeansEither, with_com
 use Rattle.im_engine.specs.Run.{Answered, TurnAnswered, TurnTaken, is_put, put_by_command}
 use Rattle.im_script.specs.declared.script.Said.{Said}
 use Rattle.im_script.specs.Places.{op_of}
-use Rattle.im_script.specs.Script.{Draft, counted, lines_of}
+use Rattle.im_script.specs.Script.{Draft, lines_of}
 use Rattle.im_text.specs.declared.lines.Lines.{Lines}
 use Rattle.im_text.specs.declared.replies.Waited.{Waited}
 use Rattle.im_text.specs.Printing.{IsLast, Prints, PrintsMore, PrintsNows, PrintsOn, nows, told_line, waits_if, who_of}
@@ -43,7 +43,7 @@ use Rattle.im_serial.specs.declared.waits.Mark.{Mark}
 use Rattle.im_serial.specs.declared.waits.Mark.TheVariants.{Here}
 use Rattle.im_serial.specs.Noted.{AreKnown, AreLast, AreNoted, Notes, learnt, noted_if, notes, mark_place}
 use Rattle.im_serial.specs.Asked.{Course, Wanted, LeadsIf, Standing, HasReached, bases_by, earlier_in, standing}
-use Rattle.im_serial.specs.Asked.{wanted_by, wanted_in, wanted_of, whole_course}
+use Rattle.im_serial.specs.Asked.{said_at, wanted_by, wanted_in, wanted_of, whole_course}
 use Rattle.im_serial.specs.Serving.{GoesWith, HaltsWith, GoesAt, HaltsAt, GoesOn, Halts, Keeps, Drops, Prepares}
 use Rattle.im_serial.specs.Serving.{at, ScriptServer, server_of, Going, Serves, Ends}
 use Rattle.im_serial.specs.Serving.{AreWaited, IsOver, IsRecorded, IsServing}
@@ -928,7 +928,7 @@ module _ {D : Type 0} (disk : Ghosts D) where
 
   module _ (all : List Wanted) (first before : List ℕ) (old mid : ScriptServer D) (d next : Draft) (said : Said) (text line :
       List ℕ) (behind : Option (Bor (List ℕ)))
-      (lines : lines_of text ≡ line ∷ option_map_or (λ rest. lines_of rest.now) behind []) (read : counted d line ≡
+      (lines : lines_of text ≡ line ∷ option_map_or (λ rest. lines_of rest.now) behind []) (read : said_at d line ≡
       Some (next, said)) (so_far : Passes disk all first (wanted_in d (lines_of text)) before old mid) where
     abbrev left : List Wanted
     left = option_map_or (λ rest. wanted_in next (lines_of rest.now)) behind []

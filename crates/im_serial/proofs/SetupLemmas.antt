@@ -2,7 +2,7 @@
 use Rattle.std.proofs.Common.{◌≡◌, ◌⊎◌, ◌∙◌, inl, inr, ℕ, ◌+◌, zero, suc, Bool, true, false, List, [], ◌∷◌, ◌++◌}
 use Rattle.std.proofs.Common.{Some, None, Ok, refl, sym, ap, arith, subst, replicate}
 use Rattle.std.specs.Prelude.{Option, ◌==◌, if◌then◌else◌, option_map, slice_index_or}
-use Rattle.std.specs.Option.{option_map_or}
+use Rattle.std.specs.Option.{option_map_or, option_or}
 use Rattle.std.proofs.lemmas.Bool.Decides.{nat_tests}
 use Rattle.im_types.specs.declared.commands.Outcome.TheVariants.{Entry as Tells}
 use Rattle.im_types.specs.declared.operations.Kind.{Kind}
@@ -12,15 +12,19 @@ use Rattle.im_types.specs.Contents.{Empty, Held}
 use Rattle.im_types.specs.Place.{begins_free, fill, place}
 use Rattle.im_laws.proofs.Tests.{some_same, true_false}
 use Rattle.im_script.specs.declared.places.Action.TheVariants.{Alloc}
+use Rattle.im_script.specs.declared.places.Place.{Place}
+use Rattle.im_script.specs.declared.script.Heard.{Heard}
+use Rattle.im_script.specs.declared.script.Heard.TheVariants.{Says as Spoken, Glances}
 use Rattle.im_script.specs.declared.script.Said.{Said}
 use Rattle.im_script.specs.declared.script.ScriptLine.{ScriptLine}
 use Rattle.im_script.specs.declared.script.Said.TheVariants.{Nothing, Block, Begins, Asks}
 use Rattle.im_script.specs.declared.script.Stage.{Stage}
 use Rattle.im_script.specs.declared.script.Stage.TheVariants.{Start, Setup, Part}
 use Rattle.im_script.specs.Grammar.{is_line, number_up_to, words_of}
-use Rattle.im_script.specs.Lines.{action_of, named_block, part_number, starts_setup}
-use Rattle.im_script.specs.Script.{Draft, begun_part, counted, line_after, line_at, lines_of, new_draft, words_after}
-use Rattle.im_serial.specs.Asked.{Wanted, base_told, wanted_by, wanted_in, wanted_of}
+use Rattle.im_script.specs.Lines.{action_of, glanced, named_block, part_number, starts_setup}
+use Rattle.im_script.specs.Script.{Draft, begun_part, counted, glance_at, glance_of, line_after, line_at, lines_of}
+use Rattle.im_script.specs.Script.{new_draft, words_after}
+use Rattle.im_serial.specs.Asked.{Wanted, base_told, said_at, said_by, wanted_by, wanted_in, wanted_of}
 
 -- ---- cells that are taken from the first on
 
@@ -241,22 +245,57 @@ module _ (d : Draft) where
       by_test true is = words_say s at (words_of line) said is
       by_test false is = absurd (cc)
 
+  -- a glance says nothing of requests
+  not_said : (line : List ℕ) (x : Said) → glance_of d line ≡ Some (Spoken x) → ⊥
+  not_said line x is = by_test (is_line line) is
+    where
+      by_place : (k : ℕ) (o : Option Place) → option_map (Glances k) o ≡ Some (Spoken x) → ⊥
+      by_place k None is = absurd (cc)
+      by_place k (Some there) is = absurd (cc)
+
+      by_stage : (s : Stage) → glance_at d s (words_of line) ≡ Some (Spoken x) → ⊥
+      by_stage Start is = absurd (cc)
+      by_stage Setup is = absurd (cc)
+      by_stage (Part k) is = by_place k (glanced d.names (words_of line)) is
+
+      by_test : (b : Bool) → (if b then glance_at d d.stage (words_of line) else None) ≡ Some (Spoken x) → ⊥
+      by_test true is = by_stage d.stage is
+      by_test false is = absurd (cc)
+
+  pub says_at : (s : Stage) → d.stage ≡ s → (line : List ℕ) (said : Draft × Said) → said_at d line ≡ Some said
+      → Says s said
+  says_at s at line said is = by_glance (glance_of d line) refl is
+    where
+      by_line : (o : Option (Draft × Said)) → counted d line ≡ o
+          → option_map (λ (r : Draft × Heard). (r.0, said_by r.1)) (option_map (λ (r : Draft × Said). (r.0, Spoken r.1))
+          o) ≡ Some said → Says s said
+      by_line None e is = absurd (cc)
+      by_line (Some (next, x)) e is = says s at line said (e ∙ is)
+
+      by_glance : (g : Option Heard) → glance_of d line ≡ g → option_map
+          (λ (r : Draft × Heard). (r.0, said_by r.1)) (option_or (option_map (λ (h : Heard). (d, h)) g) (option_map
+          (λ (r : Draft × Said). (r.0, Spoken r.1)) (counted d line))) ≡ Some said
+          → Says s said
+      by_glance None e is = by_line (counted d line) refl is
+      by_glance (Some (Glances k there)) e is = subst (Says s) (some_same (d, Nothing) said is) (quiet s at)
+      by_glance (Some (Spoken x)) e is = absurd (not_said line x e)
+
 -- behind the setup
 unnamed_in : (lines : List (List ℕ)) (d : Draft) (k : ℕ) → d.stage ≡ Part k → AreUnnamed (wanted_in d lines)
 unnamed_in [] d k at = tt
-unnamed_in (line ∷ lines) d k at = by_line (unnamed_in lines) (counted d line) refl
+unnamed_in (line ∷ lines) d k at = by_line (unnamed_in lines) (said_at d line) refl
   where
     by_line : ((next : Draft) (later : ℕ) → next.stage ≡ Part later → AreUnnamed (wanted_in next lines))
-        → (o : Option (Draft × Said)) → counted d line ≡ o
+        → (o : Option (Draft × Said)) → said_at d line ≡ o
         → AreUnnamed (option_map_or (λ r. wanted_by r.1 ++ wanted_in r.0 lines) o [])
     by_line behind None e = tt
-    by_line behind (Some (next, Nothing)) e = let it = says d (Part k) at line (next, Nothing) e in
+    by_line behind (Some (next, Nothing)) e = let it = says_at d (Part k) at line (next, Nothing) e in
         behind next it.0 it.1
-    by_line behind (Some (next, Begins element)) e = let it = says d (Part k) at line (next, Begins element) e in
+    by_line behind (Some (next, Begins element)) e = let it = says_at d (Part k) at line (next, Begins element) e in
         behind next it.0 it.1
-    by_line behind (Some (next, Asks l)) e = let it = says d (Part k) at line (next, Asks l) e in
+    by_line behind (Some (next, Asks l)) e = let it = says_at d (Part k) at line (next, Asks l) e in
         (refl, behind next it.0 it.1)
-    by_line behind (Some (next, Block b)) e = absurd (says d (Part k) at line (next, Block b) e)
+    by_line behind (Some (next, Block b)) e = absurd (says_at d (Part k) at line (next, Block b) e)
 
 unnamed_setup : (wanted : List Wanted) → AreUnnamed wanted → HasSetup wanted
 unnamed_setup [] none = tt
@@ -267,12 +306,12 @@ setup_in [] d = tt
 setup_in (line ∷ lines) d = by_stage (setup_in lines) d.stage refl
   where
     by_early : ((next : Draft) → HasSetup (wanted_in next lines)) → (s : Stage) → d.stage ≡ s → ((next : Draft) (l :
-        ScriptLine) → Says s (next, Asks l) → ⊥) → (o : Option (Draft × Said)) → counted d line ≡ o
+        ScriptLine) → Says s (next, Asks l) → ⊥) → (o : Option (Draft × Said)) → said_at d line ≡ o
         → HasSetup (option_map_or (λ r. wanted_by r.1 ++ wanted_in r.0 lines) o [])
     by_early behind s at never None e = tt
     by_early behind s at never (Some (next, Nothing)) e = behind next
     by_early behind s at never (Some (next, Begins element)) e = behind next
-    by_early behind s at never (Some (next, Asks l)) e = absurd (never next l (says d s at line (next, Asks l) e))
+    by_early behind s at never (Some (next, Asks l)) e = absurd (never next l (says_at d s at line (next, Asks l) e))
     by_early behind s at never (Some (next, Block b)) e = inl (
       record { named = refl; kind = b.kind; length = b.length; action = refl },
       behind next,
@@ -280,8 +319,8 @@ setup_in (line ∷ lines) d = by_stage (setup_in lines) d.stage refl
 
     by_stage : ((next : Draft) → HasSetup (wanted_in next lines)) → (s : Stage) → d.stage ≡ s
         → HasSetup (wanted_in d (line ∷ lines))
-    by_stage behind Start at = by_early behind Start at (λ next l it. it) (counted d line) refl
-    by_stage behind Setup at = by_early behind Setup at (λ next l it. it) (counted d line) refl
+    by_stage behind Start at = by_early behind Start at (λ next l it. it) (said_at d line) refl
+    by_stage behind Setup at = by_early behind Setup at (λ next l it. it) (said_at d line) refl
     by_stage behind (Part k) at = unnamed_setup (wanted_in d (line ∷ lines)) (unnamed_in (line ∷ lines) d k at)
 
 -- of each script

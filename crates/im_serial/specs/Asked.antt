@@ -19,8 +19,10 @@ use Rattle.im_script.specs.declared.places.Action.{Action}
 use Rattle.im_script.specs.declared.places.Action.TheVariants.{Alloc}
 use Rattle.im_script.specs.declared.script.Said.{Said}
 use Rattle.im_script.specs.declared.script.Said.TheVariants.{Nothing, Block, Begins, Asks as Line}
+use Rattle.im_script.specs.declared.script.Heard.{Heard}
+use Rattle.im_script.specs.declared.script.Heard.TheVariants.{Says, Glances}
 use Rattle.im_script.specs.Places.{op_of}
-use Rattle.im_script.specs.Script.{Draft, counted, lines_of, new_draft}
+use Rattle.im_script.specs.Script.{Draft, heard, lines_of, new_draft}
 
 -- ---- what a script asks for
 
@@ -37,10 +39,19 @@ wanted_by (Block b) = record { element = 0; action = Alloc b.kind b.length; name
 wanted_by (Begins k) = []
 wanted_by (Line l) = record { element = l.element; action = l.action; named = false } ∷ []
 
+-- what a line says of requests: a glance asks for none
+abbrev pub said_by : Heard → Said
+said_by (Says said) = said
+said_by (Glances element place) = Nothing
+
+-- the same of a line at its place
+abbrev pub said_at : Draft → List ℕ → Option (Draft × Said)
+said_at d line = option_map (λ r. (r.0, said_by r.1)) (heard true d line)
+
 -- what these lines ask for, in their order, up to the first one that isn't in the grammar
 abbrev pub wanted_in : Draft → List (List ℕ) → List Wanted
 wanted_in d [] = []
-wanted_in d (line ∷ lines) = option_map_or (λ r. wanted_by r.1 ++ wanted_in r.0 lines) (counted d line) []
+wanted_in d (line ∷ lines) = option_map_or (λ r. wanted_by r.1 ++ wanted_in r.0 lines) (said_at d line) []
 
 -- what a script asks for
 abbrev pub wanted_of : List ℕ → List Wanted

@@ -1,9 +1,12 @@
 -- What a memory has of a script, by the numbers of its requests. (Own.)
-use Rattle.std.specs.Prelude.{ℕ, ◌+◌, ◌-◌, ◌&&◌, Bool, nat_lt, List, [], ◌∷◌, ◌++◌, map, slice_get, slice_index_or}
-use Rattle.std.specs.Prelude.{slice_set, if◌then◌else◌}
+use Rattle.std.specs.Prelude.{ℕ, suc, ◌+◌, ◌-◌, ◌&&◌, Bool, true, false, nat_lt, List, [], ◌∷◌, ◌++◌, map, slice_get}
+use Rattle.std.specs.Prelude.{slice_index_or, slice_set, if◌then◌else◌}
 use Rattle.std.specs.Option.{option_map_or}
+use Rattle.im_types.specs.declared.operations.Entry.{Entry}
+use Rattle.im_types.specs.declared.operations.Entry.TheVariants.{Waiting, Answered}
+use Rattle.im_types.specs.declared.operations.Kept.{Kept}
 use Rattle.im_types.specs.declared.operations.Waiter.{Waiter}
-use Rattle.im_types.specs.Contents.{Contents}
+use Rattle.im_types.specs.Contents.{Contents, Window}
 use Rattle.im_types.specs.Window.{next_number}
 use Rattle.im_script.specs.declared.places.Action.{Action}
 use Rattle.im_script.specs.declared.places.Action.TheVariants.{Alloc}
@@ -14,6 +17,29 @@ use Rattle.im_serial.specs.Asked.{Wanted}
 -- how many requests each element made, by its next number
 abbrev pub numbers_had : Contents → List ℕ
 numbers_had m = map (λ w. next_number w - 1) m.windows
+
+-- whether an entry waits
+abbrev pub still_waits : Entry → Bool
+still_waits Waiting = true
+still_waits (Answered reply) = false
+
+-- an entry more before the first that waits, if it is answered
+abbrev pub settled_with : Entry → ℕ → ℕ
+settled_with Waiting behind = 0
+settled_with (Answered reply) behind = suc behind
+
+-- how many of these entries stand before the first that waits
+abbrev pub settled_in : List Kept → ℕ
+settled_in [] = 0
+settled_in (k ∷ kept) = settled_with k.entry (settled_in kept)
+
+-- the number of the first request of a window that waits, or of its next one
+abbrev pub first_open : Window → ℕ
+first_open w = w.base + settled_in w.kept
+
+-- how many requests each element made before that one
+abbrev pub numbers_settled : Contents → List ℕ
+numbers_settled m = map (λ w. first_open w - 1) m.windows
 
 -- how many of an element's are left
 abbrev pub left_of : List ℕ → ℕ → ℕ

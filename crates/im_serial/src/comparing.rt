@@ -8,6 +8,7 @@ ghost use Rattle.im_serial.specs.Fitting.{BeginsWithin, Compares, bases_with, be
 ghost use Rattle.im_serial.specs.Fitting.{is_base, keeps_as, keeps_base, keeps_op};
 ghost use Rattle.im_serial.specs.Had.{left_of, met, met_all};
 
+use crate::hearing::hear;
 use crate::past::Past;
 use im_memory::Memory;
 use im_script::{Allocation, Reader, Said, Script, ScriptFault, ScriptLine, split_line};
@@ -180,7 +181,7 @@ fn compare_all(
         };
         let (line, behind) = split_line(text);
         rest = behind;
-        let said = match reader.read(alloc, number, line) {
+        let said = match hear(&mut reader, alloc, number, line) {
             Ok(said) => said,
             Err(fault) => return Err(Reason::Script(fault)), // There was no memory for it.
         };

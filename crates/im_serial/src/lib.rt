@@ -2,6 +2,7 @@
 #![tactic(auto)]
 
 mod comparing;
+mod hearing;
 mod meeting;
 mod once;
 mod past;
@@ -11,6 +12,7 @@ mod server;
 mod stops;
 mod waits;
 
+pub use past::{Past, first_open};
 pub use serial::{serial_on, serial_once_on};
 pub use server::{Desk, Paper, Server};
 pub use stops::{Interrupted, Stop, new_images_have_begun, serial_over_stops};

@@ -15,6 +15,7 @@ ghost use Rattle.im_serial.specs.Had.{who_next};
 ghost use Rattle.im_serial.specs.Once.{past_line};
 ghost use Rattle.im_serial.specs.Serving.{seen_by};
 
+use crate::hearing::hear;
 use crate::past::Past;
 use crate::server::Server;
 use im_disk::Disk;
@@ -241,7 +242,7 @@ impl<D: Disk> Server<D> {
             };
             let (line, behind) = split_line(text);
             rest = behind;
-            let said = match reader.read(alloc, number, line) {
+            let said = match hear(&mut reader, alloc, number, line) {
                 Ok(said) => said,
                 Err(fault) => return Err(Reason::Script(fault)), // There was no memory for it.
             };

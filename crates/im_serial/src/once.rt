@@ -7,6 +7,7 @@ ghost use Rattle.im_serial.specs.Once.{Breaks, HasServedOnce, HasShown};
 ghost use Rattle.im_serial.specs.Serving.{HasServed, seen_by};
 
 use crate::comparing::compare_script;
+use crate::hearing::hear;
 use crate::past::Past;
 use crate::server::Server;
 use im_disk::Disk;
@@ -58,7 +59,7 @@ impl<D: Disk> Server<D> {
             };
             let (line, behind) = split_line(text);
             rest = behind;
-            let said = match reader.read(alloc, number, line) {
+            let said = match hear(&mut reader, alloc, number, line) {
                 Ok(said) => said,
                 Err(fault) => return Err(Reason::Script(fault)), // There was no memory for it.
             };
@@ -70,9 +71,12 @@ impl<D: Disk> Server<D> {
         Err(Reason::Script(ScriptFault::TooLarge)) // No script has so many lines.
     }
 
-    // Compares a script with what the image has of it, and prints that. Writes it out, so that nothing is kept back
-    // before the first request.
-    fn show_past<W: Write>(
+    /// Compares a script with what the image has of it, and prints that. Writes it out, so that nothing is kept back
+    /// before the first request. Nothing is served.
+    ///
+    /// It is refused, with nothing printed, if another script used the image, as [`serial_once_on`] says; with `Block`
+    /// if a block of the setup wasn't made; with `Memory`, or because a write of the output failed.
+    pub fn show_past<W: Write>(
         &mut self,
         alloc: Global,
         script: &Script<'_>,

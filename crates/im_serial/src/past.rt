@@ -1,14 +1,16 @@
 //! What an image has of a script already.
-ghost use Rattle.std.specs.Prelude.{◌≡◌, ◌-◌, ◌+◌, ℕ, false, true, [], IfOk, OnOk, slice_get, string_bytes};
+ghost use Rattle.std.specs.Prelude.{◌≡◌, ◌-◌, ◌+◌, ℕ, false, true, [], IfOk, Ok, OnOk, slice_get, string_bytes};
 ghost use Rattle.std.specs.Option.{option_map_or};
-ghost use Rattle.im_types.specs.Window.{next_number};
+ghost use Rattle.im_types.specs.Window.{bounds, next_number};
 ghost use Rattle.im_serial.specs.Asked.{wanted_by};
 ghost use Rattle.im_serial.specs.Fitting.{end_behind_base, base_placed};
-ghost use Rattle.im_serial.specs.Had.{left_of, met, met_all, news, numbers_had};
+ghost use Rattle.im_serial.specs.Had.{first_open, left_of, met, met_all, news, numbers_had, numbers_settled};
+ghost use Rattle.im_serial.specs.Had.{still_waits};
 ghost use Rattle.im_serial.specs.Once.{done_line};
 
 use im_memory::Memory;
 use im_script::Said;
+use im_types::{Entry, Kept};
 use std::alloc::{AllocError, Global};
 
 /// The requests of a script that an image has and that weren't met yet, as the script's lines are read.
@@ -30,7 +32,64 @@ fn count_of(memory: &Memory, element: u16) -> u64
     }
 }
 
+// Returns whether an entry waits.
+fn still_waits(entry: Entry) -> bool
+    ensures { result ≡ still_waits entry }
+{
+    match entry {
+        Entry::Waiting => true,
+        Entry::Answered(_reply) => false,
+    }
+}
+
+// Returns whether what is kept of a request, if anything is, waits.
+fn is_unsettled(kept: Option<Kept>) -> bool
+    ensures { result ≡ option_map_or (λ k. still_waits k.entry) kept false }
+{
+    match kept {
+        Some(kept) => still_waits(kept.entry),
+        None => false,
+    }
+}
+
+// Returns the number of the first request of a window that waits, or of its next one.
+fn first_open_in(memory: &Memory, element: u16, base: u64, next: u64) -> u64
+    requires there { bounds memory.now.contents.windows element ≡ Ok (base, next) }
+    ensures { result ≡ option_map_or first_open (slice_get memory.now.contents.windows element) 0 }
+{
+    for number in base..next {
+        if is_unsettled(memory.kept(element, number)) {
+            return number;
+        }
+    }
+    next
+}
+
+/// Returns the number of an element's first request that waits, or of its next one. It is 0 if there is no such
+/// element.
+pub fn first_open(memory: &Memory, element: u16) -> u64
+    ensures { result ≡ option_map_or first_open (slice_get memory.now.contents.windows element) 0 }
+{
+    match memory.window(element) {
+        Ok((base, next)) => first_open_in(memory, element, base, next),
+        Err(_) => 0,
+    }
+}
+
 impl Past {
+    /// Counts the requests that a memory has, but for those from an element's first one on that waits.
+    pub fn settled(alloc: Global, memory: &Memory) -> Result<Past, AllocError>
+        ensures many { IfOk result (λ past. past.many.items ≡ numbers_settled memory.now.contents) }
+        ensures end { IfOk result (λ past. past.end ≡ 0) }
+    {
+        let elements = memory.elements();
+        let mut many = Vec::with_capacity(alloc, elements as usize)?;
+        for element in 0..elements {
+            many.push(first_open(memory, element).saturating_sub(1))?;
+        }
+        Ok(Past { many, end: 0 })
+    }
+
     /// Counts the requests that a memory has.
     pub fn new(alloc: Global, memory: &Memory) -> Result<Past, AllocError>
         ensures many { IfOk result (λ past. past.many.items ≡ numbers_had memory.now.contents) }

@@ -16,6 +16,7 @@ ghost use Rattle.im_serial.specs.Asked.{wanted_by, wanted_of};
 ghost use Rattle.im_serial.specs.Once.{done_line};
 ghost use Rattle.im_serial.specs.Serving.{Ends, HasAsked, HasServed, Prepares, Serves, at, seen_by};
 
+use crate::hearing::hear;
 use crate::past::make_done;
 use crate::room::{confirm, first_waiting, make_room, next_number, reason_of};
 use crate::waits::{Places, learn, learn_all, note, tell_earlier, waited_at};
@@ -419,7 +420,7 @@ impl<D: Disk> Server<D> {
             };
             let (line, behind) = split_line(text);
             rest = behind;
-            let said = match reader.read(alloc, number, line) {
+            let said = match hear(&mut reader, alloc, number, line) {
                 Ok(said) => said,
                 Err(fault) => return Err(Reason::Script(fault)), // There was no memory for it.
             };

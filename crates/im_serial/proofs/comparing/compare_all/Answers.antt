@@ -24,7 +24,7 @@ returns-in-Err-compare_said-clause-wrong c =
     let bases = c.loop-number.bases.items in
     let d = draft_of c.loop-number.reader in
     let all = wanted_of c.args.script.now in
-    line_wrong m all first.many.items [] first.end past.many.items bases past.end d (draft_of c.read.new.self)
+    line_wrong m all first.many.items [] first.end past.many.items bases past.end d (draft_of c.hear.new.reader)
     c.in-Ok.said c.in-Some.text.now c.split_line.result.0.now c.split_line.result.1 c.split_line.ensures
     c.in-Ok.ensures.ok
     (compared_some (λ text. wanted_in d (lines_of text.now)) m all first.many.items [] first.end past.many.items
@@ -39,7 +39,7 @@ loop-number-preserved c =
     let bases = c.loop-number.bases.items in
     let d = draft_of c.loop-number.reader in
     let all = wanted_of c.args.script.now in
-    line_compared m all first.many.items [] first.end past.many.items bases past.end d (draft_of c.read.new.self)
+    line_compared m all first.many.items [] first.end past.many.items bases past.end d (draft_of c.hear.new.reader)
     c.in-Ok.said c.in-Some.text.now c.split_line.result.0.now c.split_line.result.1 c.split_line.ensures
     c.in-Ok.ensures.ok
     (compared_some (λ text. wanted_in d (lines_of text.now)) m all first.many.items [] first.end past.many.items

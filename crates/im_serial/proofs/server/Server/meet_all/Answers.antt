@@ -63,7 +63,7 @@ returns-in-Err-meet_said g c =
       engine = c.meet_said.ensures.engine ∙ c.loop-number.invariant.0;
       names = tt;
       made = tt;
-      passed = line_breaks all first.many.items past.many.items old mid d (draft_of c.read.new.self)
+      passed = line_breaks all first.many.items past.many.items old mid d (draft_of c.hear.new.reader)
           c.in-Ok.said c.in-Some.text.now c.split_line.result.0.now c.split_line.result.1 c.split_line.ensures
           c.in-Ok.ensures.ok (meets_some (λ text. wanted_in d (lines_of text.now)) first.many.items past.many.items
           all old mid
@@ -87,7 +87,7 @@ loop-number-preserved g c =
     let d = draft_of c.loop-number.reader in (
       c.meet_said.ensures.engine ∙ c.loop-number.invariant.0,
       (
-        line_names all first.many.items past.many.items old mid d (draft_of c.read.new.self)
+        line_names all first.many.items past.many.items old mid d (draft_of c.hear.new.reader)
             c.in-Ok.said c.in-Some.text.now c.split_line.result.0.now c.split_line.result.1 c.split_line.ensures
             c.in-Ok.ensures.ok first.end past.end was.bases.items now.bases.items (names_some (λ text. wanted_in d
             (lines_of text.now)) first.many.items past.many.items
@@ -95,14 +95,14 @@ loop-number-preserved g c =
             c.in-Some.is c.loop-number.invariant.1.0) c.meet_said.new.past.many.items c.meet_said.new.past.end
             s.bases.items c.in-Ok-meet_said.ensures.names,
         (
-          line_makes was.engine.memory all first.many.items past.many.items d (draft_of c.read.new.self)
+          line_makes was.engine.memory all first.many.items past.many.items d (draft_of c.hear.new.reader)
               c.in-Ok.said c.in-Some.text.now c.split_line.result.0.now c.split_line.result.1 c.split_line.ensures
               c.in-Ok.ensures.ok (makes_some (λ text. wanted_in d (lines_of text.now)) was.engine.memory
               first.many.items past.many.items all c.loop-number.rest c.in-Some.text c.in-Some.is
               c.loop-number.invariant.1.1.0) c.meet_said.new.past.many.items
               (subst (λ (e : EngineState g.row.D.Denot). MakesBlocks e.memory past.many.items (wanted_by c.in-Ok.said)
               c.meet_said.new.past.many.items []) c.loop-number.invariant.0 c.in-Ok-meet_said.ensures.made),
-          line_meets all first.many.items past.many.items old mid d (draft_of c.read.new.self)
+          line_meets all first.many.items past.many.items old mid d (draft_of c.hear.new.reader)
               c.in-Ok.said c.in-Some.text.now c.split_line.result.0.now c.split_line.result.1 c.split_line.ensures
               c.in-Ok.ensures.ok (meets_some (λ text. wanted_in d (lines_of text.now)) first.many.items past.many.items
               all old mid

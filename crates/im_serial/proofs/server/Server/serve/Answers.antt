@@ -37,7 +37,7 @@ returns-in-Err-serve_and_show g c =
     record {
       served = record {
         serves = tt;
-        ends = line_ends g.D.Disk all first before _ _ d (draft_of c.read.new.self) c.in-Ok.said c.in-Some.text.now
+        ends = line_ends g.D.Disk all first before _ _ d (draft_of c.hear.new.reader) c.in-Ok.said c.in-Some.text.now
             c.split_line.result.0.now c.split_line.result.1 c.split_line.ensures c.in-Ok.ensures.ok so_far new
             c.in-Err-serve_and_show.ensures.served.ends;
       };
@@ -51,7 +51,7 @@ loop-number-preserved g c =
     let before = c.loop-number.self.bases.items in
     let so_far = lines_left g.D.Disk all first before _ _ d c.loop-number.rest c.in-Some.text c.in-Some.is
     c.loop-number.invariant in
-    line_serves g.D.Disk all first before _ _ d (draft_of c.read.new.self) c.in-Ok.said c.in-Some.text.now
+    line_serves g.D.Disk all first before _ _ d (draft_of c.hear.new.reader) c.in-Ok.said c.in-Some.text.now
     c.split_line.result.0.now c.split_line.result.1 c.split_line.ensures c.in-Ok.ensures.ok so_far
     c.serve_and_show.new.self.bases.items _ c.in-Ok-serve_and_show.ensures.served.serves
 

@@ -41,7 +41,7 @@ returns-in-Err-serve_new g c =
     record {
       served = record {
         serves = tt;
-        ends = part_ends g.D.Disk _ _ _ _ (news_line many _ d (draft_of c.read.new.self) c.in-Ok.said
+        ends = part_ends g.D.Disk _ _ _ _ (news_line many _ d (draft_of c.hear.new.reader) c.in-Ok.said
             c.in-Some.text.now c.split_line.result.0.now c.split_line.result.1 c.split_line.ensures c.in-Ok.ensures.ok
             c.serve_new.ensures.many) _ _ old mid so_far new c.in-Err-serve_new.ensures.served.ends;
       };
@@ -61,7 +61,7 @@ loop-number-preserved g c =
     let many = c.loop-number.past.many.items in
     let so_far = left_some g.D.Disk (λ text. news many (wanted_in d (lines_of text.now))) _ _ _ old mid
     c.loop-number.rest c.in-Some.text c.in-Some.is c.loop-number.invariant in
-    part_serves g.D.Disk _ _ _ _ (news_line many _ d (draft_of c.read.new.self) c.in-Ok.said c.in-Some.text.now
+    part_serves g.D.Disk _ _ _ _ (news_line many _ d (draft_of c.hear.new.reader) c.in-Ok.said c.in-Some.text.now
     c.split_line.result.0.now c.split_line.result.1 c.split_line.ensures c.in-Ok.ensures.ok c.serve_new.ensures.many) _
     _ old mid so_far s.bases.items new c.in-Ok-serve_new.ensures.served.serves
 
