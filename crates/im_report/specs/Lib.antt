@@ -2,4 +2,5 @@ pub mod Report
 pub mod Inspecting
 pub mod Figures
 pub mod Stat
+pub mod ReportJson
 pub mod Look

@@ -12,10 +12,12 @@ use Rattle.im_text.specs.Texts.{texts_below}
 use Rattle.im_report.specs.declared.look.Span.{Span}
 use Rattle.im_report.specs.declared.look.Filter.{Filter}
 use Rattle.im_report.specs.declared.look.View.{View}
-use Rattle.im_report.specs.declared.look.View.TheVariants.{Report, Stat, StatJson}
+use Rattle.im_report.specs.declared.look.View.TheVariants.{Report, ReportJson, Stat, StatJson, DumpJson}
+use Rattle.im_report.specs.declared.notation.Notation.{Notation}
 use Rattle.im_report.specs.declared.notation.Notation.TheVariants.{Lines, Json}
 use Rattle.im_report.specs.Figures.{cell_tag}
-use Rattle.im_report.specs.Report.{cell_line, report_text, window_text}
+use Rattle.im_report.specs.Report.{cell_line, contents_text, journal_line, opening_lines, window_text}
+use Rattle.im_report.specs.ReportJson.{dump_json, report_head}
 use Rattle.im_report.specs.Stat.{stat_text}
 
 -- a filter that asks for nothing
@@ -46,24 +48,36 @@ abbrev pub text_if : Bool → List ℕ → List ℕ
 text_if wanted text = if wanted then text else []
 
 -- the lines of the cells that a filter names, by address
-abbrev pub named_cells : Filter → Contents → List ℕ
-named_cells f m = texts_below (λ a. text_if (names_cell f a (presence_in (held_at m.cells a)))
-    (cell_line a (presence_in (held_at m.cells a)) (waiters_at m.cells a))) (length m.cells)
+abbrev pub named_cells : Notation → Filter → Contents → List ℕ
+named_cells notation f m = texts_below (λ a. text_if (names_cell f a (presence_in (held_at m.cells a)))
+    (cell_line notation a (presence_in (held_at m.cells a)) (waiters_at m.cells a))) (length m.cells)
 
 -- the lines of the element that a filter names
-abbrev pub named_elements : Filter → Contents → List ℕ
-named_elements f m = texts_below (λ k. text_if (names_element f.element k) (window_text k (slice_get m.windows k)))
-    (length m.windows)
+abbrev pub named_elements : Notation → Filter → Contents → List ℕ
+named_elements notation f m = texts_below (λ k. text_if (names_element f.element k)
+    (window_text notation k (slice_get m.windows k))) (length m.windows)
+
+-- the header and the journal
+abbrev pub whole_head : Notation → Header → ℕ → ℕ → List ℕ
+whole_head Lines h run room = opening_lines h ++ journal_line run room
+whole_head Json h run room = report_head h run room
+
+-- the whole report
+abbrev pub whole_text : Notation → Header → ℕ → ℕ → Contents → List ℕ
+whole_text notation h run room m = whole_head notation h run room ++ contents_text notation m
 
 -- the lines of a report that a filter names
-abbrev pub filtered_text : Filter → Header → ℕ → ℕ → Contents → List ℕ
-filtered_text f h run room m = if is_whole f then report_text h run room m else named_cells f m ++ named_elements f m
+abbrev pub filtered_text : Notation → Filter → Header → ℕ → ℕ → Contents → List ℕ
+filtered_text notation f h run room m =
+    if is_whole f then whole_text notation h run room m else named_cells notation f m ++ named_elements notation f m
 
 -- what is printed
 abbrev pub looked_text : View → Header → ℕ → ℕ → Contents → List ℕ
-looked_text (Report f) h run room m = filtered_text f h run room m
+looked_text (Report f) h run room m = filtered_text Lines f h run room m
+looked_text (ReportJson f) h run room m = filtered_text Json f h run room m
 looked_text Stat h run room m = stat_text Lines h run room m
 looked_text StatJson h run room m = stat_text Json h run room m
+looked_text DumpJson h run room m = dump_json h run m
 
 -- The bytes of a file mean a memory, and what is wanted of it, with the header in force, was written.
 pub record ShowsView (look : View) (file : List ℕ) (was now : Option (List ℕ)) : Type 0 where

@@ -13,7 +13,7 @@ use Rattle.im_report.specs.declared.figures.WindowFigures.{WindowFigures}
 use Rattle.im_report.specs.Figures.{kind_figures, free_figures, queue_figures, window_figures}
 use Rattle.im_report.specs.declared.notation.Notation.{Notation}
 use Rattle.im_report.specs.declared.notation.Notation.TheVariants.{Lines, Json}
-use Rattle.im_report.specs.Report.{opening_lines}
+use Rattle.im_report.specs.Report.{numbered, opening_lines, three_words}
 
 -- ---- what the header and the journal say
 
@@ -30,14 +30,6 @@ abbrev pub pages_written : Header → ℕ
 pages_written h = area_pages (layout_named h.version) h.sizes
 
 -- ---- lines
-
--- a word, and a number behind it
-unfoldable pub numbered : List ℕ → ℕ → List ℕ
-numbered word n = word ++ decimal n
-
--- three words, each with a number behind it, and an end
-unfoldable pub three_words : List ℕ → ℕ → List ℕ → ℕ → List ℕ → ℕ → List ℕ → List ℕ
-three_words one a two b three c end = numbered one a ++ numbered two b ++ numbered three c ++ end
 
 -- the slots of the journal
 abbrev pub slots_line : Header → ℕ → ℕ → List ℕ

@@ -10,6 +10,7 @@ ghost use Rattle.im_report.specs.Stat.{stat_text};
 use crate::filtering::add_filtered;
 use crate::look::{Filter, View};
 use crate::notation::Notation;
+use crate::report_json::add_dump;
 use crate::{stat, stat_json};
 use im_damage::{Older, find_older};
 use im_disk::Disk;
@@ -41,9 +42,11 @@ fn add_looked(out: &mut String, report: &Report, look: &View) -> Result<(), Allo
         (seen report.now.header) report.now.run report.now.room report.now.memory.contents) }
 {
     match look {
-        View::Report(filter) => add_filtered(out, report, filter),
+        View::Report(filter) => add_filtered(out, Notation::Lines, report, filter),
+        View::ReportJson(filter) => add_filtered(out, Notation::Json, report, filter),
         View::Stat => add_stat(out, report, Notation::Lines),
         View::StatJson => add_stat(out, report, Notation::Json),
+        View::DumpJson => add_dump(out, report),
     }
 }
 
@@ -158,7 +161,13 @@ pub fn inspect_on<D: Disk, W: Write, N: Observer>(
 ///   of the longest. `waiting R longest L at A` gives the requests that wait, and the longest queue of them, with the
 ///   lowest address of such a cell. `windows E kept N full F` gives the elements that have asked anything, the entries
 ///   that are kept, and the windows that are full.
-/// - `StatJson`: the same numbers as one object of JSON, on one line.
+/// - `StatJson`: the same numbers as one object of JSON, on one line. A generation and a count are strings.
+/// - `ReportJson`: the same lines as of `Report`, each of them one object. The first four are one object, that of
+///   `StatJson` as far as `next`. The others have the keys `block`, `kind` and `length`; `cell`, `state` and `value`, or
+///   `waiters` in its place, a list of objects with `element` and `number`; `element`, `base` and `kept`; and `entry`,
+///   which is a number, `of`, `operation` and `reply`. A value, a base and a number of a request are strings.
+/// - `DumpJson`: first an object with `dump`, which is 1, `limits` and `count`, and then those of a `ReportJson` for
+///   blocks, cells, elements and entries.
 pub fn look_on<D: Disk, W: Write, N: Observer>(
     alloc: Global,
     mut disk: D,

@@ -1,4 +1,4 @@
-//! Prints what an image means, line by line, and statistics of it.
+//! Prints what an image means, line by line or as objects of JSON, and statistics of it.
 #![tactic(auto)]
 
 mod counting;
@@ -8,8 +8,10 @@ mod inspecting;
 mod look;
 mod notation;
 mod report;
+mod report_json;
 mod stat;
 mod stat_json;
+mod told;
 
 pub use counting::{count_queues, count_windows};
 pub use figures::{QueueFigures, WindowFigures};

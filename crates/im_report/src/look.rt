@@ -25,8 +25,12 @@ pub struct Filter {
 pub enum View {
     /// The report, or those of its lines that the filter names.
     Report(Filter),
+    /// The same, with an object of JSON on each line.
+    ReportJson(Filter),
     /// The statistic.
     Stat,
     /// The statistic as an object of JSON.
     StatJson,
+    /// What the image means, with an object of JSON on each line.
+    DumpJson,
 }

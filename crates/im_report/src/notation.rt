@@ -1,10 +1,10 @@
-//! How a statistic is written.
+//! How a report or a statistic is written.
 
-/// How a statistic is written.
+/// How a report or a statistic is written.
 #[derive(Clone, Copy, Debug, PartialEq, Eq)]
 pub(crate) enum Notation {
-    /// In lines.
+    /// In words.
     Lines,
-    /// As an object of JSON.
+    /// As objects of JSON.
     Json,
 }

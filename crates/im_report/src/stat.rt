@@ -3,8 +3,8 @@ ghost use Rattle.std.specs.Prelude.{◌≡◌, ◌++◌, OnOk, string_bytes};
 ghost use Rattle.im_image.specs.Headers.{seen};
 ghost use Rattle.im_report.specs.Figures.{kind_figures};
 ghost use Rattle.im_report.specs.Stat.{area_written, blocks_part, count_line, figures_lines, kind_line, next_line};
-ghost use Rattle.im_report.specs.Stat.{numbered, pages_written, slots_line, stale_slots, stat_head, stat_memory};
-ghost use Rattle.im_report.specs.Stat.{three_words};
+ghost use Rattle.im_report.specs.Report.{numbered, three_words};
+ghost use Rattle.im_report.specs.Stat.{pages_written, slots_line, stale_slots, stat_head, stat_memory};
 
 use crate::counting::{count_free, count_kind, count_queues, count_windows};
 use crate::figures::KindFigures;
@@ -45,7 +45,7 @@ pub(crate) fn add_text(out: &mut String, text: &str) -> Result<(), AllocError>
 }
 
 /// Adds a word, and a number behind it.
-#[tactic(auto, unfolding(crate::specs::Stat::numbered))]
+#[tactic(auto, unfolding(crate::specs::Report::numbered))]
 pub(crate) fn add_member(out: &mut String, word: &str, number: u64) -> Result<(), AllocError>
     ensures { OnOk result (string_bytes out.new ≡ string_bytes out.old ++ numbered word.now number) }
 {

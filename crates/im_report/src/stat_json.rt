@@ -40,7 +40,7 @@ fn add_slots(out: &mut String, header: &Header, run: u64, room: u32) -> Result<(
 }
 
 /// Adds the commands so far.
-fn add_count(out: &mut String, header: &Header, run: u64) -> Result<(), AllocError>
+pub(crate) fn add_count(out: &mut String, header: &Header, run: u64) -> Result<(), AllocError>
     ensures { OnOk result (string_bytes out.new ≡ string_bytes out.old ++ count_json (seen header.now) run) }
 {
     let count = u128::from(header.count) + u128::from(run);

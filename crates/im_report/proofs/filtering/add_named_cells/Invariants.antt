@@ -9,4 +9,4 @@ use Rattle.im_report.proofs.filtering.add_named_cells.Given as goal
 abbrev pub invariant-loop-a : goal.invariant-loop-a
 invariant-loop-a l = string_bytes l.out ≡ string_bytes l.fn.out
     ++ texts_below (λ a. text_if (names_cell l.filter a (presence_in (held_at l.memory.contents.cells a)))
-    (cell_line a (presence_in (held_at l.memory.contents.cells a)) (waiters_at l.memory.contents.cells a))) l.a
+    (cell_line l.notation a (presence_in (held_at l.memory.contents.cells a)) (waiters_at l.memory.contents.cells a))) l.a

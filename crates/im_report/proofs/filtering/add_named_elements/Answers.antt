@@ -10,5 +10,5 @@ loop-element-init c = written_none _ _
 
 pub loop-element-preserved : goal.loop-element-preserved
 loop-element-preserved c = written_more _ _ _ _ _ c.loop-element.invariant
-    (c.in_ok-add_element_if.ensures ∙ ap (λ w. string_bytes c.loop-element.out ++ text_if w (window_text c.loop-element.element
+    (c.in_ok-add_element_if.ensures ∙ ap (λ w. string_bytes c.loop-element.out ++ text_if w (window_text c.args.notation c.loop-element.element
     (slice_get c.args.memory.now.contents.windows c.loop-element.element))) c.names_element-wanted.ensures)

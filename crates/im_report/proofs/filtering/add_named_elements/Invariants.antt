@@ -8,4 +8,4 @@ use Rattle.im_report.proofs.filtering.add_named_elements.Given as goal
 abbrev pub invariant-loop-element : goal.invariant-loop-element
 invariant-loop-element l = string_bytes l.out ≡ string_bytes l.fn.out
     ++ texts_below (λ k. text_if (names_element l.filter.element k)
-    (window_text k (slice_get l.memory.contents.windows k))) l.element
+    (window_text l.notation k (slice_get l.memory.contents.windows k))) l.element

@@ -5,4 +5,4 @@ use Rattle.im_text.specs.Texts.{texts_below}
 use Rattle.im_report.proofs.report.add_blocks.Given as goal
 
 abbrev pub invariant-loop-a : goal.invariant-loop-a
-invariant-loop-a l = string_bytes l.out ≡ string_bytes l.fn.out ++ texts_below (λ a. block_line a (block_at l.memory.contents.cells a)) l.a
+invariant-loop-a l = string_bytes l.out ≡ string_bytes l.fn.out ++ texts_below (λ a. block_line l.notation a (block_at l.memory.contents.cells a)) l.a

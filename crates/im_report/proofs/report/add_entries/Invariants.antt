@@ -1,11 +1,11 @@
 use Rattle.std.proofs.Common.{◌≡◌, ◌++◌, ◌+◌, ◌-◌, Some, string_bytes}
 use Rattle.std.specs.Prelude.{slice_get}
 use Rattle.im_types.specs.Contents.{Window}
-use Rattle.im_types.specs.Window.{next_number}
-use Rattle.im_report.specs.Report.{entry_line}
+use Rattle.im_report.specs.Report.{Bounds, entry_line}
 use Rattle.im_text.specs.Texts.{texts_below}
 use Rattle.im_report.proofs.report.add_entries.Given as goal
 
 abbrev pub invariant-loop-number : goal.invariant-loop-number
-invariant-loop-number l = (w : Window) → slice_get l.memory.contents.windows l.element ≡ Some w → l.base ≡ w.base → l.next ≡ next_number w
-    → string_bytes l.out ≡ string_bytes l.fn.out ++ texts_below (λ i. entry_line l.element (w.base + i) (slice_get w.kept i)) (l.number - l.base)
+invariant-loop-number l = (w : Window) → slice_get l.memory.contents.windows l.element ≡ Some w
+    → Bounds l.fn.bounds.0 l.fn.bounds.1 w → string_bytes l.out ≡ string_bytes l.fn.out
+    ++ texts_below (λ i. entry_line l.notation l.element (w.base + i) (slice_get w.kept i)) (l.number - l.fn.bounds.0)

@@ -1,6 +1,6 @@
 use Rattle.std.proofs.Common.{◌++◌, string_bytes}
 use Rattle.std.proofs.lemmas.Result.{on_ok_weaker}
-use Rattle.im_report.specs.Stat.{numbered, three_words}
+use Rattle.im_report.specs.Report.{numbered, three_words}
 use Rattle.im_report.proofs.ReportLemmas.{joined}
 use Rattle.im_report.proofs.stat.add_three.Goals as goal
 

@@ -1,6 +1,6 @@
 use Rattle.std.proofs.Common.{◌++◌, codes, string_bytes}
 use Rattle.std.proofs.lemmas.Result.{on_ok_weaker}
-use Rattle.im_report.specs.Stat.{numbered}
+use Rattle.im_report.specs.Report.{numbered}
 use Rattle.im_report.proofs.ReportLemmas.{joined}
 use Rattle.im_report.proofs.stat_json.add_pages.Goals as goal
 

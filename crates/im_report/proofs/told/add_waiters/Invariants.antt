@@ -1,7 +1,7 @@
 use Rattle.std.proofs.Common.{◌≡◌, ◌++◌, string_bytes}
 use Rattle.im_types.specs.Contents.{waiters_at}
 use Rattle.im_report.specs.Report.{waiters_text}
-use Rattle.im_report.proofs.report.add_waiters.Given as goal
+use Rattle.im_report.proofs.told.add_waiters.Given as goal
 
 abbrev pub invariant-loop-waiter : goal.invariant-loop-waiter
 invariant-loop-waiter l =

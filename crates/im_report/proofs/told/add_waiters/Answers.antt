@@ -1,7 +1,7 @@
 use Rattle.std.proofs.Common.{◌++◌, ◌∙◌, ap, string_bytes}
 use Rattle.im_report.specs.Report.{waiters_text}
 use Rattle.im_report.proofs.ReportLemmas.{waiters_none, waiters_more}
-use Rattle.im_report.proofs.report.add_waiters.Goals as goal
+use Rattle.im_report.proofs.told.add_waiters.Goals as goal
 
 pub loop-waiter-init : goal.loop-waiter-init
 loop-waiter-init c = ap (λ left. string_bytes c.args.out.now ++ waiters_text left) (c.into_iter-waiter-iterator.ensures.into_iter_gives ∙ c.waiters-waiter-items.ensures)
