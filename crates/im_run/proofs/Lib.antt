@@ -1,2 +1,3 @@
+pub mod RestLemmas
 pub mod RunningLemmas
 pub mod TracingLemmas

@@ -12,6 +12,7 @@ use Rattle.im_types.specs.Run.{after}
 use Rattle.im_types.specs.Trace.{IsLegal}
 use Rattle.im_laws.proofs.RunLemmas.{after-append}
 use Rattle.im_laws.proofs.Tests.{true_false, true_or_false}
+use Rattle.im_disk.specs.declared.disk.Disk.{Ghosts}
 use Rattle.im_disk.specs.Moment.{Moment, Left, Rises}
 use Rattle.im_disk.specs.Since.{Leaves, LeavesNow}
 use Rattle.im_disk.proofs.SinceLemmas.{left_now, leaves_then, leaves_now}
@@ -21,10 +22,13 @@ use Rattle.im_engine.proofs.Keeping.{accept_both}
 use Rattle.im_controller.specs.Kept.{MeansSome, begun_in, accepted_in}
 use Rattle.im_controller.proofs.KeptLemmas.{accepted-after, kept_start}
 use Rattle.im_text.specs.declared.lines.Lines.{Lines}
+use Rattle.im_text.specs.declared.replies.Waited.{Waited}
 use Rattle.im_text.specs.Printing.{Begins, IsLast, Prints, PrintsMore, replies}
 use Rattle.im_text.proofs.PrintingLemmas.{prints_begins, take-prefix}
 use Rattle.im_text.proofs.TextLemmas.{written_none}
-use Rattle.im_serial.specs.Serving.{GoesWith, HaltsWith, HasPut, MeansAtLeast, NotOpened}
+use Rattle.im_serial.specs.Serving.{Going, GoesWith, HaltsWith, HasPut, MeansAtLeast, NotOpened, Server, at}
+use Rattle.im_serial.proofs.ServingLemmas.{going_new}
+use Rattle.im_run.specs.Setup.{CanServe}
 use Rattle.im_run.specs.declared.run.TheConstants.{STALLED}
 use Rattle.im_run.specs.declared.served.Did.{Did}
 use Rattle.im_run.specs.Tracing.{TraceState}
@@ -209,6 +213,24 @@ none_served {D} now past failures begun engine trace none same alive means =
       kept = kept_start _ _ _ here engine.memory engine refl refl alive means;
     }))
 
+-- nothing was served yet
+pub begun : {D : Type 0} (disk : Ghosts D) (s : Server D) → CanServe disk s
+    → Going disk.now disk.past disk.failures disk.honest s.engine s.held s
+begun disk s ready = going_new disk.now disk.past disk.failures disk.honest s.engine s.engine s.held s.lines s.lines
+    s.waited ready.works ready.means ready.pending ready.waited refl refl
+
+-- a server that was just made can serve
+pub ready_new : {D : Type 0} (disk : Ghosts D) (start engine : EngineState D) (held : Option (List ℕ))
+    (before lines : Lines) (waited : List Waited) → start.failed ≡ false
+    → (disk.honest start.disk → LeavesNow (disk.now start.disk) (MeansState start)) → before.pending.items ≡ []
+    → waited ≡ [] → engine ≡ start → lines ≡ before → CanServe disk (at engine held lines waited)
+ready_new {D} disk start engine held before lines waited works means pending none same line = record {
+  works = ap (λ (e : EngineState D). e.failed) same ∙ works;
+  means = subst (λ (e : EngineState D). disk.honest e.disk → LeavesNow (disk.now e.disk) (MeansState e)) (sym same) means;
+  pending = ap (λ (l : Lines). l.pending.items) line ∙ pending;
+  waited = none;
+}
+
 -- ---- what was printed
 
 -- the lines of what was done, and then of a refusal
@@ -306,25 +328,28 @@ module _ {D : Type 0} (now : D → Moment) (past : D → List Moment) (failures 
         };
       }
 
+module _ {D : Type 0} (disk : Ghosts D) where
   -- an opening leaves nothing new, and what it found was there
-  pub ran_on : (old : D) (start : EngineState D) (new : D) (was is : Option (List ℕ)) (calls : TraceState) (status : ℕ) → Leaves (now old) (now start.disk) (past old) (past start.disk) (Left (now old)) → LeavesNow (now start.disk) (MeansState start) → failures start.disk ≡ failures old
-      → RunOn now past failures start new was is calls status → RanOn now past failures old new was is calls status
+  unfoldable pub ran_on : (old : D) (start : EngineState D) (new : D) (was is : Option (List ℕ)) (calls : TraceState) (status : ℕ) → Leaves (disk.now old) (disk.now start.disk) (disk.past old) (disk.past start.disk) (Left (disk.now old)) → LeavesNow (disk.now start.disk) (MeansState start) → disk.failures start.disk ≡ disk.failures old
+      → RunOn disk.now disk.past disk.failures start new was is calls status
+      → RanOn disk.now disk.past disk.failures old new was is calls status
   ran_on old start new was is calls status opened means same it =
-      let file = (now start.disk).bytes in
-      let here = left_now (now start.disk) in
+      let file = (disk.now start.disk).bytes in
+      let here = left_now (disk.now start.disk) in
       record {
         start = start;
-        found = (file, ⊎_elim (λ left. left) (λ left. left) (leaves_now (now old) (now start.disk) (past old) (past start.disk) (Left (now old)) opened file here), means file here);
+        found = (file, ⊎_elim (λ left. left) (λ left. left) (leaves_now (disk.now old) (disk.now start.disk) (disk.past old) (disk.past start.disk) (Left (disk.now old)) opened file here), means file here);
         setup = it.setup;
         told = it.told;
         doubt = it.doubt;
         puts = record {
           first = it.puts.first;
           accepted = it.puts.accepted;
-          leaves = leaves_then (now old) (now start.disk) (now new) (past old) (past start.disk) (past new) (λ file. ⊥) (MeansBeginning start (it.told ++ it.doubt)) (MeansBeginning start (it.told ++ it.doubt))
+          leaves = leaves_then (disk.now old) (disk.now start.disk) (disk.now new) (disk.past old) (disk.past start.disk) (disk.past new) (λ file. ⊥) (MeansBeginning start (it.told ++ it.doubt)) (MeansBeginning start (it.told ++ it.doubt))
               (record { later = opened.later; each = λ t c le left. ⊎_elim (λ before. inl before) (λ now. inl (inl (le, now))) (opened.each t c le left) }) it.puts.leaves (λ file no. absurd no) (λ file is. is);
           last = it.puts.last;
-          sure = ⊎_elim (λ none. inl none) (λ rose. inr (subst (λ (n : ℕ). Rises n (failures new)) same rose)) it.puts.sure;
+          sure = ⊎_elim (λ none. inl none) (λ rose. inr (subst (λ (n : ℕ). Rises n (disk.failures new)) same rose))
+              it.puts.sure;
         };
         settles = it.settles;
         printed = it.printed;
@@ -332,7 +357,7 @@ module _ {D : Type 0} (now : D → Moment) (past : D → List Moment) (failures 
       }
 
   -- a run by what is known at its end
-  pub ran : (old new : D) (was is : Option (List ℕ)) (calls : TraceState) (status : ℕ) → (status ≡ 0) ⊎ (status ≡ STALLED) → NotOpened now past old new was is status ⊎ RanOn now past failures old new was is calls status → Ran now new was is status
+  pub ran : (old new : D) (was is : Option (List ℕ)) (calls : TraceState) (status : ℕ) → (status ≡ 0) ⊎ (status ≡ STALLED) → NotOpened disk.now disk.past old new was is status ⊎ RanOn disk.now disk.past disk.failures old new was is calls status → Ran disk.now new was is status
   ran old new was is calls status ends (inl none) = absurd (no_end status none.status_is ends)
     where
       no_end : (n : ℕ) → n ≡ 1 → (n ≡ 0) ⊎ (n ≡ STALLED) → ⊥

@@ -1,3 +1,4 @@
+pub mod Once
 pub mod Running
 pub mod Setup
 pub mod Tracing

@@ -24,7 +24,7 @@ use Rattle.im_text.specs.declared.reasons.Reason.TheVariants.{Image, Request}
 use Rattle.im_text.specs.declared.replies.Waited.{Waited}
 use Rattle.im_text.specs.Printing.{Begins, IsLast, Prints, PrintsMore, replies, told_line}
 use Rattle.im_text.specs.Texts.{line_feed, texts_below}
-use Rattle.im_run.specs.declared.orders.Order.{Order}
+use Rattle.im_run.specs.declared.sheet.Order.{Order}
 use Rattle.im_run.specs.declared.run.TheConstants.{STALLED}
 use Rattle.im_run.specs.declared.served.Did.{Did}
 use Rattle.im_run.specs.declared.served.Did.TheVariants.{Sent, Glanced}

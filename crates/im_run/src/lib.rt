@@ -4,12 +4,15 @@
 #![tactic(auto)]
 
 mod noting;
+mod once;
 mod orders;
 mod planned;
 mod run;
 mod served;
+mod sheet;
 mod telling;
 mod tracing;
 
+pub use once::run_once_on;
 pub use run::{STALLED, run_on};
 pub use tracing::{Trace, write_trace};

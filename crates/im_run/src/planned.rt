@@ -2,7 +2,7 @@
 ghost use Rattle.std.specs.Prelude.{◌≡◌, ◌≤◌, IfOk, IfErr, IfSome, IsSome, IfNone, length, true};
 ghost use Rattle.im_run.specs.Running.{AreThere};
 
-use crate::orders::Order;
+use crate::sheet::Order;
 use im_controller::{Opening, start, start_planned};
 use im_disk::Disk;
 use im_engine::Engine;

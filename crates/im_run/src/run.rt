@@ -2,12 +2,14 @@
 ghost use Rattle.std.specs.Prelude.{◌≡◌, ◌⊎◌, ◌≤◌, [], false, IsOk};
 ghost use Rattle.im_disk.specs.Since.{LeavesNow};
 ghost use Rattle.im_engine.specs.State.{MeansState};
-ghost use Rattle.im_serial.specs.Serving.{NotOpened};
+ghost use Rattle.im_serial.specs.Serving.{NotOpened, at};
 ghost use Rattle.im_run.specs.Running.{Closes, EndedOn, Ran, RanOn, RunOn, disk_failed, told_as};
+ghost use Rattle.im_run.specs.Setup.{CanServe};
 
-use crate::orders::{Order, read_orders};
+use crate::orders::read_orders;
 use crate::planned::begin;
 use crate::served::{Did, Outcome, serve_orders};
+use crate::sheet::{Commission, Order};
 use crate::telling::print_finals;
 use crate::tracing::Trace;
 use im_controller::Traced;
@@ -129,8 +131,8 @@ fn status_of(failed: bool, stalled: bool, status: u8) -> u8
     }
 }
 
-// Prints the lines of what was done, and the refusal. Returns the status and the engine's disk.
-fn close<D: Disk, W: Write, N: Observer>(
+/// Prints the lines of what was done, and the refusal. Returns the status and the engine's disk.
+pub(crate) fn close<D: Disk, W: Write, N: Observer>(
     alloc: Global,
     engine: Engine<D>,
     did: Vec<Did>,
@@ -216,8 +218,8 @@ fn serve_on<
     }
 }
 
-// Serves a script on an engine. Returns the status, the engine's disk, and the trace.
-fn run_engine<
+/// Serves a script with a server that has served nothing yet. Returns the status, the engine's disk, and the trace.
+pub(crate) fn run_server<
     D: Disk + Drop + Send,
     W: Write,
     N: Observer,
@@ -227,26 +229,24 @@ fn run_engine<
 >(
     rt: &R,
     alloc: Global,
-    engine: Engine<D>,
-    desk: Desk,
-    script: &Script<'_>,
+    server: Server<D>,
+    asked: Commission<'_, '_>,
     gate: &G,
     watcher: &V,
     out: &mut W,
     observer: &mut N,
     planned: bool,
 ) -> (u8, D, Trace)
-    requires works { engine.failed ≡ false }
-    requires means { D.honest engine.disk → LeavesNow (D.now engine.disk) (MeansState engine) }
-    requires pending { desk.lines.pending.items ≡ [] }
+    requires ready { CanServe D.Disk (at server.engine (W.contents out.old) server.lines server.waited.items) }
     ensures status { (result.0 ≤ 1) ⊎ (result.0 ≡ STALLED) }
     ensures run { D.honest result.1
-        → RunOn D.now D.past D.failures engine result.1 (W.contents out.old) (W.contents out.new) result.2 result.0 }
-    ensures honest { D.honest result.1 → D.honest engine.disk }
+        → RunOn D.now D.past D.failures server.engine result.1 (W.contents out.old) (W.contents out.new)
+        result.2 result.0 }
+    ensures honest { D.honest result.1 → D.honest server.engine.disk }
 {
     let none = Vec::new(alloc);
-    let mut server = Server::new(alloc, engine, desk);
-    let (read, setup) = read_orders(alloc, &mut server, script, out, observer);
+    let mut server = server;
+    let (read, setup) = read_orders(alloc, &mut server, asked, out, observer);
     let (engine, paper) = server.leave();
     match read {
         Ok(orders) => {
@@ -338,9 +338,16 @@ pub fn run_on<
         return (status, disk, Trace::new(alloc));
     };
     match Engine::open(alloc, disk) {
-        Ok(engine) => run_engine(
-            rt, alloc, engine, desk, script, gate, watcher, out, observer, planned,
-        ),
+        Ok(engine) => {
+            let server = Server::new(alloc, engine, desk);
+            let asked = Commission {
+                script,
+                once: false,
+            };
+            run_server(
+                rt, alloc, server, asked, gate, watcher, out, observer, planned,
+            )
+        }
         Err((refusal, mut disk)) => {
             let reason = diagnose(alloc, &mut disk, refusal);
             let status = end(alloc, Err(reason), out, observer);

@@ -5,7 +5,7 @@ ghost use Rattle.im_types.specs.declared.commands.Line.{Line};
 ghost use Rattle.im_controller.specs.Kept.{begun_in};
 ghost use Rattle.im_run.specs.Running.{ServedOn};
 
-use crate::orders::Order;
+use crate::sheet::Order;
 use im_controller::{Controller, Finished, Name, Opening, Port, Traced, finish};
 use im_disk::Disk;
 use im_engine::Engine;

@@ -1,22 +1,40 @@
-use Rattle.std.proofs.Common.{inr}
-use Rattle.im_run.proofs.RunningLemmas.{ran, ran_on}
+use Rattle.std.proofs.Common.{inr, subst}
+use Rattle.im_engine.specs.State.{EngineState}
+use Rattle.im_run.specs.Running.{RunOn}
+use Rattle.im_run.proofs.RunningLemmas.{ran, ran_on, ready_new}
 use Rattle.im_run.proofs.run.run_on.Goals as goal
+
+pub run_server-requires-clause-ready : goal.run_server-requires-clause-ready
+run_server-requires-clause-ready g c κs within =
+    let n = c.new-server in
+    let e = c.in-Ok-open.ensures in
+    ready_new g.D.Disk c.in-Ok-open.engine n.result.engine (g.W.Write.contents c.args.out.now) c.in-Ok.desk.lines
+    n.result.lines n.result.waited.items e.works e.means c.in-Ok.ensures.pending n.ensures.waited n.ensures.engine
+    n.ensures.lines
 
 pub returns-in-Ok-open-clause-run : goal.returns-in-Ok-open-clause-run
 returns-in-Ok-open-clause-run g c = λ honest.
     let d = g.D.Disk in
-    let r = c.run_engine in
-    let was = r.ensures.honest honest in
+    let r = c.run_server in
+    let same = c.new-server.ensures.engine in
+    let was = subst (λ (x : EngineState g.row.D.Denot). d.honest x.disk) same (r.ensures.honest honest) in
     let e = c.in-Ok-open.ensures in
-    inr (ran_on d.now d.past d.failures c.args.disk c.in-Ok-open.engine r.result.1 _ _ r.result.2 r.result.0
-    (e.leaves was) (e.means was) e.faults (r.ensures.run honest))
+    let run = subst (λ (x : EngineState g.row.D.Denot). RunOn d.now d.past d.failures x r.result.1
+    (g.W.Write.contents c.args.out.now) (g.W.Write.contents r.new.out) r.result.2 r.result.0) same
+    (r.ensures.run honest) in
+    inr (ran_on d c.args.disk c.in-Ok-open.engine r.result.1 _ _ r.result.2 r.result.0
+    (e.leaves was) (e.means was) e.faults run)
 
 pub returns-in-Ok-open-clause-ran : goal.returns-in-Ok-open-clause-ran
 returns-in-Ok-open-clause-ran g c = λ honest is.
     let d = g.D.Disk in
-    let r = c.run_engine in
-    let was = r.ensures.honest honest in
+    let r = c.run_server in
+    let same = c.new-server.ensures.engine in
+    let was = subst (λ (x : EngineState g.row.D.Denot). d.honest x.disk) same (r.ensures.honest honest) in
     let e = c.in-Ok-open.ensures in
-    ran d.now d.past d.failures c.args.disk r.result.1 _ _ r.result.2 r.result.0 is
-    (inr (ran_on d.now d.past d.failures c.args.disk c.in-Ok-open.engine r.result.1 _ _ r.result.2 r.result.0
-    (e.leaves was) (e.means was) e.faults (r.ensures.run honest)))
+    let run = subst (λ (x : EngineState g.row.D.Denot). RunOn d.now d.past d.failures x r.result.1
+    (g.W.Write.contents c.args.out.now) (g.W.Write.contents r.new.out) r.result.2 r.result.0) same
+    (r.ensures.run honest) in
+    ran d c.args.disk r.result.1 _ _ r.result.2 r.result.0 is
+    (inr (ran_on d c.args.disk c.in-Ok-open.engine r.result.1 _ _ r.result.2 r.result.0
+    (e.leaves was) (e.means was) e.faults run))

@@ -1,0 +1,117 @@
+-- A script that is run once: what is known at its end. (Own.)
+use Rattle.std.proofs.Common.{◌≡◌, ◌∙◌, inl, inr, ⊎_elim, ℕ, List, [], ◌++◌, refl, sym, ap, subst}
+use Rattle.std.specs.Prelude.{◌⊎◌, Option}
+use Rattle.im_disk.specs.declared.disk.Disk.{Ghosts}
+use Rattle.im_disk.specs.Moment.{Left}
+use Rattle.im_disk.specs.Since.{Leaves, LeavesNow}
+use Rattle.im_disk.proofs.SinceLemmas.{left_now, leaves_now}
+use Rattle.im_engine.specs.State.{EngineState, MeansState}
+use Rattle.im_text.specs.declared.replies.Waited.{Waited}
+use Rattle.im_text.specs.Printing.{Begins, IsLast, Prints}
+use Rattle.im_text.proofs.PrintingLemmas.{prints_none}
+use Rattle.im_serial.specs.Asked.{Wanted}
+use Rattle.im_serial.specs.Fitting.{FitsScript}
+use Rattle.im_serial.specs.Had.{numbers_had}
+use Rattle.im_serial.specs.Once.{Breaks, HasServedNothing, HasShown, IsPrefix, lines_had}
+use Rattle.im_serial.specs.Serving.{ScriptServer, at}
+use Rattle.im_serial.proofs.OnceLemmas.{met_start, shown_written}
+use Rattle.im_run.specs.Once.{IsRest, IsUnrun, NotRun, RanRest}
+use Rattle.im_run.specs.Running.{RunOn}
+use Rattle.im_run.specs.Setup.{CanServe}
+use Rattle.im_run.specs.Tracing.{TraceState}
+use Rattle.im_run.proofs.RunningLemmas.{ran_on}
+
+module _ {D : Type 0} (disk : Ghosts D) where
+  -- ---- on an engine
+
+  module _ (script : List Wanted) (old mid : ScriptServer D) (bases : List ℕ) (ready : HasServedNothing disk old bases)
+    where
+      -- it was ended before the run
+      pub unrun_by : mid.engine ≡ old.engine → Breaks (numbers_had old.engine.memory) script old mid
+          → FitsScript old.engine.memory script ⊎ (mid ≡ old) → (new : D) (is : Option (List ℕ)) (calls : TraceState)
+          (status : ℕ) → status ≡ 1 → new ≡ mid.engine.disk → ((start : Option (List ℕ)) (text : List ℕ)
+          → Prints start mid.held mid.lines text → (last : List ℕ) × (IsLast last × Begins start is (text ++ last)))
+          → calls ≡ record { setup = []; served = [] } → IsUnrun script old.engine new old.held is calls status
+      unrun_by same breaks fit new is calls status one at_disk last none = ⊎_elim by_fit by_same fit
+        where
+          make : (had : List ℕ) → IsPrefix had (lines_had old.engine.memory (numbers_had old.engine.memory) script)
+              → FitsScript old.engine.memory script ⊎ (had ≡ []) → Prints old.held mid.held mid.lines had
+              → IsUnrun script old.engine new old.held is calls status
+          make had had_is fits prints = let end = last old.held had prints in record {
+            status_is = one;
+            same = at_disk ∙ ap (λ (e : EngineState D). e.disk) same;
+            had = had;
+            had_is = had_is;
+            fit = fits;
+            last = end.0;
+            last_is = end.1.0;
+            begins = end.1.1;
+            unserved = none;
+          }
+
+          by_fit : FitsScript old.engine.memory script → IsUnrun script old.engine new old.held is calls status
+          by_fit it =
+              let broken = breaks script [] old.held (met_start disk script old bases ready) in
+              make broken.0 (subst (λ (e : EngineState D). IsPrefix broken.0 (lines_had e.memory (numbers_had e.memory)
+              script)) same broken.1.0.lines) (inl it) broken.1.1
+
+          by_same : mid ≡ old → IsUnrun script old.engine new old.held is calls status
+          by_same it = make [] (lines_had old.engine.memory (numbers_had old.engine.memory) script, refl) (inr refl)
+              (subst (λ (t : ScriptServer D). Prints old.held t.held t.lines []) (sym it)
+              (prints_none old.held old.lines ready.pending))
+
+      module _ (known : List ℕ) (it : HasShown script bases known old mid) where
+        -- the run can begin
+        pub ready_rest : (waited : List Waited) → waited ≡ [] → CanServe disk (at mid.engine mid.held mid.lines waited)
+        ready_rest waited none = record {
+          works = ap (λ (e : EngineState D). e.failed) it.engine ∙ ready.works;
+          means = subst (λ (e : EngineState D). disk.honest e.disk → LeavesNow (disk.now e.disk) (MeansState e))
+              (sym it.engine) ready.means;
+          pending = it.pending;
+          waited = none;
+        }
+
+        -- it ran
+        pub rest_by : FitsScript old.engine.memory script → (new : D) (is : Option (List ℕ)) (calls : TraceState)
+            (status : ℕ) → RunOn disk.now disk.past disk.failures mid.engine new mid.held is calls status
+            → IsRest disk script old.engine new old.held is calls status
+        rest_by fit new is calls status run = record {
+          fit = fit;
+          made = it.made;
+          mid = mid.held;
+          shown = shown_written disk script bases known old mid it fit ready;
+          run = subst (λ (e : EngineState D). RunOn disk.now disk.past disk.failures e new mid.held is calls status)
+              it.engine run;
+        }
+
+  -- ---- on an image
+
+  -- an opening leaves nothing new, and what it found was there
+  pub opened_rest : (script : List Wanted) (old : D) (start : EngineState D) (new : D) (was is : Option (List ℕ))
+      (calls : TraceState) (status : ℕ)
+      → Leaves (disk.now old) (disk.now start.disk) (disk.past old) (disk.past start.disk) (Left (disk.now old))
+      → LeavesNow (disk.now start.disk) (MeansState start) → disk.failures start.disk ≡ disk.failures old
+      → IsUnrun script start new was is calls status ⊎ IsRest disk script start new was is calls status
+      → NotRun disk.now disk.past script old new was is calls status
+      ⊎ RanRest disk.now disk.past disk.failures script old new was is calls status
+  unfolding ran_on
+  opened_rest script old start new was is calls status opened means same (inl unrun) = inl (record {
+    start = start;
+    found = (
+      (disk.now start.disk).bytes,
+      ⊎_elim (λ left. left) (λ left. left) (leaves_now (disk.now old) (disk.now start.disk) (disk.past old)
+          (disk.past start.disk) (Left (disk.now old)) opened (disk.now start.disk).bytes
+          (left_now (disk.now start.disk))),
+      means (disk.now start.disk).bytes (left_now (disk.now start.disk)),
+    );
+    unrun = unrun;
+    leaves = subst (λ (d : D). Leaves (disk.now old) (disk.now d) (disk.past old) (disk.past d) (Left (disk.now old)))
+        (sym unrun.same) opened;
+  })
+  opened_rest script old start new was is calls status opened means same (inr rest) = inr (record {
+    mid = rest.mid;
+    ran = ran_on disk old start new rest.mid is calls status opened means same rest.run;
+    fit = rest.fit;
+    made = rest.made;
+    shown = rest.shown;
+  })

@@ -1,0 +1,140 @@
+//! A script that is run once, whatever stopped it before.
+ghost use Rattle.std.specs.Prelude.{◌≡◌, ◌⊎◌, ◌≤◌, ◌++◌, ℕ, List, Option};
+ghost use Rattle.im_text.specs.Printing.{Begins, IsLast, Prints};
+ghost use Rattle.im_serial.specs.Asked.{wanted_of};
+ghost use Rattle.im_serial.specs.Once.{HasServedNothing};
+ghost use Rattle.im_serial.specs.Serving.{seen_by};
+ghost use Rattle.im_run.specs.Once.{EndsOnce, RunsOnceOn};
+
+use crate::run::{STALLED, run_server};
+use crate::sheet::Commission;
+use crate::tracing::Trace;
+use im_disk::Disk;
+use im_engine::Engine;
+use im_script::Script;
+use im_serial::{Desk, Server};
+use im_serving::{Gate, Watcher};
+use im_text::{Observer, Reason, diagnose, end, finish};
+use std::alloc::Global;
+use std::io::Write;
+use std::sync::Wait;
+use std::thread::Threads;
+
+// Prints a refusal behind the lines that are kept back. Returns the status and the engine's disk.
+fn refuse_rest<D: Disk, W: Write, N: Observer>(
+    alloc: Global,
+    server: Server<D>,
+    reason: Reason,
+    out: &mut W,
+    observer: &mut N,
+) -> (u8, D)
+    ensures status { result.0 ≡ 1 }
+    ensures disk { result.1 ≡ server.engine.disk }
+    ensures last { (start : Option (List ℕ)) (text : List ℕ) → Prints start (W.contents out.old) server.lines text
+        → (last : List ℕ) × (IsLast last × Begins start (W.contents out.new) (text ++ last)) }
+{
+    let (engine, mut paper) = server.leave();
+    let _status = finish(
+        alloc,
+        Err(reason),
+        &mut paper.lines,
+        &mut paper.line,
+        out,
+        observer,
+    );
+    (1, engine.close())
+}
+
+// Prints what the engine of a server has of a script, and runs the rest. Returns the status, the engine's disk, and the
+// trace.
+fn run_rest<
+    D: Disk + Drop + Send,
+    W: Write,
+    N: Observer,
+    G: Gate + Sync,
+    V: Watcher + Sync,
+    R: Threads + Wait + Sync,
+>(
+    rt: &R,
+    alloc: Global,
+    server: Server<D>,
+    script: &Script<'_>,
+    gate: &G,
+    watcher: &V,
+    out: &mut W,
+    observer: &mut N,
+) -> (u8, D, Trace)
+    requires ready { HasServedNothing D.Disk (seen_by server (W.contents out.old)) server.bases.items }
+    ensures status { (result.0 ≤ 1) ⊎ (result.0 ≡ STALLED) }
+    ensures ends { EndsOnce D.Disk (wanted_of script.now) server.engine result.1 (W.contents out.old)
+        (W.contents out.new) result.2 result.0 }
+{
+    let mut server = server;
+    match server.show_past(alloc, script, out) {
+        Ok(()) => {
+            let none = Vec::new(alloc);
+            server.waited = none; // Those that wait are sent again.
+            let asked = Commission { script, once: true };
+            run_server(
+                rt, alloc, server, asked, gate, watcher, out, observer, false,
+            )
+        }
+        Err(reason) => {
+            let (status, disk) = refuse_rest(alloc, server, reason, out, observer);
+            (status, disk, Trace::new(alloc))
+        }
+    }
+}
+
+/// Runs what the image of a disk doesn't have of a script, and gives the disk back, with the trace: the n-th request of
+/// an element in the script has number n, and the blocks of the setup are element 0's first requests. So a script that
+/// was stopped is gone on with by the same call. What it prints goes to `out`, in this order:
+///
+/// - For each request that the image has, in the script's order: `K.N REPLY`, what is kept for it, or `K.N done` if it
+///   was confirmed. These lines are written out before anything is served.
+/// - The lines of [`run_on`](crate::run_on), of the requests that are sent: those that the image doesn't have, and
+///   those from an element's first one on that waits. The latter are sent again under their numbers, and answered as
+///   before, or since. Glances have no number: all of them are made.
+///
+/// Before anything is printed, the script is compared with what the image has of it, and refused if another script used
+/// the image, as [`serial_once_on`](im_serial::serial_once_on) says.
+///
+/// All else is as [`run_on`](crate::run_on) says. Nothing more is confirmed at the end, so that one more call prints
+/// the last replies again.
+pub fn run_once_on<
+    D: Disk + Drop + Send,
+    W: Write,
+    N: Observer,
+    G: Gate + Sync,
+    V: Watcher + Sync,
+    R: Threads + Wait + Sync,
+>(
+    rt: &R,
+    alloc: Global,
+    disk: D,
+    script: &Script<'_>,
+    gate: &G,
+    watcher: &V,
+    out: &mut W,
+    observer: &mut N,
+) -> (u8, D, Trace)
+    ensures status { (result.0 ≤ 1) ⊎ (result.0 ≡ STALLED) }
+    ensures run { RunsOnceOn D.Disk script.now disk result.1 (W.contents out.old) (W.contents out.new) result.2
+        result.0 }
+{
+    let Ok(desk) = Desk::new(alloc) else {
+        let status = end(alloc, Err(Reason::Memory), out, observer);
+        return (status, disk, Trace::new(alloc));
+    };
+    match Engine::open(alloc, disk) {
+        Ok(engine) => {
+            let server = Server::new(alloc, engine, desk);
+            run_rest(rt, alloc, server, script, gate, watcher, out, observer)
+        }
+        Err((refusal, mut disk)) => {
+            let reason = diagnose(alloc, &mut disk, refusal);
+            let status = end(alloc, Err(reason), out, observer);
+            (status, disk, Trace::new(alloc))
+        }
+    }
+}
