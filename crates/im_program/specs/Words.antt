@@ -7,6 +7,8 @@ use Rattle.std.specs.Str.{bytes_eq}
 use Rattle.clap.specs.declared.builder.action.ArgAction.TheVariants.{SetTrue}
 use Rattle.clap.specs.declared.builder.value_parser.ValueParser.TheVariants.{Unsigned}
 use Rattle.clap.specs.Words.{App, Row, Rule, Text, first_of, new_app, new_rule, subcommand_of, with_rule, with_subcommand}
+use Rattle.im_program.specs.declared.words.Way.{Way}
+use Rattle.im_program.specs.declared.words.Way.TheVariants.{Free, Planned, Once}
 use Rattle.im_program.specs.declared.words.Work.{Work}
 use Rattle.im_program.specs.declared.words.Work.TheVariants.{Alone, Run, Migrate, Copy}
 use Rattle.im_program.specs.declared.words.Job.{Job}
@@ -14,7 +16,7 @@ use Rattle.im_program.specs.declared.words.Job.TheVariants.{Demonstration, Forma
 use Rattle.im_migration.specs.declared.asked.Asked.{Asked}
 use Rattle.im_report.specs.declared.look.Filter.{Filter}
 use Rattle.im_report.specs.declared.look.View.{View}
-use Rattle.im_report.specs.declared.look.View.TheVariants.{Report, Stat, StatJson}
+use Rattle.im_report.specs.declared.look.View.TheVariants.{Report, ReportJson, Stat, StatJson, DumpJson}
 use Rattle.im_report.specs.declared.look.Span.{Span}
 use Rattle.im_script.specs.Grammar.{number_up_to}
 
@@ -52,22 +54,27 @@ script_app name = with_rule (file_app name (codes "IMAGE")) (path_rule (codes "S
 abbrev pub serial_app : App
 serial_app = with_rule (script_app (codes "serial")) (flag_rule (codes "once"))
 
--- run IMAGE SCRIPT [--planned] [--trace FILE] [--statuses] [--wait SECONDS]
+-- run IMAGE SCRIPT [--planned] [--trace FILE] [--once] [--statuses] [--wait SECONDS]
 abbrev pub run_app : App
-run_app = with_rule (with_rule (script_app (codes "run")) (flag_rule (codes "planned"))) (option_rule (codes "trace"))
+run_app = with_rule (with_rule (with_rule (script_app (codes "run")) (flag_rule (codes "planned")))
+    (option_rule (codes "trace"))) (flag_rule (codes "once"))
 
 -- serve IMAGE [--watch] [--statuses] [--wait SECONDS]
 abbrev pub serve_app : App
 serve_app = with_rule (file_app (codes "serve") (codes "IMAGE")) (flag_rule (codes "watch"))
 
--- inspect IMAGE [--cells FROM-TO] [--element K] [--waiting] [--statuses] [--wait SECONDS]
+-- inspect IMAGE [--cells FROM-TO] [--element K] [--waiting] [--json] [--statuses] [--wait SECONDS]
 abbrev pub inspect_app : App
-inspect_app = with_rule (with_rule (with_rule (file_app (codes "inspect") (codes "IMAGE"))
-    (option_rule (codes "cells"))) (option_rule (codes "element"))) (flag_rule (codes "waiting"))
+inspect_app = with_rule (with_rule (with_rule (with_rule (file_app (codes "inspect") (codes "IMAGE"))
+    (option_rule (codes "cells"))) (option_rule (codes "element"))) (flag_rule (codes "waiting"))) (flag_rule (codes "json"))
+
+-- NAME IMAGE [--json] [--statuses] [--wait SECONDS]
+abbrev pub json_app : Text → App
+json_app name = with_rule (file_app name (codes "IMAGE")) (flag_rule (codes "json"))
 
 -- stat IMAGE [--json] [--statuses] [--wait SECONDS]
 abbrev pub stat_app : App
-stat_app = with_rule (file_app (codes "stat") (codes "IMAGE")) (flag_rule (codes "json"))
+stat_app = json_app (codes "stat")
 
 -- migrate OLD NEW [--statuses] [--wait SECONDS]
 abbrev pub migrate_app : App
@@ -82,9 +89,9 @@ sized_app app = with_rule (with_rule (with_rule app (option_rule (codes "cells")
 abbrev pub copy_app : App
 copy_app = sized_app (with_rule (file_app (codes "copy") (codes "OLD")) (path_rule (codes "NEW")))
 
--- dump IMAGE [--statuses] [--wait SECONDS]
+-- dump IMAGE [--json] [--statuses] [--wait SECONDS]
 abbrev pub dump_app : App
-dump_app = file_app (codes "dump") (codes "IMAGE")
+dump_app = json_app (codes "dump")
 
 -- load TEXT NEW [--cells N] [--elements N] [--slots N] [--statuses] [--wait SECONDS]
 abbrev pub load_app : App
@@ -116,7 +123,7 @@ pub data Task : Type 0 where
   demonstration : Task
   format : (image : List ℕ) (cells elements slots : ℕ) (is_new : Bool) → Task
   serial : (image script : List ℕ) (once : Bool) → Task
-  run : (image script : List ℕ) (planned : Bool) (trace : Option (List ℕ)) → Task
+  run : (image script : List ℕ) (way : Way) (trace : Option (List ℕ)) → Task
   serve : (image : List ℕ) (watch : Bool) → Task
   inspect : (image : List ℕ) (look : View) → Task
   migrate : (old new : List ℕ) → Task
@@ -137,7 +144,7 @@ task_of_job (Load text new asked) = load text.now new.now asked
 -- the task that a Work is
 abbrev pub task_of : Work → Task
 task_of (Alone job) = task_of_job job
-task_of (Run image script planned trace) = run image.now script.now planned (option_map (λ path. path.now) trace)
+task_of (Run image script way trace) = run image.now script.now way (option_map (λ path. path.now) trace)
 task_of (Migrate old new) = migrate old.now new.now
 task_of (Copy old new asked) = copy old.now new.now asked
 
@@ -177,11 +184,18 @@ format_task rows =
 abbrev pub serial_task : List Row → Task
 serial_task rows = serial (path_in rows (codes "IMAGE")) (path_in rows (codes "SCRIPT")) (is_given rows (codes "once"))
 
--- the task of run, by its two paths, whether it is planned, and the path of its trace
-abbrev pub run_task : List Row → Task
+-- how a script is run, by whether it is planned and whether it is done once; it can't be both
+abbrev pub way_with : Bool → Bool → Option Way
+way_with false false = Some Free
+way_with true false = Some Planned
+way_with false true = Some Once
+way_with true true = None
+
+-- the task of run, by its two paths, how it is run, and the path of its trace
+abbrev pub run_task : List Row → Option Task
 run_task rows =
-    run (path_in rows (codes "IMAGE")) (path_in rows (codes "SCRIPT")) (is_given rows (codes "planned"))
-    (first_of (codes "trace") rows)
+    option_map (λ way. run (path_in rows (codes "IMAGE")) (path_in rows (codes "SCRIPT")) way
+    (first_of (codes "trace") rows)) (way_with (is_given rows (codes "planned")) (is_given rows (codes "once")))
 
 -- the task of serve, by its path and whether it is watched
 abbrev pub serve_task : List Row → Task
@@ -217,9 +231,15 @@ filter_in rows = option_and_then (λ cells. option_map (λ element.
     record { cells = cells; element = element; waiting = is_given rows (codes "waiting") })
     (given_in rows (codes "element"))) (given_cells rows)
 
--- the task of inspect, by its path and its filter
+-- how inspect prints what a filter leaves
+abbrev pub inspect_look : Bool → Filter → View
+inspect_look json f = if json then ReportJson f else Report f
+
+-- the task of inspect, by its path, its filter and its form
 abbrev pub inspect_task : List Row → Option Task
-inspect_task rows = option_map (λ filter. inspect (path_in rows (codes "IMAGE")) (Report filter)) (filter_in rows)
+inspect_task rows =
+    option_map (λ filter. inspect (path_in rows (codes "IMAGE")) (inspect_look (is_given rows (codes "json")) filter))
+    (filter_in rows)
 
 -- what stat prints
 abbrev pub stat_look : Bool → View
@@ -238,9 +258,13 @@ abbrev pub copy_task : List Row → Option Task
 copy_task rows =
     option_map (λ asked. copy (path_in rows (codes "OLD")) (path_in rows (codes "NEW")) asked) (sizes_given rows)
 
--- the task of dump, by its path
+-- a dump, or one as objects of JSON
+abbrev pub dump_job : Bool → Text → Task
+dump_job json image = if json then inspect image DumpJson else dump image
+
+-- the task of dump, by its path and its form
 abbrev pub dump_task : List Row → Task
-dump_task rows = dump (path_in rows (codes "IMAGE"))
+dump_task rows = dump_job (is_given rows (codes "json")) (path_in rows (codes "IMAGE"))
 
 -- the task of load, by its two paths, if each size that is given is in decimal digits below 2^32
 abbrev pub load_task : List Row → Option Task
@@ -252,7 +276,7 @@ abbrev pub task_in : Option (Text × List Row) → Option Task
 task_in None = Some demonstration
 task_in (Some met) =
     if bytes_eq met.0 (codes "format") then format_task met.1 else if bytes_eq met.0 (codes "serial")
-    then Some (serial_task met.1) else if bytes_eq met.0 (codes "run") then Some (run_task met.1)
+    then Some (serial_task met.1) else if bytes_eq met.0 (codes "run") then run_task met.1
     else if bytes_eq met.0 (codes "serve") then Some (serve_task met.1) else if bytes_eq met.0 (codes "migrate")
     then Some (migrate_task met.1) else if bytes_eq met.0 (codes "copy") then copy_task met.1
     else if bytes_eq met.0 (codes "dump") then Some (dump_task met.1) else if bytes_eq met.0 (codes "load")

@@ -8,6 +8,7 @@ use Rattle.im_report.specs.Look.{ShowsView}
 use Rattle.im_serial.specs.Once.{ServedOnceFrom}
 use Rattle.im_serial.specs.Serving.{ServedFrom}
 use Rattle.im_dialogue.specs.Dialogue.{TalkedFrom}
+use Rattle.im_run.specs.Once.{RanOnceFrom}
 use Rattle.im_run.specs.Running.{RanFrom}
 use Rattle.im_run.specs.Tracing.{TraceState}
 use Rattle.im_disk.specs.declared.file.FileDisk.{FileDisk}
@@ -15,12 +16,26 @@ use Rattle.im_disk.specs.declared.start.Start.{Ghosts}
 use Rattle.im_dump.specs.Dumping.{Dumps}
 use Rattle.im_program.specs.Loading.{LoadedFrom}
 use Rattle.im_program.specs.Moving.{CopiedFrom, MigratedFrom}
+use Rattle.im_program.specs.declared.words.Way.{Way}
+use Rattle.im_program.specs.declared.words.Way.TheVariants.{Free, Planned, Once}
 use Rattle.im_program.specs.Words.{Task, demonstration, format, serial, run, serve, inspect, migrate, copy, dump, load}
 
 -- a script was served on this disk, once or anew
 abbrev pub ScriptServed : {D : Type 0} → Bool → (D → Moment) → (D → List Moment) → (D → ℕ) → Moment → D → Option (List ℕ) → Option (List ℕ) → ℕ → Type 0
 ScriptServed {D} true = ServedOnceFrom {D = D}
 ScriptServed {D} false = ServedFrom {D = D}
+
+-- whether a script is run once
+abbrev pub is_once : Way → Bool
+is_once Free = false
+is_once Planned = false
+is_once Once = true
+
+-- a script was run on this disk, once or anew
+abbrev pub ScriptRan : {D : Type 0} → Bool → (D → Moment) → (D → List Moment) → (D → ℕ) → Moment → D
+    → Option (List ℕ) → Option (List ℕ) → TraceState → ℕ → Type 0
+ScriptRan {D} true = RanOnceFrom {D = D}
+ScriptRan {D} false = RanFrom {D = D}
 
 -- A task was done on this disk, with this status. The disk's file held the first moment when it was opened. The writer
 -- held the first bytes before, and holds the others now. The demonstration opens no file. The result of a migration or
@@ -30,8 +45,8 @@ DoneOn now past failures first demonstration was is status disk = ⊥
 DoneOn now past failures first (format image cells elements slots is_new) was is status disk =
     (status ≡ 0) × AreLimits cells elements slots × LeavesNow (now disk) (λ file. file ≡ new_image 0xA5 (record { cells = cells; elements = elements; slots = slots }))
 DoneOn now past failures first (serial image script once) was is status disk = ScriptServed once now past failures first disk was is status
-DoneOn now past failures first (run image script planned trace) was is status disk =
-    (calls : TraceState) × RanFrom now past failures first disk was is calls status
+DoneOn now past failures first (run image script way trace) was is status disk =
+    (calls : TraceState) × ScriptRan (is_once way) now past failures first disk was is calls status
 DoneOn now past failures first (serve image watch) was is status disk = TalkedFrom watch now past first disk was is status
 DoneOn now past failures first (inspect image look) was is status disk = (status ≡ 0 → ShowsView look first.bytes was is) × ReadsOnly first (now disk) [] (past disk)
 DoneOn now past failures first (migrate old new) was is status disk = Unit {0}
@@ -44,7 +59,7 @@ abbrev pub IsOfTwo : Task → Type 0
 IsOfTwo demonstration = ⊥
 IsOfTwo (format image cells elements slots is_new) = ⊥
 IsOfTwo (serial image script once) = ⊥
-IsOfTwo (run image script planned trace) = ⊥
+IsOfTwo (run image script way trace) = ⊥
 IsOfTwo (serve image watch) = ⊥
 IsOfTwo (inspect image look) = ⊥
 IsOfTwo (migrate old new) = Unit {0}
@@ -58,7 +73,7 @@ module _ {S T : Type 0} (start : Ghosts S) (other : Ghosts T) where
   MovedBy demonstration was is status old new = ⊥
   MovedBy (format image cells elements slots is_new) was is status old new = ⊥
   MovedBy (serial image script once) was is status old new = ⊥
-  MovedBy (run image script planned trace) was is status old new = ⊥
+  MovedBy (run image script way trace) was is status old new = ⊥
   MovedBy (serve image watch) was is status old new = ⊥
   MovedBy (inspect image look) was is status old new = ⊥
   MovedBy (migrate from to) was is status old new = MigratedFrom start other was is status old new

@@ -3,12 +3,14 @@ ghost use Rattle.std.specs.Prelude.{◌≡◌, false, IfOk, codes};
 ghost use Rattle.std.specs.Option.{option_map};
 ghost use Rattle.clap.specs.Words.{app_of, found_of, rows_of};
 ghost use Rattle.clap.specs.declared.builder.command.Command.TheViews.{out-Command};
-ghost use Rattle.im_program.specs.Words.{sizes_given, copy_app, copy_task, dump_app, dump_task, given_in, given_number};
-ghost use Rattle.im_program.specs.Words.{load_app, load_task, sized_app, task_of};
+ghost use Rattle.im_program.specs.Words.{copy_app, copy_task, dump_app, dump_job, dump_task, given_in, given_number};
+ghost use Rattle.im_program.specs.Words.{load_app, load_task, sized_app, sizes_given, task_of, task_of_job};
 
-use crate::words::{Job, Work, file_command, number_option, path_argument, path_of};
+use crate::look_words::json_command;
+use crate::words::{Job, Work, file_command, is_given, number_option, path_argument, path_of};
 use clap::{ArgMatches, Command};
 use im_migration::Asked;
+use im_report::View;
 use im_script::read_u32;
 use std::alloc::{AllocError, Global};
 
@@ -42,7 +44,10 @@ const DUMP_EXAMPLES: &str = "The lines, in this order:
   element E base B                        an element that has asked something
   entry E.N OPERATION -> ANSWER           an entry that is kept for it, by number
   end                                     the last line
-An image that isn't whole is refused: 'refused N NAME' names its first fault.
+With --json, a text for other programs, which isn't loaded: first the object {dump, limits {cells, elements,
+slots}, count} on a line, where dump is 1 and count a string, and then the lines of 'imem inspect --json' for
+blocks, cells, elements and entries. An image that isn't whole is refused: 'refused N NAME' names its first
+fault.
 
 Example: a dump of a.img, and the image that is made of it
   imem dump a.img > a.dump
@@ -114,7 +119,7 @@ pub(crate) fn dump_command<'a>(alloc: Global) -> Result<Command<'a>, AllocError>
     ensures app { IfOk result (λ c. app_of c ≡ dump_app) }
     ensures local { IfOk result (λ c. (out-Command c).has_globals ≡ false) }
 {
-    file_command(alloc, "dump", "IMAGE", "The image", DUMP, DUMP_EXAMPLES)
+    json_command(alloc, "dump", DUMP, DUMP_EXAMPLES)
 }
 
 /// The subcommand `load`.
@@ -180,12 +185,24 @@ pub(crate) fn copy_work<'a>(found: &ArgMatches<'a>) -> Option<Work<'a>>
     Some(Work::Copy { old, new, asked })
 }
 
+// The job of a dump, in words or as objects of JSON.
+fn dump_job<'a>(json: bool, image: &'a str) -> Job<'a>
+    ensures { task_of_job result ≡ dump_job json image.now }
+{
+    if json {
+        let look = View::DumpJson;
+        Job::Inspect { image, look }
+    } else {
+        Job::Dump { image }
+    }
+}
+
 /// What `dump` is asked for.
 pub(crate) fn dump_work<'a>(found: &ArgMatches<'a>) -> Work<'a>
     ensures { task_of result ≡ dump_task (rows_of (found_of found.now)) }
 {
     let image = path_of(found, "IMAGE");
-    Work::Alone(Job::Dump { image })
+    Work::Alone(dump_job(is_given(found, "json"), image))
 }
 
 /// What `load` is asked for. Returns `None` if a number is not the decimal number of a u32.

@@ -12,6 +12,7 @@ mod look_words;
 mod moving;
 mod opening;
 mod overwriting;
+mod prompting;
 mod statuses;
 mod tracing;
 mod words;
@@ -23,9 +24,10 @@ pub use descriptors::Descriptors;
 pub use dumping::dump_file;
 pub use loading::{LoadFault, LoadObserver, Loading, load_file};
 pub use moving::{Paths, migrate_file, migrate_on};
+pub use prompting::Prompter;
 pub use statuses::status_for;
 pub use words::{
-    DEFAULT_CELLS, DEFAULT_ELEMENTS, DEFAULT_SLOTS, Job, Order, WordFault, Work, read_words,
+    DEFAULT_CELLS, DEFAULT_ELEMENTS, DEFAULT_SLOTS, Job, Order, Way, WordFault, Work, read_words,
 };
 pub use work::{
     act, act_alone, format_file, inspect_file, refuse, run_file, serve_file, talk_file,

@@ -3,8 +3,8 @@ ghost use Rattle.std.specs.Prelude.{◌≡◌, false, IfOk, codes};
 ghost use Rattle.std.specs.Option.{option_map};
 ghost use Rattle.clap.specs.Words.{app_of, found_of, rows_of};
 ghost use Rattle.clap.specs.declared.builder.command.Command.TheViews.{out-Command};
-ghost use Rattle.im_program.specs.Words.{filter_in, given_cells, inspect_app, inspect_task, span_given, span_in, span_between};
-ghost use Rattle.im_program.specs.Words.{stat_app, stat_look, stat_task, task_of};
+ghost use Rattle.im_program.specs.Words.{filter_in, given_cells, inspect_app, inspect_look, inspect_task, json_app};
+ghost use Rattle.im_program.specs.Words.{span_between, span_given, span_in, stat_app, stat_look, stat_task, task_of};
 
 use crate::copy_words::number_given;
 use crate::words::{
@@ -15,6 +15,8 @@ use clap::{ArgMatches, Command, Error};
 use im_report::{Filter, Span, View};
 use im_script::read_u32;
 use std::alloc::{AllocError, Global};
+
+const JSON: &str = "Print JSON, an object on each line";
 
 const INSPECT: &str = "Print what an image means, and change nothing";
 
@@ -31,11 +33,20 @@ const INSPECT_EXAMPLES: &str = "The lines, in this order:
   entry K.N OPERATION -> REPLY            each entry that is kept for the element, by number
 With --cells, --element or --waiting, only the lines that they name: of the cells at these addresses, of
 the element and its entries, of the cells that somebody waits for. With --cells and --waiting, of a cell
-that both name. An image that isn't whole is refused: 'refused N NAME' names its first fault.
+that both name. With --json, each line is an object; the first one stands for the first four lines:
+  {version, limits, header, journal, count, next}     as 'imem stat --json' has them
+  {block, kind, length}                   the base is the number of block
+  {cell, state, value}                    state is full or clashed
+  {cell, state, waiters}                  state is waiting; waiters are objects {element, number}
+  {element, base, kept}
+  {entry, of, operation, reply}           entry is the request's number, of its element
+There generation, count, value, base, and the numbers of requests are strings, since they may pass 2^53.
+An image that isn't whole is refused: 'refused N NAME' names its first fault.
 
-Example: the image a.img after 'imem format a.img', and who waits at its first hundred cells
+Example: the image a.img after 'imem format a.img', who waits at its first hundred cells, and the values
   imem inspect a.img
   imem inspect a.img --cells 0-99 --waiting
+  imem inspect a.img --json | jq -c 'select(.value) | [.cell, .value]'
 
 Exit status: 0 the whole report is printed; 1 refused, with 'refused N NAME' as the last line; 2 a bad
 command line. If an image is damaged, standard error says where.";
@@ -83,10 +94,28 @@ pub(crate) fn inspect_command<'a>(alloc: Global) -> Result<Command<'a>, AllocErr
         "waiting",
         "Print only the lines of cells that somebody waits for",
     );
+    let json = flag_option(alloc, "json", JSON);
     let one = image.arg(cells)?;
     let two = one.arg(element)?;
     let three = two.arg(waiting)?;
-    Ok(three)
+    let four = three.arg(json)?;
+    Ok(four)
+}
+
+/// A subcommand that takes an image, and prints it in words or as objects of JSON.
+pub(crate) fn json_command<'a>(
+    alloc: Global,
+    name: &'a str,
+    about: &'a str,
+    examples: &'a str,
+) -> Result<Command<'a>, AllocError>
+    ensures app { IfOk result (λ c. app_of c ≡ json_app name.entry.now) }
+    ensures local { IfOk result (λ c. (out-Command c).has_globals ≡ false) }
+{
+    let image = image_command(alloc, name, about, examples)?;
+    let json = flag_option(alloc, "json", JSON);
+    let one = image.arg(json)?;
+    Ok(one)
 }
 
 /// The subcommand `stat`.
@@ -94,10 +123,7 @@ pub(crate) fn stat_command<'a>(alloc: Global) -> Result<Command<'a>, AllocError>
     ensures app { IfOk result (λ c. app_of c ≡ stat_app) }
     ensures local { IfOk result (λ c. (out-Command c).has_globals ≡ false) }
 {
-    let image = image_command(alloc, "stat", STAT, STAT_EXAMPLES)?;
-    let json = flag_option(alloc, "json", "Print one object of JSON");
-    let one = image.arg(json)?;
-    Ok(one)
+    json_command(alloc, "stat", STAT, STAT_EXAMPLES)
 }
 
 // The addresses from one number to another. Returns `None` if one of them is not the decimal number of a u32, or if
@@ -158,13 +184,24 @@ fn filter_of(found: &ArgMatches) -> Option<Filter>
     })
 }
 
+// How `inspect` prints what a filter leaves.
+fn inspect_look(json: bool, filter: Filter) -> View
+    ensures { result ≡ inspect_look json filter }
+{
+    if json {
+        View::ReportJson(filter)
+    } else {
+        View::Report(filter)
+    }
+}
+
 /// What `inspect` is asked for. Returns `None` if a text is no number, or no addresses.
 pub(crate) fn inspect_work<'a>(found: &ArgMatches<'a>) -> Option<Work<'a>>
     ensures { option_map task_of result ≡ inspect_task (rows_of (found_of found.now)) }
 {
     let filter = filter_of(found)?;
     let image = path_of(found, "IMAGE");
-    let look = View::Report(filter);
+    let look = inspect_look(is_given(found, "json"), filter);
     Some(Work::Alone(Job::Inspect { image, look }))
 }
 

@@ -8,7 +8,7 @@ ghost use Rattle.im_script.specs.Grammar.{texts};
 ghost use Rattle.im_program.specs.Words.{asked, asks_statuses, earlier_app, file_app, flag_rule, format_app, format_task};
 ghost use Rattle.im_program.specs.Words.{has_statuses, imem_app};
 ghost use Rattle.im_program.specs.Words.{is_given, migrate_app, migrate_task, number_in, option_rule, path_in};
-ghost use Rattle.im_program.specs.Words.{path_rule, run_app, run_task, script_app};
+ghost use Rattle.im_program.specs.Words.{path_rule, run_app, run_task, script_app, way_with};
 ghost use Rattle.im_program.specs.Words.{serial_app, serial_task, serve_app, serve_task, task_in, task_of, top_app};
 ghost use Rattle.im_program.specs.Words.{asks_wait, behind_plus, seconds_of, wait_in, wait_rule};
 
@@ -36,6 +36,17 @@ pub const DEFAULT_SLOTS: u32 = 256;
 /// The most seconds that the opening of a file waits for its lock: a day.
 const MAX_WAIT: u64 = 86_400;
 
+/// How a script is run.
+#[derive(Clone, Copy, Debug, PartialEq, Eq)]
+pub enum Way {
+    /// All of it, in whatever order.
+    Free,
+    /// All of it, as a plan.
+    Planned,
+    /// What the image doesn't have of it.
+    Once,
+}
+
 /// What the program is asked to do.
 #[derive(Clone, Copy, Debug, PartialEq, Eq)]
 pub enum Work<'a> {
@@ -47,8 +58,8 @@ pub enum Work<'a> {
         image: &'a str,
         /// The script's path.
         script: &'a str,
-        /// Whether the script is a plan.
-        planned: bool,
+        /// How it is run.
+        way: Way,
         /// The path of the new file for the trace, if one is asked for.
         trace: Option<&'a str>,
     },
@@ -243,6 +254,11 @@ store to a cell. Each i cell that they name is empty when they begin. Then the r
 lines in every run, in whatever order the elements are served. A script that is no such plan ends after
 its setup with 'refused 23 BadPlan', and none of its parts is served.
 
+With --once, a run that was stopped is continued by the same command, as 'imem serial --once' continues a
+script. First each request that the image has prints 'K.N REPLY', or 'K.N done' if it was confirmed. From an
+element's first request on that waits, the requests are sent again, and print their final replies as well.
+All glances are made. It can't be used with --planned.
+
 With --trace, FILE is a new file. At the end each call is written to it with its answer, in the order in
 which the calls were served: 'K.N OPERATION -> REPLY', 'confirm K UPTO -> confirmed' or
 'collect K.N -> REPLY'. What stands before the arrows is a dialogue for 'imem serve', which gets the same
@@ -250,10 +266,11 @@ replies on the image as it was before. If a file of that name exists, nothing is
 If a write of it fails, standard error says so.
 
 Example: the lines 'setup', 'alloc x i 1', 'element 1', 'fetch x', 'element 2', 'store x 5' in the
-file fetch.script, run on the image a.img, as a plan, and with a trace
+file fetch.script, run on the image a.img, as a plan, with a trace, and again after a stop
   imem run a.img fetch.script
   imem run b.img fetch.script --planned
   imem run c.img fetch.script --trace c.trace
+  imem run a.img fetch.script --once
 
 Exit status: 0 all was answered; 1 something was refused, with 'refused N NAME' as the last line, or the
 output can't be written; 2 a bad command line; 3 the elements wait for each other, with
@@ -495,9 +512,15 @@ fn run_command<'a>(alloc: Global) -> Result<Command<'a>, AllocError>
         "FILE",
         "Write each call and its answer to a new file, in the order of the lock",
     );
+    let once = flag_option(
+        alloc,
+        "once",
+        "Continue a run that was stopped: what the image has of the script isn't asked for again",
+    );
     let one = script.arg(planned)?;
     let two = one.arg(trace)?;
-    Ok(two)
+    let three = two.arg(once)?;
+    Ok(three)
 }
 
 /// The subcommand `serve`.
@@ -653,19 +676,31 @@ fn serial_work<'a>(found: &ArgMatches<'a>) -> Work<'a>
     })
 }
 
-/// What `run` is asked for.
-fn run_work<'a>(found: &ArgMatches<'a>) -> Work<'a>
-    ensures { task_of result ≡ run_task (rows_of (found_of found.now)) }
+/// How a script is run by two flags. Returns `None` if both are given.
+fn way_with(planned: bool, once: bool) -> Option<Way>
+    ensures { result ≡ way_with planned once }
 {
+    match (planned, once) {
+        (false, false) => Some(Way::Free),
+        (true, false) => Some(Way::Planned),
+        (false, true) => Some(Way::Once),
+        (true, true) => None,
+    }
+}
+
+/// What `run` is asked for. Returns `None` for a plan that is to be done once.
+fn run_work<'a>(found: &ArgMatches<'a>) -> Option<Work<'a>>
+    ensures { option_map task_of result ≡ run_task (rows_of (found_of found.now)) }
+{
+    let way = way_with(is_given(found, "planned"), is_given(found, "once"))?;
     let (image, script) = two_paths(found);
-    let planned = is_given(found, "planned");
     let trace = path_if(found, "trace");
-    Work::Run {
+    Some(Work::Run {
         image,
         script,
-        planned,
+        way,
         trace,
-    }
+    })
 }
 
 /// What `serve` is asked for.
@@ -687,7 +722,8 @@ fn migrate_work<'a>(found: &ArgMatches<'a>) -> Work<'a>
     }
 }
 
-/// What the command line asks for. Returns `None` if a number is not the decimal number of a u32.
+/// What the command line asks for. Returns `None` if a number is not the decimal number of a u32, or if a plan is to be
+/// done once.
 fn work_of<'a>(matches: &ArgMatches<'a>) -> Option<Work<'a>>
     ensures { option_map task_of result ≡ task_in (subcommand_rows_of matches.now) }
 {
@@ -699,7 +735,7 @@ fn work_of<'a>(matches: &ArgMatches<'a>) -> Option<Work<'a>>
             } else if name == "serial" {
                 Some(serial_work(found))
             } else if name == "run" {
-                Some(run_work(found))
+                run_work(found)
             } else if name == "serve" {
                 Some(serve_work(found))
             } else if name == "migrate" {
@@ -825,9 +861,19 @@ fn bad_size(alloc: Global, name: &str, found: Option<&ArgMatches>) -> Result<Err
     command.error(ErrorKind::ValueValidation, message.as_str())
 }
 
-/// The error for a text that is no number, with the usage of the subcommand.
+/// The error for a plan that is to be done once, with the usage.
+fn bad_way(alloc: Global) -> Result<Error, AllocError> {
+    let mut command = run_command(alloc)?.bin_name("imem run")?;
+    command.error(
+        ErrorKind::ArgumentConflict,
+        "the argument '--once' cannot be used with '--planned'",
+    )
+}
+
+/// The error for a text that is no number, or for two flags that can't go together, with the usage of the subcommand.
 fn bad_number(alloc: Global, matches: &ArgMatches<'_>) -> Result<Error, AllocError> {
     match matches.subcommand() {
+        Some(("run", _)) => bad_way(alloc),
         Some(("inspect", found)) => bad_look(alloc, found),
         Some((name, found)) => bad_size(alloc, name, Some(found)),
         None => bad_size(alloc, "format", None),

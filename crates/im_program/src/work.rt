@@ -10,10 +10,9 @@ ghost use Rattle.im_image.specs.Fresh.{new_image};
 ghost use Rattle.im_report.specs.Look.{ShowsView};
 ghost use Rattle.im_text.specs.Printing.{Begins, IsLast};
 ghost use Rattle.im_dialogue.specs.Dialogue.{NotOpened, Talked, TalkedFrom};
-ghost use Rattle.im_run.specs.Running.{RanFrom};
 ghost use Rattle.im_run.specs.Tracing.{TraceState};
 ghost use Rattle.im_program.specs.Words.{copy, demonstration, migrate, task_of, task_of_job};
-ghost use Rattle.im_program.specs.Working.{DoneOn, HasMoved, IsOfTwo, ScriptServed};
+ghost use Rattle.im_program.specs.Working.{DoneOn, HasMoved, IsOfTwo, ScriptRan, ScriptServed, is_once};
 
 use crate::console::{Console, Watch};
 use crate::copying::{Copying, copy_file};
@@ -24,7 +23,7 @@ use crate::moving::{Paths, migrate_file};
 use crate::opening::{format_reason, reason_of};
 use crate::overwriting::may_be_made;
 use crate::tracing::{keep_trace, make_file_if};
-use crate::words::{DEFAULT_CELLS, DEFAULT_ELEMENTS, DEFAULT_SLOTS, Job, Work};
+use crate::words::{DEFAULT_CELLS, DEFAULT_ELEMENTS, DEFAULT_SLOTS, Job, Way, Work};
 use im_damage::Damage;
 use im_dialogue::dialogue_on;
 use im_disk::{Disk, FileDisk, MemDisk, Start};
@@ -36,7 +35,7 @@ use im_image::image_length;
 use im_listening::Ear;
 use im_migration::Follower;
 use im_report::{View, look_on};
-use im_run::{STALLED, Trace, run_on};
+use im_run::{STALLED, Trace, run_on, run_once_on};
 use im_script::{Script, ScriptFault, TextFault, read_script, read_script_with_glances, read_text};
 use im_serial::{serial_on, serial_once_on};
 use im_serving::{Open, Watcher};
@@ -281,10 +280,21 @@ pub fn serve_file<R: Files<File = File> + AllocGlobal, S: Start, I: Read, W: Wri
     }
 }
 
+// Whether a script is run once.
+fn is_once(way: Way) -> bool
+    ensures { result ≡ is_once way }
+{
+    match way {
+        Way::Free => false,
+        Way::Planned => false,
+        Way::Once => true,
+    }
+}
+
 /// Runs the script of one file on the image of another, each element's requests by threads of its own. The script may
-/// have glances, and is a plan if `planned`. Returns the status of [`run_on`], the image's disk and the trace;
+/// have glances, and is a plan if `way` says so. Returns the status of [`run_on`], the image's disk and the trace;
 /// [`run_on`] also says which lines are printed. The script is read first. The path `-` stands for `input`, which is
-/// read to its end.
+/// read to its end. If it is done once, [`run_once_on`] stands for [`run_on`] here.
 ///
 /// The clauses hold for whatever the image held when it was opened (`S`), as long as the file was honest. A crash at
 /// any moment since then leaves what [`run_on`] says.
@@ -310,7 +320,7 @@ pub fn run_file<
     held: &Descriptors,
     image: &str,
     script: &str,
-    planned: bool,
+    way: Way,
     watcher: &V,
     input: &mut I,
     out: &mut W,
@@ -319,8 +329,8 @@ pub fn run_file<
 ) -> Result<(u8, FileDisk<S>, Trace), Refusal>
     ensures status { IfOk result (λ r. (r.0 ≤ 1) ⊎ (r.0 ≡ STALLED)) }
     ensures ran { IfOk result (λ r. ⟦<FileDisk<S> as Disk>⟧.honest r.1 →
-        RanFrom ⟦<FileDisk<S> as Disk>⟧.now ⟦<FileDisk<S> as Disk>⟧.past ⟦<FileDisk<S> as Disk>⟧.failures
-        S.first r.1 (W.contents out.old) (W.contents out.new) r.2 r.0) }
+        ScriptRan (is_once way) ⟦<FileDisk<S> as Disk>⟧.now ⟦<FileDisk<S> as Disk>⟧.past
+        ⟦<FileDisk<S> as Disk>⟧.failures S.first r.1 (W.contents out.old) (W.contents out.new) r.2 r.0) }
     ensures refused { IfErr result (λ refusal. (refusal ≡ BadScript) ⊎ (refusal ≡ NoMemory) ⊎ (refusal ≡ Device)) }
     ensures same { OnErr result (Keeps (W.contents out.old) (W.contents out.new)) }
 {
@@ -334,18 +344,16 @@ pub fn run_file<
     };
     match open_image(rt, image, start) {
         Ok(disk) => {
-            let (ended, disk, trace) = run_on(
-                rt,
-                rt.alloc(),
-                disk,
-                &script,
-                &Open,
-                watcher,
-                out,
-                observer,
-                planned,
-            );
-            Ok((ended, disk, trace))
+            let alloc = rt.alloc();
+            if is_once(way) {
+                Ok(run_once_on(rt, alloc, disk, &script, &Open, watcher, out, observer))
+            } else {
+                let planned = way == Way::Planned;
+                let (ended, disk, trace) = run_on(
+                    rt, alloc, disk, &script, &Open, watcher, out, observer, planned,
+                );
+                Ok((ended, disk, trace))
+            }
         }
         Err(fault) => Err(refusal_of(rt, image, fault, observer)),
     }
@@ -720,7 +728,7 @@ fn run_at_once<
     held: &Descriptors,
     image: &str,
     script: &str,
-    planned: bool,
+    way: Way,
     watcher: &V,
     input: &mut I,
     out: &mut W,
@@ -730,13 +738,13 @@ fn run_at_once<
     ensures status { (result.0 ≤ 1) ⊎ (result.0 ≡ STALLED) }
     ensures ran { IfSome result.1 (λ disk. ⟦<FileDisk<S> as Disk>⟧.honest disk →
         IfSome result.2 (λ trace.
-        RanFrom ⟦<FileDisk<S> as Disk>⟧.now ⟦<FileDisk<S> as Disk>⟧.past ⟦<FileDisk<S> as Disk>⟧.failures
-        S.first disk (W.contents out.old) (W.contents out.new) trace result.0)) }
+        ScriptRan (is_once way) ⟦<FileDisk<S> as Disk>⟧.now ⟦<FileDisk<S> as Disk>⟧.past
+        ⟦<FileDisk<S> as Disk>⟧.failures S.first disk (W.contents out.old) (W.contents out.new) trace result.0)) }
     ensures none { IfNone result.1 (result.0 ≡ 1) }
     ensures both { IfSome result.1 (λ _. IsSome result.2) }
 {
     match run_file(
-        rt, held, image, script, planned, watcher, input, out, observer, start,
+        rt, held, image, script, way, watcher, input, out, observer, start,
     ) {
         Ok((status, disk, trace)) => (status, Some(disk), Some(trace)),
         Err(refusal) => (refuse(rt.alloc(), refusal, out), None, None),
@@ -755,7 +763,7 @@ fn act_at_once<
     held: &Descriptors,
     image: &str,
     script: &str,
-    planned: bool,
+    way: Way,
     trace: Option<&str>,
     input: &mut I,
     out: &mut W,
@@ -764,7 +772,7 @@ fn act_at_once<
 ) -> (u8, Option<FileDisk<S>>)
     ensures status { (result.0 ≤ 1) ⊎ (result.0 ≡ STALLED) }
     ensures ran { IfSome result.1 (λ disk. ⟦<FileDisk<S> as Disk>⟧.honest disk →
-        (run : TraceState) × RanFrom ⟦<FileDisk<S> as Disk>⟧.now ⟦<FileDisk<S> as Disk>⟧.past
+        (run : TraceState) × ScriptRan (is_once way) ⟦<FileDisk<S> as Disk>⟧.now ⟦<FileDisk<S> as Disk>⟧.past
         ⟦<FileDisk<S> as Disk>⟧.failures S.first disk (W.contents out.old) (W.contents out.new) run result.0) }
     ensures none { IfNone result.1 (result.0 ≡ 1) }
 {
@@ -774,7 +782,7 @@ fn act_at_once<
     };
     let watch = Watch::new(rt, console.is_watched());
     let (status, disk, run) = run_at_once(
-        rt, held, image, script, planned, &watch, input, out, console, start,
+        rt, held, image, script, way, &watch, input, out, console, start,
     );
     keep_trace(rt, file, run, console);
     settle(rt, image, &disk, console);
@@ -891,11 +899,11 @@ pub fn act<
         Work::Run {
             image,
             script,
-            planned,
+            way,
             trace,
         } => {
             let (status, disk) = act_at_once(
-                rt, held, image, script, *planned, *trace, input, out, console, start,
+                rt, held, image, script, *way, *trace, input, out, console, start,
             );
             (status, disk, None)
         }

@@ -22,6 +22,8 @@ imem serial --once a.img - = serve - on a.img, once
 imem run a.img s = run s on a.img
 imem run a.img s --planned = run s on a.img, planned
 imem run --planned a.img - = run - on a.img, planned
+imem run a.img s --once = run s on a.img, once
+imem run --once a.img - --trace t = run - on a.img, once, traced to t
 imem run a.img s --trace t = run s on a.img, traced to t
 imem run --trace=t --planned a.img s --statuses = run s on a.img, planned, traced to t, by statuses
 imem serve a.img = talk on a.img, unwatched
@@ -80,6 +82,9 @@ imem serial a.img s --planned = status 2
 says --planned = yes
 imem run a.img s --planned=yes = status 2
 says --planned = yes
+-- What is left of a plan is none.
+imem run a.img s --planned --once = status 2
+says --once = yes
 imem run a.img s --trace = status 2
 says --trace = yes
 imem serial a.img s --trace t = status 2
@@ -212,7 +217,9 @@ imem inspect a.img --cells 0-99 = tell of a.img, cells 0 to 99
 imem inspect a.img --cells 7-7 --waiting = tell of a.img, cells 7 to 7, who waits
 imem inspect a.img --element 3 = tell of a.img, 3 is the element
 imem inspect a.img --waiting --element 3 = tell of a.img, 3 is the element, who waits
-imem inspect a.img --json = status 2
+imem inspect a.img --json = tell of a.img, as JSON
+imem inspect a.img --waiting --json --cells 0-1 = tell of a.img, cells 0 to 1, who waits, as JSON
+imem dump a.img --json = dump a.img, as JSON
 imem inspect a.img --cells 9 = status 2
 says invalid value "9" for '--cells <FROM-TO>': two addresses below 4294967296 are expected, as 0-99 = yes
 says Usage: imem inspect = yes

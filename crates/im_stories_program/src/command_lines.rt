@@ -3,7 +3,7 @@
 use crate::spelling::{add_text, add_word};
 use anyhow::{Result, anyhow};
 use im_migration::Asked;
-use im_program::{Job, Order, WordFault, Work, read_words};
+use im_program::{Job, Order, Way, WordFault, Work, read_words};
 use im_report::View;
 use std::alloc::{AllocError, Global};
 
@@ -27,10 +27,12 @@ fn add_sizes(said: &mut String, asked: Asked) -> Result<(), AllocError> {
 }
 
 fn add_look(said: &mut String, image: &str, look: View) -> Result<(), AllocError> {
-    let filter = match look {
+    let (filter, form) = match look {
         View::Stat => return write!(said, "count in {image}"),
         View::StatJson => return write!(said, "count in {image}, as JSON"),
-        View::Report(filter) => filter,
+        View::DumpJson => return write!(said, "dump {image}, as JSON"),
+        View::Report(filter) => (filter, ""),
+        View::ReportJson(filter) => (filter, ", as JSON"),
     };
     write!(said, "tell of {image}")?;
     if let Some(span) = filter.cells {
@@ -38,7 +40,8 @@ fn add_look(said: &mut String, image: &str, look: View) -> Result<(), AllocError
         write!(said, ", cells {from} to {to}")?;
     }
     add_size(said, filter.element, "is the element")?;
-    said.push_str(if filter.waiting { ", who waits" } else { "" })
+    said.push_str(if filter.waiting { ", who waits" } else { "" })?;
+    said.push_str(form)
 }
 
 fn add_job(said: &mut String, job: &Job) -> Result<(), AllocError> {
@@ -84,10 +87,14 @@ fn add_work(said: &mut String, work: &Work) -> Result<(), AllocError> {
         Work::Run {
             image,
             script,
-            planned,
+            way,
             trace,
         } => {
-            let how = if *planned { ", planned" } else { "" };
+            let how = match way {
+                Way::Free => "",
+                Way::Planned => ", planned",
+                Way::Once => ", once",
+            };
             write!(said, "run {script} on {image}{how}")?;
             match trace {
                 Some(path) => write!(said, ", traced to {path}"),

@@ -6,14 +6,14 @@ ghost use Rattle.std.specs.Prelude.{◌≡◌, ◌≤◌};
 use im_files::Waiting;
 use im_listening::Listener;
 use im_program::{
-    Console, Descriptors, Job, Order, Terminals, WordFault, Work, act, read_words, refuse,
-    status_for,
+    Console, Descriptors, Job, Order, Prompter, Terminals, WordFault, Work, act, read_words,
+    refuse, status_for,
 };
 use im_types::Refusal;
 use std::alloc::{AllocError, Global};
 use std::env::{self, Env};
 use std::fs::File;
-use std::io::{self, BufRead, BufReader, Eprint, Input, IsTerminal, Print, Write};
+use std::io::{self, BufRead, BufReader, Eprint, Input, IsTerminal, Print, Read, Write};
 use std::process::ExitCode;
 use std::rt::Files;
 use std::sync::Wait;
@@ -31,9 +31,33 @@ fn status_after(printed: io::Result<()>, status: u8) -> u8
     }
 }
 
+// Whether a dialogue is to be served.
+fn is_dialogue(order: &Order) -> bool {
+    matches!(order.work, Work::Alone(Job::Serve { .. }))
+}
+
+// Whether a person types the lines of a dialogue.
+fn prompts(order: &Order, terminals: Terminals) -> bool {
+    is_dialogue(order) && terminals.input && terminals.errors
+}
+
+// A reader of standard input, to which a thread listens in a dialogue.
+fn listen<R: Threads + Wait + Copy + Drop + Send + 'static, I: Read + Drop + Send + 'static>(
+    rt: &R,
+    alloc: Global,
+    input: I,
+    order: &Order,
+) -> Listener<R, I> {
+    let mut listener = Listener::new(*rt, input);
+    if is_dialogue(order) {
+        listener.begin(alloc);
+    }
+    listener
+}
+
 /// Does the work. Each read of standard input takes as much as there is, so that lines of a dialogue that come together
-/// are served together. In a dialogue a thread listens to standard input. If standard input doesn't block, the program
-/// waits for it.
+/// are served together. In a dialogue a thread listens to standard input, and a person at a terminal sees a prompt. If
+/// standard input doesn't block, the program waits for it.
 fn work_on<
     R: Files<File = File>
         + AllocGlobal
@@ -52,11 +76,9 @@ fn work_on<
 >(rt: &R, held: &Descriptors, order: &Order, out: &mut W, terminals: Terminals) -> u8
     ensures { result ≤ 5 }
 {
-    let mut listener = Listener::new(*rt, rt.reader());
-    if let Work::Alone(Job::Serve { .. }) = order.work {
-        listener.begin(rt.alloc());
-    }
-    match BufReader::new(rt.alloc(), listener) {
+    let listener = listen(rt, rt.alloc(), rt.reader(), order);
+    let input = Prompter::new(rt, listener, prompts(order, terminals));
+    match BufReader::new(rt.alloc(), input) {
         Ok(mut input) => {
             let mut console = Console::new(rt, held, &order.work, terminals);
             let (status, _disk, _old) = act(
