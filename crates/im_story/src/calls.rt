@@ -61,6 +61,16 @@ impl<'a> Call<'a> {
         self.words
     }
 
+    /// Returns the words from a place on.
+    pub fn rest(&self, from: usize) -> &'a [&'a str] {
+        self.words.get(from..).unwrap_or(&[])
+    }
+
+    /// Returns the word at a place, or an empty one past the last.
+    pub fn word(&self, at: usize) -> &'a str {
+        self.words.get(at).copied().unwrap_or("")
+    }
+
     /// Returns the form.
     pub fn form(&self) -> &str {
         self.form.as_str()

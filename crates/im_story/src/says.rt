@@ -2,7 +2,7 @@
 
 use anyhow::{Result, anyhow};
 use im_types::{Entry, Kind, Op, Outcome, Refusal, Reply};
-use std::alloc::Global;
+use std::alloc::{AllocError, Global};
 use std::fmt::Display;
 
 /// The answer of a call, as it is put together, or why the call couldn't be made.
@@ -38,9 +38,22 @@ impl Saying {
         }
     }
 
+    /// Begins with nothing said, and with room for so many bytes of it.
+    pub fn with_room(alloc: Global, room: usize) -> Result<Saying, AllocError> {
+        Ok(Saying {
+            text: String::with_capacity(alloc, room)?,
+            is_wrong: false,
+        })
+    }
+
     /// Returns whether nothing was said.
     pub fn is_empty(&self) -> bool {
         self.text.is_empty()
+    }
+
+    /// Returns whether the call couldn't be made.
+    pub fn is_wrong(&self) -> bool {
+        self.is_wrong
     }
 
     /// Returns what was said so far.
