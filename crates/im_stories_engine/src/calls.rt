@@ -1,21 +1,10 @@
-//! Commands that are served.
+//! Commands that are served one by one.
 
 use crate::engines::Engines;
-use crate::scripts::Said;
-use anyhow::{Result, anyhow};
+use crate::texts::add_answers;
 use im_engine::Answer;
-use im_story::{add_outcome, command, number};
+use im_story::{Call, Saying, command};
 use im_types::{Command, Request};
-
-// Serves a command, and notes its answer.
-fn serve(engines: &mut Engines, command: Command) -> Result<Said> {
-    let (Some(engine), Some(script)) = (&mut engines.engine, &mut engines.script) else {
-        return Err(anyhow!("no engine"));
-    };
-    let answer = engine.serve(&command);
-    script.note(command, answer, engine.count(), engine.room())?;
-    Ok(answer)
-}
 
 /// Returns the command that asks the same under a number that is `more` higher.
 pub fn later(command: Command, more: u64) -> Command {
@@ -28,25 +17,35 @@ pub fn later(command: Command, more: u64) -> Command {
     }
 }
 
-fn serve_one(engines: &mut Engines, command: Command, said: &mut String) -> Result<()> {
-    Ok(add_outcome(said, serve(engines, command)?)?)
+/// Reads a command, and how often it is meant, under numbers that follow one another: `16 times 1.1 fetch 0`.
+pub fn times_of(words: &[&str]) -> Option<(u64, Command)> {
+    match words {
+        [times, "times", rest @ ..] => Some((times.parse::<u64>().ok()?, command(rest).ok()?)),
+        _ => Some((1, command(words).ok()?)),
+    }
 }
 
-// Serves a command `times` times, under numbers that follow one another.
-fn serve_all(engines: &mut Engines, times: u64, first: Command, said: &mut String) -> Result<()> {
+// Serves a command, and notes its answer.
+fn serve(engines: &mut Engines, command: Command, said: &mut Saying) {
+    let (Some(engine), Some(script)) = (&mut engines.place.engine, &mut engines.script) else {
+        return said.fail("no engine");
+    };
+    let answer = engine.serve(&command);
+    let is_noted = script.note(command, answer, engine.count(), engine.room());
+    said.so(
+        is_noted && engines.answers.push(Answer::Served(answer)).is_ok(),
+        "",
+    )
+}
+
+/// Serves the command that the words name, as often as they say. Tells the answers.
+pub fn serve_each(engines: &mut Engines, call: &Call, said: &mut Saying) {
+    let Some((times, first)) = times_of(call.words()) else {
+        return said.fail("that is no call");
+    };
     engines.answers.clear();
     for more in 0..times {
-        let answer = serve(engines, later(first, more))?;
-        engines.answers.push(Answer::Served(answer))?;
+        serve(engines, later(first, more), said);
     }
-    crate::texts::add_answers(said, engines.answers.as_slice())
-}
-
-/// Serves the command that the words name, or a given number of them under numbers that follow one another: `16 times
-/// 1.1 fetch 0`.
-pub fn tell(engines: &mut Engines, words: &[&str], said: &mut String) -> Result<()> {
-    match words {
-        [times, "times", rest @ ..] => serve_all(engines, number(times)?, command(rest)?, said),
-        _ => serve_one(engines, command(words)?, said),
-    }
+    add_answers(said, engines.answers.as_slice())
 }

@@ -1,25 +1,14 @@
-//! An engine, or the disk that it left.
+//! What a story is about.
 
-use crate::disks::steady;
+use crate::place::Place;
 use crate::scripts::Script;
-use anyhow::{Result, anyhow};
-use im_disk::{FuseDisk, MemDisk, Mode};
-use im_engine::{Answer, Engine, Event};
+use im_engine::{Answer, Event};
 use std::alloc::Global;
 
-/// What a story is about.
-#[derive(Drop)]
+/// An engine and its disk, and what a story has told of them.
 pub struct Engines {
-    /// The allocator of what is made.
-    alloc: Global,
-    /// The engine, unless it is closed.
-    pub engine: Option<Engine<FuseDisk>>,
-    /// The disk of the engine that was closed or couldn't be made.
-    pub disk: Option<MemDisk>,
-    /// The calls of that disk.
-    pub calls: u64,
-    /// How the disk of the next format or opening fails.
-    pub fuse: Option<(u64, Mode)>,
+    /// The engine, or the disk that it left.
+    pub place: Place,
     /// The commands that were told of the image.
     pub script: Option<Script>,
     /// What the next run does.
@@ -30,15 +19,24 @@ pub struct Engines {
     pub pages: Vec<u8>,
 }
 
+// By one call, wherever its owner may end.
+impl Drop for Engines {
+    fn drop(self) {
+        let Engines {
+            place: _,
+            script: _,
+            events: _,
+            answers: _,
+            pages: _,
+        } = self;
+    }
+}
+
 impl Engines {
     /// Starts with nothing.
     pub fn none(alloc: Global) -> Engines {
         Engines {
-            alloc,
-            engine: None,
-            disk: None,
-            calls: 0,
-            fuse: None,
+            place: Place::new(alloc),
             script: None,
             events: Vec::new(alloc),
             answers: Vec::new(alloc),
@@ -46,46 +44,11 @@ impl Engines {
         }
     }
 
-    /// Forgets everything.
-    pub fn forget(&mut self) {
-        *self = Engines::none(self.alloc);
-    }
-
-    /// Returns the engine.
-    pub fn engine(&self) -> Result<&Engine<FuseDisk>> {
-        match &self.engine {
-            Some(engine) => Ok(engine),
-            None => Err(anyhow!("no engine")),
+    /// Returns the bytes of the disk of a closed engine, or none if there is no disk.
+    pub fn bytes(&self) -> &[u8] {
+        match &self.place.disk {
+            Some(disk) => disk.bytes(),
+            None => &[],
         }
-    }
-
-    /// Returns the disk of a closed engine.
-    pub fn disk(&self) -> Result<&MemDisk> {
-        match &self.disk {
-            Some(disk) => Ok(disk),
-            None => Err(anyhow!("no disk")),
-        }
-    }
-
-    /// Returns the commands that were told of the image.
-    pub fn script(&self) -> Result<&Script> {
-        match &self.script {
-            Some(script) => Ok(script),
-            None => Err(anyhow!("no image was formatted")),
-        }
-    }
-
-    /// Returns this disk, which fails as was told.
-    pub fn fused(&mut self, disk: MemDisk) -> FuseDisk {
-        match self.fuse.take() {
-            Some((passes, mode)) => FuseDisk::new(disk, passes, mode),
-            None => steady(disk),
-        }
-    }
-
-    /// Keeps this disk, with its calls.
-    pub fn lay_down(&mut self, disk: FuseDisk) {
-        self.calls = disk.calls();
-        self.disk = Some(disk.into_inner());
     }
 }

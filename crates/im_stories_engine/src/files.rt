@@ -1,140 +1,79 @@
 //! Formats, closes, crashes and opens images.
 
-use crate::disks::{crash, limits, mode, put, steady};
+use crate::disks::{crash, mode};
 use crate::engines::Engines;
+use crate::runs;
 use crate::scripts::Script;
-use anyhow::{Result, anyhow};
-use im_disk::{FuseDisk, MemDisk, Mode};
-use im_engine::Engine;
 use im_image::image_length;
-use im_story::{add_refusal, address, element, number, old_image, place, told};
-use im_types::{Limits, Refusal};
-use std::alloc::{AllocError, Global};
+use im_story::{Call, Saying, old_image};
 
-// Lays down a new image of the first version, in a file of this length.
-fn lay_old(
-    engines: &mut Engines,
-    alloc: Global,
-    limits: Limits,
-    length: usize,
-    said: &mut String,
-) -> Result<()> {
-    let image = old_image(alloc, limits)?;
-    engines.lay_down(steady(disk_of(alloc, image.as_slice(), length)?));
-    Ok(said.push_str("closed")?)
+// Formats a file of its image's length, or of the length that is told.
+fn format(engines: &mut Engines, call: &Call, said: &mut Saying) {
+    let Some(limits) = call.limits(0) else {
+        return said.fail("these are no sizes");
+    };
+    let length = if call.words().len() > 4 {
+        call.place(3)
+    } else {
+        image_length(limits)
+    };
+    engines.script = Some(Script::none(call.alloc(), limits));
+    said.so(engines.place.lay(&[], length), "");
+    said.done(engines.place.format(limits), "formatted")
 }
 
-// Makes a disk with these bytes, whose count has to be `length`.
-fn disk_of(alloc: Global, bytes: &[u8], length: usize) -> Result<MemDisk> {
-    if bytes.len() != length {
-        return Err(anyhow!("it has {} bytes", bytes.len()));
+// Lays down a new image of the first version, whose length has to be that which is told.
+fn lay_old(engines: &mut Engines, call: &Call, said: &mut Saying) {
+    let Some(limits) = call.limits(0) else {
+        return said.fail("these are no sizes");
+    };
+    let Ok(image) = old_image(call.alloc(), limits) else {
+        return said.fail("no memory is left");
+    };
+    let is_long = image.len() == call.place(3);
+    said.so(is_long && engines.place.lay(&image, image.len()), "closed")
+}
+
+fn open(engines: &mut Engines, said: &mut Saying) {
+    if engines.place.disk.is_none() {
+        return said.fail("no disk");
     }
-    let mut disk = MemDisk::new(alloc, length)?;
-    put(&mut disk, 0, bytes)?;
-    Ok(disk)
+    said.done(engines.place.open(), "opened")
 }
 
-// Keeps an engine, or the disk that it was to be on. Tells `made`, or why it wasn't made.
-fn take_over(
-    engines: &mut Engines,
-    made: Result<Engine<FuseDisk>, (Refusal, FuseDisk)>,
-    text: &str,
-    said: &mut String,
-) -> Result<(), AllocError> {
-    match made {
-        Ok(engine) => {
-            engines.engine = Some(engine);
-            said.push_str(text)
+fn close(engines: &mut Engines, said: &mut Saying) {
+    let is_open = engines.place.engine.is_some();
+    engines.place.close();
+    said.so(is_open, "closed")
+}
+
+/// Lets the disk crash.
+pub fn leave(engines: &mut Engines, call: &Call, said: &mut Saying) {
+    let Some(crash) = crash(call.word(1)) else {
+        return said.fail("that is no crash");
+    };
+    engines.place.crash(crash);
+    said.so(engines.place.disk.is_some(), "crashed")
+}
+
+/// Sets how the disk of the next format or opening fails.
+pub fn set_fuse(engines: &mut Engines, call: &Call, said: &mut Saying) {
+    match mode(call.word(2)) {
+        Some(mode) => {
+            engines.place.fuse = (call.number(0), mode);
+            said.text("set")
         }
-        Err((refusal, disk)) => {
-            engines.lay_down(disk);
-            add_refusal(said, refusal)
-        }
+        None => said.fail("that is no way to fail"),
     }
 }
 
-// Formats a file of this length.
-fn format(
-    engines: &mut Engines,
-    alloc: Global,
-    limits: Limits,
-    length: usize,
-    said: &mut String,
-) -> Result<()> {
-    let disk = engines.fused(MemDisk::new(alloc, length)?);
-    engines.script = Some(Script::none(alloc, limits));
-    let made = Engine::format(alloc, disk, limits);
-    Ok(take_over(engines, made, "formatted", said)?)
-}
-
-fn open(engines: &mut Engines, alloc: Global, said: &mut String) -> Result<()> {
-    let Some(disk) = engines.disk.take() else {
-        return Err(anyhow!("no disk"));
-    };
-    let disk = engines.fused(disk);
-    Ok(take_over(engines, Engine::open(alloc, disk), "opened", said)?)
-}
-
-fn close(engines: &mut Engines, said: &mut String) -> Result<()> {
-    let Some(engine) = engines.engine.take() else {
-        return Err(anyhow!("no engine"));
-    };
-    engines.lay_down(engine.close());
-    Ok(said.push_str("closed")?)
-}
-
-fn leave(engines: &mut Engines, word: &str, said: &mut String) -> Result<()> {
-    let crash = crash(word)?;
-    let Some(disk) = engines.disk.take() else {
-        return Err(anyhow!("no disk"));
-    };
-    engines.disk = Some(disk.crash(crash));
-    Ok(said.push_str("crashed")?)
-}
-
-fn set_fuse(engines: &mut Engines, fuse: (u64, Mode), said: &mut String) -> Result<()> {
-    engines.fuse = Some(fuse);
-    Ok(said.push_str("set")?)
-}
-
-// Reads the sizes of a memory and of its journal.
-fn sizes(cells: &str, elements: &str, slots: &str) -> Result<Limits> {
-    limits(address(cells)?, element(elements)?, address(slots)?)
-}
-
-/// Makes the call if its word is `format`, `old image`, `fuse`, `open`, `close` or `crash`. Returns whether it is.
-pub fn tell(
-    engines: &mut Engines,
-    alloc: Global,
-    words: &[&str],
-    said: &mut String,
-) -> Result<bool> {
-    match words {
-        ["format", cells, elements, slots] => {
-            let limits = sizes(cells, elements, slots)?;
-            told(format(engines, alloc, limits, image_length(limits), said))
-        }
-        ["format", cells, elements, slots, "in", length, "bytes"] => {
-            let limits = sizes(cells, elements, slots)?;
-            told(format(engines, alloc, limits, place(length)?, said))
-        }
-        [
-            "old",
-            "image",
-            cells,
-            elements,
-            slots,
-            "in",
-            length,
-            "bytes",
-        ] => {
-            let limits = sizes(cells, elements, slots)?;
-            told(lay_old(engines, alloc, limits, place(length)?, said))
-        }
-        ["fuse", passes, how] => told(set_fuse(engines, (number(passes)?, mode(how)?), said)),
-        ["open"] => told(open(engines, alloc, said)),
-        ["close"] => told(close(engines, said)),
-        ["crash", word] => told(leave(engines, word, said)),
-        _ => Ok(false),
+/// Makes a call that formats, closes or opens, or one of those of runs.
+pub fn tell(engines: &mut Engines, call: &Call, said: &mut Saying) {
+    match call.form() {
+        "format _ _ _" | "format _ _ _ in _ bytes" => format(engines, call, said),
+        "old image _ _ _ in _ bytes" => lay_old(engines, call, said),
+        "open" => open(engines, said),
+        "close" => close(engines, said),
+        _ => runs::tell(engines, call, said),
     }
 }

@@ -1,38 +1,36 @@
-//! Requests that are served together.
+//! Commands that are served together: requests and confirmations.
 
-use crate::commands::commands_of;
 use crate::engines::Engines;
-use crate::scripts::Script;
-use anyhow::{Result, anyhow};
+use crate::scripts::Said;
 use arrayvec::ArrayVec;
-use im_engine::are_apart;
-use im_story::{add_outcome, told};
-use im_types::{Command, Outcome, Refusal, Request, Served};
+use im_engine::Group;
+use im_story::{Call, Saying, command};
+use im_types::{Command, Refusal, Served};
 
-/// Reads requests that are written with `with` between them.
-pub fn members(words: &[&str]) -> Result<ArrayVec<Request, 16>> {
+// Reads commands that are written with `with` between them.
+fn commands_of(words: &[&str]) -> Option<ArrayVec<Command, 16>> {
     let mut members = ArrayVec::new();
-    for member in commands_of(words)?.iter() {
-        let Command::Request(request) = *member else {
-            return Err(anyhow!("a confirmation is no request"));
-        };
-        let _room = members.try_push(request);
+    for part in words.split(|word| *word == "with") {
+        members.try_push(command(part).ok()?).ok()?;
     }
-    Ok(members)
+    Some(members)
 }
 
-/// Returns the requests of a script, as one group.
-pub fn all_of(script: &Script) -> Result<ArrayVec<Request, 16>> {
+/// Returns these requests as a group. There is none if a confirmation is among them, or two of one element.
+pub fn group_of(commands: &ArrayVec<Command, 16>) -> Option<Group> {
     let mut members = ArrayVec::new();
-    for told in script.accepted.iter() {
-        let Command::Request(request) = told.command else {
-            return Err(anyhow!("a confirmation is in no group"));
+    for command in commands.as_slice() {
+        let Command::Request(request) = *command else {
+            return None;
         };
-        if members.try_push(request).is_err() {
-            return Err(anyhow!("more than sixteen requests"));
-        }
+        members.try_push(request).ok()?;
     }
-    Ok(members)
+    Group::new(members)
+}
+
+/// Reads requests of different elements that are written with `with` between them.
+pub fn group_in(words: &[&str]) -> Option<Group> {
+    group_of(&commands_of(words)?)
 }
 
 /// Returns whether each member was refused with this refusal.
@@ -44,45 +42,41 @@ pub fn are_refused(served: &ArrayVec<Served, 16>, refusal: Refusal) -> bool {
     all
 }
 
-/// Returns what a member was answered, as `serve` would return it.
-pub fn said_of(served: Served) -> Result<Result<Outcome, Refusal>> {
+/// Returns whether this is what a member was answered.
+pub fn is_answer(served: Served, answer: Said) -> bool {
     match served {
-        Served::Done(outcome) => Ok(Ok(outcome)),
-        Served::Refused(refusal) => Ok(Err(refusal)),
-        Served::Unserved => Err(anyhow!("a member has no answer")),
+        Served::Done(outcome) => answer == Ok(outcome),
+        Served::Refused(refusal) => answer == Err(refusal),
+        Served::Unserved => false,
     }
 }
 
 /// Adds the answers of a group's members.
-pub fn add_served(said: &mut String, served: &[Served]) -> Result<()> {
+pub fn add_served(said: &mut Saying, served: &[Served]) {
     for (at, answer) in served.iter().enumerate() {
         if at > 0 {
-            said.push_str(", ")?;
+            said.text(", ")
         }
-        add_outcome(said, said_of(*answer)?)?;
+        match answer {
+            Served::Done(outcome) => said.outcome(Ok(*outcome)),
+            Served::Refused(refusal) => said.refusal(*refusal),
+            Served::Unserved => said.fail("a member has no answer"),
+        }
     }
-    Ok(())
 }
 
-// Serves a group, and tells the answers of its members.
-fn serve_together(engines: &mut Engines, words: &[&str], said: &mut String) -> Result<()> {
-    let Some(engine) = &mut engines.engine else {
-        return Err(anyhow!("no engine"));
+/// Serves commands, with `with` between them, as one group: any commands, or requests of different elements. Tells the
+/// answers of those that were served.
+pub fn serve_group(engines: &mut Engines, call: &Call, said: &mut Saying) {
+    let (Some(engine), Some(members)) = (&mut engines.place.engine, commands_of(call.rest(1)))
+    else {
+        return said.fail("no engine, or no commands");
     };
-    let members = members(words)?;
-    if !are_apart(members.as_slice()) {
-        return Err(anyhow!("two requests of one element"));
-    }
     let mut served = ArrayVec::new();
-    engine.serve_group(&members, &mut served);
+    match group_of(&members) {
+        _ if call.word(0) == "commands" => engine.serve_commands(&members, &mut served),
+        Some(group) => engine.serve_group(group.requests(), &mut served),
+        None => said.fail("that is no group"),
+    }
     add_served(said, served.as_slice())
-}
-
-/// Serves a group if the words are `together` and requests of different elements with `with` between them. Returns
-/// whether they are.
-pub fn tell(engines: &mut Engines, words: &[&str], said: &mut String) -> Result<bool> {
-    let ["together", rest @ ..] = words else {
-        return Ok(false);
-    };
-    told(serve_together(engines, rest, said))
 }

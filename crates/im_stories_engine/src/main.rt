@@ -33,47 +33,48 @@
 
 mod alike;
 mod calls;
-mod commands;
 mod damage;
 mod disks;
 mod engines;
 mod explorer;
 mod files;
 mod groups;
+mod known;
+mod place;
 mod runs;
 mod scripts;
 mod states;
 mod stopped_runs;
 mod stops;
 mod texts;
+mod trials;
 mod walks;
 mod wanders;
 
 use crate::engines::Engines;
 use anyhow::Result;
-use im_story::Scene;
+use im_story::{Call, Layer, Saying, Scene, tell_of};
 use std::alloc::Global;
 use std::process::ExitCode;
 
+impl Layer for Engines {
+    fn make(&mut self, call: &Call, said: &mut Saying) {
+        if let Some(engine) = &self.place.engine {
+            if states::tell(engine, call, said) {
+                return;
+            }
+        }
+        files::tell(self, call, said)
+    }
+}
+
 impl Scene for Engines {
     fn begin(&mut self) {
-        self.forget();
+        *self = Engines::none(self.place.alloc);
     }
 
     fn tell(&mut self, alloc: Global, words: &[&str], said: &mut String) -> Result<()> {
-        if files::tell(self, alloc, words, said)?
-            || states::tell(self, words, said)?
-            || runs::tell(self, alloc, words, said)?
-            || groups::tell(self, words, said)?
-            || commands::tell(self, words, said)?
-            || damage::tell(self, alloc, words, said)?
-            || stopped_runs::tell(self, alloc, words, said)?
-            || stops::tell(self, alloc, words, said)?
-            || wanders::tell(alloc, words, said)?
-        {
-            return Ok(());
-        }
-        calls::tell(self, words, said)
+        tell_of(self, alloc, words, said)
     }
 }
 

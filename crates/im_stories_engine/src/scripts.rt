@@ -1,10 +1,10 @@
 //! What a story has told of an image so far: the commands that were accepted, and the answers to each, at first and
 //! later.
 
-use crate::groups::said_of;
-use anyhow::{Result, anyhow};
-use im_disk::Disk;
-use im_engine::Engine;
+use crate::groups::{group_of, is_answer};
+use arrayvec::ArrayVec;
+use im_disk::FuseDisk;
+use im_engine::{Engine, Group};
 use im_types::{Command, Limits, Op, Outcome, Refusal, Request, Served};
 use std::alloc::Global;
 
@@ -23,7 +23,6 @@ pub struct Told {
 }
 
 /// The commands of a story since its image was formatted.
-#[derive(Drop)]
 pub struct Script {
     /// The sizes of the memory and of its journal.
     pub limits: Limits,
@@ -37,6 +36,19 @@ pub struct Script {
     pub room: u32,
 }
 
+// By one call, wherever its owner may end.
+impl Drop for Script {
+    fn drop(self) {
+        let Script {
+            limits: _,
+            accepted: _,
+            told: _,
+            count: _,
+            room: _,
+        } = self;
+    }
+}
+
 // Returns whether an answer is about the disk or the journal and not about the memory.
 fn is_of_the_disk(answer: Said) -> bool {
     matches!(
@@ -45,11 +57,14 @@ fn is_of_the_disk(answer: Said) -> bool {
     )
 }
 
-// Returns what an engine keeps for a request, as it would answer it again.
-fn kept<D: Disk>(engine: &Engine<D>, element: u16, number: u64) -> Said {
-    match engine.collect(element, number) {
-        Ok(entry) => Ok(Outcome::Entry(entry)),
-        Err(refusal) => Err(refusal),
+// Returns what an engine keeps for a command, as it would answer it again. It keeps nothing for a confirmation.
+fn kept(engine: &Engine<FuseDisk>, command: Command) -> Option<Said> {
+    let Command::Request(request) = command else {
+        return None;
+    };
+    match engine.collect(request.element, request.number) {
+        Ok(entry) => Some(Ok(Outcome::Entry(entry))),
+        Err(refusal) => Some(Err(refusal)),
     }
 }
 
@@ -65,28 +80,34 @@ impl Script {
         }
     }
 
-    /// Notes a command, its answer, and the count and the room after it.
-    pub fn note(&mut self, command: Command, answer: Said, count: u64, room: u32) -> Result<()> {
+    /// Notes a command, its answer, and the count and the room after it. Returns whether there was memory for it.
+    pub fn note(&mut self, command: Command, answer: Said, count: u64, room: u32) -> bool {
         if is_of_the_disk(answer) {
-            return Ok(());
+            return true;
         }
         let told = Told {
             command,
             answer,
             count,
         };
-        self.told.push(told)?;
-        if count > self.count {
-            self.accepted.push(told)?;
-        }
+        let is_new = count > self.count;
         self.count = count;
         self.room = room;
-        Ok(())
+        self.told.push(told).is_ok() && (!is_new || self.accepted.push(told).is_ok())
     }
 
-    /// Returns the answer to a command that is sent again after the first `count` commands have acted. It is the last
-    /// answer that was told up to there, or the first answer if the command hadn't acted yet.
-    pub fn answer_after(&self, first: &Told, count: u64) -> Said {
+    /// Returns the accepted commands, as one group, if they can be one.
+    pub fn group(&self) -> Option<Group> {
+        let mut members = ArrayVec::new();
+        for told in self.accepted.iter() {
+            members.try_push(told.command).ok()?;
+        }
+        group_of(&members)
+    }
+
+    // Returns the answer to a command that is sent again after the first `count` commands have acted. It is the last
+    // answer that was told up to there, or the first answer if the command hadn't acted yet.
+    fn answer_after(&self, first: &Told, count: u64) -> Said {
         let mut answer = first.answer;
         for later in self.told.iter() {
             let has_acted = first.count <= later.count && later.count <= count;
@@ -106,90 +127,72 @@ impl Script {
         }
     }
 
-    /// Checks that an engine keeps for each request of the script what was told last, after the first `count` commands
-    /// have acted. It has to keep nothing for a request that hasn't acted.
-    pub fn is_kept<D: Disk>(&self, engine: &Engine<D>, count: u64) -> Result<()> {
+    /// Returns whether an engine keeps for each request of the script what was told last, after the first `count`
+    /// commands have acted. It has to keep nothing for a request that hasn't acted.
+    pub fn is_kept(&self, engine: &Engine<FuseDisk>, count: u64) -> bool {
         for first in self.accepted.iter() {
-            if let Command::Request(
-                Request {
-                    element,
-                    number,
-                    ..
-                },
-            ) = first.command
-            {
-                if kept(engine, element, number) != self.kept_after(first, count) {
-                    return Err(anyhow!("{element}.{number} isn't kept as it was told"));
-                }
+            let kept = kept(engine, first.command);
+            if kept.is_some() && kept != Some(self.kept_after(first, count)) {
+                return false;
             }
         }
-        Ok(())
+        true
     }
 
-    /// Serves the whole script, of which the first `count` commands have acted. Each answer has to be as it was told,
-    /// and each command acts once.
-    pub fn is_told_again<D: Disk>(&self, engine: &mut Engine<D>, count: u64) -> Result<()> {
+    /// Serves the whole script, of which the first `count` commands have acted. Returns whether each answer is as it
+    /// was told, and each command acts once.
+    pub fn is_told_again(&self, engine: &mut Engine<FuseDisk>, count: u64) -> bool {
         for first in self.accepted.iter() {
-            let answer = engine.serve(&first.command);
-            if answer != self.answer_after(first, count) {
-                let place = first.count;
-                return Err(anyhow!("command {place} isn't answered as it was told"));
+            if engine.serve(&first.command) != self.answer_after(first, count) {
+                return false;
             }
         }
-        if engine.count() != self.count {
-            let count = engine.count();
-            return Err(anyhow!("the count is {count}"));
-        }
-        self.is_kept(engine, self.count)
+        engine.count() == self.count && self.is_kept(engine, self.count)
     }
 
-    /// Does the same, and checks the room that the story told.
-    pub fn is_answered<D: Disk>(&self, engine: &mut Engine<D>, count: u64) -> Result<()> {
-        self.is_told_again(engine, count)?;
-        if engine.room() != self.room {
-            let room = engine.room();
-            return Err(anyhow!("the room is {room}"));
-        }
-        Ok(())
+    /// Does the same, and looks at the room that the story told.
+    pub fn is_answered(&self, engine: &mut Engine<FuseDisk>, count: u64) -> bool {
+        self.is_told_again(engine, count) && engine.room() == self.room
     }
 
-    /// Checks that these are the first answers of the script.
-    pub fn is_served(&self, served: &[Served]) -> Result<()> {
-        if served.len() != self.accepted.len() {
-            return Err(anyhow!("there are {} answers", served.len()));
-        }
+    /// Returns whether these are the first answers of the script.
+    pub fn is_served(&self, served: &[Served]) -> bool {
         for (first, answer) in self.accepted.iter().zip(served) {
-            if said_of(*answer)? != first.answer {
-                return Err(anyhow!("member {} is answered otherwise", first.count));
+            if !is_answer(*answer, first.answer) {
+                return false;
             }
         }
-        Ok(())
+        served.len() == self.accepted.len()
     }
 
-    /// Serves the script to an engine whose disk fails in the command after the first `served` ones. These have to be
-    /// answered as they were told, that command with `Device`, and all after it with `Failed`.
-    pub fn is_cut_short<D: Disk>(&self, engine: &mut Engine<D>, served: u64) -> Result<()> {
+    // Returns what a command is answered by an engine whose disk fails in the command after the first `served` ones.
+    fn answer_up_to(&self, first: &Told, served: u64) -> Said {
+        if first.count <= served {
+            first.answer
+        } else if first.count - 1 == served {
+            Err(Refusal::Device)
+        } else {
+            Err(Refusal::Failed)
+        }
+    }
+
+    /// Serves the script to an engine whose disk fails in the command after the first `served` ones. Returns whether
+    /// these are answered as they were told, that command with `Device`, and all after it with `Failed`.
+    pub fn is_cut_short(&self, engine: &mut Engine<FuseDisk>, served: u64) -> bool {
         for first in self.accepted.iter() {
-            let expected = if first.count <= served {
-                first.answer
-            } else if first.count - 1 == served {
-                Err(Refusal::Device)
-            } else {
-                Err(Refusal::Failed)
-            };
-            if engine.serve(&first.command) != expected {
-                return Err(anyhow!("command {} isn't cut short", first.count));
+            if engine.serve(&first.command) != self.answer_up_to(first, served) {
+                return false;
             }
         }
-        self.is_over(engine, served)
+        engine.count() == served && self.is_over(engine)
     }
 
-    // Checks that an engine has failed with this many commands. It answers nothing then, not even a repeat, or a
-    // command that no memory would take.
-    fn is_over<D: Disk>(&self, engine: &mut Engine<D>, served: u64) -> Result<()> {
+    // Returns whether an engine has failed. It answers nothing then, not even a repeat, or a command that no memory
+    // would take.
+    fn is_over(&self, engine: &mut Engine<FuseDisk>) -> bool {
         for first in self.accepted.iter() {
             if engine.serve(&first.command) != Err(Refusal::Failed) {
-                return Err(anyhow!("a repeat is answered after a failure"));
+                return false;
             }
         }
         let unknown = Command::Request(Request {
@@ -197,13 +200,9 @@ impl Script {
             number: 1,
             op: Op::Fetch(0),
         });
-        let is_over = engine.serve(&unknown) == Err(Refusal::Failed)
+        engine.serve(&unknown) == Err(Refusal::Failed)
             && engine.collect(0, 1) == Err(Refusal::Failed)
             && engine.window(0) == Err(Refusal::Failed)
-            && engine.failed();
-        if !is_over || engine.count() != served {
-            return Err(anyhow!("it goes on after a failure"));
-        }
-        Ok(())
+            && engine.failed()
     }
 }

@@ -1,57 +1,59 @@
 //! The texts of cells, of turns, of runs of answers, and of bytes.
 
 use crate::groups::add_served;
-use anyhow::Result;
 use im_checkpoint::TurnDone;
 use im_engine::Answer;
-use im_story::{add_outcome, add_refusal};
+use im_story::Saying;
 use im_types::{Block, Cell, Kind, Refusal};
-use std::alloc::AllocError;
 
 /// Adds what a cell is.
-pub fn add_cell(said: &mut String, cell: Cell) -> Result<(), AllocError> {
+pub fn add_cell(said: &mut Saying, cell: Cell) {
     match cell {
-        Cell::Empty => said.push_str("empty"),
-        Cell::Waiting => said.push_str("waiting"),
+        Cell::Empty => said.text("empty"),
+        Cell::Waiting => said.text("waiting"),
         Cell::Full(value) => write!(said, "full {value}"),
         Cell::Clashed(value) => write!(said, "clashed {value}"),
     }
 }
 
 /// Adds ` in block BASE of LENGTH KIND`.
-pub fn add_block(said: &mut String, block: Block) -> Result<(), AllocError> {
-    let kind = match block.kind {
-        Kind::I => "i",
-        Kind::M => "m",
-    };
+pub fn add_block(said: &mut Saying, block: Block) {
     let (base, length) = (block.base, block.length);
-    write!(said, " in block {base} of {length} {kind}")
+    write!(said, " in block {base} of {length} ");
+    said.either(block.kind == Kind::I, "i", "m")
 }
 
-/// Adds what a turn did.
-pub fn add_turn(said: &mut String, turn: Result<TurnDone, Refusal>) -> Result<(), AllocError> {
-    match turn {
-        Ok(TurnDone::Idle) => said.push_str("idle"),
-        Ok(TurnDone::Began) => said.push_str("began"),
-        Ok(TurnDone::Page(page)) => write!(said, "page {page}"),
-        Ok(TurnDone::Synced) => said.push_str("synced"),
-        Ok(TurnDone::InForce) => said.push_str("in force"),
-        Ok(TurnDone::Swept) => said.push_str("swept"),
-        Err(refusal) => add_refusal(said, refusal),
+fn word_of(done: TurnDone) -> &'static str {
+    match done {
+        TurnDone::Idle => "idle",
+        TurnDone::Began => "began",
+        TurnDone::Page(_) => "page",
+        TurnDone::Synced => "synced",
+        TurnDone::InForce => "in force",
+        TurnDone::Swept => "swept",
     }
 }
 
-fn add_answer(said: &mut String, answer: &Answer) -> Result<()> {
+/// Adds what a turn did.
+pub fn add_turn(said: &mut Saying, turn: Result<TurnDone, Refusal>) {
+    match turn {
+        Ok(TurnDone::Page(page)) => write!(said, "page {page}"),
+        Ok(done) => said.text(word_of(done)),
+        Err(refusal) => said.refusal(refusal),
+    }
+}
+
+fn add_answer(said: &mut Saying, answer: &Answer) {
     match answer {
-        Answer::Served(outcome) => Ok(add_outcome(said, *outcome)?),
+        Answer::Served(outcome) => said.outcome(*outcome),
         Answer::Grouped(room, served) => {
-            write!(said, "room {room} [")?;
-            add_served(said, served.as_slice())?;
-            Ok(said.push_str("]")?)
+            write!(said, "room {room} [");
+            add_served(said, served.as_slice());
+            said.text("]")
         }
-        Answer::Turned(turn) => Ok(add_turn(said, *turn)?),
-        Answer::Swept(Ok(slots)) => Ok(write!(said, "swept {slots}")?),
-        Answer::Swept(Err(refusal)) => Ok(add_refusal(said, *refusal)?),
+        Answer::Turned(turn) => add_turn(said, *turn),
+        Answer::Swept(Ok(slots)) => write!(said, "swept {slots}"),
+        Answer::Swept(Err(refusal)) => said.refusal(*refusal),
     }
 }
 
@@ -73,119 +75,132 @@ fn goes_on(last: &Answer, next: &Answer) -> bool {
     }
 }
 
-// Adds a row of answers, each of which continues the one before: `page 0 to 36`, `6 swept`, `synced`.
-fn add_row(said: &mut String, row: &[Answer]) -> Result<()> {
-    let Some(first) = row.first() else {
-        return Ok(());
-    };
-    let times = row.len();
-    if let Some(Answer::Turned(Ok(TurnDone::Page(last)))) = row.last() {
-        add_answer(said, first)?;
-        if times > 1 {
-            write!(said, " to {last}")?;
-        }
-        return Ok(());
-    }
-    if times > 1 {
-        write!(said, "{times} ")?;
-    }
-    add_answer(said, first)
+// A row of answers, each of which continues the one before: `page 0 to 36`, `6 swept`, `synced`.
+#[derive(Clone, Copy)]
+struct Row<'a> {
+    first: &'a Answer,
+    last: &'a Answer,
+    times: u64,
 }
 
-// Returns how many answers from the first one on make a row.
-fn row_length(answers: &[Answer]) -> usize {
-    let mut length: usize = 0;
-    let mut rest = answers;
-    for _ in 0..answers.len() {
-        let Some((first, later)) = rest.split_first() else {
-            return length;
-        };
-        length = answers.len().min(length.saturating_add(1));
-        let Some(next) = later.first() else {
-            return length;
-        };
-        if !goes_on(first, next) {
-            return length;
+impl<'a> Row<'a> {
+    fn of(answer: &'a Answer) -> Row<'a> {
+        Row {
+            first: answer,
+            last: answer,
+            times: 1,
         }
-        rest = later;
     }
-    length
+
+    fn add(&self, said: &mut Saying) {
+        let times = self.times;
+        match self.last {
+            Answer::Turned(Ok(TurnDone::Page(last))) => {
+                add_answer(said, self.first);
+                if times > 1 {
+                    write!(said, " to {last}")
+                }
+            }
+            last => {
+                if times > 1 {
+                    write!(said, "{times} ")
+                }
+                add_answer(said, last)
+            }
+        }
+    }
 }
 
 /// Adds answers in order. A row of them is added as one.
-pub fn add_answers(said: &mut String, answers: &[Answer]) -> Result<()> {
-    let mut rest = answers;
-    for _ in 0..answers.len() {
-        let length = row_length(rest);
-        let (Some(row), Some(behind)) = (rest.get(..length), rest.get(length..)) else {
-            return Ok(());
-        };
-        if row.is_empty() {
-            return Ok(());
+pub fn add_answers(said: &mut Saying, answers: &[Answer]) {
+    let Some((first, others)) = answers.split_first() else {
+        return;
+    };
+    let mut row = Row::of(first);
+    for answer in others {
+        if goes_on(row.last, answer) {
+            row.last = answer;
+            row.times = row.times.saturating_add(1);
+        } else {
+            row.add(said);
+            said.text(", ");
+            row = Row::of(answer);
         }
-        if rest.len() < answers.len() {
-            said.push_str(", ")?;
-        }
-        add_row(said, row)?;
-        rest = behind;
     }
-    Ok(())
+    row.add(said)
 }
 
-// Adds a number, and how often it came in front of it if that is more than once.
-fn add_times(said: &mut String, value: u64, times: u64) -> Result<(), AllocError> {
-    match times {
-        0 => Ok(()),
-        1 => write!(said, " {value}"),
-        _ => write!(said, " {times}x{value}"),
+/// Numbers that are told in order. A row of equal numbers is told as one: ` 19 4x20`.
+#[derive(Clone, Copy)]
+pub struct Numbers {
+    value: u64,
+    times: u64,
+}
+
+impl Numbers {
+    /// Begins with none.
+    pub fn none() -> Numbers {
+        Numbers { value: 0, times: 0 }
+    }
+
+    /// Takes in the next number. Tells those before it if it is another one.
+    pub fn next(&mut self, value: u64, said: &mut Saying) {
+        if value != self.value {
+            self.end(said);
+            self.value = value;
+            self.times = 0;
+        }
+        self.times = self.times.saturating_add(1);
+    }
+
+    /// Tells the last ones.
+    pub fn end(&self, said: &mut Saying) {
+        let (value, times) = (self.value, self.times);
+        match times {
+            0 => {}
+            1 => write!(said, " {value}"),
+            _ => write!(said, " {times}x{value}"),
+        }
     }
 }
 
-/// Adds numbers in order. A row of equal numbers is added as one: ` 19 4x20`.
-pub fn add_numbers(said: &mut String, numbers: &[u64]) -> Result<(), AllocError> {
-    let mut value = 0;
-    let mut times: u64 = 0;
-    for number in numbers {
-        if *number != value {
-            add_times(said, value, times)?;
-            value = *number;
-            times = 0;
-        }
-        times = times.saturating_add(1);
+/// Returns whether something is wrong. Adds then in which case that is.
+pub fn is_wrong_at(case: u64, said: &mut Saying) -> bool {
+    let is_wrong = said.is_wrong();
+    if is_wrong {
+        write!(said, " at {case}")
     }
-    add_times(said, value, times)
+    is_wrong
 }
 
 /// Adds bytes as hexadecimal digits, eight together. It counts the zeros after the last eight that aren't all zero.
-pub fn add_bytes(said: &mut String, bytes: &[u8]) -> Result<(), AllocError> {
+pub fn add_bytes(said: &mut Saying, bytes: &[u8]) {
     let mut zeros: usize = 0;
     for group in bytes.chunks(8) {
         if group.len() == 8 && group.iter().all(|byte| *byte == 0) {
             zeros = zeros.saturating_add(8);
         } else {
-            add_zeros(said, zeros)?;
+            add_zeros(said, zeros);
             zeros = 0;
-            add_group(said, group)?;
+            add_group(said, group);
         }
     }
     match zeros {
-        0 => Ok(()),
+        0 => {}
         _ if zeros == bytes.len() => write!(said, " {zeros} zeros"),
         _ => write!(said, " and {zeros} zeros"),
     }
 }
 
-fn add_zeros(said: &mut String, zeros: usize) -> Result<(), AllocError> {
+fn add_zeros(said: &mut Saying, zeros: usize) {
     for _ in 0..zeros / 8 {
-        said.push_str(" 0000000000000000")?;
+        said.text(" 0000000000000000");
     }
-    Ok(())
 }
 
-fn add_group(said: &mut String, group: &[u8]) -> Result<(), AllocError> {
-    said.push_str(" ")?;
+fn add_group(said: &mut Saying, group: &[u8]) {
+    said.text(" ");
     for byte in group {
-        write!(said, "{byte:02x}")?;
+        write!(said, "{byte:02x}");
     }
-    Ok(())
 }

@@ -1,9 +1,8 @@
 //! What a memory is asked, what it answers, and what an engine shows of it.
 
-use anyhow::{Result, anyhow};
 use im_disk::FuseDisk;
 use im_engine::Engine;
-use im_story::add_outcome;
+use im_story::Saying;
 use im_types::{Entry, Kind, Op, Outcome, Refusal, Reply, Request};
 
 /// How many requests there are.
@@ -39,11 +38,10 @@ fn answer(at: usize) -> Entry {
 }
 
 /// Adds an answer.
-pub fn add_answer(said: &mut String, outcome: Outcome) -> Result<()> {
-    said.push_str(" ")?;
-    add_outcome(said, Ok(outcome))?;
-    said.push_str(",")?;
-    Ok(())
+pub fn add_answer(said: &mut Saying, outcome: Outcome) {
+    said.text(" ");
+    said.outcome(Ok(outcome));
+    said.text(",")
 }
 
 // Returns whether the request at this place was answered, or else its number isn't used.
@@ -102,17 +100,14 @@ pub fn sum_of(bytes: &[u8]) -> u64 {
 }
 
 /// Checks that a call that makes no call of the disk is refused for want of memory, and that all is as it was.
-pub fn lacks_memory(refusal: Refusal, is_same: bool) -> Result<()> {
-    if is_same && refusal == Refusal::NoMemory {
-        return Ok(());
-    }
-    Err(anyhow!("refused {refusal}, as it was before: {is_same}"))
+pub fn lacks_memory(refusal: Refusal, is_same: bool, said: &mut Saying) {
+    said.so(is_same && refusal == Refusal::NoMemory, "")
 }
 
 /// Checks the same of a call that may be refused by the disk, since the disk's record can't grow.
-pub fn is_refused(refusal: Refusal, is_same: bool) -> Result<()> {
-    if is_same && refusal == Refusal::Device {
-        return Ok(());
+pub fn is_refused(refusal: Refusal, is_same: bool, said: &mut Saying) {
+    if refusal == Refusal::Device {
+        return said.so(is_same, "");
     }
-    lacks_memory(refusal, is_same)
+    lacks_memory(refusal, is_same, said)
 }

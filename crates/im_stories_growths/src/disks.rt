@@ -1,135 +1,197 @@
 //! Disks, images on them, and engines over these. If a call is refused, the disk comes back, and its bytes are the same
 //! if memory was wanted.
 
-use crate::asked::{asked, is_refused, lacks_memory, sum_of};
-use anyhow::{Result, anyhow};
+use crate::asked::{State, asked, has_first, is_refused, lacks_memory, state_of, sum_of};
 use im_disk::{FuseDisk, MemDisk, Mode};
 use im_engine::Engine;
 use im_image::inspect;
+use im_story::Saying;
 use im_types::layout::image_length;
 use im_types::{Command, LAST, Limits, Refusal};
 use std::alloc::Global;
 
-// Makes a disk of zero bytes.
-fn blank(alloc: Global, limits: Limits) -> Result<MemDisk> {
-    let length = image_length(limits);
-    match MemDisk::new(alloc, length) {
-        Ok(disk) => Ok(disk),
-        Err(refusal) => {
-            lacks_memory(refusal, true)?;
-            Ok(MemDisk::new(alloc, length)?)
+/// An engine, or the disk of one that was closed or couldn't be made.
+pub struct Place {
+    /// The allocator of what is made.
+    pub alloc: Global,
+    /// The engine, unless it is closed.
+    pub engine: Option<Engine<FuseDisk>>,
+    disk: Option<MemDisk>,
+    calls: u64,
+}
+
+// By one call, wherever its owner may end.
+impl Drop for Place {
+    fn drop(self) {
+        let Place {
+            alloc: _,
+            engine: _,
+            disk: _,
+            calls: _,
+        } = self;
+    }
+}
+
+impl Place {
+    /// Starts with nothing.
+    pub fn new(alloc: Global) -> Place {
+        Place {
+            alloc,
+            engine: None,
+            disk: None,
+            calls: 0,
         }
     }
-}
 
-fn format(
-    alloc: Global,
-    disk: MemDisk,
-    limits: Limits,
-) -> Result<Engine<FuseDisk>, (Refusal, FuseDisk)> {
-    Engine::format(alloc, FuseDisk::new(disk, LAST, Mode::Stop), limits)
-}
-
-fn open(alloc: Global, disk: MemDisk) -> Result<Engine<FuseDisk>, (Refusal, FuseDisk)> {
-    Engine::open(alloc, FuseDisk::new(disk, LAST, Mode::Stop))
-}
-
-// Returns the engine that has to be made the second time.
-fn engine_of(answer: Result<Engine<FuseDisk>, (Refusal, FuseDisk)>) -> Result<Engine<FuseDisk>> {
-    match answer {
-        Ok(engine) => Ok(engine),
-        Err((refusal, _disk)) => Err(anyhow!("refused {refusal} twice")),
+    /// Returns what the engine shows now. It is nothing if there is no engine.
+    pub fn state(&self) -> State {
+        match &self.engine {
+            Some(engine) => state_of(engine),
+            None => State {
+                calls: 0,
+                count: 0,
+                room: 0,
+                failed: false,
+            },
+        }
     }
-}
 
-// Formats a blank disk again. If memory was wanted, no call of the disk was made.
-fn format_again(
-    alloc: Global,
-    refusal: Refusal,
-    disk: FuseDisk,
-    limits: Limits,
-) -> Result<Engine<FuseDisk>> {
-    let calls = disk.calls();
-    let disk = disk.into_inner();
-    let is_blank = calls == 0 && sum_of(disk.bytes()) == 0;
-    match is_refused(refusal, is_blank || refusal == Refusal::Device) {
-        Ok(()) => engine_of(format(alloc, disk, limits)),
-        Err(error) => Err(error),
+    /// Returns whether the engine's memory has answered the first `many` requests, and nothing else was asked.
+    pub fn has_first(&self, many: usize) -> bool {
+        match &self.engine {
+            Some(engine) => has_first(engine, many),
+            None => false,
+        }
     }
-}
 
-/// Makes a new image.
-pub fn formatted(alloc: Global, limits: Limits) -> Result<Engine<FuseDisk>> {
-    match blank(alloc, limits) {
-        Ok(disk) => match format(alloc, disk, limits) {
-            Ok(engine) => Ok(engine),
-            Err((refusal, disk)) => format_again(alloc, refusal, disk, limits),
-        },
-        Err(error) => Err(error),
+    /// Returns a sum by which the bytes of the disk are recognised.
+    pub fn sum(&self) -> u64 {
+        match &self.disk {
+            Some(disk) => sum_of(disk.bytes()),
+            None => 0,
+        }
     }
-}
 
-// Opens an image again. Its bytes have to have this sum: an opening writes nothing, however it is refused.
-fn open_again(
-    alloc: Global,
-    refusal: Refusal,
-    disk: MemDisk,
-    sum: u64,
-) -> Result<Engine<FuseDisk>> {
-    match is_refused(refusal, sum_of(disk.bytes()) == sum) {
-        Ok(()) => engine_of(open(alloc, disk)),
-        Err(error) => Err(error),
+    // Takes the disk, all of whose calls pass.
+    fn taken(&mut self) -> Option<FuseDisk> {
+        Some(FuseDisk::new(self.disk.take()?, LAST, Mode::Stop))
     }
-}
 
-/// Opens an image.
-pub fn opened(alloc: Global, disk: MemDisk) -> Result<Engine<FuseDisk>> {
-    let sum = sum_of(disk.bytes());
-    match open(alloc, disk) {
-        Ok(engine) => Ok(engine),
-        Err((refusal, disk)) => open_again(alloc, refusal, disk.into_inner(), sum),
+    // Keeps this disk, with its calls.
+    fn lay_down(&mut self, disk: FuseDisk) {
+        self.calls = disk.calls();
+        self.disk = Some(disk.into_inner());
     }
-}
 
-// Returns whether an engine refuses everything, since its disk has failed.
-fn refuses_all(engine: &mut Engine<FuseDisk>) -> bool {
-    let serves = engine.serve(&Command::Request(asked(0)));
-    let turns = engine.turn();
-    let asks = engine.collect(0, 1);
-    engine.failed()
-        && serves == Err(Refusal::Failed)
-        && turns == Err(Refusal::Failed)
-        && asks == Err(Refusal::Failed)
-}
-
-/// Opens the disk of an engine that its disk has failed.
-pub fn opened_again(alloc: Global, engine: Engine<FuseDisk>) -> Result<Engine<FuseDisk>> {
-    let mut engine = engine;
-    let refuses = refuses_all(&mut engine);
-    let disk = engine.close().into_inner();
-    if refuses {
-        opened(alloc, disk)
-    } else {
-        Err(anyhow!("it hasn't failed"))
+    // Keeps an engine, or the disk that it was to be on.
+    fn keep(&mut self, made: Result<Engine<FuseDisk>, (Refusal, FuseDisk)>) -> Result<(), Refusal> {
+        match made {
+            Ok(engine) => {
+                self.engine = Some(engine);
+                Ok(())
+            }
+            Err((refusal, disk)) => {
+                self.lay_down(disk);
+                Err(refusal)
+            }
+        }
     }
-}
 
-// Returns the count and the room of an image.
-fn look(alloc: Global, disk: &mut MemDisk) -> Result<(u64, u32), Refusal> {
-    match inspect(alloc, disk) {
-        Ok(report) => Ok((report.header.count.saturating_add(report.run), report.room)),
-        Err(refusal) => Err(refusal),
+    // Makes a disk of zero bytes.
+    fn blank(&mut self, length: usize) -> Result<(), Refusal> {
+        match MemDisk::new(self.alloc, length) {
+            Ok(disk) => {
+                self.disk = Some(disk);
+                Ok(())
+            }
+            Err(refusal) => Err(refusal),
+        }
     }
-}
 
-/// Returns the same, and looks again if that is refused.
-pub fn inspected(alloc: Global, disk: &mut MemDisk) -> Result<(u64, u32)> {
-    let sum = sum_of(disk.bytes());
-    match look(alloc, disk) {
-        Ok(found) => Ok(found),
-        Err(refusal) => {
-            is_refused(refusal, sum_of(disk.bytes()) == sum)?;
-            Ok(look(alloc, disk)?)
+    fn format_once(&mut self, limits: Limits) -> Result<(), Refusal> {
+        match self.taken() {
+            Some(disk) => self.keep(Engine::format(self.alloc, disk, limits)),
+            None => Err(Refusal::NoMemory),
+        }
+    }
+
+    fn open_once(&mut self) -> Result<(), Refusal> {
+        match self.taken() {
+            Some(disk) => self.keep(Engine::open(self.alloc, disk)),
+            None => Err(Refusal::NoMemory),
+        }
+    }
+
+    /// Makes a new image. It is formatted again if that is refused. If memory was wanted, no call of the disk was made.
+    pub fn format(&mut self, limits: Limits, said: &mut Saying) {
+        let length = image_length(limits);
+        if let Err(refusal) = self.blank(length) {
+            lacks_memory(refusal, true, said);
+            said.so(self.blank(length).is_ok(), "");
+        }
+        if let Err(refusal) = self.format_once(limits) {
+            let is_blank = self.calls == 0 && self.sum() == 0;
+            is_refused(refusal, is_blank || refusal == Refusal::Device, said);
+            said.so(self.format_once(limits).is_ok(), "");
+        }
+    }
+
+    /// Opens the disk, and again if that is refused. An opening writes nothing, however it is refused.
+    pub fn open(&mut self, said: &mut Saying) {
+        let sum = self.sum();
+        if let Err(refusal) = self.open_once() {
+            is_refused(refusal, self.sum() == sum, said);
+            said.so(self.open_once().is_ok(), "");
+        }
+    }
+
+    /// Closes the engine, and keeps its disk.
+    pub fn close(&mut self) {
+        if let Some(engine) = self.engine.take() {
+            self.lay_down(engine.close())
+        }
+    }
+
+    // Returns whether the engine refuses everything, since its disk has failed.
+    fn refuses_all(&mut self) -> bool {
+        let Some(engine) = &mut self.engine else {
+            return false;
+        };
+        engine.serve(&Command::Request(asked(0))) == Err(Refusal::Failed)
+            && engine.turn() == Err(Refusal::Failed)
+            && engine.collect(0, 1) == Err(Refusal::Failed)
+            && engine.failed()
+    }
+
+    /// Opens the disk of an engine that its disk has failed.
+    pub fn open_again(&mut self, said: &mut Saying) {
+        said.so(self.refuses_all(), "");
+        self.close();
+        self.open(said)
+    }
+
+    // Returns the count and the room of the image.
+    fn look(&mut self) -> Result<(u64, u32), Refusal> {
+        let Some(disk) = &mut self.disk else {
+            return Err(Refusal::NoHeader);
+        };
+        match inspect(self.alloc, disk) {
+            Ok(report) => Ok((report.header.count.saturating_add(report.run), report.room)),
+            Err(refusal) => Err(refusal),
+        }
+    }
+
+    /// Tells the same, and looks again if that is refused.
+    pub fn inspect(&mut self, said: &mut Saying) {
+        let sum = self.sum();
+        let mut found = self.look();
+        if let Err(refusal) = found {
+            is_refused(refusal, self.sum() == sum, said);
+            found = self.look();
+        }
+        match found {
+            Ok((count, room)) => write!(said, "  inspected: count {count}, room {room}\n"),
+            Err(refusal) => said.refusal(refusal),
         }
     }
 }

@@ -1,211 +1,132 @@
 //! What engines do by themselves: requests, turns and runs. They take no memory, except for the answers of a run, so it
 //! is the disk that fails. Then the same disk is opened again, and has what was answered, or one request more.
 
-use crate::asked::{ALL, add_answer, asked, has_first, lacks_memory, state_of};
-use crate::disks::opened_again;
-use anyhow::{Result, anyhow};
+use crate::asked::{ALL, add_answer, asked, lacks_memory};
+use crate::disks::Place;
 use im_checkpoint::TurnDone;
-use im_disk::FuseDisk;
-use im_engine::{Answer, Engine, Event};
-use im_types::{Command, Refusal};
+use im_engine::{Answer, Event};
+use im_story::Saying;
+use im_types::{Command, Outcome, Refusal};
 use std::alloc::Global;
 
 // More turns than there are.
 const TURNS: u32 = 100;
 
-/// Serves the requests from one place to another, up to the first at which the disk fails. Returns its place.
-pub fn serve_from(
-    engine: &mut Engine<FuseDisk>,
-    from: usize,
-    upto: usize,
-    said: &mut String,
-) -> Result<usize> {
+// Tells an answer. Returns whether it is one; if not, the disk has failed.
+fn is_told(answer: Result<Outcome, Refusal>, said: &mut Saying) -> bool {
+    match answer {
+        Ok(outcome) => add_answer(said, outcome),
+        Err(refusal) => said.so(refusal == Refusal::Device, ""),
+    }
+    answer.is_ok()
+}
+
+// Serves the requests from one place to another, up to the first at which the disk fails. Returns its place.
+fn serve_from(place: &mut Place, from: usize, upto: usize, said: &mut Saying) -> usize {
+    let Some(engine) = &mut place.engine else {
+        return from;
+    };
     for at in from..upto {
-        match engine.serve(&Command::Request(asked(at))) {
-            Ok(outcome) => add_answer(said, outcome)?,
-            Err(Refusal::Device) => return Ok(at),
-            Err(refusal) => return Err(anyhow!("refused {refusal}")),
+        if !is_told(engine.serve(&Command::Request(asked(at))), said) {
+            return at;
         }
     }
-    Ok(upto)
+    upto
 }
 
-// Returns the engine if it has answered all that was to be answered.
-fn done(engine: Engine<FuseDisk>, many: usize) -> Result<Engine<FuseDisk>> {
-    if has_first(&engine, many) {
-        Ok(engine)
-    } else {
-        Err(anyhow!("it hasn't answered {many}"))
+/// Serves the rest of the requests, from one place to another, if the disk has failed. All of them have to be answered
+/// then.
+pub fn serve_rest(place: &mut Place, from: usize, upto: usize, said: &mut Saying) {
+    if place.state().failed {
+        place.open_again(said);
+        let is_there = place.has_first(from) || place.has_first(from.saturating_add(1));
+        said.so(is_there, "");
+        let _upto = serve_from(place, from, upto, said);
     }
-}
-
-// Serves the rest of the requests on an image that was opened again.
-fn serve_opened(
-    engine: Engine<FuseDisk>,
-    from: usize,
-    upto: usize,
-    said: &mut String,
-) -> Result<Engine<FuseDisk>> {
-    let mut engine = engine;
-    if !has_first(&engine, from) && !has_first(&engine, from.saturating_add(1)) {
-        return Err(anyhow!("what was answered isn't there"));
-    }
-    match serve_from(&mut engine, from, upto, said) {
-        Ok(_) => done(engine, upto),
-        Err(error) => Err(error),
-    }
-}
-
-/// Serves the rest of the requests, from one place to another, after the disk has failed.
-pub fn serve_again(
-    alloc: Global,
-    engine: Engine<FuseDisk>,
-    from: usize,
-    upto: usize,
-    said: &mut String,
-) -> Result<Engine<FuseDisk>> {
-    match opened_again(alloc, engine) {
-        Ok(engine) => serve_opened(engine, from, upto, said),
-        Err(error) => Err(error),
-    }
+    said.so(place.has_first(upto), "")
 }
 
 /// Serves the first of the requests.
-pub fn serve_first(
-    alloc: Global,
-    engine: Engine<FuseDisk>,
-    many: usize,
-    said: &mut String,
-) -> Result<Engine<FuseDisk>> {
-    let mut engine = engine;
-    match serve_from(&mut engine, 0, many, said) {
-        Ok(at) => {
-            if engine.failed() {
-                serve_again(alloc, engine, at, many, said)
-            } else {
-                done(engine, many)
-            }
-        }
-        Err(error) => Err(error),
-    }
+pub fn serve_first(place: &mut Place, many: usize, said: &mut Saying) {
+    let at = serve_from(place, 0, many, said);
+    serve_rest(place, at, many, said)
 }
 
-// Takes turns until none is left.
-fn take_turns(engine: &mut Engine<FuseDisk>) -> Result<(), Refusal> {
+// Takes turns until none is left. Returns whether there is none.
+fn take_turns(place: &mut Place) -> bool {
+    let Some(engine) = &mut place.engine else {
+        return false;
+    };
     for _ in 0..TURNS {
         match engine.turn() {
-            Ok(TurnDone::Idle) => return Ok(()),
+            Ok(TurnDone::Idle) => return true,
             Ok(_) => {}
-            Err(refusal) => return Err(refusal),
+            Err(_) => return false,
         }
     }
-    Err(Refusal::JournalFull)
+    false
 }
 
-// Takes turns again. The turns that were refused have changed no memory.
-fn turn_opened(engine: Engine<FuseDisk>) -> Result<Engine<FuseDisk>> {
-    let mut engine = engine;
-    if !has_first(&engine, ALL) {
-        return Err(anyhow!("a turn has changed the memory"));
+/// Makes a checkpoint of all requests. Turns that were refused have changed no memory, and are taken again.
+pub fn turn(place: &mut Place, said: &mut Saying) {
+    if !take_turns(place) {
+        place.open_again(said);
+        said.so(place.has_first(ALL), "");
+        said.so(take_turns(place), "");
     }
-    match take_turns(&mut engine) {
-        Ok(()) => done(engine, ALL),
-        Err(refusal) => Err(anyhow!("refused {refusal}")),
-    }
-}
-
-fn turn_again(alloc: Global, engine: Engine<FuseDisk>) -> Result<Engine<FuseDisk>> {
-    match opened_again(alloc, engine) {
-        Ok(engine) => turn_opened(engine),
-        Err(error) => Err(error),
-    }
-}
-
-/// Makes a checkpoint of all requests.
-pub fn turned(alloc: Global, engine: Engine<FuseDisk>) -> Result<Engine<FuseDisk>> {
-    let mut engine = engine;
-    match take_turns(&mut engine) {
-        Ok(()) => done(engine, ALL),
-        Err(_) => turn_again(alloc, engine),
-    }
+    said.so(place.has_first(ALL), "")
 }
 
 /// Returns all requests as events.
-pub fn events(alloc: Global) -> Result<Vec<Event>> {
+pub fn events(alloc: Global, said: &mut Saying) -> Vec<Event> {
     let mut events = match Vec::with_capacity(alloc, ALL) {
         Ok(events) => events,
         Err(_) => Vec::new(alloc), // It grows as it gets its first.
     };
     for at in 0..ALL {
-        events.push(Event::Command(Command::Request(asked(at))))?;
+        let event = Event::Command(Command::Request(asked(at)));
+        said.so(events.push(event).is_ok(), "");
     }
-    Ok(events)
+    events
 }
 
 // Adds the answers of a run, up to the first at which the disk fails. Returns how many there are.
-fn add_answers(said: &mut String, answers: &[Answer]) -> Result<usize> {
-    let mut at = 0usize;
-    for answer in answers {
-        match answer {
-            Answer::Served(Ok(outcome)) => add_answer(said, *outcome)?,
-            Answer::Served(Err(Refusal::Device)) => return Ok(at),
-            _ => return Err(anyhow!("a command isn't answered")),
+fn add_answers(said: &mut Saying, answers: &[Answer]) -> usize {
+    for (at, answer) in answers.iter().enumerate() {
+        let Answer::Served(answer) = answer else {
+            said.fail("a command isn't answered");
+            return at;
+        };
+        if !is_told(*answer, said) {
+            return at;
         }
-        at = at.saturating_add(1);
     }
-    Ok(at)
+    answers.len()
 }
 
-// Tells a run. If the disk has failed, the rest of the run is served.
-fn add_run(
-    alloc: Global,
-    engine: Engine<FuseDisk>,
-    answers: &[Answer],
-    said: &mut String,
-) -> Result<Engine<FuseDisk>> {
-    match add_answers(said, answers) {
-        Ok(at) => {
-            if engine.failed() {
-                serve_again(alloc, engine, at, ALL, said)
-            } else {
-                done(engine, ALL)
-            }
-        }
-        Err(error) => Err(error),
+// Runs events, and tells the answers. Returns how many there are, or why nothing was done.
+fn run_once(place: &mut Place, events: &[Event], said: &mut Saying) -> Result<usize, Refusal> {
+    let Some(engine) = &mut place.engine else {
+        return Err(Refusal::Failed);
+    };
+    match engine.run(place.alloc, events) {
+        Ok(answers) => Ok(add_answers(said, answers.as_slice())),
+        Err(refusal) => Err(refusal),
     }
 }
 
-// Runs events again, if there was no room for their answers. Nothing was done then.
-fn run_again(
-    alloc: Global,
-    engine: Engine<FuseDisk>,
-    events: &[Event],
-    said: &mut String,
-) -> Result<Engine<FuseDisk>> {
-    let mut engine = engine;
-    match engine.run(alloc, events) {
-        Ok(answers) => add_run(alloc, engine, answers.as_slice(), said),
-        Err(refusal) => Err(anyhow!("refused {refusal} twice")),
+/// Runs all requests on a new image, and again if there was no room for their answers: nothing was done then. If the
+/// disk has failed, the rest of the run is served.
+pub fn run(place: &mut Place, events: &[Event], said: &mut Saying) {
+    let before = place.state();
+    let mut done = run_once(place, events, said);
+    if let Err(refusal) = done {
+        let is_same = place.state() == before && place.has_first(0);
+        lacks_memory(refusal, is_same, said);
+        done = run_once(place, events, said);
     }
-}
-
-/// Runs all requests on a new image.
-pub fn run(
-    alloc: Global,
-    engine: Engine<FuseDisk>,
-    events: &[Event],
-    said: &mut String,
-) -> Result<Engine<FuseDisk>> {
-    let mut engine = engine;
-    let before = state_of(&engine);
-    match engine.run(alloc, events) {
-        Ok(answers) => add_run(alloc, engine, answers.as_slice(), said),
-        Err(refusal) => {
-            let is_same = state_of(&engine) == before && has_first(&engine, 0);
-            match lacks_memory(refusal, is_same) {
-                Ok(()) => run_again(alloc, engine, events, said),
-                Err(error) => Err(error),
-            }
-        }
+    match done {
+        Ok(at) => serve_rest(place, at, ALL, said),
+        Err(refusal) => said.refusal(refusal),
     }
 }

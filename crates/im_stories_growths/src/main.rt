@@ -12,17 +12,16 @@ mod engines;
 mod naming;
 mod ports;
 
-use crate::asked::{ALL, FIRST, State, lacks_memory, state_of, sum_of};
-use crate::disks::{formatted, inspected, opened};
-use crate::engines::{events, run, serve_first, turned};
+use crate::asked::{ALL, FIRST, lacks_memory};
+use crate::disks::Place;
+use crate::engines::{events, run, serve_first, turn};
 use crate::naming::act_on;
-use crate::ports::begun;
+use crate::ports::{begin, begun};
 use anyhow::{Result, anyhow};
-use im_controller::{Opening, start};
-use im_disk::{FuseDisk, MemDisk};
-use im_engine::Engine;
+use im_disk::MemDisk;
 use im_pipes::{Inlet, Outlet, Received, pipe};
-use im_types::{Limits, Refusal};
+use im_story::Saying;
+use im_types::Limits;
 use std::alloc::Global;
 use std::sync::Wait;
 
@@ -33,165 +32,133 @@ const ROOM: usize = 4_096;
 const TOO_MUCH: usize = 1 << 60;
 
 // Tells how many commands an engine has.
-fn add_count(said: &mut String, engine: Engine<FuseDisk>) -> Result<Engine<FuseDisk>> {
-    match writeln!(said, " count {}", engine.count()) {
-        Ok(()) => Ok(engine),
-        Err(_) => Err(anyhow!("no room for what is told")),
-    }
+fn add_count(said: &mut Saying, place: &Place) {
+    let count = place.state().count;
+    write!(said, " count {count}\n")
 }
 
 // Makes a new image and its requests, then a checkpoint of them.
-fn show_turned(alloc: Global, limits: Limits, said: &mut String) -> Result<Engine<FuseDisk>> {
-    said.push_str("  served:")?;
-    let engine = serve_first(alloc, formatted(alloc, limits)?, ALL, said)?;
-    let engine = turned(alloc, add_count(said, engine)?)?;
-    writeln!(said, "  turned: room {}", engine.room())?;
-    Ok(engine)
+fn show_turned(place: &mut Place, limits: Limits, said: &mut Saying) {
+    said.text("  served:");
+    place.format(limits, said);
+    serve_first(place, ALL, said);
+    add_count(said, place);
+    turn(place, said);
+    let room = place.state().room;
+    write!(said, "  turned: room {room}\n")
 }
 
 // Makes the same requests in one run.
-fn show_run(alloc: Global, limits: Limits, said: &mut String) -> Result<Engine<FuseDisk>> {
-    said.push_str("  run:")?;
-    let events = events(alloc)?;
-    let engine = run(alloc, formatted(alloc, limits)?, events.as_slice(), said)?;
-    add_count(said, engine)
+fn show_run(place: &mut Place, limits: Limits, said: &mut Saying) {
+    said.text("  run:");
+    let events = events(place.alloc, said);
+    place.format(limits, said);
+    run(place, events.as_slice(), said);
+    add_count(said, place)
 }
 
 // Shows what is found on the disk of an engine, and by an opening.
-fn show_opened(alloc: Global, engine: Engine<FuseDisk>, said: &mut String) -> Result<()> {
-    let mut disk = engine.close().into_inner();
-    let (count, room) = inspected(alloc, &mut disk)?;
-    writeln!(said, "  inspected: count {count}, room {room}")?;
-    let engine = opened(alloc, disk)?;
-    let (count, room) = (engine.count(), engine.room());
-    writeln!(said, "  opened: count {count}, room {room}")?;
-    Ok(())
+fn show_opened(place: &mut Place, said: &mut Saying) {
+    place.close();
+    place.inspect(said);
+    place.open(said);
+    let (count, room) = (place.state().count, place.state().room);
+    write!(said, "  opened: count {count}, room {room}\n")
 }
 
 // Makes the same requests through ports, except for the one that makes the block.
 fn show_ports<R: Wait>(
     rt: &R,
-    alloc: Global,
+    place: &mut Place,
     limits: Limits,
     is_planned: bool,
-    said: &mut String,
-) -> Result<()> {
-    let engine = serve_first(alloc, formatted(alloc, limits)?, FIRST, said)?;
-    let before = state_of(&engine);
-    let opening = begun(rt, alloc, engine, is_planned)?;
-    let engine = act_on(rt, alloc, opening, before, said)?;
-    let _told = add_count(said, engine)?;
-    Ok(())
+    said: &mut Saying,
+) {
+    place.format(limits, said);
+    serve_first(place, FIRST, said);
+    let before = place.state();
+    match begun(rt, place, is_planned, said) {
+        Ok(opening) => act_on(rt, place, opening, before, said),
+        Err(_) => said.fail("refused twice"),
+    }
+    add_count(said, place)
 }
 
-// Passes items through a pipe.
-fn pass<R: Wait>(rt: &R, inlet: Inlet<u64>, outlet: Outlet<u64>, said: &mut String) -> Result<()>
+// Passes an item through a pipe.
+fn pass<R: Wait>(rt: &R, inlet: Inlet<u64>, outlet: Outlet<u64>, said: &mut Saying)
     requires { outlet.ended ≡ false }
 {
     let (mut inlet, mut outlet) = (inlet, outlet);
     let sent = inlet.send(rt, 7).is_ok();
     let came = matches!(outlet.receive(rt), Received::Item(7));
-    writeln!(said, "  piped: sent {sent}, came {came}")?;
-    Ok(())
+    write!(said, "  piped: sent {sent}, came {came}\n")
 }
 
-fn show_pipe<R: Wait>(rt: &R, alloc: Global, said: &mut String) -> Result<()> {
-    match pipe::<u64>(alloc, 2) {
-        Ok((inlet, outlet)) => pass(rt, inlet, outlet, said),
-        Err(refusal) => {
-            lacks_memory(refusal, true)?;
-            match pipe::<u64>(alloc, 2) {
-                Ok((inlet, outlet)) => pass(rt, inlet, outlet, said),
-                Err(refusal) => Err(anyhow!("refused {refusal} twice")),
-            }
+// Makes a pipe, and again if that is refused.
+fn show_pipe<R: Wait>(rt: &R, alloc: Global, said: &mut Saying) {
+    for _ in 0..2 {
+        match pipe::<u64>(alloc, 2) {
+            Ok((inlet, outlet)) => return pass(rt, inlet, outlet, said),
+            Err(refusal) => lacks_memory(refusal, true, said),
         }
     }
+    said.fail("refused twice")
 }
 
-// Ends a controller over a trace that can't be made.
-fn end_trace<R: Wait>(
-    rt: &R,
-    alloc: Global,
-    opening: Opening<FuseDisk>,
-    before: State,
-    said: &mut String,
-) -> Result<()> {
-    match act_on(rt, alloc, opening, before, said) {
-        Ok(_engine) => Err(anyhow!("there is a trace")),
-        Err(error) => Err(error),
+// Asks for a trace that can't be made. The engine stays as it was, and so does its disk.
+fn show_no_trace<R: Wait>(rt: &R, place: &mut Place, said: &mut Saying) {
+    place.close();
+    let sum = place.sum();
+    place.open(said);
+    let before = place.state();
+    match begin(rt, place, false, TOO_MUCH) {
+        Ok(opening) => act_on(rt, place, opening, before, said),
+        Err(refusal) => write!(said, " a trace {refusal}"),
     }
-}
-
-// Tells a refusal, and whether the engine is as it was, on a disk with this sum.
-fn add_no_trace(
-    said: &mut String,
-    refusal: Refusal,
-    engine: Engine<FuseDisk>,
-    before: State,
-    sum: u64,
-) -> Result<()> {
-    let is_same = state_of(&engine) == before;
-    let disk = engine.close().into_inner();
-    let is_same = is_same && sum_of(disk.bytes()) == sum;
-    writeln!(said, " a trace {refusal}, as it was before: {is_same}")?;
-    Ok(())
-}
-
-// Asks for a trace that can't be made, over an engine on a disk with this sum.
-fn start_too_much<R: Wait>(
-    rt: &R,
-    alloc: Global,
-    engine: Engine<FuseDisk>,
-    sum: u64,
-    said: &mut String,
-) -> Result<()> {
-    let before = state_of(&engine);
-    match start(rt, alloc, engine, TOO_MUCH) {
-        Ok(opening) => end_trace(rt, alloc, opening, before, said),
-        Err((refusal, engine)) => add_no_trace(said, refusal, engine, before, sum),
-    }
-}
-
-fn show_no_trace<R: Wait>(rt: &R, alloc: Global, disk: MemDisk, said: &mut String) -> Result<()> {
-    let sum = sum_of(disk.bytes());
-    match opened(alloc, disk) {
-        Ok(engine) => start_too_much(rt, alloc, engine, sum, said),
-        Err(error) => Err(error),
-    }
+    let is_same = place.state() == before;
+    place.close();
+    let is_same = is_same && place.sum() == sum;
+    write!(said, ", as it was before: {is_same}\n")
 }
 
 // Asks for more than there can be, which is refused each time.
-fn show_too_much<R: Wait>(rt: &R, alloc: Global, limits: Limits, said: &mut String) -> Result<()> {
-    said.push_str("  too much:")?;
-    if let Err(refusal) = MemDisk::new(alloc, TOO_MUCH) {
-        write!(said, " a disk {refusal},")?;
+fn show_too_much<R: Wait>(rt: &R, place: &mut Place, limits: Limits, said: &mut Saying) {
+    said.text("  too much:");
+    if let Err(refusal) = MemDisk::new(place.alloc, TOO_MUCH) {
+        write!(said, " a disk {refusal},")
     }
-    if let Err(refusal) = pipe::<u64>(alloc, TOO_MUCH) {
-        write!(said, " a pipe {refusal},")?;
+    if let Err(refusal) = pipe::<u64>(place.alloc, TOO_MUCH) {
+        write!(said, " a pipe {refusal},")
     }
-    let disk = formatted(alloc, limits)?.close().into_inner();
-    show_no_trace(rt, alloc, disk, said)
+    place.format(limits, said);
+    show_no_trace(rt, place, said)
 }
 
 // Shows each call that takes memory, except for those of threads.
-fn show<R: Wait>(rt: &R, alloc: Global, said: &mut String) -> Result<()> {
+fn show<R: Wait>(rt: &R, alloc: Global, said: &mut Saying) {
     let Some(limits) = Limits::new(4, 3, 16) else {
-        return Err(anyhow!("these are no sizes"));
+        return said.fail("these are no sizes");
     };
-    said.push_str("growths: the same is told, whichever is refused\n")?;
-    show_opened(alloc, show_turned(alloc, limits, said)?, said)?;
-    show_opened(alloc, show_run(alloc, limits, said)?, said)?;
-    said.push_str("  under the lock:")?;
-    show_ports(rt, alloc, limits, false, said)?;
-    said.push_str("  under a plan:")?;
-    show_ports(rt, alloc, limits, true, said)?;
-    show_pipe(rt, alloc, said)?;
-    show_too_much(rt, alloc, limits, said)
+    let mut place = Place::new(alloc);
+    said.text("growths: the same is told, whichever is refused\n");
+    show_turned(&mut place, limits, said);
+    show_opened(&mut place, said);
+    show_run(&mut place, limits, said);
+    show_opened(&mut place, said);
+    said.text("  under the lock:");
+    show_ports(rt, &mut place, limits, false, said);
+    said.text("  under a plan:");
+    show_ports(rt, &mut place, limits, true, said);
+    show_pipe(rt, alloc, said);
+    show_too_much(rt, &mut place, limits, said)
 }
 
 fn main(rt: HostRuntime) -> Result<()> {
-    let mut said = String::with_capacity(rt.alloc(), ROOM)?;
-    let shown = show(&rt, rt.alloc(), &mut said);
-    rt.print(said.as_str())?;
-    shown
+    let mut said = Saying::with_room(rt.alloc(), ROOM)?;
+    show(&rt, rt.alloc(), &mut said);
+    rt.print(said.said())?;
+    if said.is_wrong() {
+        return Err(anyhow!("a call wasn't answered as it has to be"));
+    }
+    Ok(())
 }

@@ -4,23 +4,22 @@ ghost use Rattle.std.specs.Prelude.{◌≡◌};
 ghost use Rattle.im_controller.specs.Kept.{begun_in};
 
 use crate::asked::State;
+use crate::disks::Place;
 use crate::ports::ask;
-use anyhow::Result;
 use im_controller::{Name, Opening};
 use im_disk::{Disk, FuseDisk};
-use im_engine::Engine;
-use std::alloc::Global;
+use im_story::Saying;
 use std::marker::Brand;
 use std::sync::Wait;
 
 // Asks the ports of a controller that has a name.
 fn act_named<K: Name, R: Wait>(
     rt: &R,
-    alloc: Global,
+    place: &mut Place,
     opening: Opening<FuseDisk>,
     before: State,
-    said: &mut String,
-) -> Result<Engine<FuseDisk>>
+    said: &mut Saying,
+)
     requires memory { opening.engine.memory ≡ K.memory }
     requires lines { opening.lines_name ≡ K.lines_name }
     requires marked { opening.marked_name ≡ K.marked_name }
@@ -31,16 +30,16 @@ fn act_named<K: Name, R: Wait>(
         opening.engine ≡ K.begun }
     requires honest { ⟦<FuseDisk as Disk>⟧.honest opening.engine.disk → K.honest }
 {
-    ask(rt, alloc, opening.named::<K>(), before, said)
+    ask(rt, place, opening.named::<K>(), before, said)
 }
 
 /// Makes a controller over an engine in this state, and asks its ports.
 pub fn act_on<R: Wait>(
     rt: &R,
-    alloc: Global,
+    place: &mut Place,
     opening: Opening<FuseDisk>,
     before: State,
-    said: &mut String,
-) -> Result<Engine<FuseDisk>> {
-    act_named::<Brand, R>(rt, alloc, opening, before, said)
+    said: &mut Saying,
+) {
+    act_named::<Brand, R>(rt, place, opening, before, said)
 }

@@ -1,12 +1,13 @@
 //! What ports ask under the lock, and how a controller begins and ends.
 
-use crate::asked::{ALL, FIRST, State, add_answer, asked, has_first, lacks_memory, state_of};
-use crate::engines::serve_again;
-use anyhow::{Result, anyhow};
-use im_controller::{Controller, Finished, Name, Opening, Port, finish, start, start_planned};
+use crate::asked::{ALL, FIRST, State, add_answer, asked, lacks_memory};
+use crate::disks::Place;
+use crate::engines::serve_rest;
+use im_controller::{Controller, Name, Opening, Port, finish, start, start_planned};
 use im_disk::FuseDisk;
 use im_engine::Engine;
 use im_planning::Plan;
+use im_story::Saying;
 use im_types::{Outcome, Refusal};
 use std::alloc::Global;
 use std::sync::Wait;
@@ -15,7 +16,7 @@ use std::sync::Wait;
 const LINES: usize = 8;
 
 // What ports were told: the place of the next request, and how many of the numbers that they asked for weren't used.
-#[derive(Drop)]
+#[derive(Clone, Copy)]
 struct Told {
     next: usize,
     unused: usize,
@@ -34,52 +35,40 @@ fn plan(alloc: Global) -> Result<Plan, Refusal> {
     Plan::new(alloc, requests)
 }
 
-// Makes room for a trace, under a plan or without one.
-fn begin<R: Wait>(
+// Makes room for a trace of so many lines, under a plan or without one.
+fn start_on<R: Wait>(
     rt: &R,
     alloc: Global,
     engine: Engine<FuseDisk>,
     is_planned: bool,
+    lines: usize,
 ) -> Result<Opening<FuseDisk>, (Refusal, Engine<FuseDisk>)> {
     if !is_planned {
-        return start(rt, alloc, engine, LINES);
+        return start(rt, alloc, engine, lines);
     }
     match plan(alloc) {
-        Ok(plan) => start_planned(rt, alloc, engine, plan, LINES),
+        Ok(plan) => start_planned(rt, alloc, engine, plan, lines),
         Err(refusal) => Err((refusal, engine)),
     }
 }
 
-// Makes room again. The engine has to be as it was.
-fn begin_again<R: Wait>(
+/// Makes room for a trace of so many lines over the engine, under a plan or without one. If that is refused, the engine
+/// stays.
+pub fn begin<R: Wait>(
     rt: &R,
-    alloc: Global,
-    refusal: Refusal,
-    engine: Engine<FuseDisk>,
-    before: State,
+    place: &mut Place,
     is_planned: bool,
-) -> Result<Opening<FuseDisk>> {
-    let is_same = state_of(&engine) == before && has_first(&engine, FIRST);
-    match lacks_memory(refusal, is_same) {
-        Ok(()) => match begin(rt, alloc, engine, is_planned) {
-            Ok(opening) => Ok(opening),
-            Err((refusal, _engine)) => Err(anyhow!("refused {refusal} twice")),
-        },
-        Err(error) => Err(error),
-    }
-}
-
-/// Makes room for a trace over an engine that has the block.
-pub fn begun<R: Wait>(
-    rt: &R,
-    alloc: Global,
-    engine: Engine<FuseDisk>,
-    is_planned: bool,
-) -> Result<Opening<FuseDisk>> {
-    let before = state_of(&engine);
-    match begin(rt, alloc, engine, is_planned) {
+    lines: usize,
+) -> Result<Opening<FuseDisk>, Refusal> {
+    let Some(engine) = place.engine.take() else {
+        return Err(Refusal::Failed);
+    };
+    match start_on(rt, place.alloc, engine, is_planned, lines) {
         Ok(opening) => Ok(opening),
-        Err((refusal, engine)) => begin_again(rt, alloc, refusal, engine, before, is_planned),
+        Err((refusal, engine)) => {
+            place.engine = Some(engine);
+            Err(refusal)
+        }
     }
 }
 
@@ -97,55 +86,47 @@ fn submit<K: Name, R: Wait>(
     }
 }
 
-// Asks again if there was no memory. The number isn't used, and that is a line.
-fn submit_again<K: Name, R: Wait>(
-    rt: &R,
-    controller: &Controller<FuseDisk, K>,
-    port: &mut Port<K>,
-    told: &mut Told,
-    refusal: Refusal,
-) -> Result<Outcome> {
-    let is_unused = match port.collect(rt, controller, asked(told.next).number) {
-        Ok(_) => false,
-        Err(refusal) => refusal == Refusal::Gap,
-    };
-    lacks_memory(refusal, is_unused)?;
-    told.unused = told.unused.saturating_add(1);
-    Ok(submit(rt, controller, port, told.next)?)
-}
-
-// Checks that nothing is answered any longer after the disk has failed.
-fn is_over<K: Name, R: Wait>(
+// Returns whether the number of the request at a place isn't used.
+fn is_unused<K: Name, R: Wait>(
     rt: &R,
     controller: &Controller<FuseDisk, K>,
     port: &mut Port<K>,
     at: usize,
-) -> Result<()> {
-    match submit(rt, controller, port, at) {
-        Err(Refusal::Failed) => Ok(()),
-        _ => Err(anyhow!("it goes on")),
-    }
+) -> bool {
+    matches!(
+        port.collect(rt, controller, asked(at).number),
+        Err(Refusal::Gap)
+    )
 }
 
-// Asks a port for the next request. Returns whether it was answered; if not, the disk has failed.
+// Asks a port for the next request. If there was no memory, it asks again: the number isn't used, and that is a line.
+// Returns whether it was answered; if not, the disk has failed, and nothing is answered any longer.
 fn ask_port<K: Name, R: Wait>(
     rt: &R,
     controller: &Controller<FuseDisk, K>,
     port: &mut Port<K>,
     told: &mut Told,
-    said: &mut String,
-) -> Result<bool> {
-    let outcome = match submit(rt, controller, port, told.next) {
-        Ok(outcome) => outcome,
-        Err(Refusal::Device) => {
-            is_over(rt, controller, port, told.next)?;
-            return Ok(false);
-        }
-        Err(refusal) => submit_again(rt, controller, port, told, refusal)?,
-    };
-    add_answer(said, outcome)?;
+    said: &mut Saying,
+) -> bool {
+    let mut answer = submit(rt, controller, port, told.next);
+    if answer == Err(Refusal::Device) {
+        said.so(
+            submit(rt, controller, port, told.next) == Err(Refusal::Failed),
+            "",
+        );
+        return false;
+    }
+    if let Err(refusal) = answer {
+        lacks_memory(refusal, is_unused(rt, controller, port, told.next), said);
+        told.unused = told.unused.saturating_add(1);
+        answer = submit(rt, controller, port, told.next);
+    }
+    match answer {
+        Ok(outcome) => add_answer(said, outcome),
+        Err(_) => said.fail("refused twice"),
+    }
     told.next = told.next.saturating_add(1);
-    Ok(true)
+    answer.is_ok()
 }
 
 // Gives out the ports of elements 1 and 2.
@@ -153,11 +134,14 @@ fn add_ports<K: Name, R: Wait>(
     rt: &R,
     controller: &Controller<FuseDisk, K>,
     ports: &mut Vec<Port<K>>,
-) -> Result<()> {
+    said: &mut Saying,
+) {
     for element in 1..3u16 {
-        ports.push(controller.port(rt, element)?)?;
+        match controller.port(rt, element) {
+            Ok(port) => said.so(ports.push(port).is_ok(), ""),
+            Err(refusal) => said.refusal(refusal),
+        }
     }
-    Ok(())
 }
 
 // Asks the ports, up to the first request at which the disk fails.
@@ -166,19 +150,17 @@ fn ask_ports<K: Name, R: Wait>(
     controller: &Controller<FuseDisk, K>,
     ports: &mut Vec<Port<K>>,
     told: &mut Told,
-    said: &mut String,
-) -> Result<()> {
-    add_ports(rt, controller, ports)?;
+    said: &mut Saying,
+) {
     for _ in FIRST..ALL {
         let place = usize::from(asked(told.next).element).saturating_sub(1);
         let Some(port) = ports.as_mut_slice().get_mut(place) else {
-            return Err(anyhow!("no port"));
+            return said.fail("no port");
         };
-        if !ask_port(rt, controller, port, told, said)? {
-            return Ok(());
+        if !ask_port(rt, controller, port, told, said) {
+            return;
         }
     }
-    Ok(())
 }
 
 // Returns the state of an engine after `many` more requests, each of which makes four calls of the disk.
@@ -192,51 +174,57 @@ fn after(before: State, many: usize) -> State {
     }
 }
 
-// Checks the result of a controller. It has a line for each request that was answered and for each number that wasn't
-// used, and no other. If the disk has failed, the same disk is opened again and asked for the rest.
-fn see_end(
-    alloc: Global,
-    ended: Finished<FuseDisk>,
-    told: &Told,
-    before: State,
-    said: &mut String,
-) -> Result<Engine<FuseDisk>> {
-    let answered = told.next.saturating_sub(FIRST);
-    let lines = ended.trace.len();
-    if !ended.came || !ended.claimed || lines != answered.saturating_add(told.unused) {
-        return Err(anyhow!("{lines} lines"));
-    }
-    let engine = ended.engine;
-    if engine.failed() {
-        return serve_again(alloc, engine, told.next, ALL, said);
-    }
-    if state_of(&engine) == after(before, answered) && has_first(&engine, ALL) {
-        Ok(engine)
-    } else {
-        Err(anyhow!("a request has done something else"))
-    }
+// Checks the engine of a controller. If its disk has failed, the same disk is opened again and asked for the rest.
+fn see_engine(place: &mut Place, told: Told, before: State, said: &mut Saying) {
+    let is_after = place.state() == after(before, told.next.saturating_sub(FIRST));
+    said.so(is_after || place.state().failed, "");
+    serve_rest(place, told.next, ALL, said)
 }
 
-/// Asks ports for the requests after the first, over an engine in this state.
+/// Asks ports for the requests after the first, over an engine in this state. The controller's trace has a line for
+/// each request that was answered and for each number that wasn't used, and no other.
 pub fn ask<K: Name, R: Wait>(
     rt: &R,
-    alloc: Global,
+    place: &mut Place,
     controller: Controller<FuseDisk, K>,
     before: State,
-    said: &mut String,
-) -> Result<Engine<FuseDisk>> {
-    let mut ports = match Vec::with_capacity(alloc, 2) {
+    said: &mut Saying,
+) {
+    let mut ports = match Vec::with_capacity(place.alloc, 2) {
         Ok(ports) => ports,
-        Err(_) => Vec::new(alloc), // It grows as it gets its first.
+        Err(_) => Vec::new(place.alloc), // It grows as it gets its first.
     };
     let mut told = Told {
         next: FIRST,
         unused: 0,
     };
-    let all_asked = ask_ports(rt, &controller, &mut ports, &mut told, said);
+    add_ports(rt, &controller, &mut ports, said);
+    ask_ports(rt, &controller, &mut ports, &mut told, said);
     let ended = finish(rt, controller, ports);
-    match all_asked {
-        Ok(()) => see_end(alloc, ended, &told, before, said),
-        Err(error) => Err(error),
+    let lines = told.next.saturating_sub(FIRST).saturating_add(told.unused);
+    said.so(
+        ended.came && ended.claimed && ended.trace.len() == lines,
+        "",
+    );
+    place.engine = Some(ended.engine);
+    see_engine(place, told, before, said)
+}
+
+/// Makes room for a trace over an engine that has the block, and asks again if that is refused: the engine has to be as
+/// it was.
+pub fn begun<R: Wait>(
+    rt: &R,
+    place: &mut Place,
+    is_planned: bool,
+    said: &mut Saying,
+) -> Result<Opening<FuseDisk>, Refusal> {
+    let before = place.state();
+    match begin(rt, place, is_planned, LINES) {
+        Ok(opening) => Ok(opening),
+        Err(refusal) => {
+            let is_same = place.state() == before && place.has_first(FIRST);
+            lacks_memory(refusal, is_same, said);
+            begin(rt, place, is_planned, LINES)
+        }
     }
 }
