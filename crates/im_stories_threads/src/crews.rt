@@ -1,11 +1,12 @@
 //! Threads that run at once: one for each port that plays a part, one for each glance, and one that keeps checkpoints.
 
 use crate::glances::{Looked, ROUNDS, watch};
-use crate::parts::{Part, Told, play};
+use crate::parts::{Accepted, Part, play};
+use crate::scenes::Scene;
 use im_controller::{Controller, Name, Port, Shown, Standing, Teller};
 use im_disk::Disk;
 use im_glass::Glance;
-use std::alloc::{AllocError, Global};
+use std::alloc::Global;
 use std::sync::{Mutex, Wait};
 use std::thread;
 use std::thread::{JoinHandle, Scope, Threads};
@@ -28,7 +29,7 @@ pub struct Done<K: Name> {
     /// The port.
     pub port: Port<K>,
     /// The result of its part.
-    pub told: Told,
+    pub told: Accepted,
 }
 
 /// The results of all parts.
@@ -100,8 +101,11 @@ fn keep_to_end<D: Disk, K: Name, R: Wait>(
         .is_ok()
 }
 
-// Waits until the journal has this room, while no port asks. Only the thread that keeps checkpoints can make it.
-fn rest<R: Wait>(rt: &R, room: &Mutex<u32>, wanted: u32) -> bool {
+// Waits until the journal has the wanted room, while no port asks. Only the thread that keeps checkpoints can make it.
+fn rest<R: Wait>(rt: &R, room: &Mutex<u32>, wanted: Option<u32>) -> bool {
+    let Some(wanted) = wanted else {
+        return true;
+    };
     for _ in 0..MOST_LOOKS {
         let seen = room.lock(rt);
         if *seen == wanted {
@@ -136,36 +140,30 @@ fn begin_to_watch<'s, E, K: Name + Send + Sync + 's>(
 }
 
 // Waits for the end of a thread, if it could be made.
-fn end<K: Name, R: Threads>(rt: &R, thread: Option<JoinHandle<Done<K>>>, done: &mut Vec<Done<K>>) {
+fn end<T: Drop, R: Threads>(rt: &R, thread: Option<JoinHandle<T>>, results: &mut Vec<T>) {
     if let Some(thread) = thread {
-        let _kept = done.push(thread.join(rt));
+        let _kept = results.push(thread.join(rt));
+    }
+}
+
+// Waits for the ends of all these threads.
+fn end_all<T: Drop, R: Threads>(rt: &R, threads: Vec<Option<JoinHandle<T>>>, results: &mut Vec<T>) {
+    for thread in threads {
+        end(rt, thread, results)
     }
 }
 
 // Starts a thread for each glance.
 fn watch_all<'s, E, K: Name + Send + Sync + 's>(
+    alloc: Global,
     scope: &Scope<'s, E>,
     glances: Vec<Glance<Shown<K>>>,
-    watchers: Vec<Option<JoinHandle<Looked<Shown<K>>>>>,
 ) -> Vec<Option<JoinHandle<Looked<Shown<K>>>>> {
-    let mut watchers = watchers;
+    let mut watchers = Vec::new(alloc);
     for glance in glances {
         let _kept = watchers.push(begin_to_watch(scope, glance));
     }
     watchers
-}
-
-// Waits for the ends of the threads that look.
-fn end_watchers<K: Name, R: Threads>(
-    rt: &R,
-    watchers: Vec<Option<JoinHandle<Looked<Shown<K>>>>>,
-    looked: &mut Vec<Looked<Shown<K>>>,
-) {
-    for watcher in watchers {
-        if let Some(watcher) = watcher {
-            let _kept = looked.push(watcher.join(rt));
-        }
-    }
 }
 
 // Plays all parts to their ends: all at once, or each after the one before it has ended.
@@ -175,60 +173,56 @@ fn play_tasks<'s, E, D: Disk + Drop + Send, K: Name + Send + Sync, R: Threads + 
     controller: &'s Controller<D, K>,
     in_turn: bool,
     tasks: Vec<Task<K>>,
-    threads: Vec<Option<JoinHandle<Done<K>>>>,
-    done: &mut Vec<Done<K>>,
-) {
-    let mut threads = threads;
+    alloc: Global,
+) -> Vec<Done<K>> {
+    let (mut threads, mut done) = (Vec::new(alloc), Vec::new(alloc));
     for task in tasks {
         let thread = begin(rt, scope, controller, task);
         if in_turn {
-            end(rt, thread, done);
+            end(rt, thread, &mut done)
         } else {
             let _kept = threads.push(thread);
         }
     }
-    for thread in threads {
-        end(rt, thread, done);
+    end_all(rt, threads, &mut done);
+    done
+}
+
+// Waits for the end of the thread that keeps checkpoints. Returns whether it was there, and was refused nothing.
+fn has_kept<R: Threads>(rt: &R, keeper: Option<JoinHandle<bool>>) -> bool {
+    match keeper {
+        Some(keeper) => keeper.join(rt),
+        None => false,
     }
 }
 
-/// Plays all parts, each in a thread of its own, beside one for each glance and the thread that keeps checkpoints until
-/// they have returned. The parts play all at once, or each after the one before it has ended. If room in the journal is
-/// waited for, the call then waits for that. Returns `AllocError` if there is no room for a list of them.
+/// Plays all parts of a scene, each in a thread of its own, beside one for each glance and the thread that keeps
+/// checkpoints until they have returned. The parts play all at once, or each after the one before it has ended. If the
+/// scene waits for room in the journal, the call then waits for that. A thread that can't be made or kept is missing in
+/// what is returned.
 pub fn play_all<D: Disk + Drop + Send, K: Name + Send + Sync, R: Threads + Wait + Sync>(
     rt: &R,
     alloc: Global,
     controller: &Controller<D, K>,
-    in_turn: bool,
-    wanted: Option<u32>,
+    scene: Scene,
     tasks: Vec<Task<K>>,
     glances: Vec<Glance<Shown<K>>>,
-) -> Result<Played<K>, AllocError> {
-    let threads = Vec::with_capacity(alloc, tasks.len())?;
-    let watchers = Vec::with_capacity(alloc, glances.len())?;
-    let mut done = Vec::with_capacity(alloc, tasks.len())?;
-    let mut looked = Vec::with_capacity(alloc, glances.len())?;
+) -> Played<K> {
     let room = Mutex::new(0);
     let room = &room;
     thread::scope(thread::scope_env(), rt, move |scope| {
         let keeper = keep(rt, scope, controller, room);
-        let watchers = watch_all(scope, glances, watchers);
-        play_tasks(rt, scope, controller, in_turn, tasks, threads, &mut done);
-        end_watchers(rt, watchers, &mut looked);
-        let rested = match wanted {
-            Some(wanted) => rest(rt, room, wanted),
-            None => true,
-        };
+        let watchers = watch_all(alloc, scope, glances);
+        let done = play_tasks(rt, scope, controller, scene.is_in_turn(), tasks, alloc);
+        let mut looked = Vec::new(alloc);
+        end_all(rt, watchers, &mut looked);
+        let rested = rest(rt, room, scene.rests());
         controller.end(rt);
-        let kept = match keeper {
-            Some(keeper) => keeper.join(rt),
-            None => false,
-        };
-        Ok(Played {
+        Played {
             done,
             looked,
-            kept,
+            kept: has_kept(rt, keeper),
             rested,
-        })
+        }
     })
 }

@@ -53,17 +53,17 @@ impl Order {
     }
 }
 
-/// Holds each request until all that come before it in an order are answered.
+/// Holds each request until all that come before it in an order are answered. Without an order it holds none.
 #[derive(Drop)]
 pub struct InOrder {
-    order: Order,
+    order: Option<Order>,
     // How many are answered.
     answered: Mutex<u32>,
 }
 
 impl InOrder {
     /// Starts with nothing answered.
-    pub fn new(order: Order) -> InOrder {
+    pub fn new(order: Option<Order>) -> InOrder {
         InOrder {
             order,
             answered: Mutex::new(0),
@@ -72,7 +72,10 @@ impl InOrder {
 
     // Returns whether it is an element's turn.
     fn is_turn_of<R: Wait>(&self, rt: &R, element: u16) -> bool {
-        self.order.element(*self.answered.lock(rt)) == u32::from(element)
+        match self.order {
+            Some(order) => order.element(*self.answered.lock(rt)) == u32::from(element),
+            None => true,
+        }
     }
 }
 

@@ -1,12 +1,12 @@
 //! Readings: threads that look again and again beside a writer, and the last cell of a large memory.
 
-use crate::scenes::{add_call, outcome_of, port, submit};
-use anyhow::{Result, anyhow};
+use crate::notes::{Notes, keep, outcome_of};
+use crate::scenes::submit;
 use im_controller::{Controller, Name, Port, Receipt, Shown};
 use im_disk::FuseDisk;
 use im_glass::{Glance, PaneName};
-use im_types::{Kind, Op, Refusal};
-use std::alloc::Global;
+use im_story::Saying;
+use im_types::{Op, Refusal};
 use std::sync::Wait;
 
 /// How many cells the writer fills and readers look at.
@@ -84,57 +84,41 @@ pub fn watch<J: PaneName>(glance: Glance<J>, rounds: u32) -> Looked<J> {
     looked
 }
 
-// Makes an element's glance.
-fn glance<K: Name, R: Wait>(
-    rt: &R,
-    controller: &Controller<FuseDisk, K>,
-    element: u16,
-) -> Result<Glance<Shown<K>>> {
-    match controller.glance(rt, element) {
-        Ok(glance) => Ok(glance),
-        Err(_) => Err(anyhow!("no glance")),
-    }
-}
-
 /// Makes the glances of the given number of elements, from 1 on.
 pub fn glances<K: Name, R: Wait>(
     rt: &R,
-    alloc: Global,
     controller: &Controller<FuseDisk, K>,
     many: u16,
-) -> Result<Vec<Glance<Shown<K>>>> {
-    let mut glances = Vec::new(alloc);
+    notes: &mut Notes,
+) -> Vec<Glance<Shown<K>>> {
+    let mut glances = Vec::new(notes.alloc);
     for before in 0..many {
-        glances.push(glance(rt, controller, before.saturating_add(1))?)?;
+        match controller.glance(rt, before.saturating_add(1)) {
+            Ok(glance) => keep(&mut glances, glance, &mut notes.said),
+            Err(_) => notes.said.text("  no glance\n"),
+        }
     }
-    Ok(glances)
+    glances
 }
 
 /// Tells what readers saw that was wrong.
-pub fn add_looked<J: PaneName>(said: &mut String, looked: &[Looked<J>]) -> Result<()> {
+pub fn add_looked<J: PaneName>(said: &mut Saying, looked: &[Looked<J>]) {
     for it in looked {
         let (refused, wrong, back) = (it.refused, it.wrong, it.back);
         writeln!(
             said,
             "  looked: refused {refused}, wrong {wrong}, back {back}"
-        )?;
+        );
     }
-    Ok(())
 }
 
 // Tells what each reader sees after it was told of a receipt.
-fn teach<K: Name>(
-    receipt: &Receipt<K>,
-    looked: Vec<Looked<Shown<K>>>,
-    said: &mut String,
-) -> Result<()> {
-    for it in looked {
-        let mut it = it;
+fn teach<K: Name>(receipt: &Receipt<K>, looked: &mut [Looked<Shown<K>>], said: &mut Saying) {
+    for it in looked.iter_mut() {
         it.glance.learn(receipt.told());
         let full = it.look_round();
-        writeln!(said, "  told: {full} full")?;
+        writeln!(said, "  told: {full} full");
     }
-    Ok(())
 }
 
 /// Tells what readers see after they were told what a port is answered next.
@@ -142,27 +126,26 @@ pub fn ask_and_teach<K: Name, R: Wait>(
     rt: &R,
     controller: &Controller<FuseDisk, K>,
     port: &mut Port<K>,
-    looked: Vec<Looked<Shown<K>>>,
-    said: &mut String,
-) -> Result<()> {
+    looked: &mut [Looked<Shown<K>>],
+    notes: &mut Notes,
+) {
     let number = u64::from(CELLS).saturating_add(1);
     match port.submit(rt, controller, number, Op::Fetch(0)) {
         Ok(receipt) => {
-            add_call(said, "submit", Ok(receipt.outcome()))?;
-            teach(&receipt, looked, said)
+            notes.call("submit", Ok(receipt.outcome()));
+            teach(&receipt, looked, &mut notes.said)
         }
-        Err(refusal) => add_call(said, "submit", Err(refusal)),
+        Err(refusal) => notes.call("submit", Err(refusal)),
     }
 }
 
 // Tells what a glance reads.
-fn add_glance(said: &mut String, a: u32, answer: Result<Option<u64>, Refusal>) -> Result<()> {
+fn add_glance(said: &mut Saying, a: u32, answer: Result<Option<u64>, Refusal>) {
     match answer {
-        Ok(Some(value)) => writeln!(said, "  glance {a}: value {value}")?,
-        Ok(None) => writeln!(said, "  glance {a}: none")?,
-        Err(_) => writeln!(said, "  glance {a}: refused")?,
+        Ok(Some(value)) => writeln!(said, "  glance {a}: value {value}"),
+        Ok(None) => writeln!(said, "  glance {a}: none"),
+        Err(_) => writeln!(said, "  glance {a}: refused"),
     }
-    Ok(())
 }
 
 // Stores to the last cell, and looks there after the glance was told.
@@ -171,33 +154,31 @@ fn store_and_look<K: Name, R: Wait>(
     controller: &Controller<FuseDisk, K>,
     port: &mut Port<K>,
     glance: &mut Glance<Shown<K>>,
-    said: &mut String,
-) -> Result<()> {
+    notes: &mut Notes,
+) {
     let answer = port.submit(rt, controller, 1, Op::Store(65_535, u64::MAX));
     if let Ok(receipt) = &answer {
         glance.learn(receipt.told());
     }
-    add_call(said, "submit", outcome_of(answer))?;
-    add_glance(said, 65_535, glance.glance(65_535))?;
-    add_glance(said, 0, glance.glance(0))
+    notes.call("submit", outcome_of(answer));
+    add_glance(&mut notes.said, 65_535, glance.glance(65_535));
+    add_glance(&mut notes.said, 0, glance.glance(0));
+    submit(rt, controller, port, 2, Op::Fetch(65_535), notes)
 }
 
-/// Makes a large block. The last element fills the last cell, and looks there.
-pub fn great<K: Name, R: Wait>(
+/// The last element fills the last cell of a large memory, and looks there.
+pub fn look_far<K: Name, R: Wait>(
     rt: &R,
-    alloc: Global,
     controller: &Controller<FuseDisk, K>,
-    said: &mut String,
-) -> Result<Vec<Port<K>>> {
-    let mut first = port(rt, controller, 0)?;
-    let alloc_all = Op::Alloc(Kind::I, 65_536);
-    submit(rt, controller, &mut first, 1, alloc_all, said)?;
-    let mut last = port(rt, controller, 63)?;
-    let mut glance = glance(rt, controller, 63)?;
-    store_and_look(rt, controller, &mut last, &mut glance, said)?;
-    submit(rt, controller, &mut last, 2, Op::Fetch(65_535), said)?;
-    let mut ports = Vec::new(alloc);
-    ports.push(first)?;
-    ports.push(last)?;
-    Ok(ports)
+    ports: &mut Vec<Port<K>>,
+    notes: &mut Notes,
+) {
+    let Ok(mut glance) = controller.glance(rt, 63) else {
+        return notes.said.text("  no glance\n");
+    };
+    let Ok(mut port) = controller.port(rt, 63) else {
+        return notes.said.text("  no port\n");
+    };
+    store_and_look(rt, controller, &mut port, &mut glance, notes);
+    keep(ports, port, &mut notes.said)
 }

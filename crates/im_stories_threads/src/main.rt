@@ -2,12 +2,16 @@
 //! checkpoints works, that servers wait and are woken, and that readers wait for nobody. They also tell that the plain
 //! memory answers a long trace alike, and that planned requests have the same results in every order. If the disk
 //! stops, each thread ends, and nothing that was answered is lost.
+//!
+//! What can't be made is told in its place or is missing there, so what is told then isn't what it has to be.
 #![tactic(auto)]
 
 mod crews;
 mod gates;
 mod glances;
+mod memories;
 mod naming;
+mod notes;
 mod parts;
 mod plans;
 mod scenes;
@@ -15,52 +19,45 @@ mod servers;
 mod stops;
 mod traces;
 
+use crate::memories::{new_memory, started};
 use crate::naming::{Act, act_on};
 use crate::plans::show_plans;
 use crate::scenes::Scene;
 use crate::stops::show_stops;
-use anyhow::{Result, anyhow};
-use im_controller::{Opening, start};
-use im_disk::{FuseDisk, MemDisk, Mode};
-use im_engine::Engine;
-use im_types::layout::image_length;
-use im_types::{LAST, Limits};
+use anyhow::Result;
+use im_controller::Opening;
+use im_disk::FuseDisk;
+use im_story::Saying;
+use im_types::Limits;
 use std::alloc::Global;
 use std::sync::Wait;
 use std::thread::Threads;
 
-// Makes a new memory on a disk that never fails, and room for a trace.
+// Makes a new memory, and room for a scene's trace.
 fn opening<R: Wait>(
     rt: &R,
     alloc: Global,
     scene: Scene,
     limits: Limits,
-) -> Result<Opening<FuseDisk>> {
-    let disk = FuseDisk::new(MemDisk::new(alloc, image_length(limits))?, LAST, Mode::Stop);
-    let Ok(engine) = Engine::format(alloc, disk, limits) else {
-        return Err(anyhow!("no image was formatted"));
+) -> Option<Opening<FuseDisk>> {
+    started(rt, alloc, new_memory(alloc, limits)?, scene.room())
+}
+
+fn show_scene<R: Threads + Wait + Sync>(rt: &R, alloc: Global, scene: Scene, said: &mut Saying) {
+    let Some(limits) = scene.limits() else {
+        return said.text("these are no sizes\n");
     };
-    match start(rt, alloc, engine, scene.room()) {
-        Ok(opening) => Ok(opening),
-        Err(_) => Err(anyhow!("no room")),
+    said.text(scene.head());
+    said.text("\n");
+    if let Some(opening) = opening(rt, alloc, scene, limits) {
+        let told = act_on(rt, alloc, Act::Shows(scene), limits, opening);
+        said.also(&told)
     }
 }
 
-fn show_scene<R: Threads + Wait + Sync>(
-    rt: &R,
-    alloc: Global,
-    scene: Scene,
-    said: &mut String,
-) -> Result<()> {
-    let Some(limits) = scene.limits() else {
-        return Err(anyhow!("these are no sizes"));
-    };
-    writeln!(said, "{}", scene.head())?;
-    let opening = opening(rt, alloc, scene, limits)?;
-    act_on(rt, alloc, Act::Shows(scene), limits, opening, said)
-}
-
-fn show_all<R: Threads + Wait + Sync>(rt: &R, alloc: Global, said: &mut String) -> Result<()> {
+fn main(rt: HostRuntime) -> Result<()> {
+    let alloc = rt.alloc();
+    let mut said = Saying::new(alloc);
     for scene in [
         Scene::Two,
         Scene::KeeperWorks,
@@ -72,15 +69,12 @@ fn show_all<R: Threads + Wait + Sync>(rt: &R, alloc: Global, said: &mut String) 
         Scene::Great,
         Scene::Readers,
     ] {
-        show_scene(rt, alloc, scene, said)?;
+        show_scene(&rt, alloc, scene, &mut said);
     }
-    show_stops(rt, alloc, said)?;
-    show_plans(rt, alloc, said)
-}
-
-fn main(rt: HostRuntime) -> Result<()> {
-    let mut said = String::new(rt.alloc());
-    let told = show_all(&rt, rt.alloc(), &mut said);
-    rt.print(said.as_str())?;
+    show_stops(&rt, alloc, &mut said);
+    show_plans(&rt, alloc, &mut said);
+    let mut text = String::new(alloc);
+    let told = said.end(&mut text);
+    rt.print(text.as_str())?;
     told
 }

@@ -3,12 +3,13 @@
 ghost use Rattle.std.specs.Prelude.{◌≡◌};
 ghost use Rattle.im_controller.specs.Kept.{begun_in};
 
-use crate::plans::{Planned, play_planned};
-use crate::scenes::{Scene, show};
-use crate::stops::stop;
-use anyhow::Result;
-use im_controller::{Name, Opening};
+use crate::notes::Notes;
+use crate::plans::{Planned, play_planned, tell_planned};
+use crate::scenes::{Scene, show, tell_scene};
+use crate::stops::{play_stopped, tell_stop};
+use im_controller::{Controller, Finished, Name, Opening, finish};
 use im_disk::{Crash, Disk, FuseDisk};
+use im_story::Saying;
 use im_types::Limits;
 use std::alloc::Global;
 use std::marker::Brand;
@@ -26,6 +27,33 @@ pub enum Act {
     Plays(Planned),
 }
 
+// Tells what is left of the memory of these sizes after an act.
+fn tell_end(act: Act, limits: Limits, finished: Finished<FuseDisk>, notes: &mut Notes) {
+    match act {
+        Act::Shows(scene) => tell_scene(scene, limits, finished, notes),
+        Act::Stops(crash) => tell_stop(crash, limits, finished, notes),
+        Act::Plays(planned) => tell_planned(planned, &finished, notes),
+    }
+}
+
+// Does an act with a controller, ends it, and tells of both.
+fn act_with<K: Name + Send + Sync, R: Threads + Wait + Sync>(
+    rt: &R,
+    alloc: Global,
+    act: Act,
+    limits: Limits,
+    controller: Controller<FuseDisk, K>,
+) -> Saying {
+    let (mut ports, mut notes) = (Vec::new(alloc), Notes::new(alloc));
+    match act {
+        Act::Shows(scene) => show(rt, &controller, scene, &mut ports, &mut notes),
+        Act::Stops(_) => play_stopped(rt, &controller, &mut ports, &mut notes),
+        Act::Plays(planned) => play_planned(rt, &controller, planned, &mut ports, &mut notes),
+    }
+    tell_end(act, limits, finish(rt, controller, ports), &mut notes);
+    notes.said
+}
+
 // Does an act with a controller that has a name.
 fn act_named<K: Name + Send + Sync, R: Threads + Wait + Sync>(
     rt: &R,
@@ -33,8 +61,7 @@ fn act_named<K: Name + Send + Sync, R: Threads + Wait + Sync>(
     act: Act,
     limits: Limits,
     opening: Opening<FuseDisk>,
-    said: &mut String,
-) -> Result<()>
+) -> Saying
     requires memory { opening.engine.memory ≡ K.memory }
     requires lines { opening.lines_name ≡ K.lines_name }
     requires marked { opening.marked_name ≡ K.marked_name }
@@ -45,22 +72,17 @@ fn act_named<K: Name + Send + Sync, R: Threads + Wait + Sync>(
         opening.engine ≡ K.begun }
     requires honest { ⟦<FuseDisk as Disk>⟧.honest opening.engine.disk → K.honest }
 {
-    let controller = opening.named::<K>();
-    match act {
-        Act::Shows(scene) => show(rt, alloc, scene, limits, controller, said),
-        Act::Stops(crash) => stop(rt, alloc, crash, limits, controller),
-        Act::Plays(planned) => play_planned(rt, alloc, planned, controller, said),
-    }
+    act_with(rt, alloc, act, limits, opening.named::<K>())
 }
 
-/// Does an act with a controller of its own, over the memory of these sizes that was opened.
+/// Does an act with a controller of its own, over the memory of these sizes that was opened. Returns what is told of
+/// it.
 pub fn act_on<R: Threads + Wait + Sync>(
     rt: &R,
     alloc: Global,
     act: Act,
     limits: Limits,
     opening: Opening<FuseDisk>,
-    said: &mut String,
-) -> Result<()> {
-    act_named::<Brand, R>(rt, alloc, act, limits, opening, said)
+) -> Saying {
+    act_named::<Brand, R>(rt, alloc, act, limits, opening)
 }

@@ -33,7 +33,7 @@ pub enum Part {
 
 /// The result of a part.
 #[derive(Clone, Copy)]
-pub struct Told {
+pub struct Accepted {
     /// How many requests were answered as they should be. Fetches should be answered `nocell`, others in any way.
     pub accepted: u64,
     /// The answer to the last request, or to the one that was waited for.
@@ -84,29 +84,9 @@ fn entry_of(answer: Result<Outcome, Refusal>) -> Result<Entry, Refusal> {
     }
 }
 
-fn fetches<D: Disk, K: Name, R: Wait>(
-    rt: &R,
-    controller: &Controller<D, K>,
-    port: &mut Port<K>,
-    address: u32,
-    many: u64,
-) -> Told {
-    let mut accepted = 0u64;
-    let mut last = Err(Refusal::Gap);
-    for i in 0..many {
-        let number = i.saturating_add(1);
-        let op = Op::Fetch(address);
-        last = entry_of(submit(rt, controller, port, number, op));
-        if last == Ok(Entry::Answered(Reply::NoCell)) {
-            accepted = accepted.saturating_add(1);
-        }
-    }
-    Told { accepted, last }
-}
-
 // Returns the operation of a request: a put to the M cell of the port's place or a take of it, a store to an I cell or
 // a fetch of it. All places come to each I cell, at different times.
-fn op_of(place: u32, i: u64) -> Op {
+fn mixed(place: u32, i: u64) -> Op {
     let at = ((i / 4).saturating_add(u64::from(place).saturating_mul(16)) % 256) as u32;
     match i % 4 {
         0 => Op::Put(place.saturating_add(256), i),
@@ -116,38 +96,57 @@ fn op_of(place: u32, i: u64) -> Op {
     }
 }
 
-// Returns the operation of a part's request.
-fn op_in(part: Part, i: u64) -> Op {
-    match part {
-        Part::Mixed(place, _) => op_of(place, i),
-        _ => {
-            let at = (i % u64::from(CELLS)) as u32;
-            Op::Store(at, value_at(at))
+impl Part {
+    // Returns the operation of a request.
+    fn op(self, i: u64) -> Op {
+        let at = (i % u64::from(CELLS)) as u32;
+        match self {
+            Part::Mixed(place, _) => mixed(place, i),
+            Part::Stores(_) => Op::Store(at, value_at(at)),
+            Part::StoresLate(_) => Op::Fetch(NO_BLOCK),
+            _ => Op::Fetch(0),
         }
+    }
+
+    // Returns whether all its requests are fetches where no block is. Then nothing is confirmed.
+    fn is_of_fetches(self) -> bool {
+        matches!(self, Part::Fetches(_) | Part::StoresLate(_))
+    }
+
+    // Returns whether an answer is as it should be.
+    fn accepts(self, answer: Result<Entry, Refusal>) -> bool {
+        if self.is_of_fetches() {
+            answer == Ok(Entry::Answered(Reply::NoCell))
+        } else {
+            answer.is_ok()
+        }
+    }
+
+    // Returns whether the requests up to this number are confirmed behind it.
+    fn confirms(self, number: u64) -> bool {
+        number % 16 == 0 && !self.is_of_fetches()
     }
 }
 
-// Makes the requests of a part, with a confirmation after each sixteen.
+// Makes the requests of a part.
 fn requests<D: Disk, K: Name, R: Wait>(
     rt: &R,
     controller: &Controller<D, K>,
     port: &mut Port<K>,
     part: Part,
     many: u64,
-) -> Told {
+) -> Accepted {
     let mut accepted = 0u64;
     let mut last = Err(Refusal::Gap);
     for i in 0..many {
         let number = i.saturating_add(1);
-        last = entry_of(submit(rt, controller, port, number, op_in(part, i)));
-        if last.is_ok() {
-            accepted = accepted.saturating_add(1);
-        }
-        if number % 16 == 0 && !confirm(rt, controller, port, number.saturating_add(1)) {
+        last = entry_of(submit(rt, controller, port, number, part.op(i)));
+        accepted = accepted.saturating_add(u64::from(part.accepts(last)));
+        if part.confirms(number) && !confirm(rt, controller, port, number.saturating_add(1)) {
             break;
         }
     }
-    Told { accepted, last }
+    Accepted { accepted, last }
 }
 
 // Waits for the answer to a number; then its server has ended.
@@ -171,13 +170,13 @@ fn stores_late<D: Disk, K: Name, R: Wait>(
     controller: &Controller<D, K>,
     port: &mut Port<K>,
     many: u64,
-) -> Told {
-    let fetched = fetches(rt, controller, port, NO_BLOCK, many);
+) -> Accepted {
+    let fetched = requests(rt, controller, port, Part::StoresLate(many), many);
     let number = many.saturating_add(1);
-    let stored = entry_of(submit(rt, controller, port, number, Op::Store(0, 7)));
-    Told {
+    let stored = submit(rt, controller, port, number, Op::Store(0, 7));
+    Accepted {
         accepted: fetched.accepted,
-        last: stored,
+        last: entry_of(stored),
     }
 }
 
@@ -186,10 +185,10 @@ fn stores_and_stalls<D: Disk, K: Name, R: Wait>(
     rt: &R,
     controller: &Controller<D, K>,
     port: &mut Port<K>,
-) -> Told {
+) -> Accepted {
     let stored = submit(rt, controller, port, 1, Op::Store(0, 7));
     let taken = submit(rt, controller, port, 2, Op::Take(1));
-    Told {
+    Accepted {
         accepted: u64::from(stored.is_ok()) + u64::from(taken.is_ok()),
         last: await_answer(rt, controller, port, 2),
     }
@@ -201,22 +200,21 @@ pub fn play<D: Disk, K: Name, R: Wait>(
     controller: &Controller<D, K>,
     port: &mut Port<K>,
     part: Part,
-) -> Told {
+) -> Accepted {
     match part {
-        Part::Fetches(many) => fetches(rt, controller, port, 0, many),
-        Part::Mixed(_, many) | Part::Stores(many) => requests(rt, controller, port, part, many),
-        Part::Waits => Told {
-            accepted: 0,
-            last: await_answer(rt, controller, port, 1),
-        },
-        Part::RetiresAndWaits => {
-            port.retire(rt, controller);
-            Told {
+        Part::Fetches(many) | Part::Mixed(_, many) | Part::Stores(many) => requests(
+            rt, controller, port, part, many,
+        ),
+        Part::StoresLate(many) => stores_late(rt, controller, port, many),
+        Part::StoresAndStalls => stores_and_stalls(rt, controller, port),
+        Part::Waits | Part::RetiresAndWaits => {
+            if let Part::RetiresAndWaits = part {
+                port.retire(rt, controller);
+            }
+            Accepted {
                 accepted: 0,
                 last: await_answer(rt, controller, port, 1),
             }
         }
-        Part::StoresLate(many) => stores_late(rt, controller, port, many),
-        Part::StoresAndStalls => stores_and_stalls(rt, controller, port),
     }
 }

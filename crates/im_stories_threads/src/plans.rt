@@ -1,24 +1,23 @@
 //! Requests under a plan: each has the result that the plan says, whatever the order in which they come.
 
-use crate::gates::{InOrder, NUMBERS, Order};
+use crate::gates::{NUMBERS, Order};
+use crate::memories::new_memory;
 use crate::naming::{Act, act_on};
-use crate::scenes::{port, submit};
-use crate::servers::part;
-use anyhow::{Result, anyhow};
-use im_controller::{Controller, Name, Opening, Port, Traced, finish, start_planned};
-use im_disk::{FuseDisk, MemDisk, Mode};
+use crate::notes::{Notes, Told, keep};
+use crate::scenes::submit;
+use crate::servers::{Asked, serve};
+use im_controller::{Controller, Finished, Name, Opening, Port, Traced, start_planned};
+use im_disk::FuseDisk;
 use im_engine::Engine;
 use im_planning::Plan;
-use im_serving::{Done, Gate, Open, Part, Unwatched, serve_elements};
-use im_story::{add_entry, add_outcome, add_refusal};
-use im_types::layout::image_length;
-use im_types::{Call, Command, Entry, Kind, LAST, Limits, Op, Refusal, Request};
+use im_story::Saying;
+use im_types::{Call, Command, Kind, Limits, Op, Refusal, Request};
 use std::alloc::Global;
 use std::sync::Wait;
 use std::thread::Threads;
 
 // Two cells that are stored to and that one or two other elements fetch, and a fetch where no block is.
-const REQUESTS: [(u16, u64, Op); 6] = [
+const REQUESTS: [Asked; 6] = [
     (1, 1, Op::Fetch(0)),
     (1, 2, Op::Fetch(1)),
     (2, 1, Op::Store(0, 5)),
@@ -28,10 +27,10 @@ const REQUESTS: [(u16, u64, Op); 6] = [
 ];
 
 // A fetch that has no store.
-const ALONE: [(u16, u64, Op); 1] = [(1, 1, Op::Fetch(0))];
+const ALONE: [Asked; 1] = [(1, 1, Op::Fetch(0))];
 
 // Two stores to one address.
-const TWICE: [(u16, u64, Op); 2] = [(2, 1, Op::Store(0, 5)), (3, 1, Op::Store(0, 7))];
+const TWICE: [Asked; 2] = [(2, 1, Op::Store(0, 5)), (3, 1, Op::Store(0, 7))];
 
 /// What is done under a plan.
 #[derive(Clone, Copy)]
@@ -42,123 +41,49 @@ pub enum Planned {
     Waits,
     /// Submits a fetch of another address than the planned one.
     Strays,
-}
-
-// What a request was last told.
-#[derive(Clone, Copy)]
-struct Told {
-    element: u16,
-    number: u64,
-    entry: Entry,
-}
-
-// Notes what the requests of an element were told, and adds the refusal, if there is one.
-fn note<K: Name>(done: &Done<K>, told: &mut Vec<Told>, said: &mut String) -> Result<()> {
-    let element = done.served.element;
-    let mut number = done.served.first;
-    for entry in done.served.entries.iter() {
-        told.push(Told {
-            element,
-            number,
-            entry: *entry,
-        })?;
-        number = number.saturating_add(1);
-    }
-    if let Err(refusal) = done.done {
-        write!(said, "  {element} ")?;
-        add_refusal(said, refusal)?;
-        said.push_str("\n")?;
-    }
-    Ok(())
-}
-
-// Lets servers play behind a gate. Returns the ports, and what requests were told.
-fn serve<K: Name + Send + Sync, G: Gate + Sync, R: Threads + Wait + Sync>(
-    rt: &R,
-    alloc: Global,
-    controller: &Controller<FuseDisk, K>,
-    gate: &G,
-    parts: Vec<Part<K>>,
-    said: &mut String,
-) -> Result<(Vec<Port<K>>, Vec<Told>)> {
-    let mut ports = Vec::new(alloc);
-    let mut told = Vec::new(alloc);
-    for done in serve_elements(rt, alloc, controller, gate, &Unwatched, parts)? {
-        note(&done, &mut told, said)?;
-        ports.push(done.port)?;
-    }
-    Ok((ports, told))
-}
-
-// Serves all that is planned, in this order.
-fn serve_in<K: Name + Send + Sync, R: Threads + Wait + Sync>(
-    rt: &R,
-    alloc: Global,
-    controller: &Controller<FuseDisk, K>,
-    order: Order,
-    said: &mut String,
-) -> Result<(Vec<Port<K>>, Vec<Told>)> {
-    let mut parts = Vec::new(alloc);
-    let fetches = [Op::Fetch(0), Op::Fetch(1)];
-    parts.push(part(rt, alloc, controller, 1, &fetches)?)?;
-    let stores = [Op::Store(0, 5), Op::Store(1, 6)];
-    parts.push(part(rt, alloc, controller, 2, &stores)?)?;
-    let fetches = [Op::Fetch(0), Op::Fetch(9)];
-    parts.push(part(rt, alloc, controller, 3, &fetches)?)?;
-    serve(rt, alloc, controller, &InOrder::new(order), parts, said)
-}
-
-// Serves a fetch for which nothing is stored.
-fn wait<K: Name + Send + Sync, R: Threads + Wait + Sync>(
-    rt: &R,
-    alloc: Global,
-    controller: &Controller<FuseDisk, K>,
-    said: &mut String,
-) -> Result<(Vec<Port<K>>, Vec<Told>)> {
-    let mut parts = Vec::new(alloc);
-    parts.push(part(rt, alloc, controller, 1, &[Op::Fetch(0)])?)?;
-    serve(rt, alloc, controller, &Open, parts, said)
+    /// Has two stores to one address planned, which is refused.
+    StoresTwice,
+    /// Has a fetch planned of a cell that is full, which is refused.
+    FindsFull,
 }
 
 // Submits what isn't planned.
 fn stray<K: Name, R: Wait>(
     rt: &R,
-    alloc: Global,
     controller: &Controller<FuseDisk, K>,
-    said: &mut String,
-) -> Result<(Vec<Port<K>>, Vec<Told>)> {
-    let mut ports = Vec::new(alloc);
-    let mut port = port(rt, controller, 1)?;
-    submit(rt, controller, &mut port, 1, Op::Fetch(1), said)?;
-    ports.push(port)?;
-    Ok((ports, Vec::new(alloc)))
+    ports: &mut Vec<Port<K>>,
+    notes: &mut Notes,
+) {
+    let Ok(mut port) = controller.port(rt, 1) else {
+        return notes.said.text("  no port\n");
+    };
+    submit(rt, controller, &mut port, 1, Op::Fetch(1), notes);
+    keep(ports, port, &mut notes.said)
 }
 
-fn play<K: Name + Send + Sync, R: Threads + Wait + Sync>(
+/// Does an act under a plan. The ports come back.
+pub fn play_planned<K: Name + Send + Sync, R: Threads + Wait + Sync>(
     rt: &R,
-    alloc: Global,
     controller: &Controller<FuseDisk, K>,
     planned: Planned,
-    said: &mut String,
-) -> Result<(Vec<Port<K>>, Vec<Told>)> {
+    ports: &mut Vec<Port<K>>,
+    notes: &mut Notes,
+) {
     match planned {
-        Planned::Serves(order) => serve_in(rt, alloc, controller, order, said),
-        Planned::Waits => wait(rt, alloc, controller, said),
-        Planned::Strays => stray(rt, alloc, controller, said),
+        Planned::Serves(order) => serve(rt, controller, &REQUESTS, Some(order), ports, notes),
+        Planned::Strays => stray(rt, controller, ports, notes),
+        _ => serve(rt, controller, &ALONE, None, ports, notes),
     }
 }
 
-// Adds what requests were told, if that is kept.
-fn add_kept(engine: &Engine<FuseDisk>, told: &[Told], said: &mut String) -> Result<()> {
-    for told in told {
-        write!(said, "  {}.{} ", told.element, told.number)?;
-        add_entry(said, told.entry)?;
-        if engine.collect(told.element, told.number) != Ok(told.entry) {
-            said.push_str(", which isn't kept")?;
-        }
-        said.push_str("\n")?;
-    }
-    Ok(())
+// Adds what a request was told, and whether it isn't kept.
+fn add_kept(engine: &Engine<FuseDisk>, told: Told, said: &mut Saying) {
+    said.text("  ");
+    said.name(told.element, told.number);
+    said.text(" ");
+    said.entry(told.entry);
+    let is_kept = engine.collect(told.element, told.number) == Ok(told.entry);
+    said.either(is_kept, "\n", ", which isn't kept\n")
 }
 
 // Returns whether the requests of a trace come in an order.
@@ -175,151 +100,143 @@ fn are_in(order: Order, trace: &[Traced]) -> bool {
     true
 }
 
-/// Does an act under a plan, and adds what requests were told.
-pub fn play_planned<K: Name + Send + Sync, R: Threads + Wait + Sync>(
-    rt: &R,
-    alloc: Global,
-    planned: Planned,
-    controller: Controller<FuseDisk, K>,
-    said: &mut String,
-) -> Result<()> {
-    let (ports, told) = match play(rt, alloc, &controller, planned, said) {
-        Ok((ports, told)) => (ports, Ok(told)),
-        Err(error) => (Vec::new(alloc), Err(error)),
-    };
-    let finished = finish(rt, controller, ports);
-    add_kept(&finished.engine, told?.as_slice(), said)?;
+/// Adds what requests were told under a plan, and how long the trace is, or that it isn't in the order.
+pub fn tell_planned(planned: Planned, finished: &Finished<FuseDisk>, notes: &mut Notes) {
+    for told in notes.told.iter() {
+        add_kept(&finished.engine, *told, &mut notes.said)
+    }
+    let trace = finished.trace.as_slice();
     match planned {
         Planned::Serves(order) => {
-            if !are_in(order, finished.trace.as_slice()) {
-                said.push_str("  not in the order\n")?;
-            }
+            let is_in = are_in(order, trace);
+            notes.said.either(is_in, "", "  not in the order\n")
         }
-        _ => writeln!(said, "  lines {}", finished.trace.len())?,
+        _ => writeln!(notes.said, "  lines {}", trace.len()),
     }
-    Ok(())
 }
 
-// Makes a new memory with a block of two I cells, and room for a trace, under a plan.
-fn begin<R: Wait>(
-    rt: &R,
-    alloc: Global,
-    engine: Engine<FuseDisk>,
-    requests: &[(u16, u64, Op)],
-) -> Result<Result<Opening<FuseDisk>, Refusal>> {
+// Makes a plan of these requests.
+fn plan_of(alloc: Global, requests: &[Asked]) -> Result<Plan, Refusal> {
     let mut planned = Vec::new(alloc);
     for (element, number, op) in requests {
-        planned.push(Request {
+        let request = Request {
             element: *element,
             number: *number,
             op: *op,
-        })?;
+        };
+        if planned.push(request).is_err() {
+            return Err(Refusal::NoMemory);
+        }
     }
-    let plan = match Plan::new(alloc, planned) {
-        Ok(plan) => plan,
-        Err(refusal) => return Ok(Err(refusal)),
+    Plan::new(alloc, planned)
+}
+
+// Makes room for a trace under the plan of an act.
+fn begin<R: Wait>(
+    rt: &R,
+    alloc: Global,
+    planned: Planned,
+    engine: Engine<FuseDisk>,
+) -> Result<Opening<FuseDisk>, Refusal> {
+    let plan = match planned {
+        Planned::Serves(_) => plan_of(alloc, &REQUESTS),
+        Planned::StoresTwice => plan_of(alloc, &TWICE),
+        _ => plan_of(alloc, &ALONE),
     };
-    match start_planned(rt, alloc, engine, plan, 100) {
-        Ok(opening) => Ok(Ok(opening)),
-        Err((refusal, _engine)) => Ok(Err(refusal)),
+    match start_planned(rt, alloc, engine, plan?, 100) {
+        Ok(opening) => Ok(opening),
+        Err((refusal, _)) => Err(refusal),
     }
 }
 
 // Serves an operation of element 0, and adds its outcome.
-fn set_up(engine: &mut Engine<FuseDisk>, number: u64, op: Op, said: &mut String) -> Result<()> {
+fn set_up(engine: &mut Engine<FuseDisk>, number: u64, op: Op, said: &mut Saying) {
     let request = Request {
         element: 0,
         number,
         op,
     };
-    write!(said, "  0.{number} ")?;
-    add_outcome(said, engine.serve(&Command::Request(request)))?;
-    said.push_str("\n")?;
-    Ok(())
+    write!(said, "  0.{number} ");
+    said.outcome(engine.serve(&Command::Request(request)));
+    said.text("\n")
 }
 
-// Makes a new memory with a block of two I cells.
-fn new_memory(alloc: Global, limits: Limits, said: &mut String) -> Result<Engine<FuseDisk>> {
-    let disk = FuseDisk::new(MemDisk::new(alloc, image_length(limits))?, LAST, Mode::Stop);
-    let Ok(mut engine) = Engine::format(alloc, disk, limits) else {
-        return Err(anyhow!("no image was formatted"));
-    };
-    set_up(&mut engine, 1, Op::Alloc(Kind::I, 2), said)?;
-    Ok(engine)
+// Makes a new memory with a block of two I cells. If it is wanted so, the first one is full.
+fn memory_for(
+    alloc: Global,
+    limits: Limits,
+    planned: Planned,
+    said: &mut Saying,
+) -> Option<Engine<FuseDisk>> {
+    let mut engine = new_memory(alloc, limits)?;
+    set_up(&mut engine, 1, Op::Alloc(Kind::I, 2), said);
+    if let Planned::FindsFull = planned {
+        set_up(&mut engine, 2, Op::Store(0, 1), said)
+    }
+    Some(engine)
 }
 
-// Does an act under a plan on this memory, or adds that the plan is refused.
+// Does an act under a plan on a new memory, or adds that the plan is refused.
 fn show_planned<R: Threads + Wait + Sync>(
     rt: &R,
     alloc: Global,
     limits: Limits,
-    engine: Engine<FuseDisk>,
-    requests: &[(u16, u64, Op)],
     planned: Planned,
-    said: &mut String,
-) -> Result<()> {
-    match begin(rt, alloc, engine, requests)? {
-        Ok(opening) => act_on(rt, alloc, Act::Plays(planned), limits, opening, said),
+    said: &mut Saying,
+) {
+    let Some(engine) = memory_for(alloc, limits, planned, said) else {
+        return said.text("  no image\n");
+    };
+    match begin(rt, alloc, planned, engine) {
+        Ok(opening) => {
+            let told = act_on(rt, alloc, Act::Plays(planned), limits, opening);
+            said.also(&told)
+        }
         Err(refusal) => {
-            said.push_str("  ")?;
-            add_refusal(said, refusal)?;
-            said.push_str("\n")?;
-            Ok(())
+            said.text("  ");
+            said.refusal(refusal);
+            said.text("\n")
         }
     }
 }
 
 // Serves all that is planned in each order, and checks that the results are the same.
-fn show_orders<R: Threads + Wait + Sync>(
-    rt: &R,
-    alloc: Global,
-    limits: Limits,
-    said: &mut String,
-) -> Result<()> {
-    let mut first = String::new(alloc);
+fn show_orders<R: Threads + Wait + Sync>(rt: &R, alloc: Global, limits: Limits, said: &mut Saying) {
+    let mut first = Saying::new(alloc);
     let mut orders = 0u32;
     for number in 0..NUMBERS {
-        let Some(order) = Order::new(number) else {
-            continue;
-        };
-        let mut told = String::new(alloc);
-        let engine = new_memory(alloc, limits, &mut told)?;
-        let planned = Planned::Serves(order);
-        show_planned(rt, alloc, limits, engine, &REQUESTS, planned, &mut told)?;
-        if orders == 0 {
-            first.push_str(told.as_str())?;
-        } else if first.as_str() != told.as_str() {
-            return Err(anyhow!("in order {number}: {told}"));
+        if let Some(order) = Order::new(number) {
+            let mut told = Saying::new(alloc);
+            show_planned(rt, alloc, limits, Planned::Serves(order), &mut told);
+            if orders == 0 {
+                first.also(&told);
+                said.also(&told)
+            } else if told.said() != first.said() {
+                writeln!(said, "  otherwise in order {number}")
+            }
+            orders = orders.saturating_add(1);
         }
-        orders = orders.saturating_add(1);
     }
-    said.push_str(first.as_str())?;
-    writeln!(said, "  the same in each of {orders} orders")?;
-    Ok(())
+    writeln!(said, "  the same in each of {orders} orders")
 }
 
 /// Shows the results of requests under a plan, and which requests are refused.
-pub fn show_plans<R: Threads + Wait + Sync>(
-    rt: &R,
-    alloc: Global,
-    said: &mut String,
-) -> Result<()> {
+pub fn show_plans<R: Threads + Wait + Sync>(rt: &R, alloc: Global, said: &mut Saying) {
     let Some(limits) = Limits::new(64, 4, 16) else {
-        return Err(anyhow!("these are no sizes"));
+        return said.text("these are no sizes\n");
     };
-    said.push_str("a plan of fetches and stores by three servers, in each order of the six\n")?;
-    show_orders(rt, alloc, limits, said)?;
-    said.push_str("a plan of a fetch that has no store\n")?;
-    let engine = new_memory(alloc, limits, said)?;
-    show_planned(rt, alloc, limits, engine, &ALONE, Planned::Waits, said)?;
-    said.push_str("a fetch from elsewhere than is planned\n")?;
-    let engine = new_memory(alloc, limits, said)?;
-    show_planned(rt, alloc, limits, engine, &ALONE, Planned::Strays, said)?;
-    said.push_str("a plan of two stores to one address\n")?;
-    let engine = new_memory(alloc, limits, said)?;
-    show_planned(rt, alloc, limits, engine, &TWICE, Planned::Strays, said)?;
-    said.push_str("a plan of a cell that is full\n")?;
-    let mut engine = new_memory(alloc, limits, said)?;
-    set_up(&mut engine, 2, Op::Store(0, 1), said)?;
-    show_planned(rt, alloc, limits, engine, &ALONE, Planned::Waits, said)
+    said.text("a plan of fetches and stores by three servers, in each order of the six\n");
+    show_orders(rt, alloc, limits, said);
+    for (head, planned) in [
+        ("a plan of a fetch that has no store\n", Planned::Waits),
+        ("a fetch from elsewhere than is planned\n", Planned::Strays),
+        (
+            "a plan of two stores to one address\n",
+            Planned::StoresTwice,
+        ),
+        ("a plan of a cell that is full\n", Planned::FindsFull),
+    ] {
+        said.text(head);
+        show_planned(rt, alloc, limits, planned, said)
+    }
 }

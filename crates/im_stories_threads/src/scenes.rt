@@ -1,16 +1,15 @@
 //! The scenes: what threads do with a new memory, and what is told of it.
 
-use crate::crews::{Done, Played, Task, play_all};
-use crate::glances::{CELLS, Looked, READERS, add_looked, ask_and_teach, glances, great};
-use crate::parts::Part;
+use crate::crews::{Played, Task, play_all};
+use crate::glances::{CELLS, Looked, READERS, add_looked, ask_and_teach, glances, look_far};
+use crate::notes::{Notes, keep, outcome_of};
+use crate::parts::{Accepted, Part};
 use crate::traces::{alike, fetches_of};
-use anyhow::{Result, anyhow};
-use im_controller::{Controller, Finished, Name, Port, Receipt, Shown, finish};
+use im_controller::{Controller, Finished, Name, Port, Shown, Traced};
 use im_disk::FuseDisk;
 use im_engine::Engine;
-use im_story::{add_entry, add_outcome, add_refusal};
-use im_types::{Kind, Limits, Op, Outcome, Refusal};
-use std::alloc::Global;
+use im_story::Saying;
+use im_types::{Kind, Limits, Op, Outcome};
 use std::sync::Wait;
 use std::thread::Threads;
 
@@ -92,22 +91,23 @@ impl Scene {
     }
 
     // Returns how many I cells and M cells there are at first, from address 0 on.
-    fn blocks(self) -> Option<(u32, u32)> {
+    fn blocks(self) -> (u32, u32) {
         match self {
-            Scene::ServersWait | Scene::RetiredWaits => Some((1, 1)),
-            Scene::Sixteen => Some((256, 16)),
-            Scene::Readers => Some((CELLS, 1)),
-            _ => None,
+            Scene::ServersWait | Scene::RetiredWaits => (1, 1),
+            Scene::Sixteen => (256, 16),
+            Scene::Great => (65_536, 0),
+            Scene::Readers => (CELLS, 1),
+            _ => (0, 0),
         }
     }
 
-    // Returns whether each thread starts after the one before it has ended.
-    fn is_in_turn(self) -> bool {
+    /// Returns whether each thread starts after the one before it has ended.
+    pub fn is_in_turn(self) -> bool {
         matches!(self, Scene::KeeperWorks)
     }
 
-    // Returns the room of the journal that is waited for after all ports have played, if it is.
-    fn rests(self) -> Option<u32> {
+    /// Returns the room of the journal that is waited for after all ports have played, if it is.
+    pub fn rests(self) -> Option<u32> {
         match self {
             Scene::KeeperAlone => Some(SLOTS),
             _ => None,
@@ -158,42 +158,10 @@ impl Scene {
 }
 
 // Adds a line for a port's part.
-fn add_told<K: Name>(said: &mut String, done: &Done<K>) -> Result<()> {
-    write!(said, "  accepted {}, last ", done.told.accepted)?;
-    match done.told.last {
-        Ok(entry) => add_entry(said, entry)?,
-        Err(refusal) => add_refusal(said, refusal)?,
-    }
-    said.push_str("\n")?;
-    Ok(())
-}
-
-/// Gives out a port.
-pub fn port<K: Name, R: Wait>(
-    rt: &R,
-    controller: &Controller<FuseDisk, K>,
-    element: u16,
-) -> Result<Port<K>> {
-    match controller.port(rt, element) {
-        Ok(port) => Ok(port),
-        Err(_) => Err(anyhow!("no port")),
-    }
-}
-
-/// Adds a line for a call and its answer.
-pub fn add_call(said: &mut String, call: &str, answer: Result<Outcome, Refusal>) -> Result<()> {
-    write!(said, "  {call}: ")?;
-    add_outcome(said, answer)?;
-    said.push_str("\n")?;
-    Ok(())
-}
-
-/// Returns the outcome of a receipt's command.
-pub fn outcome_of<K: Name>(answer: Result<Receipt<K>, Refusal>) -> Result<Outcome, Refusal> {
-    match answer {
-        Ok(receipt) => Ok(receipt.outcome()),
-        Err(refusal) => Err(refusal),
-    }
+fn add_accepted(said: &mut Saying, told: Accepted) {
+    write!(said, "  accepted {}, last ", told.accepted);
+    said.answer(told.last);
+    said.text("\n")
 }
 
 /// Submits a request, and tells its answer.
@@ -203,22 +171,21 @@ pub fn submit<K: Name, R: Wait>(
     port: &mut Port<K>,
     number: u64,
     op: Op,
-    said: &mut String,
-) -> Result<()> {
+    notes: &mut Notes,
+) {
     let answer = outcome_of(port.submit(rt, controller, number, op));
-    add_call(said, "submit", answer)
+    notes.call("submit", answer)
 }
 
 // Tells the trace of fetches.
-fn add_finished(said: &mut String, finished: &Finished<FuseDisk>) -> Result<()> {
+fn add_fetches(said: &mut Saying, trace: &[Traced]) {
     for element in 1..3u16 {
-        match fetches_of(finished.trace.as_slice(), element) {
+        match fetches_of(trace, element) {
             Some(0) => {}
-            Some(many) => writeln!(said, "  {element}: {many} nocell, in order")?,
-            None => writeln!(said, "  {element}: not in order")?,
+            Some(many) => writeln!(said, "  {element}: {many} nocell, in order"),
+            None => writeln!(said, "  {element}: not in order"),
         }
     }
-    Ok(())
 }
 
 // Makes the port of element 0, which makes the blocks and serves nobody.
@@ -226,29 +193,21 @@ fn set_up<K: Name, R: Wait>(
     rt: &R,
     controller: &Controller<FuseDisk, K>,
     scene: Scene,
-    said: &mut String,
-) -> Result<Port<K>> {
-    let mut port = port(rt, controller, 0)?;
-    if let Some((simple, mutable)) = scene.blocks() {
-        submit(
-            rt,
-            controller,
-            &mut port,
-            1,
-            Op::Alloc(Kind::I, simple),
-            said,
-        )?;
-        submit(
-            rt,
-            controller,
-            &mut port,
-            2,
-            Op::Alloc(Kind::M, mutable),
-            said,
-        )?;
+    ports: &mut Vec<Port<K>>,
+    notes: &mut Notes,
+) {
+    let Ok(mut port) = controller.port(rt, 0) else {
+        return notes.said.text("  no port\n");
+    };
+    let (simple, mutable) = scene.blocks();
+    for (number, kind, cells) in [(1, Kind::I, simple), (2, Kind::M, mutable)] {
+        if cells != 0 {
+            let op = Op::Alloc(kind, cells);
+            submit(rt, controller, &mut port, number, op, notes)
+        }
     }
     port.retire(rt, controller);
-    Ok(port)
+    keep(ports, port, &mut notes.said)
 }
 
 // Makes the port of an element, with its part. If it waits for an answer, it has asked for it.
@@ -257,28 +216,30 @@ fn task<K: Name, R: Wait>(
     controller: &Controller<FuseDisk, K>,
     element: u16,
     part: Part,
-    said: &mut String,
-) -> Result<Task<K>> {
-    let mut port = port(rt, controller, element)?;
-    if matches!(part, Part::Waits | Part::RetiresAndWaits) {
-        submit(rt, controller, &mut port, 1, Op::Fetch(0), said)?;
+    notes: &mut Notes,
+) -> Option<Task<K>> {
+    let mut port = controller.port(rt, element).ok()?;
+    if let Part::Waits | Part::RetiresAndWaits = part {
+        submit(rt, controller, &mut port, 1, Op::Fetch(0), notes)
     }
-    Ok(Task { port, part })
+    Some(Task { port, part })
 }
 
 fn tasks<K: Name, R: Wait>(
     rt: &R,
-    alloc: Global,
     controller: &Controller<FuseDisk, K>,
     scene: Scene,
-    said: &mut String,
-) -> Result<Vec<Task<K>>> {
-    let mut tasks = Vec::new(alloc);
+    notes: &mut Notes,
+) -> Vec<Task<K>> {
+    let mut tasks = Vec::new(notes.alloc);
     for before in 0..scene.threads() {
         let element = before.saturating_add(1);
-        tasks.push(task(rt, controller, element, scene.part(element), said)?)?;
+        match task(rt, controller, element, scene.part(element), notes) {
+            Some(task) => keep(&mut tasks, task, &mut notes.said),
+            None => writeln!(notes.said, "  {element} has no port"),
+        }
     }
-    Ok(tasks)
+    tasks
 }
 
 // Tells the results of the parts and the readings, gathers the ports, and returns the glances.
@@ -286,8 +247,8 @@ fn gather<K: Name>(
     scene: Scene,
     played: Played<K>,
     ports: &mut Vec<Port<K>>,
-    said: &mut String,
-) -> Result<Vec<Looked<Shown<K>>>> {
+    said: &mut Saying,
+) -> Vec<Looked<Shown<K>>> {
     let Played {
         done,
         looked,
@@ -295,45 +256,15 @@ fn gather<K: Name>(
         rested,
     } = played;
     for done in done {
-        add_told(said, &done)?;
-        ports.push(done.port)?;
+        add_accepted(said, done.told);
+        keep(ports, done.port, said);
     }
-    add_looked(said, looked.as_slice())?;
+    add_looked(said, looked.as_slice());
     if let Some(room) = scene.rests() {
-        writeln!(said, "  the journal has room for {room} again: {rested}")?;
+        writeln!(said, "  the journal has room for {room} again: {rested}");
     }
-    writeln!(said, "  checkpoints were kept to the end: {kept}")?;
-    Ok(looked)
-}
-
-// Plays a scene. The ports come back.
-fn play<K: Name + Send + Sync, R: Threads + Wait + Sync>(
-    rt: &R,
-    alloc: Global,
-    controller: &Controller<FuseDisk, K>,
-    scene: Scene,
-    said: &mut String,
-) -> Result<Vec<Port<K>>> {
-    let mut ports = Vec::new(alloc);
-    ports.push(set_up(rt, controller, scene, said)?)?;
-    let tasks = tasks(rt, alloc, controller, scene, said)?;
-    let glances = glances(rt, alloc, controller, scene.readers())?;
-    let played = play_all(
-        rt,
-        alloc,
-        controller,
-        scene.is_in_turn(),
-        scene.rests(),
-        tasks,
-        glances,
-    )?;
-    let looked = gather(scene, played, &mut ports, said)?;
-    if !looked.is_empty() {
-        if let Some(port) = ports.as_mut_slice().get_mut(1) {
-            ask_and_teach(rt, controller, port, looked, said)?;
-        }
-    }
-    Ok(ports)
+    writeln!(said, "  checkpoints were kept to the end: {kept}");
+    looked
 }
 
 // Tells what a port that has played is answered now.
@@ -342,88 +273,66 @@ fn ask<K: Name, R: Wait>(
     controller: &Controller<FuseDisk, K>,
     port: &mut Port<K>,
     number: u64,
-    said: &mut String,
-) -> Result<()> {
+    notes: &mut Notes,
+) {
     let found = match port.collect(rt, controller, number) {
         Ok(found) => Ok(Outcome::Entry(found.entry())),
         Err(refusal) => Err(refusal),
     };
-    add_call(said, "collect", found)?;
-    let answer = outcome_of(port.confirm(rt, controller, number.saturating_add(1)));
-    add_call(said, "confirm", answer)?;
+    notes.call("collect", found);
+    let confirmed = outcome_of(port.confirm(rt, controller, number.saturating_add(1)));
+    notes.call("confirm", confirmed);
     let helped = port.help(rt, controller).is_ok();
-    writeln!(said, "  help: {helped}")?;
-    Ok(())
+    writeln!(notes.said, "  help: {helped}")
 }
 
-// Plays a scene, and then asks the port of element 1.
-fn act<K: Name + Send + Sync, R: Threads + Wait + Sync>(
+/// Plays a scene, and then asks the port of element 1. The ports come back.
+pub fn show<K: Name + Send + Sync, R: Threads + Wait + Sync>(
     rt: &R,
-    alloc: Global,
     controller: &Controller<FuseDisk, K>,
     scene: Scene,
-    said: &mut String,
-) -> Result<Vec<Port<K>>> {
+    ports: &mut Vec<Port<K>>,
+    notes: &mut Notes,
+) {
+    set_up(rt, controller, scene, ports, notes);
     if let Scene::Great = scene {
-        return great(rt, alloc, controller, said);
+        return look_far(rt, controller, ports, notes);
     }
-    let mut ports = play(rt, alloc, controller, scene, said)?;
+    let tasks = tasks(rt, controller, scene, notes);
+    let glances = glances(rt, controller, scene.readers(), notes);
+    let played = play_all(rt, notes.alloc, controller, scene, tasks, glances);
+    let mut looked = gather(scene, played, ports, &mut notes.said);
+    let Some(port) = ports.as_mut_slice().get_mut(1) else {
+        return;
+    };
     if let Some(number) = scene.asks() {
-        if let Some(port) = ports.as_mut_slice().get_mut(1) {
-            ask(rt, controller, port, number, said)?;
-        }
+        ask(rt, controller, port, number, notes)
     }
-    Ok(ports)
+    if !looked.is_empty() {
+        ask_and_teach(rt, controller, port, looked.as_mut_slice(), notes)
+    }
 }
 
-// Tells whether the plain memory answers each line alike, and whether all ports came back.
-fn add_again(
-    alloc: Global,
-    limits: Limits,
-    finished: &Finished<FuseDisk>,
-    said: &mut String,
-) -> Result<()> {
-    let lines = finished.trace.len();
-    let again = alike(alloc, limits, finished.trace.as_slice())?;
+/// Tells whether the plain memory answers each line of a scene alike, whether all ports came back, and how many
+/// commands the image has.
+pub fn tell_scene(scene: Scene, limits: Limits, finished: Finished<FuseDisk>, notes: &mut Notes) {
+    let (alloc, said) = (notes.alloc, &mut notes.said);
+    let trace = finished.trace.as_slice();
+    if scene.is_of_fetches() {
+        add_fetches(said, trace)
+    }
+    let (lines, again) = (trace.len(), alike(alloc, limits, trace));
     writeln!(
         said,
         "  lines {lines}, the plain memory answers alike {again}"
-    )?;
+    );
     let (came, claimed) = (finished.came, finished.claimed);
     writeln!(
         said,
         "  all ports came: {came}, all answers claimed: {claimed}"
-    )?;
-    Ok(())
-}
-
-// Tells how many commands the image has.
-fn add_opened(alloc: Global, finished: Finished<FuseDisk>, said: &mut String) -> Result<()> {
+    );
     match Engine::open(alloc, finished.engine.close()) {
-        Ok(engine) => writeln!(said, "  opened again: count {}", engine.count())?,
-        Err(_) => said.push_str("  no image\n")?,
+        Ok(engine) => writeln!(said, "  opened again: count {}", engine.count()),
+        Err(_) => said.text("  no image\n"),
     }
-    Ok(())
-}
-
-/// Shows a scene.
-pub fn show<K: Name + Send + Sync, R: Threads + Wait + Sync>(
-    rt: &R,
-    alloc: Global,
-    scene: Scene,
-    limits: Limits,
-    controller: Controller<FuseDisk, K>,
-    said: &mut String,
-) -> Result<()> {
-    let (ports, acted) = match act(rt, alloc, &controller, scene, said) {
-        Ok(ports) => (ports, Ok(())),
-        Err(error) => (Vec::new(alloc), Err(error)),
-    };
-    let finished = finish(rt, controller, ports);
-    acted?;
-    if scene.is_of_fetches() {
-        add_finished(said, &finished)?;
-    }
-    add_again(alloc, limits, &finished, said)?;
-    add_opened(alloc, finished, said)
 }
