@@ -4,13 +4,12 @@ ghost use Rattle.im_cell.specs.declared.slots.Slot.{Slot};
 ghost use Rattle.im_istore.specs.Agreement.{Agree, AgreeBut};
 
 use crate::random_walks::walk;
-use crate::texts::{add_cell, add_count, add_number, add_place, add_steps, kind, waiter};
-use anyhow::{Result, anyhow};
+use crate::texts::{add_cell, add_number, add_place, add_waiter};
 use im_arena::Arena;
 use im_cell::CellTable;
 use im_istore::{fetch, look, next_reader, store, store_and_drain};
 use im_mstore::{put, take};
-use im_story::{add_entry, add_reply, address, number};
+use im_story::{Call, Saying};
 use im_types::{Cell, Entry, Kind, Refusal, Reply, Waiter};
 use std::alloc::Global;
 use std::marker::Model;
@@ -61,15 +60,17 @@ fn release(table: &mut CellTable, arena: &Arena, base: u32) -> bool
     table.release(base)
 }
 
-// Takes the readers of a cell that a store made full, one after the other, and asks once more when none is left.
-fn resume(arena: &mut Arena, a: u32, readers: &mut Vec<Waiter>) -> Option<Waiter>
+// Takes the readers of a cell that a store made full, one after the other, and tells them. Asks once more when none is
+// left.
+fn resume(arena: &mut Arena, a: u32, said: &mut Saying) -> Option<Waiter>
     requires { a < length arena.old.held.lists }
     ensures { (slots : List (Option Slot)) → AgreeBut a slots arena.old → Agree slots arena.new }
 {
+    let mut is_first = true;
     while let Some(reader) = next_reader(arena, a) {
-        if readers.len() < readers.capacity() {
-            readers.push_reserved(reader);
-        }
+        said.either(is_first, " for ", " ");
+        said.name(reader.element, reader.number);
+        is_first = false;
     }
     next_reader(arena, a)
 }
@@ -94,20 +95,15 @@ impl Accesses {
         release(&mut self.table, &self.arena, base)
     }
 
-    /// Reads an I cell. Returns `None` if no node is free.
-    pub fn fetch(&mut self, a: u32, who: Waiter) -> Option<Entry> {
+    /// Reads a cell: a fetch of an I cell, or a take of an M cell. Returns `None` if no node is free.
+    pub fn read(&mut self, kind: Kind, a: u32, who: Waiter) -> Option<Entry> {
         if self.arena.is_full() {
             return None;
         }
-        Some(fetch(&mut self.table, &mut self.arena, a, who))
-    }
-
-    /// Takes the value of an M cell. Returns `None` if no node is free.
-    pub fn take(&mut self, a: u32, who: Waiter) -> Option<Entry> {
-        if self.arena.is_full() {
-            return None;
+        match kind {
+            Kind::I => Some(fetch(&mut self.table, &mut self.arena, a, who)),
+            Kind::M => Some(take(&mut self.table, &mut self.arena, a, who)),
         }
-        Some(take(&mut self.table, &mut self.arena, a, who))
     }
 
     /// Gives a value to an M cell. Returns the reply, and the taker that gets the value.
@@ -115,35 +111,30 @@ impl Accesses {
         put(&mut self.table, &mut self.arena, a, value)
     }
 
-    /// Writes an I cell, and takes its readers off their list together with the store.
-    pub fn store(&mut self, alloc: Global, a: u32, value: u64) -> Result<(Reply, Vec<Waiter>)> {
+    /// Writes an I cell, and takes its readers off their list together with the store. Returns `None` if there is no
+    /// such cell, or no memory.
+    pub fn store(&mut self, alloc: Global, a: u32, value: u64) -> Option<(Reply, Vec<Waiter>)> {
         if a >= self.arena.list_count() {
-            return Err(anyhow!("no cell {a}"));
+            return None;
         }
-        let mut readers = Vec::with_capacity(alloc, self.arena.len(a) as usize)?;
+        let mut readers = Vec::with_capacity(alloc, self.arena.len(a) as usize).ok()?;
         let reply = store_and_drain(&mut self.table, &mut self.arena, a, value, &mut readers);
-        Ok((reply, readers))
+        Some((reply, readers))
     }
 
-    /// Writes an I cell, and takes its readers off their list one by one. Also returns who comes after the last of
-    /// them.
-    pub fn store_first(
-        &mut self,
-        alloc: Global,
-        a: u32,
-        value: u64,
-    ) -> Result<(Reply, Vec<Waiter>, Option<Waiter>)> {
+    // Writes an I cell, and takes its readers off their list one by one. Tells them, and who comes after the last.
+    fn store_first(&mut self, a: u32, value: u64, said: &mut Saying) {
         if a >= self.arena.list_count() {
-            return Err(anyhow!("no cell {a}"));
+            return said.fail("no such cell");
         }
-        let mut readers = Vec::with_capacity(alloc, self.arena.len(a) as usize)?;
         let reply = store(&mut self.table, &self.arena, a, value);
+        said.reply(reply);
         match reply {
             Reply::Stored => {
-                let next = resume(&mut self.arena, a, &mut readers);
-                Ok((reply, readers, next))
+                let next = resume(&mut self.arena, a, said);
+                add_next(said, next)
             }
-            _ => Ok((reply, readers, None)),
+            _ => {}
         }
     }
 
@@ -159,103 +150,86 @@ impl Accesses {
         }
         Some(self.arena.len(a))
     }
+}
 
-    fn add_cell(&self, said: &mut String, a: u32) -> Result<()> {
-        add_place(said, self.table.get(a), self.table.block_of(a))
-    }
+// Adds who comes after the last reader.
+fn add_next(said: &mut Saying, next: Option<Waiter>) {
+    said.text(", then ");
+    add_waiter(said, next)
 }
 
 // Adds the result of a read.
-fn add_read(said: &mut String, entry: Option<Entry>) -> Result<()> {
+fn add_read(said: &mut Saying, entry: Option<Entry>) {
     match entry {
-        Some(entry) => Ok(add_entry(said, entry)?),
-        None => Err(anyhow!("no node is free")),
+        Some(entry) => said.entry(entry),
+        None => said.fail("no node is free"),
     }
 }
 
 // Adds the result of a write, and the waiters that it answers, in order.
-fn add_written(said: &mut String, reply: Reply, resumed: &[Waiter]) -> Result<()> {
-    add_reply(said, reply)?;
-    if !resumed.is_empty() {
-        said.push_str(" for")?;
-    }
+fn add_written(said: &mut Saying, reply: Reply, resumed: &[Waiter]) {
+    said.reply(reply);
+    let mut before = " for ";
     for who in resumed {
-        write!(said, " {}.{}", who.element, who.number)?;
+        said.text(before);
+        said.name(who.element, who.number);
+        before = " ";
     }
-    Ok(())
 }
 
-fn add_put(said: &mut String, answer: (Reply, Option<Waiter>)) -> Result<()> {
+fn add_put(said: &mut Saying, answer: (Reply, Option<Waiter>)) {
     match answer.1 {
         Some(taker) => add_written(said, answer.0, &[taker]),
-        None => add_written(said, answer.0, &[]),
+        None => said.reply(answer.0),
     }
 }
 
-fn add_drained(said: &mut String, answer: (Reply, Vec<Waiter>)) -> Result<()> {
-    add_written(said, answer.0, answer.1.as_slice())
-}
-
-// Adds the same, and who comes after the last reader.
-fn add_stored(said: &mut String, answer: (Reply, Vec<Waiter>, Option<Waiter>)) -> Result<()> {
-    let (reply, readers, next) = answer;
-    add_written(said, reply, readers.as_slice())?;
-    match next {
-        Some(who) => write!(said, ", then {}.{}", who.element, who.number)?,
-        None if reply == Reply::Stored => said.push_str(", then none")?,
-        None => {}
+fn add_drained(said: &mut Saying, answer: Option<(Reply, Vec<Waiter>)>) {
+    match answer {
+        Some((reply, readers)) => add_written(said, reply, readers.as_slice()),
+        None => said.fail("no such cell"),
     }
-    Ok(())
 }
 
-fn add_looked(said: &mut String, looked: Result<Cell, Reply>) -> Result<()> {
+fn add_looked(said: &mut Saying, looked: Result<Cell, Reply>) {
     match looked {
         Ok(cell) => add_cell(said, cell),
-        Err(reply) => Ok(add_reply(said, reply)?),
+        Err(reply) => said.reply(reply),
     }
 }
 
 /// Makes an access.
-pub fn tell(
-    alloc: Global,
-    accesses: &mut Accesses,
-    words: &[&str],
-    said: &mut String,
-) -> Result<()> {
-    match words {
-        [who, "fetch", a] => add_read(said, accesses.fetch(address(a)?, waiter(who)?)),
-        [who, "take", a] => add_read(said, accesses.take(address(a)?, waiter(who)?)),
-        ["store", a, value] => {
-            add_stored(
-                said,
-                accesses.store_first(alloc, address(a)?, number(value)?)?,
-            )
-        }
-        ["store", a, value, "drained"] => {
-            add_drained(said, accesses.store(alloc, address(a)?, number(value)?)?)
-        }
-        ["put", a, value] => add_put(said, accesses.put(address(a)?, number(value)?)),
-        _ => tell_state(alloc, accesses, words, said),
+pub fn tell(accesses: &mut Accesses, call: &Call, said: &mut Saying) {
+    let (a, value) = (call.address(0), call.number(1));
+    match call.form() {
+        "_._ fetch _" => add_read(
+            said,
+            accesses.read(Kind::I, call.address(2), call.waiter(0)),
+        ),
+        "_._ take _" => add_read(
+            said,
+            accesses.read(Kind::M, call.address(2), call.waiter(0)),
+        ),
+        "store _ _" => accesses.store_first(a, value, said),
+        "store _ _ drained" => add_drained(said, accesses.store(call.alloc(), a, value)),
+        "put _ _" => add_put(said, accesses.put(a, value)),
+        "place i _" => add_number(said, accesses.place(Kind::I, a)),
+        "place m _" => add_number(said, accesses.place(Kind::M, a)),
+        "walk _ from _" => walk(accesses, call, said),
+        _ => tell_state(accesses, call, said),
     }
 }
 
-// Tells of blocks, and of what the cells show.
-fn tell_state(
-    alloc: Global,
-    accesses: &mut Accesses,
-    words: &[&str],
-    said: &mut String,
-) -> Result<()> {
-    match words {
-        ["place", of, n] => add_number(said, accesses.place(kind(of)?, address(n)?)),
-        ["cell", a] => accesses.add_cell(said, address(a)?),
-        ["look", a, of] => add_looked(said, look(&accesses.table, address(a)?, kind(of)?)),
-        ["waiting", a] => add_number(said, accesses.waiting(address(a)?)),
-        ["free"] => add_count(said, accesses.arena.free_count()),
-        ["lists"] => add_count(said, accesses.arena.list_count()),
-        ["walk", steps, "from", seed] => {
-            add_steps(said, walk(alloc, accesses, number(steps)?, number(seed)?)?)
-        }
-        _ => Err(anyhow!("no access")),
+// Tells what the cells and the lists show.
+fn tell_state(accesses: &Accesses, call: &Call, said: &mut Saying) {
+    let (table, arena, a) = (&accesses.table, &accesses.arena, call.address(0));
+    match call.form() {
+        "cell _" => add_place(said, table.get(a), table.block_of(a)),
+        "look _ i" => add_looked(said, look(table, a, Kind::I)),
+        "look _ m" => add_looked(said, look(table, a, Kind::M)),
+        "waiting _" => add_number(said, accesses.waiting(a)),
+        "free" => add_number(said, Some(arena.free_count())),
+        "lists" => add_number(said, Some(arena.list_count())),
+        _ => said.fail("no access"),
     }
 }

@@ -3,10 +3,9 @@ ghost use Rattle.std.specs.Prelude.{◌≡◌, ◌<◌, ◌^◌, length, map, If
 ghost use Rattle.im_cell.specs.Slots.{slot_at, shown_cell, shown_slot, HasBlocks};
 
 use crate::plain_slots::walk;
-use crate::texts::{add_count, add_number, add_place, add_steps, add_truth, cell, kind};
-use anyhow::{Result, anyhow};
+use crate::texts::{add_number, add_place, add_truth};
 use im_cell::CellTable;
-use im_story::{address, number};
+use im_story::{Call, Saying};
 use im_types::{Cell, CellRecord, Kind, PresenceTag};
 use std::alloc::{AllocError, Global};
 
@@ -52,10 +51,24 @@ fn records_of(alloc: Global, table: &CellTable) -> Result<Vec<CellRecord>, Alloc
     Ok(records)
 }
 
-/// Returns the table that is restored from the records of its cells.
-pub fn restored(alloc: Global, table: &CellTable) -> Result<CellTable> {
+// Returns the table that is restored from the records of its cells.
+fn restored(alloc: Global, table: &CellTable) -> Result<CellTable, AllocError> {
     let records = records_of(alloc, table)?;
-    Ok(CellTable::restore(alloc, records.as_slice())?)
+    match CellTable::restore(alloc, records.as_slice()) {
+        Ok(table) => Ok(table),
+        Err(_) => Err(AllocError),
+    }
+}
+
+/// Puts the restored table in the place of a table. Returns whether there was memory for it.
+pub fn restore(alloc: Global, table: &mut CellTable) -> bool {
+    match restored(alloc, table) {
+        Ok(other) => {
+            *table = other;
+            true
+        }
+        Err(_) => false,
+    }
 }
 
 // Makes I blocks of one cell, each at the next address from 0 on. Returns how many of them are made there.
@@ -92,74 +105,51 @@ fn place(table: &mut CellTable, kind: Kind, length: u32) -> Option<u32> {
     table.place(kind, length)
 }
 
-fn set(table: &mut CellTable, a: u32, cell: Cell, said: &mut String) -> Result<()> {
+fn set(table: &mut CellTable, a: u32, cell: Cell, said: &mut Saying) {
     if table.get(a).is_none() {
-        return Err(anyhow!("no cell {a}"));
+        return said.fail("no such cell");
     }
     table.set(a, cell);
-    Ok(said.push_str("set")?)
+    said.text("set")
 }
 
-fn tell_restore(alloc: Global, table: &mut CellTable, said: &mut String) -> Result<()> {
-    *table = restored(alloc, table)?;
-    Ok(write!(said, "{} cells", table.cells())?)
+fn tell_restored(table: &mut CellTable, call: &Call, said: &mut Saying) {
+    said.so(restore(call.alloc(), table), "");
+    write!(said, "{} cells", table.cells())
 }
 
-fn add_blocks(said: &mut String, blocks: u32) -> Result<()> {
-    Ok(write!(said, "{blocks} blocks")?)
+fn add_blocks(said: &mut Saying, blocks: u32) {
+    write!(said, "{blocks} blocks")
 }
 
 /// Makes a call of a table.
-pub fn tell(alloc: Global, table: &mut CellTable, words: &[&str], said: &mut String) -> Result<()> {
-    match words {
-        ["place", of, length] => add_number(said, place(table, kind(of)?, address(length)?)),
-        ["release", base] => add_truth(said, table.release(address(base)?)),
-        ["reset", base] => add_truth(said, table.reset(address(base)?)),
-        ["set", a, rest @ ..] => set(table, address(a)?, cell(rest)?, said),
-        ["cell", a] => tell_cell(table, address(a)?, said),
-        ["cells"] => add_count(said, table.cells()),
-        ["restore"] => tell_restore(alloc, table, said),
-        _ => tell_many(alloc, table, words, said),
+pub fn tell(table: &mut CellTable, call: &Call, said: &mut Saying) {
+    let a = call.address(0);
+    match call.form() {
+        "place i _" => add_number(said, place(table, Kind::I, a)),
+        "place m _" => add_number(said, place(table, Kind::M, a)),
+        "release _" => add_truth(said, table.release(a)),
+        "reset _" => add_truth(said, table.reset(a)),
+        "set _ empty" => set(table, a, Cell::Empty, said),
+        "set _ waiting" => set(table, a, Cell::Waiting, said),
+        "set _ full _" => set(table, a, Cell::Full(call.number(1)), said),
+        "set _ clashed _" => set(table, a, Cell::Clashed(call.number(1)), said),
+        "cell _" => add_place(said, table.get(a), table.block_of(a)),
+        "cells" => add_number(said, Some(table.cells())),
+        _ => tell_many(table, call, said),
     }
 }
 
-fn tell_cell(table: &CellTable, a: u32, said: &mut String) -> Result<()> {
-    add_place(said, table.get(a), table.block_of(a))
-}
-
 // Makes many calls at once.
-fn tell_many(
-    alloc: Global,
-    table: &mut CellTable,
-    words: &[&str],
-    said: &mut String,
-) -> Result<()> {
-    match words {
-        ["fill", count] => add_blocks(said, place_ones(table, address(count)?)),
-        ["release", count, "from", first, "up"] => {
-            add_blocks(
-                said,
-                release_each(table, address(count)?, address(first)?, true),
-            )
-        }
-        ["release", count, "from", first, "down"] => {
-            add_blocks(
-                said,
-                release_each(table, address(count)?, address(first)?, false),
-            )
-        }
-        ["walk", steps, "from", seed] => {
-            add_steps(
-                said,
-                walk(alloc, table, number(steps)?, number(seed)?, false)?,
-            )
-        }
-        ["walk", steps, "from", seed, "restored"] => {
-            add_steps(
-                said,
-                walk(alloc, table, number(steps)?, number(seed)?, true)?,
-            )
-        }
-        _ => Err(anyhow!("no call of a table")),
+fn tell_many(table: &mut CellTable, call: &Call, said: &mut Saying) {
+    let (count, first) = (call.address(0), call.address(1));
+    match call.form() {
+        "restore" => tell_restored(table, call, said),
+        "fill _" => add_blocks(said, place_ones(table, count)),
+        "release _ from _ up" => add_blocks(said, release_each(table, count, first, true)),
+        "release _ from _ down" => add_blocks(said, release_each(table, count, first, false)),
+        "walk _ from _" => walk(table, call, false, said),
+        "walk _ from _ restored" => walk(table, call, true, said),
+        _ => said.fail("no call of a table"),
     }
 }

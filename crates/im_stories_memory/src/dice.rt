@@ -2,7 +2,7 @@
 ghost use Rattle.std.specs.Prelude.{◌<◌};
 
 /// A linear congruential generator, with the constants of Knuth's MMIX.
-#[derive(Drop)]
+#[derive(Clone, Copy)]
 pub struct Dice {
     state: u64,
 }

@@ -2,73 +2,57 @@
 ghost use Rattle.std.specs.Prelude.{◌<◌, length};
 
 use crate::plain_lists::walk;
-use crate::texts::{add_count, add_steps, add_truth, add_waiter, waiter};
-use anyhow::{Result, anyhow};
+use crate::texts::{add_number, add_truth, add_waiter};
 use im_arena::{Arena, Ends, hand_over};
-use im_story::{address, number};
-use im_types::Waiter;
-use std::alloc::Global;
-
-// Makes a call of one list.
-fn tell_of(arena: &mut Arena, list: u32, words: &[&str], said: &mut String) -> Result<()>
-    requires { list < length arena.old.held.lists }
-{
-    match words {
-        ["push", who] => add_truth(said, arena.push_back(list, waiter(who)?)),
-        ["pop"] => add_waiter(said, arena.pop_front(list)),
-        ["front"] => add_waiter(said, arena.front(list)),
-        ["at", place] => add_waiter(said, arena.at(list, address(place)?)),
-        ["length"] => add_count(said, arena.len(list)),
-        ["empty"] => add_truth(said, arena.is_empty(list)),
-        ["ends"] => add_ends(said, arena.ends(list)),
-        _ => Err(anyhow!("no call of a list")),
-    }
-}
+use im_story::{Call, Saying};
 
 // Adds the first and the last node of a list.
-fn add_ends(said: &mut String, ends: Option<Ends>) -> Result<()> {
+fn add_ends(said: &mut Saying, ends: Option<Ends>) {
     match ends {
-        Some(ends) => Ok(write!(said, "{} {}", ends.first, ends.last)?),
-        None => Ok(said.push_str("none")?),
+        Some(ends) => write!(said, "{} {}", ends.first, ends.last),
+        None => said.text("none"),
     }
 }
 
 // Makes a call of one list, if it exists.
-fn tell_if(arena: &mut Arena, list: u32, words: &[&str], said: &mut String) -> Result<()> {
-    if list < arena.list_count() {
-        tell_of(arena, list, words, said)
-    } else {
-        Err(anyhow!("no list {list}"))
+fn tell_of(arena: &mut Arena, call: &Call, said: &mut Saying) {
+    let list = call.address(0);
+    if list >= arena.list_count() {
+        return said.fail("no such list");
+    }
+    match call.form() {
+        "list _ push _._" => add_truth(said, arena.push_back(list, call.waiter(1))),
+        "list _ pop" => add_waiter(said, arena.pop_front(list)),
+        "list _ front" => add_waiter(said, arena.front(list)),
+        "list _ at _" => add_waiter(said, arena.at(list, call.address(1))),
+        "list _ length" => add_number(said, Some(arena.len(list))),
+        "list _ empty" => add_truth(said, arena.is_empty(list)),
+        "list _ ends" => add_ends(said, arena.ends(list)),
+        _ => said.fail("no call of lists"),
     }
 }
 
 // Takes the first waiter off a list and puts another one on another list, if both lists exist and a node is free.
-fn hand_over_if(arena: &mut Arena, from: u32, to: u32, waiter: Waiter) -> Result<Option<Waiter>> {
-    let lists = arena.list_count();
+fn tell_handed(arena: &mut Arena, call: &Call, said: &mut Saying) {
+    let (from, to, lists) = (call.address(0), call.address(1), arena.list_count());
     if from >= lists || to >= lists || from == to {
-        return Err(anyhow!("no lists {from} and {to}"));
+        return said.fail("no such lists");
     }
     if arena.is_full() {
-        return Err(anyhow!("no node is free"));
+        return said.fail("no node is free");
     }
-    Ok(hand_over(arena, from, to, waiter))
+    add_waiter(said, hand_over(arena, from, to, call.waiter(2)))
 }
 
 /// Makes a call of lists.
-pub fn tell(alloc: Global, arena: &mut Arena, words: &[&str], said: &mut String) -> Result<()> {
-    match words {
-        ["list", list, rest @ ..] => tell_if(arena, address(list)?, rest, said),
-        ["hand", "over", from, to, who] => add_waiter(
-            said,
-            hand_over_if(arena, address(from)?, address(to)?, waiter(who)?)?,
-        ),
-        ["lists"] => add_count(said, arena.list_count()),
-        ["nodes"] => add_count(said, arena.node_count()),
-        ["free"] => add_count(said, arena.free_count()),
-        ["full"] => add_truth(said, arena.is_full()),
-        ["walk", steps, "from", seed] => {
-            add_steps(said, walk(alloc, arena, number(steps)?, number(seed)?)?)
-        }
-        _ => Err(anyhow!("no call of lists")),
+pub fn tell(arena: &mut Arena, call: &Call, said: &mut Saying) {
+    match call.form() {
+        "hand over _ _ _._" => tell_handed(arena, call, said),
+        "lists" => add_number(said, Some(arena.list_count())),
+        "nodes" => add_number(said, Some(arena.node_count())),
+        "free" => add_number(said, Some(arena.free_count())),
+        "full" => add_truth(said, arena.is_full()),
+        "walk _ from _" => walk(arena, call, said),
+        _ => tell_of(arena, call, said),
     }
 }

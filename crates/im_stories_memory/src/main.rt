@@ -18,10 +18,10 @@ mod texts;
 mod windows;
 
 use accesses::Accesses;
-use anyhow::{Result, anyhow};
+use anyhow::Result;
 use im_arena::Arena;
 use im_cell::CellTable;
-use im_story::{Scene, address, element, walk_files};
+use im_story::{Call, Layer, Saying, Scene, tell_of, walk_files};
 use memories::Memories;
 use std::alloc::Global;
 use std::process::ExitCode;
@@ -38,53 +38,49 @@ enum Stage {
     Memories(Memories),
 }
 
+// Makes what a story is about, with the sizes that the call names.
+fn made(call: &Call) -> Option<Stage> {
+    let (alloc, first, second) = (call.alloc(), call.address(0), call.address(1));
+    match call.form() {
+        "arena _ nodes _ lists" => Some(Stage::Lists(Arena::new(alloc, first, second).ok()?)),
+        "table _ cells" => Some(Stage::Cells(CellTable::new(alloc, first).ok()?)),
+        "accesses _ cells _ nodes" => {
+            Some(Stage::Accesses(Accesses::new(alloc, first, second).ok()?))
+        }
+        "windows _" => Some(Stage::Windows(Windows::new(alloc, call.element(0)).ok()?)),
+        "memory _ cells _ elements" => {
+            Some(Stage::Memories(Memories::new(alloc, first, call.element(1))?))
+        }
+        _ => None,
+    }
+}
+
+impl Layer for Stage {
+    fn make(&mut self, call: &Call, said: &mut Saying) {
+        match self {
+            Stage::Nothing => match made(call) {
+                Some(stage) => {
+                    *self = stage;
+                    said.text("made")
+                }
+                None => said.fail("no beginning of a story"),
+            },
+            Stage::Lists(arena) => lists::tell(arena, call, said),
+            Stage::Cells(table) => cells::tell(table, call, said),
+            Stage::Accesses(accesses) => accesses::tell(accesses, call, said),
+            Stage::Windows(windows) => windows::tell(windows, call, said),
+            Stage::Memories(memories) => memories::tell(memories, call, said),
+        }
+    }
+}
+
 impl Scene for Stage {
     fn begin(&mut self) {
         *self = Stage::Nothing;
     }
 
     fn tell(&mut self, alloc: Global, words: &[&str], said: &mut String) -> Result<()> {
-        match self {
-            Stage::Nothing => {
-                *self = made(alloc, words)?;
-                Ok(said.push_str("made")?)
-            }
-            Stage::Lists(arena) => lists::tell(alloc, arena, words, said),
-            Stage::Cells(table) => cells::tell(alloc, table, words, said),
-            Stage::Accesses(accesses) => accesses::tell(alloc, accesses, words, said),
-            Stage::Windows(windows) => windows::tell(alloc, windows, words, said),
-            Stage::Memories(memories) => memories::tell(memories, words, said),
-        }
-    }
-}
-
-fn lists_of(alloc: Global, nodes: u32, lists: u32) -> Result<Stage> {
-    Ok(Stage::Lists(Arena::new(alloc, nodes, lists)?))
-}
-
-fn accesses_of(alloc: Global, cells: u32, nodes: u32) -> Result<Stage> {
-    Ok(Stage::Accesses(Accesses::new(alloc, cells, nodes)?))
-}
-
-fn memory_of(alloc: Global, cells: u32, elements: u16) -> Result<Stage> {
-    Ok(Stage::Memories(Memories::new(alloc, cells, elements)?))
-}
-
-// Makes what a story is about, with these sizes.
-fn made(alloc: Global, words: &[&str]) -> Result<Stage> {
-    match words {
-        ["arena", nodes, "nodes", lists, "lists"] => {
-            lists_of(alloc, address(nodes)?, address(lists)?)
-        }
-        ["table", cells, "cells"] => Ok(Stage::Cells(CellTable::new(alloc, address(cells)?)?)),
-        ["accesses", cells, "cells", nodes, "nodes"] => {
-            accesses_of(alloc, address(cells)?, address(nodes)?)
-        }
-        ["windows", elements] => Ok(Stage::Windows(Windows::new(alloc, element(elements)?)?)),
-        ["memory", cells, "cells", elements, "elements"] => {
-            memory_of(alloc, address(cells)?, element(elements)?)
-        }
-        _ => Err(anyhow!("no beginning of a story")),
+        tell_of(self, alloc, words, said)
     }
 }
 

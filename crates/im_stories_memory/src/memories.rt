@@ -2,189 +2,165 @@
 
 use crate::memory_walks::walk;
 use crate::nodes::{add_cell_record, add_node_record, add_nodes, listed};
-use crate::texts::{add_count, add_kept, add_place, add_steps, add_waiter, waiter};
-use anyhow::{Result, anyhow};
+use crate::texts::{add_kept, add_number, add_place, add_waiter};
 use im_memory::Memory;
 use im_plain::PlainMemory;
-use im_story::{add_answer, add_outcome, add_window, address, command, element, number, place};
-use im_types::{Block, Cell, Command, Entry, Kept, Limits, Op, Outcome, Refusal, Request, Waiter};
+use im_story::{Call, Saying, command};
+use im_types::{Command, Entry, Limits, Op, Outcome, Refusal, Request};
 use std::alloc::Global;
 
 /// The two memories, and how many commands they accepted.
 #[derive(Drop)]
 pub struct Memories {
-    fast: Memory,
-    plain: PlainMemory,
+    /// The fast one.
+    pub fast: Memory,
+    /// The plain one.
+    pub plain: PlainMemory,
     accepted: u32,
-}
-
-// Returns what both say, or an error if they differ.
-fn both<T: PartialEq + Drop>(fast: T, plain: T) -> Result<T> {
-    if fast == plain {
-        Ok(fast)
-    } else {
-        Err(anyhow!("the two memories differ"))
-    }
 }
 
 impl Memories {
     /// Makes two new memories of these sizes.
-    pub fn new(alloc: Global, cells: u32, elements: u16) -> Result<Memories> {
-        let Some(limits) = Limits::new(cells, elements, 16) else {
-            return Err(anyhow!("no sizes of a memory"));
-        };
-        Ok(Memories {
-            fast: Memory::new(alloc, limits)?,
-            plain: PlainMemory::new(alloc, limits)?,
+    pub fn new(alloc: Global, cells: u32, elements: u16) -> Option<Memories> {
+        let limits = Limits::new(cells, elements, 16)?;
+        let plain = PlainMemory::new(alloc, limits).ok()?;
+        let fast = Memory::new(alloc, limits).ok()?;
+        Some(Memories {
+            fast,
+            plain,
             accepted: 0,
         })
     }
 
-    /// Returns whether a command would be accepted.
-    pub fn judge(&self, command: &Command) -> Result<Result<bool, Refusal>> {
-        both(self.fast.judge(command), self.plain.judge(command))
-    }
-
-    /// Puts one command to both, and counts it if it is accepted.
-    pub fn step(&mut self, command: &Command) -> Result<Result<Outcome, Refusal>> {
-        if let Ok(true) = self.judge(command)? {
+    /// Puts one command to both, and counts it if it is accepted. Returns the answer of the fast one, or `None` if the
+    /// two differ.
+    pub fn step(&mut self, command: &Command) -> Option<Result<Outcome, Refusal>> {
+        let judged = self.fast.judge(command);
+        if judged != self.plain.judge(command) {
+            return None;
+        }
+        if judged == Ok(true) {
             self.accepted = self.accepted.saturating_add(1);
         }
-        both(self.fast.step(command), self.plain.step(command))
-    }
-
-    fn collect(&self, element: u16, number: u64) -> Result<Result<Entry, Refusal>> {
-        both(
-            self.fast.collect(element, number),
-            self.plain.collect(element, number),
-        )
-    }
-
-    /// Returns the bounds of a window.
-    pub fn window(&self, element: u16) -> Result<Result<(u64, u64), Refusal>> {
-        both(self.fast.window(element), self.plain.window(element))
-    }
-
-    /// Returns what is kept under a number.
-    pub fn kept(&self, element: u16, number: u64) -> Result<Option<Kept>> {
-        both(
-            self.fast.kept(element, number),
-            self.plain.kept(element, number),
-        )
-    }
-
-    /// Returns what a cell holds.
-    pub fn cell(&self, a: u32) -> Result<Option<Cell>> {
-        both(self.fast.cell(a), self.plain.cell(a))
-    }
-
-    /// Returns the block that an address lies in.
-    pub fn block(&self, a: u32) -> Result<Option<Block>> {
-        both(self.fast.block(a), self.plain.block(a))
-    }
-
-    /// Returns who waits at a place of a cell's list.
-    pub fn waiter(&self, a: u32, place: usize) -> Result<Option<Waiter>> {
-        both(self.fast.waiter(a, place), self.plain.waiter(a, place))
-    }
-
-    /// Returns how many cells there are.
-    pub fn cells(&self) -> Result<u32> {
-        both(self.fast.cells(), self.plain.cells())
-    }
-
-    /// Returns how many elements there are.
-    pub fn elements(&self) -> Result<u16> {
-        both(self.fast.elements(), self.plain.elements())
+        let answer = self.fast.step(command);
+        if answer == self.plain.step(command) {
+            Some(answer)
+        } else {
+            None
+        }
     }
 }
 
-// Adds all waiters of a cell, in order.
-fn add_waiting(said: &mut String, memories: &Memories, a: u32) -> Result<()> {
+// Adds all waiters of a cell, in order. Returns whether they are those of the plain memory.
+fn add_waiting(said: &mut Saying, memories: &Memories, a: u32) -> bool {
     for place in 0..4_097usize {
-        let waiter = memories.waiter(a, place)?;
-        if waiter.is_none() {
-            return Ok(());
+        let waiter = memories.fast.waiter(a, place);
+        if waiter != memories.plain.waiter(a, place) {
+            return false;
         }
-        said.push_str(" ")?;
-        add_waiter(said, waiter)?;
+        if waiter.is_none() {
+            return true;
+        }
+        said.text(" ");
+        add_waiter(said, waiter);
     }
-    Ok(())
+    true
 }
 
 // Fetches a cell under the numbers from one to another. Returns how many fetches are accepted and wait.
-fn fetches(memories: &mut Memories, of: u16, from: u64, to: u64, a: u32) -> Result<u32> {
+fn fetches(memories: &mut Memories, call: &Call) -> u32 {
     let mut wait = 0u32;
-    for number in from..to.saturating_add(1) {
+    for number in call.number(1)..call.number(2).saturating_add(1) {
         let before = memories.accepted;
         let answer = memories.step(&Command::Request(Request {
-            element: of,
+            element: call.element(0),
             number,
-            op: Op::Fetch(a),
-        }))?;
-        if answer == Ok(Outcome::Entry(Entry::Waiting)) && memories.accepted > before {
+            op: Op::Fetch(call.address(3)),
+        }));
+        if answer == Some(Ok(Outcome::Entry(Entry::Waiting))) && memories.accepted > before {
             wait = wait.saturating_add(1);
         }
     }
-    Ok(wait)
+    wait
 }
 
-fn tell_fetches(
-    memories: &mut Memories,
-    first: Waiter,
-    last: u64,
-    a: u32,
-    said: &mut String,
-) -> Result<()> {
-    let wait = fetches(memories, first.element, first.number, last, a)?;
-    Ok(write!(said, "{wait} wait")?)
-}
-
-fn tell_collect(memories: &Memories, who: Waiter, said: &mut String) -> Result<()> {
-    Ok(add_answer(said, memories.collect(who.element, who.number)?)?)
-}
-
-fn tell_kept(memories: &Memories, who: Waiter, said: &mut String) -> Result<()> {
-    add_kept(said, memories.kept(who.element, who.number)?)
-}
-
-fn tell_cell(memories: &Memories, a: u32, said: &mut String) -> Result<()> {
-    add_place(said, memories.cell(a)?, memories.block(a)?)
-}
-
-fn tell_command(memories: &mut Memories, words: &[&str], said: &mut String) -> Result<()> {
-    Ok(add_outcome(said, memories.step(&command(words)?)?)?)
-}
-
-/// Makes a call of both memories.
-pub fn tell(memories: &mut Memories, words: &[&str], said: &mut String) -> Result<()> {
-    match words {
-        ["collect", who] => tell_collect(memories, waiter(who)?, said),
-        ["window", of] => Ok(add_window(said, memories.window(element(of)?)?)?),
-        ["kept", who] => tell_kept(memories, waiter(who)?, said),
-        ["cell", a] => tell_cell(memories, address(a)?, said),
-        ["waiting", a] => add_waiting(said, memories, address(a)?),
-        ["waiter", a, at] => add_waiter(said, memories.waiter(address(a)?, place(at)?)?),
-        ["cells"] => add_count(said, memories.cells()?),
-        ["elements"] => add_count(said, u32::from(memories.elements()?)),
-        ["accepted"] => add_count(said, memories.accepted),
-        _ => tell_more(memories, words, said),
+fn tell_command(memories: &mut Memories, call: &Call, said: &mut Saying) {
+    let Ok(command) = command(call.words()) else {
+        return said.fail("no command");
+    };
+    match memories.step(&command) {
+        Some(answer) => said.outcome(answer),
+        None => said.fail("the two memories differ"),
     }
 }
 
-// Makes many calls at once, shows records, or makes commands.
-fn tell_more(memories: &mut Memories, words: &[&str], said: &mut String) -> Result<()> {
-    match words {
-        [first, "to", last, "fetch", a] => {
-            tell_fetches(memories, waiter(first)?, number(last)?, address(a)?, said)
+// Tells what the fast memory answers. Returns whether the plain one answers the same.
+fn tell_same(memories: &Memories, call: &Call, said: &mut Saying) -> bool {
+    let (fast, plain) = (&memories.fast, &memories.plain);
+    let (of, number, a) = (call.element(0), call.number(1), call.address(0));
+    match call.form() {
+        "collect _._" => {
+            said.answer(fast.collect(of, number));
+            fast.collect(of, number) == plain.collect(of, number)
         }
-        ["record", a] => add_cell_record(said, &memories.fast, address(a)?),
-        ["node", n] => add_node_record(said, &memories.fast, address(n)?),
-        ["nodes", a] => add_nodes(said, &memories.fast, address(a)?),
-        ["listed", nodes] => add_count(said, listed(&memories.fast, address(nodes)?)),
-        ["walk", steps, "from", seed] => {
-            add_steps(said, walk(memories, number(steps)?, number(seed)?)?)
+        "window _" => {
+            said.window(fast.window(of));
+            fast.window(of) == plain.window(of)
         }
-        _ => tell_command(memories, words, said),
+        "kept _._" => {
+            add_kept(said, fast.kept(of, number));
+            fast.kept(of, number) == plain.kept(of, number)
+        }
+        "cell _" => {
+            add_place(said, fast.cell(a), fast.block(a));
+            fast.cell(a) == plain.cell(a) && fast.block(a) == plain.block(a)
+        }
+        "waiting _" => add_waiting(said, memories, a),
+        "waiter _ _" => {
+            add_waiter(said, fast.waiter(a, call.place(1)));
+            fast.waiter(a, call.place(1)) == plain.waiter(a, call.place(1))
+        }
+        "cells" => {
+            add_number(said, Some(fast.cells()));
+            fast.cells() == plain.cells()
+        }
+        _ => {
+            add_number(said, Some(u32::from(fast.elements())));
+            fast.elements() == plain.elements()
+        }
+    }
+}
+
+/// Makes a call of both memories.
+pub fn tell(memories: &mut Memories, call: &Call, said: &mut Saying) {
+    match call.form() {
+        "collect _._"
+        | "window _"
+        | "kept _._"
+        | "cell _"
+        | "waiting _"
+        | "waiter _ _"
+        | "cells"
+        | "elements" => {
+            if !tell_same(memories, call, said) {
+                said.fail("the two memories differ")
+            }
+        }
+        "accepted" => add_number(said, Some(memories.accepted)),
+        "_._ to _ fetch _" => write!(said, "{} wait", fetches(memories, call)),
+        "walk _ from _" => walk(memories, call, said),
+        "record _" | "node _" | "nodes _" | "listed _" => tell_record(&memories.fast, call, said),
+        _ => tell_command(memories, call, said),
+    }
+}
+
+// Shows records.
+fn tell_record(memory: &Memory, call: &Call, said: &mut Saying) {
+    let at = call.address(0);
+    match call.form() {
+        "record _" => add_cell_record(said, memory, at),
+        "node _" => add_node_record(said, memory, at),
+        "nodes _" => add_nodes(said, memory, at),
+        _ => add_number(said, Some(listed(memory, at))),
     }
 }

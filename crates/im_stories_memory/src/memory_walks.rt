@@ -2,7 +2,9 @@
 
 use crate::dice::Dice;
 use crate::memories::Memories;
-use anyhow::Result;
+use crate::texts::add_steps;
+use im_memory::Memory;
+use im_story::{Call, Saying};
 use im_types::{Block, Cell, Command, Entry, Kept, Kind, Op, Refusal, Request, Waiter};
 
 // Returns an operation on one of eight cells, or just past them.
@@ -22,16 +24,16 @@ fn any_op(dice: &mut Dice) -> Op {
 
 // Returns a command: mostly the next request of one of three elements. It may also be an earlier request, one too far,
 // one of an element that doesn't exist, or a confirmation.
-fn any_command(dice: &mut Dice, memories: &Memories) -> Result<Command> {
+fn any_command(dice: &mut Dice, memory: &Memory) -> Command {
     let element = if dice.below(20) == 0 {
         3
     } else {
         dice.below(3) as u16
     };
-    let (base, next) = memories.window(element)?.unwrap_or((1, 1));
+    let (base, next) = memory.window(element).unwrap_or((1, 1));
     if dice.below(4) == 0 {
         let upto = base.wrapping_add(dice.below(4) as u64);
-        return Ok(Command::Confirm { element, upto });
+        return Command::Confirm { element, upto };
     }
     let number = match dice.below(10) {
         0 => next.wrapping_add(1),
@@ -39,49 +41,45 @@ fn any_command(dice: &mut Dice, memories: &Memories) -> Result<Command> {
         _ => next,
     };
     let op = any_op(dice);
-    Ok(Command::Request(Request {
+    Command::Request(Request {
         element,
         number,
         op,
-    }))
+    })
 }
 
 // Returns what a command may change of its element's window.
-type Seen = (Option<Kept>, Result<(u64, u64), Refusal>);
-
-fn seen(memories: &Memories, command: &Command) -> Result<Seen> {
+fn seen(memory: &Memory, command: &Command) -> (Option<Kept>, Result<(u64, u64), Refusal>) {
     match command {
-        Command::Request(r) => Ok((
-            memories.kept(r.element, r.number)?,
-            memories.window(r.element)?,
-        )),
-        Command::Confirm { element, .. } => Ok((None, memories.window(*element)?)),
+        Command::Request(r) => (memory.kept(r.element, r.number), memory.window(r.element)),
+        Command::Confirm { element, .. } => (None, memory.window(*element)),
     }
 }
 
 // Makes one command. Returns whether it is accepted exactly if it changes something of its element's window.
-fn turns(memories: &mut Memories, command: &Command) -> Result<bool> {
-    let judged = memories.judge(command)?;
-    let before = seen(memories, command)?;
-    let answer = memories.step(command)?;
-    let changed = seen(memories, command)? != before;
+fn turns(memories: &mut Memories, command: &Command) -> bool {
+    let judged = memories.fast.judge(command);
+    let before = seen(&memories.fast, command);
+    let answer = memories.step(command);
+    let changed = seen(&memories.fast, command) != before;
     match answer {
-        Ok(_) => Ok(judged == Ok(changed)),
-        Err(refusal) => Ok(judged == Err(refusal) && !changed),
+        Some(Ok(_)) => judged == Ok(changed),
+        Some(Err(refusal)) => judged == Err(refusal) && !changed,
+        None => false,
     }
 }
 
 // Returns how often a request waits at a cell.
-fn times_at(memories: &Memories, a: u32, who: Waiter) -> Result<u32> {
+fn times_at(memory: &Memory, a: u32, who: Waiter) -> u32 {
     let mut times = 0u32;
     for place in 0..192usize {
-        match memories.waiter(a, place)? {
-            None => return Ok(times),
+        match memory.waiter(a, place) {
+            None => return times,
             Some(waiter) if waiter == who => times = times.saturating_add(1),
             Some(_) => {}
         }
     }
-    Ok(times)
+    times
 }
 
 fn has_kind(block: Option<Block>, kind: Kind) -> bool {
@@ -92,85 +90,112 @@ fn has_kind(block: Option<Block>, kind: Kind) -> bool {
 }
 
 // Returns the cell that an entry waits for, if it waits.
-fn awaited(memories: &Memories, kept: Option<Kept>) -> Result<Option<u32>> {
-    let Some(kept) = kept else {
-        return Ok(None);
-    };
+fn awaited(memory: &Memory, kept: Kept) -> Option<u32> {
     match (kept.op, kept.entry) {
-        (Op::Fetch(a), Entry::Waiting) if has_kind(memories.block(a)?, Kind::I) => Ok(Some(a)),
-        (Op::Take(a), Entry::Waiting) if has_kind(memories.block(a)?, Kind::M) => Ok(Some(a)),
-        _ => Ok(None),
+        (Op::Fetch(a), Entry::Waiting) if has_kind(memory.block(a), Kind::I) => Some(a),
+        (Op::Take(a), Entry::Waiting) if has_kind(memory.block(a), Kind::M) => Some(a),
+        _ => None,
     }
 }
 
-// Returns whether a request is kept, and waits once at the cell that its entry waits for and at no other.
-fn waits_right(memories: &Memories, who: Waiter) -> Result<bool> {
-    let kept = memories.kept(who.element, who.number)?;
-    let cell = awaited(memories, kept)?;
-    for a in 0..memories.cells()? {
+// Returns whether a request waits once at the cell that its entry waits for, and at no other.
+fn waits_right(memory: &Memory, who: Waiter, kept: Kept) -> bool {
+    let cell = awaited(memory, kept);
+    for a in 0..memory.cells() {
         let wanted = if cell == Some(a) { 1 } else { 0 };
-        if times_at(memories, a, who)? != wanted {
-            return Ok(false);
+        if times_at(memory, a, who) != wanted {
+            return false;
         }
     }
-    Ok(kept.is_some())
+    true
 }
 
-// Returns whether this holds of each request of an element's window.
-fn window_waits_right(memories: &Memories, element: u16) -> Result<bool> {
-    let (base, next) = memories.window(element)?.unwrap_or((1, 1));
-    for number in base..next {
-        if !waits_right(memories, Waiter { element, number })? {
-            return Ok(false);
+// Returns whether the window of an element is the same in both memories, with an entry for each request in it, for
+// which this holds, and none beside it.
+fn window_is_right(memories: &Memories, element: u16) -> bool {
+    let window = memories.fast.window(element);
+    let (base, next) = window.unwrap_or((1, 1));
+    for number in base.saturating_sub(1)..next.saturating_add(2) {
+        let kept = memories.fast.kept(element, number);
+        let is_right = match kept {
+            Some(kept) => {
+                base <= number
+                    && number < next
+                    && waits_right(&memories.fast, Waiter { element, number }, kept)
+            }
+            None => number < base || next <= number,
+        };
+        if !is_right || memories.plain.kept(element, number) != kept {
+            return false;
         }
     }
-    Ok(true)
+    memories.plain.window(element) == window
 }
 
-// Returns whether a cell is shown as waiting exactly if somebody waits for it, and exists exactly if its block does.
-fn tag_is_right(memories: &Memories, a: u32) -> Result<bool> {
-    let cell = memories.cell(a)?;
+// Returns whether the same requests wait at a cell in both memories.
+fn has_same_waiters(memories: &Memories, a: u32) -> bool {
+    for place in 0..192usize {
+        let waiter = memories.fast.waiter(a, place);
+        if memories.plain.waiter(a, place) != waiter {
+            return false;
+        }
+        if waiter.is_none() {
+            return true;
+        }
+    }
+    true
+}
+
+// Returns whether a cell is the same in both memories, is shown as waiting exactly if somebody waits for it, and exists
+// exactly if its block does.
+fn cell_is_right(memories: &Memories, a: u32) -> bool {
+    let (cell, block) = (memories.fast.cell(a), memories.fast.block(a));
     let waits = cell == Some(Cell::Waiting);
-    Ok(waits == memories.waiter(a, 0)?.is_some() && cell.is_some() == memories.block(a)?.is_some())
+    waits == memories.fast.waiter(a, 0).is_some()
+        && cell.is_some() == block.is_some()
+        && memories.plain.cell(a) == cell
+        && memories.plain.block(a) == block
 }
 
 // Returns whether each address of a block is in that block, and the block lies below the cell count.
-fn block_is_whole(memories: &Memories, a: u32) -> Result<bool> {
-    let Some(block) = memories.block(a)? else {
-        return Ok(true);
+fn block_is_whole(memory: &Memory, a: u32) -> bool {
+    let Some(block) = memory.block(a) else {
+        return true;
     };
     let end = block.base.wrapping_add(block.length);
     for b in block.base..end {
-        if memories.block(b)? != Some(block) {
-            return Ok(false);
+        if memory.block(b) != Some(block) {
+            return false;
         }
     }
-    Ok(block.base <= a && a < end && end <= memories.cells()?)
+    block.base <= a && a < end && end <= memory.cells()
 }
 
-// Returns whether all that has to stay true of the memories holds.
-fn is_in_order(memories: &Memories) -> Result<bool> {
-    for element in 0..memories.elements()? {
-        if !window_waits_right(memories, element)? {
-            return Ok(false);
+// Returns whether both memories are the same, and all that has to stay true of them holds.
+fn is_in_order(memories: &Memories) -> bool {
+    for element in 0..memories.fast.elements().saturating_add(1) {
+        if !window_is_right(memories, element) {
+            return false;
         }
     }
-    for a in 0..memories.cells()? {
-        if !tag_is_right(memories, a)? || !block_is_whole(memories, a)? {
-            return Ok(false);
+    for a in 0..memories.fast.cells() {
+        let is_right = cell_is_right(memories, a) && has_same_waiters(memories, a);
+        if !is_right || !block_is_whole(&memories.fast, a) {
+            return false;
         }
     }
-    Ok(true)
+    true
 }
 
-/// Throws `steps` commands. Returns after how many of them all is in order, up to the first after which it isn't.
-pub fn walk(memories: &mut Memories, steps: u64, seed: u64) -> Result<u64> {
-    let mut dice = Dice::new(seed);
-    for step in 0..steps {
-        let command = any_command(&mut dice, memories)?;
-        if !turns(memories, &command)? || !is_in_order(memories)? {
-            return Ok(step);
+/// Makes thrown commands, as many as the call's first number says. Tells after how many of them all is in order, up to
+/// the first after which it isn't.
+pub fn walk(memories: &mut Memories, call: &Call, said: &mut Saying) {
+    let mut dice = Dice::new(call.number(1));
+    for step in 0..call.number(0) {
+        let command = any_command(&mut dice, &memories.fast);
+        if !turns(memories, &command) || !is_in_order(memories) {
+            return add_steps(said, step);
         }
     }
-    Ok(steps)
+    add_steps(said, call.number(0))
 }

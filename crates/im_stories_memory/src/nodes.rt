@@ -1,8 +1,8 @@
 //! The records of the fast memory.
 
 use crate::texts::{add_place, add_waiter};
-use anyhow::{Result, anyhow};
 use im_memory::Memory;
+use im_story::Saying;
 use im_types::{Cell, CellRecord, NONE, NodeRecord, PresenceTag};
 
 fn cell_of(tag: PresenceTag) -> Cell {
@@ -14,19 +14,20 @@ fn cell_of(tag: PresenceTag) -> Cell {
     }
 }
 
-fn add_link(said: &mut String, link: u32) -> Result<()> {
+fn add_link(said: &mut Saying, link: u32) {
+    said.text(", next ");
     if link == NONE {
-        Ok(said.push_str("none")?)
+        said.text("none")
     } else {
-        Ok(write!(said, "{link}")?)
+        write!(said, "{link}")
     }
 }
 
 /// Adds what the record of a cell shows. If the cell waits, it doesn't add which nodes are in its list.
-pub fn add_cell_record(said: &mut String, memory: &Memory, a: u32) -> Result<()> {
+pub fn add_cell_record(said: &mut Saying, memory: &Memory, a: u32) {
     match memory.records().cell_record(a) {
         CellRecord::Free { hole, next } => {
-            write!(said, "free, hole of {hole}, next ")?;
+            write!(said, "free, hole of {hole}");
             add_link(said, next)
         }
         CellRecord::Held { block, tag } => add_place(said, Some(cell_of(tag)), Some(block)),
@@ -34,14 +35,14 @@ pub fn add_cell_record(said: &mut String, memory: &Memory, a: u32) -> Result<()>
 }
 
 /// Adds what the record of a node shows.
-pub fn add_node_record(said: &mut String, memory: &Memory, n: u32) -> Result<()> {
+pub fn add_node_record(said: &mut Saying, memory: &Memory, n: u32) {
     match memory.records().node_record(n) {
         NodeRecord::Listed { next, waiter } => {
-            write!(said, "{}.{}, next ", waiter.element, waiter.number)?;
+            add_waiter(said, Some(waiter));
             add_link(said, next)
         }
         NodeRecord::Free { next } => {
-            said.push_str("free, next ")?;
+            said.text("free");
             add_link(said, next)
         }
     }
@@ -71,22 +72,21 @@ fn ends(memory: &Memory, a: u32) -> Option<(u32, u32)> {
 
 /// Adds the waiters in the nodes of a cell's list, from the first on. The last node has to be the one that the cell's
 /// record names, and to lead to none.
-pub fn add_nodes(said: &mut String, memory: &Memory, a: u32) -> Result<()> {
+pub fn add_nodes(said: &mut Saying, memory: &Memory, a: u32) {
     let Some((first, last)) = ends(memory, a) else {
-        return Err(anyhow!("nobody waits"));
+        return said.fail("nobody waits");
     };
     let (mut at, mut before) = (first, NONE);
     for _ in 0..4_097u32 {
         let NodeRecord::Listed { next, waiter } = memory.records().node_record(at) else {
             break;
         };
-        said.push_str(" ")?;
-        add_waiter(said, Some(waiter))?;
+        said.text(" ");
+        add_waiter(said, Some(waiter));
         before = at;
         at = next;
     }
     if at != NONE || before != last {
-        return Err(anyhow!("the last node is another one"));
+        said.fail("the last node is another one")
     }
-    Ok(())
 }

@@ -1,7 +1,7 @@
 //! Cells by the rules, one by one.
 
 use im_types::{Cell, Entry, Kind, Reply, Waiter};
-use std::alloc::{AllocError, Global};
+use std::alloc::Global;
 use std::collections::VecDeque;
 
 /// A cell in a block of its own, kept plainly.
@@ -24,22 +24,23 @@ impl PlainCell {
         }
     }
 
-    /// Reads: a fetch, which asks for an I cell, or a take, which asks for an M cell.
-    pub fn read(&mut self, kind: Kind, who: Waiter) -> Result<Entry, AllocError> {
+    /// Reads: a fetch, which asks for an I cell, or a take, which asks for an M cell. Returns `None` if there is no
+    /// memory for who waits.
+    pub fn read(&mut self, kind: Kind, who: Waiter) -> Option<Entry> {
         if self.kind != kind {
-            return Ok(Entry::Answered(Reply::WrongKind));
+            return Some(Entry::Answered(Reply::WrongKind));
         }
         if self.clashed {
-            return Ok(Entry::Answered(Reply::Clash));
+            return Some(Entry::Answered(Reply::Clash));
         }
         let Some(value) = self.value else {
-            self.waiters.push_back(who)?;
-            return Ok(Entry::Waiting);
+            self.waiters.push_back(who).ok()?;
+            return Some(Entry::Waiting);
         };
         if kind == Kind::M {
             self.value = None;
         }
-        Ok(Entry::Answered(Reply::Value(value)))
+        Some(Entry::Answered(Reply::Value(value)))
     }
 
     /// Writes: a store or a put.

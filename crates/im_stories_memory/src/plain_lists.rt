@@ -2,31 +2,30 @@
 ghost use Rattle.std.specs.Prelude.{◌<◌, length};
 
 use crate::dice::Dice;
-use anyhow::Result;
+use crate::texts::add_steps;
 use im_arena::Arena;
+use im_story::{Call, Saying};
 use im_types::{NONE, NodeRecord, Waiter};
 use std::alloc::Global;
 use std::collections::VecDeque;
 
 // Makes one thrown call on a list and on the plain one. Returns whether they answer the same.
-fn call(
+fn call_both(
     arena: &mut Arena,
     list: u32,
     queue: &mut VecDeque<Waiter>,
     who: Waiter,
     pushes: bool,
-) -> Result<bool>
+) -> bool
     requires { list < length arena.old.held.lists }
 {
     if !pushes {
-        return Ok(arena.pop_front(list) == queue.pop_front());
+        return arena.pop_front(list) == queue.pop_front();
     }
-    let has_room = !arena.is_full();
-    let pushed = arena.push_back(list, who);
-    if has_room {
-        queue.push_back(who)?;
+    if arena.is_full() {
+        return !arena.push_back(list, who);
     }
-    Ok(pushed == has_room)
+    arena.push_back(list, who) && queue.push_back(who).is_ok()
 }
 
 // Returns the waiter that a node holds.
@@ -110,27 +109,45 @@ fn agrees(arena: &Arena, plain: &[VecDeque<Waiter>]) -> bool {
         && arena.is_full() == (held == arena.node_count())
 }
 
-/// Makes `steps` thrown calls. Returns how many of them agree with plain lists, up to the first that doesn't.
-pub fn walk(alloc: Global, arena: &mut Arena, steps: u64, seed: u64) -> Result<u64> {
+// Makes the step of this number.
+fn step(arena: &mut Arena, plain: &mut [VecDeque<Waiter>], number: u64, dice: &mut Dice) -> bool {
+    let count = arena.list_count();
+    if count == 0 {
+        return false;
+    }
+    let list = dice.below(count);
+    let pushes = dice.below(2) == 0;
+    match plain.get_mut(list as usize) {
+        Some(queue) => call_both(arena, list, queue, Waiter { element: 1, number }, pushes),
+        None => false,
+    }
+}
+
+// Makes steps. Returns how many of them agree, up to the first that doesn't.
+fn steps(arena: &mut Arena, plain: &mut [VecDeque<Waiter>], call: &Call) -> u64 {
+    let mut dice = Dice::new(call.number(1));
+    for number in 0..call.number(0) {
+        if !step(arena, plain, number, &mut dice) || !agrees(arena, plain) {
+            return number;
+        }
+    }
+    call.number(0)
+}
+
+// Makes so many empty lists.
+fn queues(alloc: Global, count: u32) -> Option<Vec<VecDeque<Waiter>>> {
     let mut plain = Vec::new(alloc);
-    for _list in 0..arena.list_count() {
-        plain.push(VecDeque::new(alloc))?;
+    for _list in 0..count {
+        plain.push(VecDeque::new(alloc)).ok()?;
     }
-    let mut dice = Dice::new(seed);
-    for number in 0..steps {
-        let count = arena.list_count();
-        if count == 0 {
-            return Ok(number);
-        }
-        let list = dice.below(count);
-        let pushes = dice.below(2) == 0;
-        let who = Waiter { element: 1, number };
-        let Some(queue) = plain.get_mut(list as usize) else {
-            return Ok(number);
-        };
-        if !call(arena, list, queue, who, pushes)? || !agrees(arena, plain.as_slice()) {
-            return Ok(number);
-        }
+    Some(plain)
+}
+
+/// Makes thrown calls, as many as the call's first number says. Tells how many of them agree with plain lists, up to
+/// the first that doesn't.
+pub fn walk(arena: &mut Arena, call: &Call, said: &mut Saying) {
+    match queues(call.alloc(), arena.list_count()) {
+        Some(mut plain) => add_steps(said, steps(arena, plain.as_mut_slice(), call)),
+        None => said.fail("no memory is left"),
     }
-    Ok(steps)
 }

@@ -1,11 +1,11 @@
 //! A random walk over a table of cells, beside slots that are kept plainly.
 
-use crate::cells::restored;
+use crate::cells::restore;
 use crate::dice::Dice;
-use anyhow::Result;
+use crate::texts::add_steps;
 use im_cell::{CellTable, Slot};
+use im_story::{Call, Saying};
 use im_types::{Block, Cell, Kind};
-use std::alloc::Global;
 
 fn slot_at(slots: &[Option<Slot>], a: u32) -> Option<Slot> {
     slots.get(a as usize).copied().flatten()
@@ -14,6 +14,19 @@ fn slot_at(slots: &[Option<Slot>], a: u32) -> Option<Slot> {
 fn write(slots: &mut [Option<Slot>], a: u32, slot: Option<Slot>) {
     if let Some(place) = slots.get_mut(a as usize) {
         *place = slot;
+    }
+}
+
+// Writes the cells of a block, empty or free.
+fn write_each(slots: &mut [Option<Slot>], block: Block, is_held: bool) {
+    let cell = Cell::Empty;
+    let slot = if is_held {
+        Some(Slot { block, cell })
+    } else {
+        None
+    };
+    for a in block.base..block.base.saturating_add(block.length) {
+        write(slots, a, slot);
     }
 }
 
@@ -33,58 +46,32 @@ fn room(slots: &[Option<Slot>], n: u32) -> Option<u32> {
     None
 }
 
-fn place(slots: &mut [Option<Slot>], kind: Kind, n: u32) -> Option<u32> {
-    let base = room(slots, n)?;
-    let block = Block {
-        base,
-        length: n,
-        kind,
-    };
-    for a in base..base.saturating_add(n) {
-        let cell = Cell::Empty;
-        write(slots, a, Some(Slot { block, cell }));
-    }
+fn place(slots: &mut [Option<Slot>], kind: Kind, length: u32) -> Option<u32> {
+    let base = room(slots, length)?;
+    write_each(slots, Block { base, length, kind }, true);
     Some(base)
 }
 
 // Returns whether a cell of a block waits.
 fn waits(slots: &[Option<Slot>], block: Block) -> bool {
+    let cell = Cell::Waiting;
     for slot in slots {
-        if let Some(slot) = slot {
-            if slot.block == block && slot.cell == Cell::Waiting {
-                return true;
-            }
+        if *slot == Some(Slot { block, cell }) {
+            return true;
         }
     }
     false
 }
 
-fn release(slots: &mut [Option<Slot>], base: u32) -> bool {
+// Releases a block, or empties its cells.
+fn end(slots: &mut [Option<Slot>], base: u32, is_held: bool) -> bool {
     let Some(slot) = slot_at(slots, base) else {
         return false;
     };
     if slot.block.base != base || waits(slots, slot.block) {
         return false;
     }
-    for a in base..base.saturating_add(slot.block.length) {
-        write(slots, a, None);
-    }
-    true
-}
-
-// Empties the cells of a block.
-fn reset(slots: &mut [Option<Slot>], base: u32) -> bool {
-    let Some(slot) = slot_at(slots, base) else {
-        return false;
-    };
-    let block = slot.block;
-    if block.base != base || waits(slots, block) {
-        return false;
-    }
-    for a in base..base.saturating_add(block.length) {
-        let cell = Cell::Empty;
-        write(slots, a, Some(Slot { block, cell }));
-    }
+    write_each(slots, slot.block, is_held);
     true
 }
 
@@ -112,7 +99,7 @@ fn set(table: &mut CellTable, slots: &mut [Option<Slot>], a: u32, cell: Cell) ->
 }
 
 // Makes one thrown call on the table and on the plain slots. Returns whether they answer the same.
-fn call(table: &mut CellTable, slots: &mut [Option<Slot>], thrown: u64) -> bool {
+fn call_both(table: &mut CellTable, slots: &mut [Option<Slot>], thrown: u64) -> bool {
     let number = thrown >> 40;
     let a = (number % 26) as u32;
     match thrown >> 33 & 7 {
@@ -121,8 +108,8 @@ fn call(table: &mut CellTable, slots: &mut [Option<Slot>], thrown: u64) -> bool 
             let kind = if number % 5 < 3 { Kind::I } else { Kind::M };
             table.place(kind, n) == place(slots, kind, n)
         }
-        2 => table.release(a) == release(slots, a),
-        3 => table.reset(a) == reset(slots, a),
+        2 => table.release(a) == end(slots, a, false),
+        3 => table.reset(a) == end(slots, a, true),
         _ => set(table, slots, a, cell_for(number)),
     }
 }
@@ -147,28 +134,25 @@ fn agrees(table: &CellTable, slots: &[Option<Slot>]) -> bool {
     true
 }
 
-/// Makes `steps` thrown calls on a new table, and restores it after each fourth if that is asked for. Returns how many
-/// of them agree with plain slots, up to the first that doesn't.
-pub fn walk(
-    alloc: Global,
-    table: &mut CellTable,
-    steps: u64,
-    seed: u64,
-    restores: bool,
-) -> Result<u64> {
-    let mut slots = vec![in alloc; None; table.cells() as usize]?;
-    let mut dice = Dice::new(seed);
-    for step in 0..steps {
-        let answers = call(table, slots.as_mut_slice(), dice.throw());
-        if !answers || !agrees(table, slots.as_slice()) {
-            return Ok(step);
+// Makes steps. Returns how many of them agree, up to the first that doesn't.
+fn steps(table: &mut CellTable, slots: &mut [Option<Slot>], call: &Call, restores: bool) -> u64 {
+    let mut dice = Dice::new(call.number(1));
+    for step in 0..call.number(0) {
+        if !call_both(table, slots, dice.throw()) || !agrees(table, slots) {
+            return step;
         }
-        if restores && step % 4 == 0 {
-            *table = restored(alloc, table)?;
-            if !agrees(table, slots.as_slice()) {
-                return Ok(step);
-            }
+        if restores && step % 4 == 0 && !(restore(call.alloc(), table) && agrees(table, slots)) {
+            return step;
         }
     }
-    Ok(steps)
+    call.number(0)
+}
+
+/// Makes thrown calls on a new table, as many as the call's first number says, and restores it after each fourth if
+/// that is asked for. Tells how many of them agree with plain slots, up to the first that doesn't.
+pub fn walk(table: &mut CellTable, call: &Call, restores: bool, said: &mut Saying) {
+    match vec![in call.alloc(); None; table.cells() as usize] {
+        Ok(mut slots) => add_steps(said, steps(table, slots.as_mut_slice(), call, restores)),
+        Err(_) => said.fail("no memory is left"),
+    }
 }

@@ -1,39 +1,44 @@
 //! A long run of thrown calls on windows, beside windows that are kept plainly.
 
 use crate::dice::Dice;
+use crate::texts::add_steps;
 use crate::windows::{answer, ask, restore};
-use anyhow::{Result, anyhow};
 use im_sessions::Sessions;
+use im_story::{Call, Saying};
 use im_types::{Entry, Judged, Kept, Kind, Op, Refusal, Reply, Request, WINDOW, Waiter};
 use std::alloc::Global;
-use std::collections::VecDeque;
 
-// A window, kept plainly: the entries from a base on.
+// A window, kept plainly: all entries from number 1 on, those that are forgotten too.
 #[derive(Drop)]
 struct PlainWindow {
     base: u64,
-    kept: VecDeque<Kept>,
+    all: Vec<Kept>,
+}
+
+// Returns the place of an entry among all.
+fn place_of(number: u64) -> usize {
+    usize::try_from(number.saturating_sub(1)).unwrap_or(usize::MAX)
 }
 
 impl PlainWindow {
     fn next(&self) -> u64 {
-        self.base.saturating_add(self.kept.len() as u64)
+        (self.all.len() as u64).saturating_add(1)
     }
 
     fn kept(&self, number: u64) -> Option<Kept> {
-        let place = number.checked_sub(self.base)?;
-        self.kept.get(place as usize).copied()
+        if number < self.base {
+            return None;
+        }
+        self.all.get(place_of(number)).copied()
     }
 
     fn judge(&self, number: u64, op: Op) -> Result<Judged, Refusal> {
-        if number < self.base {
-            return Err(Refusal::Forgotten);
-        }
         match self.kept(number) {
             Some(kept) if kept.op == op => Ok(Judged::Repeat(kept.entry)),
             Some(_) => Err(Refusal::Mismatch),
+            None if number < self.base => Err(Refusal::Forgotten),
             None if number > self.next() => Err(Refusal::Gap),
-            None if (self.kept.len() as u64) < WINDOW => Ok(Judged::Fresh),
+            None if self.next().saturating_sub(self.base) < WINDOW => Ok(Judged::Fresh),
             None => Err(Refusal::WindowFull),
         }
     }
@@ -48,10 +53,7 @@ impl PlainWindow {
 
     fn answer(&mut self, number: u64, reply: Reply) -> bool {
         let waits = self.entry(number) == Ok(Entry::Waiting);
-        let Some(place) = number.checked_sub(self.base) else {
-            return false;
-        };
-        if let Some(kept) = self.kept.get_mut(place as usize) {
+        if let Some(kept) = self.all.get_mut(place_of(number)) {
             if waits {
                 kept.entry = Entry::Answered(reply);
             }
@@ -67,9 +69,6 @@ impl PlainWindow {
             if self.entry(number) == Ok(Entry::Waiting) {
                 return Err(Refusal::NotAnswered);
             }
-        }
-        for _ in self.base..upto {
-            let _ = self.kept.pop_front();
         }
         self.base = self.base.max(upto);
         Ok(())
@@ -114,32 +113,32 @@ fn ask_both(
     plain: &mut PlainWindow,
     who: Waiter,
     dice: &mut Dice,
-) -> Result<bool> {
+) -> bool {
     let op = match plain.kept(who.number) {
         Some(kept) if dice.below(2) == 0 => kept.op,
         _ => any_op(dice),
     };
     let entry = any_entry(dice);
     let judged = plain.judge(who.number, op);
-    if judged == Ok(Judged::Fresh) {
-        plain.kept.push_back(Kept { op, entry })?;
+    if judged == Ok(Judged::Fresh) && plain.all.push(Kept { op, entry }).is_err() {
+        return false;
     }
     let request = Request {
         element: who.element,
         number: who.number,
         op,
     };
-    Ok(ask(sessions, &request, entry) == judged)
+    ask(sessions, &request, entry) == judged
 }
 
 // Makes one thrown call on the sessions and on the plain window of the same element. Returns whether they agree on it,
 // and then show the same.
-fn call(
+fn call_both(
     sessions: &mut Sessions,
     plain: &mut PlainWindow,
     element: u16,
     dice: &mut Dice,
-) -> Result<bool> {
+) -> bool {
     let number = any_number(dice, plain);
     let who = Waiter { element, number };
     let agrees = match dice.below(8) {
@@ -151,67 +150,64 @@ fn call(
             let reply = Reply::Value(dice.below(100) as u64);
             answer(sessions, who, reply) == plain.answer(number, reply)
         }
-        _ => ask_both(sessions, plain, who, dice)?,
+        _ => ask_both(sessions, plain, who, dice),
     };
-    Ok(
-        agrees
-            && sessions.entry(element, number) == plain.entry(number)
-            && sessions.kept(element, number) == plain.kept(number)
-            && sessions.window(element) == Ok((plain.base, plain.next())),
-    )
+    agrees
+        && sessions.entry(element, number) == plain.entry(number)
+        && sessions.kept(element, number) == plain.kept(number)
+        && sessions.window(element) == Ok((plain.base, plain.next()))
 }
 
-// Makes three plain windows with no entry.
-fn begin(alloc: Global) -> Result<Vec<PlainWindow>> {
-    let mut windows = Vec::new(alloc);
-    for _ in 0..3u32 {
-        windows.push(PlainWindow {
-            base: 1,
-            kept: VecDeque::new(alloc),
-        })?;
-    }
-    Ok(windows)
-}
-
-// Makes sessions of three elements with these windows.
-fn restored(alloc: Global, windows: &[PlainWindow]) -> Result<Sessions> {
-    let mut sessions = Sessions::new(alloc, 3)?;
+// Restores each window from the plain one. Returns whether all of them are within their bounds.
+fn restore_all(sessions: &mut Sessions, plain: &[PlainWindow]) -> bool {
     let mut element = 0u16;
-    for plain in windows {
-        let mut kept = Vec::new(alloc);
-        for one in plain.kept.iter() {
-            kept.push(*one)?;
-        }
-        if !restore(&mut sessions, element, plain.base, kept.as_slice()) {
-            return Err(anyhow!("a window out of its bounds"));
+    for window in plain {
+        let is_made = match window.all.as_slice().get(place_of(window.base)..) {
+            Some(kept) => restore(sessions, element, window.base, kept),
+            None => false,
+        };
+        if !is_made {
+            return false;
         }
         element = element.saturating_add(1);
     }
-    Ok(sessions)
+    true
 }
 
-/// Makes `steps` thrown calls on three new windows, and restores them after one in ten if that is asked for. Returns
-/// how many of them agree with plain windows, up to the first that doesn't.
-pub fn walk(
-    alloc: Global,
-    sessions: &mut Sessions,
-    steps: u64,
-    seed: u64,
-    restores: bool,
-) -> Result<u64> {
-    let mut windows = begin(alloc)?;
-    let mut dice = Dice::new(seed);
-    for step in 0..steps {
+// Makes steps. Returns how many of them agree, up to the first that doesn't.
+fn steps(sessions: &mut Sessions, plain: &mut [PlainWindow], call: &Call, restores: bool) -> u64 {
+    let mut dice = Dice::new(call.number(1));
+    for step in 0..call.number(0) {
         let element = dice.below(3);
-        let Some(plain) = windows.get_mut(element as usize) else {
-            return Ok(step);
+        let agrees = match plain.get_mut(element as usize) {
+            Some(window) => call_both(sessions, window, element as u16, &mut dice),
+            None => false,
         };
-        if !call(sessions, plain, element as u16, &mut dice)? {
-            return Ok(step);
-        }
-        if restores && dice.below(10) == 0 {
-            *sessions = restored(alloc, windows.as_slice())?;
+        if !agrees || restores && dice.below(10) == 0 && !restore_all(sessions, plain) {
+            return step;
         }
     }
-    Ok(steps)
+    call.number(0)
+}
+
+// Makes three plain windows with no entry.
+fn begin(alloc: Global) -> Option<Vec<PlainWindow>> {
+    let mut windows = Vec::new(alloc);
+    for _ in 0..3u32 {
+        let window = PlainWindow {
+            base: 1,
+            all: Vec::new(alloc),
+        };
+        windows.push(window).ok()?;
+    }
+    Some(windows)
+}
+
+/// Makes thrown calls on three new windows, as many as the call's first number says, and restores the windows after one
+/// in ten if that is asked for. Tells how many of them agree with plain windows, up to the first that doesn't.
+pub fn walk(sessions: &mut Sessions, call: &Call, restores: bool, said: &mut Saying) {
+    match begin(call.alloc()) {
+        Some(mut plain) => add_steps(said, steps(sessions, plain.as_mut_slice(), call, restores)),
+        None => said.fail("no memory is left"),
+    }
 }

@@ -3,24 +3,21 @@
 use crate::accesses::Accesses;
 use crate::dice::Dice;
 use crate::plain_cells::PlainCell;
-use anyhow::{Result, anyhow};
+use crate::texts::add_steps;
+use im_story::{Call, Saying};
 use im_types::{Kind, Reply, Waiter};
 use std::alloc::Global;
 
 // Makes a store. Its readers have to be those that wait by the rules.
-fn store(
-    alloc: Global,
-    accesses: &mut Accesses,
-    cell: &mut PlainCell,
-    a: u32,
-    value: u64,
-) -> Result<bool> {
-    let (reply, readers) = accesses.store(alloc, a, value)?;
+fn store(alloc: Global, accesses: &mut Accesses, cell: &mut PlainCell, a: u32, value: u64) -> bool {
+    let Some((reply, readers)) = accesses.store(alloc, a, value) else {
+        return false;
+    };
     let mut agrees = reply == cell.write(Kind::I, value);
-    for reader in readers {
-        agrees = agrees && Some(reader) == cell.waiters.pop_front();
+    for reader in readers.iter() {
+        agrees = agrees && Some(*reader) == cell.waiters.pop_front();
     }
-    Ok(agrees)
+    agrees
 }
 
 // Makes a put. Its taker has to be the first that waits by the rules.
@@ -49,64 +46,66 @@ fn renew(accesses: &mut Accesses, cell: &mut PlainCell, a: u32) -> bool {
 }
 
 // Makes one of the calls on a cell. Returns whether it answers as by the rules.
-fn call(
+fn call_both(
     alloc: Global,
     accesses: &mut Accesses,
     cell: &mut PlainCell,
     a: u32,
-    thrown: u64,
-) -> Result<bool> {
-    let who = Waiter {
-        element: 1,
-        number: thrown,
-    };
-    match thrown % 5 {
-        0 => Ok(accesses.fetch(a, who) == Some(cell.read(Kind::I, who)?)),
-        1 => Ok(accesses.take(a, who) == Some(cell.read(Kind::M, who)?)),
-        2 => store(alloc, accesses, cell, a, thrown),
-        3 => Ok(put(accesses, cell, a, thrown)),
-        _ => Ok(renew(accesses, cell, a)),
+    number: u64,
+) -> bool {
+    let who = Waiter { element: 1, number };
+    match number % 5 {
+        0 => accesses.read(Kind::I, a, who) == cell.read(Kind::I, who),
+        1 => accesses.read(Kind::M, a, who) == cell.read(Kind::M, who),
+        2 => store(alloc, accesses, cell, a, number),
+        3 => put(accesses, cell, a, number),
+        _ => renew(accesses, cell, a),
     }
 }
 
-// Returns whether a cell and its list are as by the rules.
-fn shows(accesses: &Accesses, a: u32, cell: &PlainCell) -> bool {
-    match accesses.waiting(a) {
-        Some(count) => {
-            count as usize == cell.waiters.len() && accesses.get(a) == Some(cell.cell())
+// Makes one of the calls on one of the cells. Returns whether it answers as by the rules, and the cell and its list are
+// then as by the rules.
+fn step(alloc: Global, accesses: &mut Accesses, plain: &mut [PlainCell], thrown: u64) -> bool {
+    let a = (thrown >> 60) as u32 % 4;
+    match plain.get_mut(a as usize) {
+        Some(cell) => {
+            call_both(alloc, accesses, cell, a, thrown >> 33)
+                && accesses.waiting(a) == u32::try_from(cell.waiters.len()).ok()
+                && accesses.get(a) == Some(cell.cell())
         }
         None => false,
     }
 }
 
+// Makes steps. Returns how many of them agree, up to the first that doesn't.
+fn steps(accesses: &mut Accesses, plain: &mut [PlainCell], call: &Call) -> u64 {
+    let mut dice = Dice::new(call.number(1));
+    for number in 0..call.number(0) {
+        if !step(call.alloc(), accesses, plain, dice.throw()) {
+            return number;
+        }
+    }
+    call.number(0)
+}
+
 // Makes four blocks of one cell each, of the two kinds in turn.
-fn begin(alloc: Global, accesses: &mut Accesses) -> Result<Vec<PlainCell>> {
+fn begin(alloc: Global, accesses: &mut Accesses) -> Option<Vec<PlainCell>> {
     let mut plain = Vec::new(alloc);
     for a in 0..4u32 {
         let kind = if a % 2 == 0 { Kind::I } else { Kind::M };
         if accesses.place(kind, 1) != Some(a) {
-            return Err(anyhow!("no new table"));
+            return None;
         }
-        plain.push(PlainCell::new(alloc, kind))?;
+        plain.push(PlainCell::new(alloc, kind)).ok()?;
     }
-    Ok(plain)
+    Some(plain)
 }
 
-/// Makes `steps` thrown calls on four cells of a new table. Returns how many of them agree with cells by the rules, up
-/// to the first that doesn't.
-pub fn walk(alloc: Global, accesses: &mut Accesses, steps: u64, seed: u64) -> Result<u64> {
-    let mut plain = begin(alloc, accesses)?;
-    let mut dice = Dice::new(seed);
-    for step in 0..steps {
-        let thrown = dice.throw();
-        let a = (thrown >> 60) as u32 % 4;
-        let Some(cell) = plain.get_mut(a as usize) else {
-            return Ok(step);
-        };
-        let answers = call(alloc, accesses, cell, a, thrown >> 33)?;
-        if !answers || !shows(accesses, a, cell) {
-            return Ok(step);
-        }
+/// Makes thrown calls on four cells of a new table, as many as the call's first number says. Tells how many of them
+/// agree with cells by the rules, up to the first that doesn't.
+pub fn walk(accesses: &mut Accesses, call: &Call, said: &mut Saying) {
+    match begin(call.alloc(), accesses) {
+        Some(mut plain) => add_steps(said, steps(accesses, plain.as_mut_slice(), call)),
+        None => said.fail("no new table"),
     }
-    Ok(steps)
 }

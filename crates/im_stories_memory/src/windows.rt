@@ -1,10 +1,9 @@
 //! Windows of kept replies.
 
 use crate::plain_windows::walk;
-use crate::texts::{add_kept, add_steps, entry, waiter};
-use anyhow::{Result, anyhow};
+use crate::texts::add_kept;
 use im_sessions::Sessions;
-use im_story::{add_answer, add_entry, add_refusal, add_window, element, number, op, request};
+use im_story::{Call, Saying, op, request};
 use im_types::{Entry, Judged, Kept, LAST, Op, Refusal, Reply, Request, WINDOW, Waiter};
 use std::alloc::Global;
 
@@ -17,7 +16,7 @@ pub struct Windows {
 
 impl Windows {
     /// Makes the given number of new windows.
-    pub fn new(alloc: Global, elements: u16) -> Result<Windows> {
+    pub fn new(alloc: Global, elements: u16) -> Result<Windows, Refusal> {
         Ok(Windows {
             sessions: Sessions::new(alloc, elements)?,
             shown: Vec::new(alloc),
@@ -57,39 +56,41 @@ pub fn restore(sessions: &mut Sessions, element: u16, base: u64, kept: &[Kept]) 
     true
 }
 
-fn add_judged(said: &mut String, judged: Result<Judged, Refusal>) -> Result<()> {
-    match judged {
-        Ok(Judged::Fresh) => Ok(said.push_str("fresh")?),
-        Ok(Judged::Repeat(entry)) => {
-            said.push_str("repeat ")?;
-            Ok(add_entry(said, entry)?)
-        }
-        Err(refusal) => Ok(add_refusal(said, refusal)?),
+// Reads what is kept for a request: a word, and the call's first number.
+fn entry(word: &str, call: &Call) -> Option<Entry> {
+    match word {
+        "waiting" => Some(Entry::Waiting),
+        "base" => Some(Entry::Answered(Reply::Base(call.address(0)))),
+        "value" => Some(Entry::Answered(Reply::Value(call.number(0)))),
+        "stored" => Some(Entry::Answered(Reply::Stored)),
+        "clash" => Some(Entry::Answered(Reply::Clash)),
+        _ => None,
     }
 }
 
-fn add_confirmed(said: &mut String, answer: Result<(), Refusal>) -> Result<()> {
-    match answer {
-        Ok(()) => Ok(said.push_str("confirmed")?),
-        Err(refusal) => Ok(add_refusal(said, refusal)?),
+// Adds how a request is judged.
+fn add_judged(said: &mut Saying, judged: Result<Judged, Refusal>) {
+    match judged {
+        Ok(Judged::Fresh) => said.text("fresh"),
+        Ok(Judged::Repeat(entry)) => {
+            said.text("repeat ");
+            said.entry(entry)
+        }
+        Err(refusal) => said.refusal(refusal),
     }
 }
 
 // Tells how a request is judged, and keeps a new one with an entry.
-fn keep(windows: &mut Windows, entry: Entry, asked: &[&str], said: &mut String) -> Result<()> {
-    add_judged(said, ask(&mut windows.sessions, &request(asked)?, entry))
+fn keep(sessions: &mut Sessions, entry: Entry, asked: &[&str], said: &mut Saying) {
+    match request(asked) {
+        Ok(request) => add_judged(said, ask(sessions, &request, entry)),
+        Err(_) => said.fail("no request"),
+    }
 }
 
-// Asks an element's requests from one number to another, and keeps new ones with this entry. Tells how many are fresh.
-fn keep_each(
-    windows: &mut Windows,
-    entry: Entry,
-    first: Waiter,
-    last: u64,
-    asked: &[&str],
-    said: &mut String,
-) -> Result<()> {
-    let op = op(asked)?;
+// Asks the requests of an element from one number to another, and keeps new ones with this entry. Returns how many are
+// fresh.
+fn keep_each(sessions: &mut Sessions, entry: Entry, first: Waiter, last: u64, op: Op) -> u32 {
     let mut fresh = 0u32;
     for number in first.number..last.saturating_add(1) {
         let request = Request {
@@ -97,141 +98,129 @@ fn keep_each(
             number,
             op,
         };
-        if ask(&mut windows.sessions, &request, entry) == Ok(Judged::Fresh) {
+        if ask(sessions, &request, entry) == Ok(Judged::Fresh) {
             fresh = fresh.saturating_add(1);
         }
     }
-    Ok(write!(said, "{fresh} fresh")?)
+    fresh
+}
+
+// Does the same for the names and the operation of a call.
+fn tell_each(
+    sessions: &mut Sessions,
+    entry: Entry,
+    call: &Call,
+    asked: &[&str],
+    said: &mut Saying,
+) {
+    match op(asked) {
+        Ok(op) => {
+            let fresh = keep_each(sessions, entry, call.waiter(0), call.number(2), op);
+            write!(said, "{fresh} fresh")
+        }
+        Err(_) => said.fail("no operation"),
+    }
 }
 
 // Adds one more entry that the next window is restored from.
-fn show(windows: &mut Windows, entry: Entry, asked: &[&str], said: &mut String) -> Result<()> {
-    let op = op(asked)?;
-    windows.shown.push(Kept { op, entry })?;
-    Ok(said.push_str("shown")?)
+fn show(shown: &mut Vec<Kept>, entry: Entry, asked: &[&str], said: &mut Saying) {
+    match op(asked) {
+        Ok(op) => said.so(shown.push(Kept { op, entry }).is_ok(), "shown"),
+        Err(_) => said.fail("no operation"),
+    }
 }
 
-// Makes as many fetches as a window holds, with the values from 100 on.
-fn fetches(alloc: Global) -> Result<Vec<Kept>> {
-    let mut kept = Vec::new(alloc);
+// Keeps or shows an entry for a request, for several ones, or for an operation.
+fn tell_entry(windows: &mut Windows, call: &Call, said: &mut Saying) {
+    let ([how, word, "for", asked @ ..] | [how, word, _, "for", asked @ ..]) = call.words() else {
+        return said.fail("no call of windows");
+    };
+    let Some(entry) = entry(word, call) else {
+        return said.fail("no entry");
+    };
+    match (*how, asked) {
+        ("show", _) => show(&mut windows.shown, entry, asked, said),
+        (_, [_, "to", _, asked @ ..]) => tell_each(&mut windows.sessions, entry, call, asked, said),
+        _ => keep(&mut windows.sessions, entry, asked, said),
+    }
+}
+
+// Shows as many fetches as a window holds, with the values from 100 on. Returns whether there was memory for them.
+fn show_fetches(shown: &mut Vec<Kept>) -> bool {
     for i in 0..WINDOW {
-        kept.push(Kept {
+        let kept = Kept {
             op: Op::Fetch(0),
             entry: Entry::Answered(Reply::Value(100 + i)),
-        })?;
+        };
+        if shown.push(kept).is_err() {
+            return false;
+        }
     }
-    Ok(kept)
-}
-
-fn show_fetches(alloc: Global, windows: &mut Windows, said: &mut String) -> Result<()> {
-    windows.shown = fetches(alloc)?;
-    Ok(said.push_str("shown")?)
+    true
 }
 
 // Restores a window from what was shown.
-fn restore_shown(windows: &mut Windows, element: u16, base: u64, said: &mut String) -> Result<()> {
+fn restore_shown(windows: &mut Windows, call: &Call, said: &mut Saying) {
     let kept = windows.shown.as_slice();
-    if !restore(&mut windows.sessions, element, base, kept) {
-        return Err(anyhow!("out of bounds"));
+    if !restore(&mut windows.sessions, call.element(0), call.number(1), kept) {
+        return said.fail("out of bounds");
     }
-    write!(said, "{} entries", kept.len())?;
+    write!(said, "{} entries", kept.len());
     windows.shown.clear();
-    Ok(())
 }
 
-fn tell_answer(windows: &mut Windows, who: Waiter, value: u64, said: &mut String) -> Result<()> {
-    let waited = answer(&mut windows.sessions, who, Reply::Value(value));
-    Ok(said.push_str(if waited { "answered" } else { "nobody waits" })?)
-}
-
-// Answers an element's requests from one number to another with a value. Tells how many waited.
-fn tell_answers(
-    windows: &mut Windows,
-    first: Waiter,
-    last: u64,
-    value: u64,
-    said: &mut String,
-) -> Result<()> {
+// Answers the requests of an element from one number to another with a value. Returns how many waited.
+fn answer_each(sessions: &mut Sessions, first: Waiter, last: u64, value: u64) -> u32 {
     let mut answered = 0u32;
     for number in first.number..last.saturating_add(1) {
         let who = Waiter {
             element: first.element,
             number,
         };
-        if answer(&mut windows.sessions, who, Reply::Value(value)) {
+        if answer(sessions, who, Reply::Value(value)) {
             answered = answered.saturating_add(1);
         }
     }
-    Ok(write!(said, "{answered} answered")?)
+    answered
 }
 
-fn tell_entry(sessions: &Sessions, who: Waiter, said: &mut String) -> Result<()> {
-    Ok(add_answer(said, sessions.entry(who.element, who.number))?)
-}
-
-fn tell_kept(sessions: &Sessions, who: Waiter, said: &mut String) -> Result<()> {
-    add_kept(said, sessions.kept(who.element, who.number))
+// Answers one request, or several ones.
+fn tell_answers(sessions: &mut Sessions, call: &Call, said: &mut Saying) {
+    let (first, value) = (call.waiter(0), call.number(2));
+    if let "answer _._ value _" = call.form() {
+        let waited = answer(sessions, first, Reply::Value(value));
+        return said.either(waited, "answered", "nobody waits");
+    }
+    let answered = answer_each(sessions, first, value, call.number(3));
+    write!(said, "{answered} answered")
 }
 
 /// Makes a call of windows.
-pub fn tell(alloc: Global, windows: &mut Windows, words: &[&str], said: &mut String) -> Result<()> {
-    match words {
-        ["keep", of, "for", first, "to", last, asked @ ..] => {
-            let (first, last) = (waiter(first)?, number(last)?);
-            keep_each(windows, entry(of, "")?, first, last, asked, said)
-        }
-        ["keep", of, "for", asked @ ..] => keep(windows, entry(of, "")?, asked, said),
-        ["keep", of, with, "for", asked @ ..] => keep(windows, entry(of, with)?, asked, said),
-        ["answer", first, "to", last, "value", value] => {
-            let (last, value) = (number(last)?, number(value)?);
-            tell_answers(windows, waiter(first)?, last, value, said)
-        }
-        ["answer", who, "value", value] => tell_answer(windows, waiter(who)?, number(value)?, said),
-        ["confirm", of, upto] => {
-            add_confirmed(said, windows.sessions.confirm(element(of)?, number(upto)?))
-        }
-        ["entry", who] => tell_entry(&windows.sessions, waiter(who)?, said),
-        ["kept", who] => tell_kept(&windows.sessions, waiter(who)?, said),
-        ["window", of] => Ok(add_window(said, windows.sessions.window(element(of)?))?),
-        _ => tell_restored(alloc, windows, words, said),
+pub fn tell(windows: &mut Windows, call: &Call, said: &mut Saying) {
+    let sessions = &mut windows.sessions;
+    let (element, number) = (call.element(0), call.number(1));
+    match call.form() {
+        "answer _._ value _" | "answer _._ to _ value _" => tell_answers(sessions, call, said),
+        "confirm _ _" => said.done(sessions.confirm(element, number), "confirmed"),
+        "entry _._" => said.answer(sessions.entry(element, number)),
+        "kept _._" => add_kept(said, sessions.kept(element, number)),
+        "window _" => said.window(sessions.window(element)),
+        "elements" => said.number(sessions.elements() as u64),
+        "past _" => write!(said, "{} windows", past(sessions, call.number(0))),
+        _ => tell_restored(windows, call, said),
     }
 }
 
 // Tells of windows that are restored, and of long runs.
-fn tell_restored(
-    alloc: Global,
-    windows: &mut Windows,
-    words: &[&str],
-    said: &mut String,
-) -> Result<()> {
-    match words {
-        ["elements"] => Ok(write!(said, "{}", windows.sessions.elements())?),
-        ["show", of, "for", asked @ ..] => show(windows, entry(of, "")?, asked, said),
-        ["show", of, with, "for", asked @ ..] => show(windows, entry(of, with)?, asked, said),
-        ["show", "64", "fetches"] => show_fetches(alloc, windows, said),
-        ["restore", of, "from", base] => restore_shown(windows, element(of)?, number(base)?, said),
-        ["restore", "each"] => restore_each(alloc, &mut windows.sessions, said),
-        ["past", base] => add_past(said, past(&windows.sessions, number(base)?)),
-        ["walk", steps, "from", seed] => {
-            let sessions = &mut windows.sessions;
-            add_steps(
-                said,
-                walk(alloc, sessions, number(steps)?, number(seed)?, false)?,
-            )
-        }
-        ["walk", steps, "from", seed, "restored"] => {
-            let sessions = &mut windows.sessions;
-            add_steps(
-                said,
-                walk(alloc, sessions, number(steps)?, number(seed)?, true)?,
-            )
-        }
-        _ => Err(anyhow!("no call of windows")),
+fn tell_restored(windows: &mut Windows, call: &Call, said: &mut Saying) {
+    match call.form() {
+        "show _ fetches" => said.so(show_fetches(&mut windows.shown), "shown"),
+        "restore _ from _" => restore_shown(windows, call, said),
+        "restore each" => restore_each(windows, said),
+        "walk _ from _" => walk(&mut windows.sessions, call, false, said),
+        "walk _ from _ restored" => walk(&mut windows.sessions, call, true, said),
+        _ => tell_entry(windows, call, said),
     }
-}
-
-fn add_past(said: &mut String, windows: u32) -> Result<()> {
-    Ok(write!(said, "{windows} windows")?)
 }
 
 // Returns how many windows begin past a number.
@@ -276,7 +265,8 @@ fn goes_on(sessions: &mut Sessions, base: u64, kept: &[Kept]) -> bool {
         && ask(sessions, &request, Entry::Waiting) == wanted
 }
 
-// Counts the windows, of each count of entries at each base from 1 to 130, that continue as they must: up to a wrong one.
+// Counts the windows, of each count of entries at each base from 1 to 130, that continue as they must. It stops at a
+// wrong one.
 fn restored_each(sessions: &mut Sessions, kept: &[Kept]) -> u32 {
     let mut agreed = 0u32;
     for base in 1..131u64 {
@@ -290,11 +280,8 @@ fn restored_each(sessions: &mut Sessions, kept: &[Kept]) -> u32 {
     agreed
 }
 
-fn restore_each(alloc: Global, sessions: &mut Sessions, said: &mut String) -> Result<()> {
-    let kept = fetches(alloc)?;
-    Ok(write!(
-        said,
-        "{} windows go on",
-        restored_each(sessions, kept.as_slice())
-    )?)
+fn restore_each(windows: &mut Windows, said: &mut Saying) {
+    said.so(show_fetches(&mut windows.shown), "");
+    let agreed = restored_each(&mut windows.sessions, windows.shown.as_slice());
+    write!(said, "{agreed} windows go on")
 }

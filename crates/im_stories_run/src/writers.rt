@@ -1,6 +1,5 @@
 //! A writer in memory, and observers that note nothing, or why the work is refused.
 
-use anyhow::{Result, anyhow};
 use im_text::{Observer, Progress, Reason};
 use im_types::Entry;
 use std::alloc::Global;
@@ -22,11 +21,8 @@ impl Paper {
     }
 
     /// Returns what was written.
-    pub fn into_text(self) -> Result<String> {
-        match String::from_utf8(self.text) {
-            Ok(text) => Ok(text),
-            Err(_) => Err(anyhow!("no text was written")),
-        }
+    pub fn text(&self) -> &str {
+        str::from_utf8(self.text.as_slice()).unwrap_or("what was written is no text")
     }
 }
 
