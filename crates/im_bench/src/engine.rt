@@ -125,6 +125,20 @@ pub fn after_turns<D: Disk>(engine: &mut Engine<D>, turns: u32, count: u32) -> u
     on_pages(engine, BEFORE, count.saturating_add(BEFORE))
 }
 
+// Does a workload's calls. Returns `None` if no workload has this name.
+fn work<D: Disk>(engine: &mut Engine<D>, workload: &str, count: u32) -> Option<u64> {
+    let sum = match workload {
+        "stores_one_by_one" => one_by_one(engine, count),
+        "stores_together" => together(engine, count),
+        "stores_made" => made(count),
+        "turns" => turns(engine, count),
+        "stores_with_no_checkpoint" => after_turns(engine, 0, count),
+        "stores_beside_a_checkpoint" => after_turns(engine, 1, count),
+        _ => return None,
+    };
+    Some(sum)
+}
+
 /// Opens the image at a path, and does a workload's calls on it. Returns `None` if no workload has this name.
 pub fn on_file(
     rt: &HostRuntime,
@@ -135,17 +149,8 @@ pub fn on_file(
     let Ok(disk) = FileDisk::open(rt, path, Unknown) else {
         return Some(Err(Refusal::Device));
     };
-    let mut engine = match Engine::open(rt.alloc(), disk) {
-        Ok(engine) => engine,
-        Err((refusal, _)) => return Some(Err(refusal)),
-    };
-    match workload {
-        "stores_one_by_one" => Some(Ok(one_by_one(&mut engine, count))),
-        "stores_together" => Some(Ok(together(&mut engine, count))),
-        "stores_made" => Some(Ok(made(count))),
-        "turns" => Some(Ok(turns(&mut engine, count))),
-        "stores_with_no_checkpoint" => Some(Ok(after_turns(&mut engine, 0, count))),
-        "stores_beside_a_checkpoint" => Some(Ok(after_turns(&mut engine, 1, count))),
-        _ => None,
+    match Engine::open(rt.alloc(), disk) {
+        Ok(mut engine) => work(&mut engine, workload, count).map(Ok),
+        Err((refusal, _)) => Some(Err(refusal)),
     }
 }

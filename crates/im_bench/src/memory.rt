@@ -91,11 +91,9 @@ fn ask(memory: &mut Memory, index: u32, op: Op) -> Result<Entry, Refusal> {
     }
 }
 
-// Makes a memory whose first request made a block of all cells.
-fn one_block(alloc: Global, kind: Kind) -> Result<Memory, Refusal> {
-    let mut memory = empty(alloc, MAX_CELLS, MAX_ELEMENTS)?;
-    let _ = ask(&mut memory, 0, Op::Alloc(kind, MAX_CELLS))?;
-    Ok(memory)
+// Makes the largest memory.
+fn largest(alloc: Global) -> Result<Memory, Refusal> {
+    empty(alloc, MAX_CELLS, MAX_ELEMENTS)
 }
 
 fn read(kind: Kind, a: u32) -> Op {
@@ -113,32 +111,42 @@ fn write(kind: Kind, a: u32) -> Op {
     }
 }
 
-/// Writes to `count` cells, each read by the next element.
-pub fn write_and_read(alloc: Global, kind: Kind, count: u32) -> Result<u64, Refusal> {
-    let mut memory = one_block(alloc, kind)?;
+// Makes a block of all cells by the first request, and writes to `count` cells, each read by the next element.
+fn write_then_read(memory: &mut Memory, kind: Kind, count: u32) -> Result<u64, Refusal> {
+    let _ = ask(memory, 0, Op::Alloc(kind, MAX_CELLS))?;
     let mut sum = 0u64;
     for a in 0..count {
         let index = a.wrapping_mul(2).wrapping_add(1);
-        sum = mixed(sum, ask(&mut memory, index, write(kind, a))?);
-        sum = mixed(sum, ask(&mut memory, index.wrapping_add(1), read(kind, a))?);
+        sum = mixed(sum, ask(memory, index, write(kind, a))?);
+        sum = mixed(sum, ask(memory, index.wrapping_add(1), read(kind, a))?);
     }
-    with_windows(sum, &memory)
+    with_windows(sum, memory)
+}
+
+/// Writes to `count` cells, each read by the next element.
+pub fn write_and_read(alloc: Global, kind: Kind, count: u32) -> Result<u64, Refusal> {
+    let mut memory = largest(alloc)?;
+    write_then_read(&mut memory, kind, count)
+}
+
+// Makes a block of all cells by the first request, and makes `count` reads that wait, each until the next element
+// writes.
+fn read_then_write(memory: &mut Memory, kind: Kind, count: u32) -> Result<u64, Refusal> {
+    let _ = ask(memory, 0, Op::Alloc(kind, MAX_CELLS))?;
+    let mut sum = 0u64;
+    for a in 0..count {
+        let index = a.wrapping_mul(2).wrapping_add(1);
+        sum = mixed(sum, ask(memory, index, read(kind, a))?);
+        sum = mixed(sum, ask(memory, index.wrapping_add(1), write(kind, a))?);
+        sum = mixed(sum, memory.collect(element_of(index), number_of(index))?);
+    }
+    with_windows(sum, memory)
 }
 
 /// Makes `count` reads that wait. Each waits until the next element writes the cell; then its answer is collected.
 pub fn read_and_write(alloc: Global, kind: Kind, count: u32) -> Result<u64, Refusal> {
-    let mut memory = one_block(alloc, kind)?;
-    let mut sum = 0u64;
-    for a in 0..count {
-        let index = a.wrapping_mul(2).wrapping_add(1);
-        sum = mixed(sum, ask(&mut memory, index, read(kind, a))?);
-        sum = mixed(
-            sum,
-            ask(&mut memory, index.wrapping_add(1), write(kind, a))?,
-        );
-        sum = mixed(sum, memory.collect(element_of(index), number_of(index))?);
-    }
-    with_windows(sum, &memory)
+    let mut memory = largest(alloc)?;
+    read_then_write(&mut memory, kind, count)
 }
 
 // Makes a block, and writes and reads its last cell. Returns the block's base and the checksum.
@@ -153,10 +161,8 @@ fn use_block(memory: &mut Memory, index: u32, n: u32, sum: u64) -> Result<(u32, 
     Ok((base, mixed(mixed(mixed(sum, made), stored), fetched)))
 }
 
-/// Releases a block and makes another of 1 to 16 cells, `count` times. One cell of the new block is written and read.
-/// An arithmetic sequence says which block is released and how long the new one is.
-pub fn release_and_allocate(alloc: Global, count: u32) -> Result<u64, Refusal> {
-    let mut memory = empty(alloc, MAX_CELLS, MAX_ELEMENTS)?;
+// Releases a block and makes another, `count` times.
+fn release_then_allocate(memory: &mut Memory, count: u32) -> Result<u64, Refusal> {
     let mut bases = [NONE; LIVE];
     let mut seed = 1u32;
     let mut sum = 0u64;
@@ -165,12 +171,19 @@ pub fn release_and_allocate(alloc: Global, count: u32) -> Result<u64, Refusal> {
         let place = (seed >> 26) as usize % LIVE;
         let n = (seed >> 16) % 16 + 1;
         let index = round.wrapping_mul(4);
-        sum = mixed(sum, ask(&mut memory, index, Op::Release(bases[place]))?);
-        let (base, with_block) = use_block(&mut memory, index.wrapping_add(1), n, sum)?;
+        sum = mixed(sum, ask(memory, index, Op::Release(bases[place]))?);
+        let (base, with_block) = use_block(memory, index.wrapping_add(1), n, sum)?;
         bases[place] = base;
         sum = with_block;
     }
-    with_windows(sum, &memory)
+    with_windows(sum, memory)
+}
+
+/// Releases a block and makes another of 1 to 16 cells, `count` times. One cell of the new block is written and read.
+/// An arithmetic sequence says which block is released and how long the new one is.
+pub fn release_and_allocate(alloc: Global, count: u32) -> Result<u64, Refusal> {
+    let mut memory = largest(alloc)?;
+    release_then_allocate(&mut memory, count)
 }
 
 /// Makes a memory of `count` cells and one element.

@@ -67,15 +67,14 @@ fn with_no_image<R: Threads + Wait + Sync>(
     Ok(Some(done))
 }
 
-// Makes the block whose cells are stored into.
-fn make_block<D: Disk>(engine: &mut Engine<D>) -> Result<(), Refusal> {
+// Makes the block whose cells are stored into. Without it no store is answered.
+fn make_block<D: Disk>(engine: &mut Engine<D>) {
     let op = Op::Alloc(Kind::I, engine.memory().cells());
     let _base = engine.serve(&Command::Request(Request {
         element: 0,
         number: 1,
         op,
-    }))?;
-    Ok(())
+    }));
 }
 
 // Returns the result of a workload on an image, or `None` if none has this name.
@@ -87,14 +86,13 @@ fn on_engine<D: Disk + Drop + Send, R: Threads + Wait + Sync>(
     count: u32,
 ) -> Result<Option<u64>, Refusal> {
     let mut engine = engine;
-    make_block(&mut engine)?;
-    let done = match workload {
-        "serve" => stores::serve(&mut engine, count),
-        "port" => ports::stores(rt, alloc, engine, true, count)?,
-        "ports" => ports::stores(rt, alloc, engine, false, count)?,
-        _ => return Ok(None),
-    };
-    Ok(Some(done))
+    make_block(&mut engine);
+    match workload {
+        "serve" => Ok(Some(stores::serve(&mut engine, count))),
+        "port" => ports::stores(rt, alloc, engine, true, count).map(Some),
+        "ports" => ports::stores(rt, alloc, engine, false, count).map(Some),
+        _ => Ok(None),
+    }
 }
 
 // Opens the image at a path, and does a workload on it. Returns `None` if no workload has this name.
