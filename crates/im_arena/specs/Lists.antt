@@ -53,7 +53,8 @@ free_record = FreeNode NONE
 -- last of these nodes is `last`. The node `before` is the one that led here.
 abbrev pub Threads : List NodeRecord → ℕ → ℕ → ℕ → List Waiter → Type 0
 Threads records before at last [] = (at ≡ NONE) × (before ≡ last)
-Threads records before at last (w ∷ ws) = (next : ℕ) × (slice_get records at ≡ Some (ListNode next w)) × Threads records at next last ws
+Threads records before at last (w ∷ ws) =
+    (next : ℕ) × (slice_get records at ≡ Some (ListNode next w)) × Threads records at next last ws
 
 -- the first node of a list
 abbrev pub first_in : Option Ends → ℕ
@@ -87,9 +88,11 @@ node_at links list place = place_from (next_in links) (first_in (ends_at links l
 pub record IsThreaded (shown : Shown) : Type 0 where
   pub node_count : length shown.links.records ≡ shown.held.nodes
   pub list_count : length shown.links.ends ≡ length shown.held.lists
-  pub empty : (list : ℕ) → list < length shown.held.lists → (ends_at shown.links list ≡ None) ↔ (list_at shown.held list ≡ [])
+  pub empty : (list : ℕ) → list < length shown.held.lists
+      → (ends_at shown.links list ≡ None) ↔ (list_at shown.held list ≡ [])
   pub threads : (list : ℕ) → list < length shown.held.lists
-      → Threads shown.links.records NONE (first_in (ends_at shown.links list)) (last_in (ends_at shown.links list)) (list_at shown.held list)
+      → Threads shown.links.records NONE (first_in (ends_at shown.links list)) (last_in (ends_at shown.links list))
+      (list_at shown.held list)
   pub once : (a b i j : ℕ) → a < length shown.held.lists → b < length shown.held.lists
       → i < length (list_at shown.held a) → j < length (list_at shown.held b)
       → node_at shown.links a i ≡ node_at shown.links b j → (a ≡ b) × (i ≡ j)
@@ -107,6 +110,8 @@ pub record IsPushed (list : ℕ) (old new : Shown) : Type 0 where
 -- taking the first waiter off a list leaves the ends of all other lists, and the records of all nodes but that
 -- waiter's; its list continues with the nodes after that one
 pub record IsPopped (list : ℕ) (old new : Shown) : Type 0 where
-  pub records : (n : ℕ) → n ≢ first_in (ends_at old.links list) → slice_get new.links.records n ≡ slice_get old.links.records n
+  pub records : (n : ℕ) → n ≢ first_in (ends_at old.links list)
+      → slice_get new.links.records n ≡ slice_get old.links.records n
   pub ends : (b : ℕ) → b ≢ list → slice_get new.links.ends b ≡ slice_get old.links.ends b
-  pub rest : (i : ℕ) → i + 1 < length (list_at old.held list) → node_at new.links list i ≡ node_at old.links list (i + 1)
+  pub rest : (i : ℕ) → i + 1 < length (list_at old.held list)
+      → node_at new.links list i ≡ node_at old.links list (i + 1)

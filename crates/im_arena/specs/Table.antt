@@ -75,7 +75,8 @@ steps_from next at (suc n) = if at == NONE then 0 else suc (steps_from next (nex
 
 -- a row, and the number of nodes on its links
 abbrev pub span_of : List Node → Row → Span
-span_of nodes row = record { first = row.first; last = row.last; count = steps_from (next_of nodes) row.first (length nodes) }
+span_of nodes row =
+    record { first = row.first; last = row.last; count = steps_from (next_of nodes) row.first (length nodes) }
 
 -- the same for each row
 abbrev pub spans_of : List Node → List Row → List Span
@@ -109,19 +110,23 @@ waiters_from nodes at = along (waiter_of nodes) (next_of nodes) at (steps_from (
 pub record IsWalk (nodes : List Node) (at : ℕ) : Type 0 where
   pub few : length nodes ≤ NONE
   pub short : steps_from (next_of nodes) at (length nodes) ≤ length nodes
-  pub within : (i : ℕ) → i < steps_from (next_of nodes) at (length nodes) → place_from (next_of nodes) at i < length nodes
+  pub within : (i : ℕ) → i < steps_from (next_of nodes) at (length nodes)
+      → place_from (next_of nodes) at i < length nodes
   pub end : place_from (next_of nodes) at (steps_from (next_of nodes) at (length nodes)) ≡ NONE
 
 -- each node is on one span, in one place of it
 pub record Sound (nodes : List Node) (spans : List Span) : Type 0 where
-  pub chains : Chains (length nodes) (length spans) NONE (next_of nodes) (used_of nodes) (first_of spans) (last_of spans) (count_of spans)
+  pub chains : Chains (length nodes) (length spans) NONE (next_of nodes) (used_of nodes) (first_of spans)
+      (last_of spans) (count_of spans)
   pub total : sum_by (λ (s : Span). s.count) spans ≡ length nodes
 
 -- a row from `first` to `last` after a node is linked at its end
 pub record Attached (old new : List Node) (first last node : ℕ) (result : Row) : Type 0 where
   pub end : result.last ≡ node
   pub empty : last ≡ NONE → (result.first ≡ node) × (new ≡ old)
-  pub longer : last ≢ NONE → (result.first ≡ first) × (new ≡ slice_set old last (record (slice_index_or old last blank_node) { next = node }))
+  pub longer : last ≢ NONE
+      → (result.first ≡ first)
+      × (new ≡ slice_set old last (record (slice_index_or old last blank_node) { next = node }))
 
 -- a row that ended at `last`, without its first node, which linked to `next`
 pub record Detached (last next : ℕ) (result : Row) : Type 0 where
@@ -130,19 +135,23 @@ pub record Detached (last next : ℕ) (result : Row) : Type 0 where
   pub more : next ≢ NONE → result.last ≡ last
 
 -- the first node of the row `from` is now the last one of the row `to`, and has new content
-pub record Transferred (nodes nodes2 : List Node) (rows rows2 : List Row) (from to : ℕ) (content : Node) (result : Waiter) : Type 0 where
+pub record Transferred (nodes nodes2 : List Node) (rows rows2 : List Row) (from to : ℕ) (content : Node)
+    (result : Waiter) : Type 0 where
   pub sound : Sound nodes2 (spans_of nodes2 rows2)
   pub size : length rows2 ≡ length rows
   pub table : length nodes2 ≡ length nodes
   pub front : row_at nodes (spans_of nodes rows) from ≡ result ∷ row_at nodes2 (spans_of nodes2 rows2) from
   pub back : row_at nodes2 (spans_of nodes2 rows2) to ≡ row_at nodes (spans_of nodes rows) to ++ waiter_in content ∷ []
-  pub others : (b : ℕ) → b < length rows → b ≢ from → b ≢ to → row_at nodes2 (spans_of nodes2 rows2) b ≡ row_at nodes (spans_of nodes rows) b
+  pub others : (b : ℕ) → b < length rows → b ≢ from → b ≢ to
+      → row_at nodes2 (spans_of nodes2 rows2) b ≡ row_at nodes (spans_of nodes rows) b
   -- the two rows after it, and the nodes that changed
   pub giver : Row
   pub taker : Row
-  pub detached : Detached (slice_index_or rows from blank_row).last (next_of nodes (slice_index_or rows from blank_row).first) giver
+  pub detached : Detached (slice_index_or rows from blank_row).last
+      (next_of nodes (slice_index_or rows from blank_row).first) giver
   pub attached : Attached (slice_set nodes (slice_index_or rows from blank_row).first content) nodes2
-      (slice_index_or rows to blank_row).first (slice_index_or rows to blank_row).last (slice_index_or rows from blank_row).first taker
+      (slice_index_or rows to blank_row).first (slice_index_or rows to blank_row).last
+      (slice_index_or rows from blank_row).first taker
   pub rows_are : rows2 ≡ slice_set (slice_set rows from giver) to taker
 
 -- the lists that callers see: the spans but the last one, which is that of the free nodes
@@ -153,7 +162,12 @@ held nodes spans lists = record { nodes = length nodes; lists = take lists (map 
 abbrev pub shown : List Node → List Row → ℕ → Shown
 shown nodes rows lists = record {
   held = held nodes (spans_of nodes rows) lists;
-  links = record { records = map record_of nodes; ends = take lists (map ends_of rows); spare = (slice_index_or rows lists blank_row).first };
+  links =
+      record {
+        records = map record_of nodes;
+        ends = take lists (map ends_of rows);
+        spare = (slice_index_or rows lists blank_row).first;
+      };
 }
 
 -- the rows that callers see come first, and the row of the free nodes last; this number of nodes is free

@@ -55,9 +55,11 @@ abbrev pub outcomes_of : ℕ → List Served → List LtOutcome
 outcomes_of places answers = map outcome_served answers ++ replicate (places - length answers) unserved
 
 -- the outcomes of a group, and what the caller's file holds on the way
-pub record ServesGroup (old : ImageState) (commands : List LtCommand) (before : List LtOutcome) (answer : ℕ) (after : List LtOutcome) (new : ImageState) : Type 0 where
+pub record ServesGroup (old : ImageState) (commands : List LtCommand) (before : List LtOutcome) (answer : ℕ)
+    (after : List LtOutcome) (new : ImageState) : Type 0 where
   pub unknown : (IsGroup commands (length before) → ⊥) → (answer ≡ 255) × (after ≡ before) × (new ≡ idle_after old)
-  pub lost : IsGroup commands (length before) → old.lost ≡ true → (answer ≡ number_of Device) × (after ≡ before) × (new ≡ old)
+  pub lost : IsGroup commands (length before) → old.lost ≡ true
+      → (answer ≡ number_of Device) × (after ≡ before) × (new ≡ old)
   -- so no answer is `Failed`
   pub works : IsGroup commands (length before) → old.lost ≡ false → old.engine.failed ≡ false
   pub known : IsGroup commands (length before) → old.lost ≡ false

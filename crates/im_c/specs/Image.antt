@@ -36,11 +36,13 @@ idle_after i = record i { engine = begun_in i }
 -- the outcome of a command, and what the caller's file holds on the way
 pub record Serves (old : ImageState) (c : LtCommand) (out : LtOutcome) (new : ImageState) : Type 0 where
   pub unknown : meant c ≡ None → (out ≡ no_call) × (new ≡ idle_after old)
-  pub lost : (command : Command) → meant c ≡ Some command → old.lost ≡ true → (out ≡ outcome_of (Err Device)) × (new ≡ old)
+  pub lost : (command : Command) → meant c ≡ Some command → old.lost ≡ true
+      → (out ≡ outcome_of (Err Device)) × (new ≡ old)
   -- so the answer isn't `Failed`
   pub works : (command : Command) → meant c ≡ Some command → old.lost ≡ false → old.engine.failed ≡ false
   pub known : (command : Command) → meant c ≡ Some command → old.lost ≡ false
-      → (answer : Result Outcome Refusal) × (out ≡ outcome_of answer) × Answered (begun_in old) command answer new.engine
+      → (answer : Result Outcome Refusal) × (out ≡ outcome_of answer)
+      × Answered (begun_in old) command answer new.engine
       × Carries old.engine.disk.now new (MeansEither (begun_in old) command)
 
 -- what a turn did, by its number, and which page
@@ -88,7 +90,8 @@ pub record SweepsBy (old : ImageState) (most : ℕ) (out : LtOutcome) (new : Ima
 -- the entry that is kept under an element's number
 pub record CollectsFrom (i : ImageState) (element number : ℕ) (out : LtOutcome) : Type 0 where
   pub lost : i.lost ≡ true → out ≡ entry_outcome (Err Device)
-  pub alive : i.lost ≡ false → out ≡ entry_outcome (ask i.engine.memory.windows (record { element = element; number = number }))
+  pub alive : i.lost ≡ false
+      → out ≡ entry_outcome (ask i.engine.memory.windows (record { element = element; number = number }))
 
 -- the request of an element that is kept under a number; its tag is 0 if there is none
 abbrev pub asked_as : ℕ → ℕ → Option Kept → LtCommand

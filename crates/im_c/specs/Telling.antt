@@ -24,7 +24,8 @@ TellsFlaw file number = (refusal : Refusal) × (number ≡ number_of refusal) ×
 
 -- why the sizes of these bytes aren't read: the first fault of length and headers, or want of memory
 abbrev pub IsHeaderFlawOf : List ℕ → Refusal → Type 0
-IsHeaderFlawOf file refusal = (refusal ≡ NoMemory) ⊎ (refusal ≡ Device) ⊎ (header_fault (layout_in file) file ≡ Some refusal)
+IsHeaderFlawOf file refusal =
+    (refusal ≡ NoMemory) ⊎ (refusal ≡ Device) ⊎ (header_fault (layout_in file) file ≡ Some refusal)
 
 -- the number of the refusal to read the sizes of these bytes
 abbrev pub TellsHeaderFlaw : List ℕ → ℕ → Type 0

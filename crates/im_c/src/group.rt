@@ -134,7 +134,8 @@ fn serve_group(image: &mut Image, commands: &[LtCommand], outcomes: &mut [LtOutc
 
 /// Serves 1 to 16 commands together: requests, of one element or of several, and confirmations. Each is answered as
 /// [`lt_serve`](crate::lt_serve) would answer it after those before it. All that are accepted are put on the disk
-/// together. Returns 0, and writes the outcome of each command at its place in `outcomes`, which has one place for each.
+/// together. Returns 0, and writes the outcome of each command at its place in `outcomes`, which has one place for
+/// each.
 ///
 /// The first commands are served, at least one. The call ends before a confirmation if it isn't known, before the
 /// commands ahead of it act, whether each entry that it would drop is answered. The outcome of each command from there

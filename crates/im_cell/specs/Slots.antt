@@ -62,8 +62,10 @@ shown_slot (BlockCell block tag) = new_slot block (shown_cell tag)
 
 -- each block lies below the cell count, and each of its cells is in that block alone
 pub record HasBlocks (slots : List (Option Slot)) : Type 0 where
-  pub within : (a : ℕ) (block : Block) → block_at slots a ≡ Some block → (block.base ≤ a) × (a < block.base + block.length) × (block.base + block.length ≤ length slots)
-  pub whole : (a : ℕ) (block : Block) → block_at slots a ≡ Some block → (b : ℕ) → block.base ≤ b → b < block.base + block.length → block_at slots b ≡ Some block
+  pub within : (a : ℕ) (block : Block) → block_at slots a ≡ Some block
+      → (block.base ≤ a) × (a < block.base + block.length) × (block.base + block.length ≤ length slots)
+  pub whole : (a : ℕ) (block : Block) → block_at slots a ≡ Some block → (b : ℕ) → block.base ≤ b
+      → b < block.base + block.length → block_at slots b ≡ Some block
 
 -- whether requests wait for a cell
 abbrev pub is_waiting_cell : Cell → Bool

@@ -16,7 +16,8 @@ is_asked s = if s.engine.failed then false else nat_lt 0 (s.log.limit - length s
 
 -- whether a command is picked: the wanted ones are those that the plan has, or else the others
 abbrev pub is_picked : Option (List Request) → Bool → Bool → Command → Bool
-is_picked plan asked wanted c = if (if asked then has_command plan c else true) then wanted else if wanted then false else true
+is_picked plan asked wanted c =
+    if (if asked then has_command plan c else true) then wanted else if wanted then false else true
 
 -- those that are picked
 abbrev pub picked : (Command → Bool) → List Command → List Command

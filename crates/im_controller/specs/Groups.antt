@@ -42,7 +42,8 @@ IsAnswerTo m c answer = leaves_line answer ≡ true → answer ≡ answer_to m (
 abbrev pub AreAnswersTo : Contents → List Command → List (Result Outcome Refusal) → Type 0
 AreAnswersTo m [] answers = Unit {0}
 AreAnswersTo m (c ∷ cs) [] = ⊥
-AreAnswersTo m (c ∷ cs) (answer ∷ answers) = IsAnswerTo m c answer × AreAnswersTo (memory_after m (Commands c) answer) cs answers
+AreAnswersTo m (c ∷ cs) (answer ∷ answers) =
+    IsAnswerTo m c answer × AreAnswersTo (memory_after m (Commands c) answer) cs answers
 
 -- the memory after these answers
 abbrev pub memory_after_all : Contents → List Command → List (Result Outcome Refusal) → Contents
@@ -57,7 +58,8 @@ lines_left (answer ∷ answers) = (if leaves_line answer then 1 else 0) + lines_
 
 -- The members' answers, given the lines that the trace has room for. They are `TraceFull` if it has room for none,
 -- unless the engine has failed, and else the engine's.
-pub record MembersAnswered {D : Type 0} (old : EngineState D) (room : ℕ) (members : List Command) (answers : List Served) (new : EngineState D) : Type 0 where
+pub record MembersAnswered {D : Type 0} (old : EngineState D) (room : ℕ) (members : List Command)
+    (answers : List Served) (new : EngineState D) : Type 0 where
   pub full : old.failed ≡ false → room ≡ 0 → (answers ≡ each_refused TraceFull members) × (new ≡ old)
   pub dead : old.failed ≡ true → CommandsAnswered old members answers new
   pub served : 0 < room → CommandsAnswered old members answers new
@@ -106,21 +108,26 @@ spread (b ∷ bs) ss = next_answer b ss ∷ spread bs (answers_left b ss)
 
 -- A group that is lent to the engine: its members' commands are lent one after another. Their ports take the answers
 -- later, and count the lines then.
-pub record LendsGroup {D : Type 0} (s : SharedState D) (members : List Command) (roomy : List Bool) (s' : SharedState D) : Type 0 where
+pub record LendsGroup {D : Type 0} (s : SharedState D) (members : List Command) (roomy : List Bool)
+    (s' : SharedState D) : Type 0 where
   pub answers : List Served
   -- members for whose changes the pane has no room aren't lent, and are refused for want of memory
   pub lent : List Served
   pub spread_is : answers ≡ spread roomy lent
   pub roomless : AreRoomless s.engine.memory (places_with s.engine (s.log.limit - length s.log.trace)) roomy members
   -- if the engine has failed or the trace is full, all are lent
-  pub all : places_with s.engine (s.log.limit - length s.log.trace) ≡ 0 → (those roomy members ≡ members) × (answers ≡ lent)
-  pub full : s.engine.failed ≡ false → s.log.limit ≤ length s.log.trace → (lent ≡ each_refused TraceFull (those roomy members)) × (s'.engine ≡ s.engine)
+  pub all : places_with s.engine (s.log.limit - length s.log.trace) ≡ 0
+      → (those roomy members ≡ members) × (answers ≡ lent)
+  pub full : s.engine.failed ≡ false → s.log.limit ≤ length s.log.trace
+      → (lent ≡ each_refused TraceFull (those roomy members)) × (s'.engine ≡ s.engine)
   pub dead : s.engine.failed ≡ true → CommandsAnswered s.engine (those roomy members) lent s'.engine
   pub served : length s.log.trace < s.log.limit → CommandsAnswered s.engine (those roomy members) lent s'.engine
   pub log : s'.log ≡ with_all_unclaimed s.log members (map answer_in answers)
   pub servers : s'.servers ≡ s.servers
   -- all that the group changed is shown then, or nothing if the engine has failed
-  pub shown : s'.engine.failed ≡ false → s'.shown ≡ s.shown ++ changes_put_all s.engine.memory (places_with s.engine (s.log.limit - length s.log.trace)) (those roomy members)
+  pub shown : s'.engine.failed ≡ false
+      → s'.shown ≡ s.shown ++ changes_put_all s.engine.memory (places_with s.engine (s.log.limit - length s.log.trace))
+      (those roomy members)
   pub hidden : s'.engine.failed ≡ true → s'.shown ≡ s.shown
 
 -- what a port gets while it holds the lock once: nothing yet, or the answer to its command, and then the line is

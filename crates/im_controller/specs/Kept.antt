@@ -13,7 +13,8 @@ pub use Rattle.im_trace.specs.Begun.{Begun}
 
 -- an engine when its trace begins, given what is known of its disk
 abbrev pub begun_in : {D : Type 0} → (D → Moment) → (D → List Moment) → (D → ℕ) → EngineState D → Begun
-begun_in now past failures e = record { now = now e.disk; past = past e.disk; failures = failures e.disk; count = e.count; failed = e.failed }
+begun_in now past failures e =
+    record { now = now e.disk; past = past e.disk; failures = failures e.disk; count = e.count; failed = e.failed }
 
 -- the accepted commands of a trace, in order
 abbrev pub accepted_in : Contents → List Line → List Command
@@ -34,14 +35,16 @@ MeansAll m count commands file = MeansThrough m count commands (length commands)
 -- Since the trace began these commands were acknowledged. If a call of the disk has failed, others are in doubt. A
 -- crash leaves the memory after a prefix of all of them. Now it has all acknowledged commands, and those in doubt all
 -- or none.
-pub record HasKept {D : Type 0} (now : D → Moment) (past : D → List Moment) (failures : D → ℕ) (b : Begun) (m : Contents) (told : List Command) (engine : EngineState D) : Type 0 where
+pub record HasKept {D : Type 0} (now : D → Moment) (past : D → List Moment) (failures : D → ℕ) (b : Begun)
+    (m : Contents) (told : List Command) (engine : EngineState D) : Type 0 where
   pub doubt : List Command
   pub sure : engine.failed ≡ false → doubt ≡ []
   -- each was accepted in its turn
   pub accepts : accept_each m (told ++ doubt) ≡ Some (after m (told ++ doubt))
   pub count : engine.failed ≡ false → engine.count ≡ b.count + length told
   pub leaves : Leaves b.now (now engine.disk) b.past (past engine.disk) (MeansSome m b.count (told ++ doubt))
-  pub last : LeavesNow (now engine.disk) (λ file. MeansAll m b.count told file ⊎ MeansAll m b.count (told ++ doubt) file)
+  pub last : LeavesNow (now engine.disk)
+      (λ file. MeansAll m b.count told file ⊎ MeansAll m b.count (told ++ doubt) file)
   -- the count of failures rose if the engine has failed, and stayed if it hasn't
   pub rose : engine.failed ≡ true → Rises b.failures (failures engine.disk)
   pub stayed : engine.failed ≡ false → failures engine.disk ≡ b.failures

@@ -32,7 +32,8 @@ use Rattle.im_controller.specs.Planned.{has_command}
 use Rattle.im_controller.specs.State.{SharedState, PortState}
 
 -- a call's line, if it leaves one, is in the log; the servers stay
-pub record Leaves {D : Type 0} (s : SharedState D) (call : Call) (answer : Result Outcome Refusal) (s' : SharedState D) : Type 0 where
+pub record Leaves {D : Type 0} (s : SharedState D) (call : Call) (answer : Result Outcome Refusal)
+    (s' : SharedState D) : Type 0 where
   pub log : s'.log ≡ with_line s.log call answer
   pub servers : s'.servers ≡ s.servers
 
@@ -50,22 +51,26 @@ shows m command (Ok outcome) = changes_at m command
 shows m command (Err refusal) = []
 
 -- the pane has no room for the change of a command that would be put on the disk: nothing is changed
-pub record IsRoomless {D : Type 0} (s : SharedState D) (command : Command) (answer : Result ReceiptState Refusal) (s' : SharedState D) : Type 0 where
+pub record IsRoomless {D : Type 0} (s : SharedState D) (command : Command) (answer : Result ReceiptState Refusal)
+    (s' : SharedState D) : Type 0 where
   pub accepted : is_taken s.engine.memory s.engine.room command ≡ true
   pub refused : answer ≡ Err NoMemory
   pub same : s' ≡ s
 
 -- A command that is lent to the engine, with its answer. It is refused first if the engine has failed, and then if the
 -- trace is full.
-pub record Lends {D : Type 0} (marks : Line → Bool) (plan : Option (List Request)) (s : SharedState D) (t : Counts) (command : Command) (answer : Result ReceiptState Refusal) (s' : SharedState D) (t' : Counts) : Type 0 where
+pub record Lends {D : Type 0} (marks : Line → Bool) (plan : Option (List Request)) (s : SharedState D) (t : Counts)
+    (command : Command) (answer : Result ReceiptState Refusal) (s' : SharedState D) (t' : Counts) : Type 0 where
   pub dead : s.engine.failed ≡ true → (answer ≡ Err Failed) × (s' ≡ s)
   pub full : s.engine.failed ≡ false → s.log.limit ≤ length s.log.trace → (answer ≡ Err TraceFull) × (s' ≡ s)
   -- then if there is a plan that doesn't have its operation under its number
-  pub off : s.engine.failed ≡ false → length s.log.trace < s.log.limit → has_command plan command ≡ false → (answer ≡ Err OffPlan) × (s' ≡ s)
+  pub off : s.engine.failed ≡ false → length s.log.trace < s.log.limit → has_command plan command ≡ false
+      → (answer ≡ Err OffPlan) × (s' ≡ s)
   -- Else the engine answers it, and its line is left if the answer is an outcome or a refusal of numbers. Or the pane
   -- has no room for its change.
   pub served : s.engine.failed ≡ false → length s.log.trace < s.log.limit → has_command plan command ≡ true →
-      (Answered s.engine command (plain answer) s'.engine × Leaves s (Commands command) (plain answer) s') ⊎ IsRoomless s command answer s'
+      (Answered s.engine command (plain answer) s'.engine × Leaves s (Commands command) (plain answer) s')
+      ⊎ IsRoomless s command answer s'
   -- its port has counted the line, if there is one; an outcome has the trace that ends in the line
   pub tally : t' ≡ counts_after marks t (lines_of (Commands command) (plain answer))
   -- the change of an accepted command is shown if it has an outcome, and the outcome has what is shown then
@@ -73,11 +78,13 @@ pub record Lends {D : Type 0} (marks : Line → Bool) (plan : Option (List Reque
   pub receipt : answer ≡ receipt_for s'.log.trace s'.shown command (plain answer)
 
 -- A collect, with the refusals in the same order. The engine stays, and the line is left.
-pub record Looks {D : Type 0} (marks : Line → Bool) (s : SharedState D) (t : Counts) (element number : ℕ) (answer : Result Entry Refusal) (s' : SharedState D) (t' : Counts) : Type 0 where
+pub record Looks {D : Type 0} (marks : Line → Bool) (s : SharedState D) (t : Counts) (element number : ℕ)
+    (answer : Result Entry Refusal) (s' : SharedState D) (t' : Counts) : Type 0 where
   pub dead : s.engine.failed ≡ true → (answer ≡ Err Failed) × (s' ≡ s)
   pub full : s.engine.failed ≡ false → s.log.limit ≤ length s.log.trace → (answer ≡ Err TraceFull) × (s' ≡ s)
   pub found : s.engine.failed ≡ false → length s.log.trace < s.log.limit →
-      (answer ≡ entry_at s.engine.memory element number) × Leaves s (Collect element number) (told answer) s' × (s'.engine ≡ s.engine)
+      (answer ≡ entry_at s.engine.memory element number) × Leaves s (Collect element number) (told answer) s'
+      × (s'.engine ≡ s.engine)
   pub tally : t' ≡ counts_after marks t (lines_of (Collect element number) (told answer))
   pub shown : s'.shown ≡ s.shown
 
@@ -92,7 +99,8 @@ abbrev pub IsTurnFault : Refusal → Type 0
 IsTurnFault e = (e ≡ Failed) ⊎ (e ≡ Device)
 
 -- One turn of the engine: the log, the servers and what is shown stay.
-pub record LendsTurn {D : Type 0} (s : SharedState D) (answer : Result TurnDone Refusal) (s' : SharedState D) : Type 0 where
+pub record LendsTurn {D : Type 0} (s : SharedState D) (answer : Result TurnDone Refusal)
+    (s' : SharedState D) : Type 0 where
   pub done : Result TurnDone Refusal
   pub turned : TurnAnswered s.engine done s'.engine
   pub is : answer ≡ told_turn s'.engine.room done
@@ -106,23 +114,32 @@ standing_in s = record { waits = count_by is_waiting s.servers; room = s.engine.
 
 -- what lies under the lock after an element's server, if it is active or waits, does something else
 abbrev pub with_server_at : {D : Type 0} → SharedState D → ℕ → Server → SharedState D
-with_server_at s element server = record { engine = s.engine; log = s.log; servers = with_server s.servers element server; shown = s.shown }
+with_server_at s element server =
+    record { engine = s.engine; log = s.log; servers = with_server s.servers element server; shown = s.shown }
 
 -- An element's port is made exactly if its server had none yet. It was told no line, and the server is active. Else all
 -- is as it was.
-pub record MakesPort {D : Type 0} (s : SharedState D) (element : ℕ) (answer : Result PortState Refusal) (s' : SharedState D) : Type 0 where
-  pub made : slice_get s.servers element ≡ Some Unmade → answer ≡ Ok (record { element = element; told = record { lines = 0; marked = 0 }; history = s.log.trace })
-  pub active : slice_get s.servers element ≡ Some Unmade → s' ≡ record { engine = s.engine; log = s.log; servers = slice_set s.servers element Active; shown = s.shown }
+pub record MakesPort {D : Type 0} (s : SharedState D) (element : ℕ) (answer : Result PortState Refusal)
+    (s' : SharedState D) : Type 0 where
+  pub made : slice_get s.servers element ≡ Some Unmade
+      → answer ≡ Ok (record { element = element; told = record { lines = 0; marked = 0 }; history = s.log.trace })
+  pub active : slice_get s.servers element ≡ Some Unmade
+      → s' ≡ record { engine = s.engine; log = s.log; servers = slice_set s.servers element Active; shown = s.shown }
   pub none : slice_get s.servers element ≢ Some Unmade → answer ≡ Err NoElement
   pub same : slice_get s.servers element ≢ Some Unmade → s' ≡ s
 
 -- A server asks whether it may wait for an entry. It waits from then on exactly if it is told `Wait`.
-pub record BeginsWait {D : Type 0} (s : SharedState D) (element number : ℕ) (answer : Result Ask Refusal) (s' : SharedState D) : Type 0 where
+pub record BeginsWait {D : Type 0} (s : SharedState D) (element number : ℕ) (answer : Result Ask Refusal)
+    (s' : SharedState D) : Type 0 where
   pub dead : s.engine.failed ≡ true → (answer ≡ Err Failed) × (s' ≡ with_server_at s element Active)
-  pub refused : (refusal : Refusal) → s.engine.failed ≡ false → entry_at s.engine.memory element number ≡ Err refusal → (answer ≡ Err refusal) × (s' ≡ with_server_at s element Active)
-  pub ready : s.engine.failed ≡ false → is_answered (entry_at s.engine.memory element number) ≡ true → (answer ≡ Ok Go) × (s' ≡ with_server_at s element Active)
+  pub refused : (refusal : Refusal) → s.engine.failed ≡ false → entry_at s.engine.memory element number ≡ Err refusal
+      → (answer ≡ Err refusal) × (s' ≡ with_server_at s element Active)
+  pub ready : s.engine.failed ≡ false → is_answered (entry_at s.engine.memory element number) ≡ true
+      → (answer ≡ Ok Go) × (s' ≡ with_server_at s element Active)
   -- each active server waits, the caller's included, and none of their entries is answered
-  pub stalled : s.engine.failed ≡ false → entry_at s.engine.memory element number ≡ Ok Waiting → are_stuck s.engine.memory element 0 s.servers ≡ true
+  pub stalled : s.engine.failed ≡ false → entry_at s.engine.memory element number ≡ Ok Waiting
+      → are_stuck s.engine.memory element 0 s.servers ≡ true
       → (answer ≡ Err Stalled) × (s' ≡ with_server_at s element Active)
-  pub waits : s.engine.failed ≡ false → entry_at s.engine.memory element number ≡ Ok Waiting → are_stuck s.engine.memory element 0 s.servers ≡ false
+  pub waits : s.engine.failed ≡ false → entry_at s.engine.memory element number ≡ Ok Waiting
+      → are_stuck s.engine.memory element 0 s.servers ≡ false
       → (answer ≡ Ok Wait) × (s' ≡ with_server_at s element (Waits number))

@@ -71,11 +71,14 @@ pub record EndsAsPlanned (m : Contents) (plan : List Request) (end : Contents) :
   -- the plan fits the memory at the start
   pub starts : Starts m plan
   -- what is kept for a planned request is its result, if it is answered
-  pub results : (r : Request) (entry : Entry) → IsInPlan plan r → ask end.windows (asker r) ≡ Ok entry → IsResultOrWaits (result_of m.cells plan r.op) entry
+  pub results : (r : Request) (entry : Entry) → IsInPlan plan r → ask end.windows (asker r) ≡ Ok entry
+      → IsResultOrWaits (result_of m.cells plan r.op) entry
   -- a fetch that has no result stays waiting
-  pub waits : (r : Request) (entry : Entry) → IsInPlan plan r → result_of m.cells plan r.op ≡ None → ask end.windows (asker r) ≡ Ok entry → entry ≡ Waiting
+  pub waits : (r : Request) (entry : Entry) → IsInPlan plan r → result_of m.cells plan r.op ≡ None
+      → ask end.windows (asker r) ≡ Ok entry → entry ≡ Waiting
   -- once all of the plan was served, the memory at the start and the plan alone say what is kept
-  pub one : (r : Request) (entry : Entry) → HasServed end.windows plan → IsInPlan plan r → ask end.windows (asker r) ≡ Ok entry → entry ≡ entry_for (result_of m.cells plan r.op)
+  pub one : (r : Request) (entry : Entry) → HasServed end.windows plan → IsInPlan plan r
+      → ask end.windows (asker r) ≡ Ok entry → entry ≡ entry_for (result_of m.cells plan r.op)
 
 -- the same, if there is a plan
 abbrev pub EndsBy : Contents → Option (List Request) → Contents → Type 0

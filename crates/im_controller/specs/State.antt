@@ -16,7 +16,8 @@ pub record SharedState (D : Type 0) : Type 0 where
   pub servers : List Server
   pub shown : List Change
 
--- an engine with room for a trace, before it has a name: how many ports there are, which ledgers count the lines and the marked lines, the books of what is shown and of the lines, and the plan, if there is one
+-- an engine with room for a trace, before it has a name: how many ports there are, which ledgers count the lines and
+-- the marked lines, the books of what is shown and of the lines, and the plan, if there is one
 pub record OpeningState (D : Type 0) : Type 0 where
   pub engine : EngineState D
   pub limit : ℕ

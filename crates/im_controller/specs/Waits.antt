@@ -37,7 +37,8 @@ IsAwaited (Err refusal) = Unit {0}
 abbrev pub Awaits : (Line → Bool) → Counts → ℕ → ℕ → Option (Result FoundState Refusal) → Counts → Type 0
 Awaits marks t element number None t' = t' ≡ t
 Awaits marks t element number (Some answer) t' =
-    (t' ≡ counts_after marks t (lines_of (Collect element number) (told (entry_of answer)))) × IsFoundOf element number answer × IsAwaited answer
+    (t' ≡ counts_after marks t (lines_of (Collect element number) (told (entry_of answer))))
+    × IsFoundOf element number answer × IsAwaited answer
 
 -- the same, without the trace
 abbrev pub entry_told : Option (Result FoundState Refusal) → Option (Result Entry Refusal)
@@ -45,16 +46,21 @@ entry_told None = None
 entry_told (Some answer) = Some (entry_of answer)
 
 -- why it is told that, given what lay under the lock before
-pub record IsTold {D : Type 0} (s : SharedState D) (element number : ℕ) (answer : Option (Result FoundState Refusal)) : Type 0 where
+pub record IsTold {D : Type 0} (s : SharedState D) (element number : ℕ)
+    (answer : Option (Result FoundState Refusal)) : Type 0 where
   pub dead : s.engine.failed ≡ true → answer ≡ Some (Err Failed)
-  pub stalled : s.engine.failed ≡ false → entry_at s.engine.memory element number ≡ Ok Waiting → are_stuck s.engine.memory element 0 s.servers ≡ true → answer ≡ Some (Err Stalled)
-  pub waits : s.engine.failed ≡ false → entry_at s.engine.memory element number ≡ Ok Waiting → are_stuck s.engine.memory element 0 s.servers ≡ false → answer ≡ None
+  pub stalled : s.engine.failed ≡ false → entry_at s.engine.memory element number ≡ Ok Waiting
+      → are_stuck s.engine.memory element 0 s.servers ≡ true → answer ≡ Some (Err Stalled)
+  pub waits : s.engine.failed ≡ false → entry_at s.engine.memory element number ≡ Ok Waiting
+      → are_stuck s.engine.memory element 0 s.servers ≡ false → answer ≡ None
   -- else the entry is answered or there is none; that is told, with its line
-  pub full : s.engine.failed ≡ false → entry_at s.engine.memory element number ≢ Ok Waiting → s.log.limit ≤ length s.log.trace → answer ≡ Some (Err TraceFull)
-  pub found : s.engine.failed ≡ false → entry_at s.engine.memory element number ≢ Ok Waiting → length s.log.trace < s.log.limit → entry_told answer ≡ Some (entry_at s.engine.memory element number)
+  pub full : s.engine.failed ≡ false → entry_at s.engine.memory element number ≢ Ok Waiting
+      → s.log.limit ≤ length s.log.trace → answer ≡ Some (Err TraceFull)
+  pub found : s.engine.failed ≡ false → entry_at s.engine.memory element number ≢ Ok Waiting
+      → length s.log.trace < s.log.limit → entry_told answer ≡ Some (entry_at s.engine.memory element number)
 
--- What a port has seen of the trace, once it was told what is kept under a number: the collect's line, if it left one, stands
--- after all that the port saw before, and what was found has the same trace.
+-- What a port has seen of the trace, once it was told what is kept under a number: the collect's line, if it left one,
+-- stands after all that the port saw before, and what was found has the same trace.
 abbrev pub SeesEntry : List Line → ℕ → ℕ → Result FoundState Refusal → List Line → Type 0
 SeesEntry seen element number answer seen' =
     GoesOnTo seen (lines_of (Collect element number) (told (entry_of answer))) seen' × IsFoundAt seen' answer

@@ -2,8 +2,8 @@
 //! and what a caller knows of the trace at the end.
 //!
 //! The crate stands on `im_engine`, on `im_trace` (the trace, its books and receipts) and on `im_queue` (the queue
-//! before the lock, the inbox and the bells). Contracts see what lies under the lock by `specs/State.antt`, and traces by
-//! the definitions of `im_types`.
+//! before the lock, the inbox and the bells). Contracts see what lies under the lock by `specs/State.antt`, and traces
+//! by the definitions of `im_types`.
 #![tactic(auto)]
 
 mod controller; // The lock, and the loop of the keeper.

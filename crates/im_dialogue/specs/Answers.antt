@@ -23,7 +23,8 @@ use Rattle.im_dialogue.specs.Showing.{recall, cell_said, block_said, stat_line, 
 
 -- E.N refused NUMBER NAME
 abbrev pub request_refused : ℕ → ℕ → Refusal → List ℕ → List ℕ
-request_refused element number refusal name = decimal element ++ codes "." ++ decimal number ++ codes " " ++ refused_line refusal name
+request_refused element number refusal name =
+    decimal element ++ codes "." ++ decimal number ++ codes " " ++ refused_line refusal name
 
 -- E refused NUMBER NAME
 abbrev pub element_refused : ℕ → Refusal → List ℕ → List ℕ
@@ -58,7 +59,8 @@ served_line name (Confirm element upto) (Err refusal) = element_refused element 
 
 -- E window BASE NEXT
 abbrev pub window_line : ℕ → List ℕ → Result (ℕ × ℕ) Refusal → List ℕ
-window_line element name (Ok (base, next)) = decimal element ++ codes " window " ++ decimal base ++ codes " " ++ decimal next ++ line_feed
+window_line element name (Ok (base, next)) =
+    decimal element ++ codes " window " ++ decimal base ++ codes " " ++ decimal next ++ line_feed
 window_line element name (Err refusal) = element_refused element refusal name
 
 -- version V cells C

@@ -24,7 +24,8 @@ number_of word = number_up_to 18446744073709551615 word
 
 -- an element and a number, given their words
 abbrev pub waiter_in : List ℕ → List ℕ → Option Waiter
-waiter_in element number = option_and_then (λ e. option_map (λ n. record { element = e; number = n }) (number_of number)) (element_of element)
+waiter_in element number =
+    option_and_then (λ e. option_map (λ n. record { element = e; number = n }) (number_of number)) (element_of element)
 
 -- an element and a number, given the parts of a word between its dots
 abbrev pub waiter_by : List (List ℕ) → Option Waiter
@@ -68,13 +69,17 @@ asked_by_three word element upto = if bytes_eq word (codes "confirm")
 
 -- E.N and a request
 abbrev pub request_by : List ℕ → List (List ℕ) → Option Asked
-request_by first rest = option_and_then (λ who. option_map (λ op. Serve (Asks (record { element = who.element; number = who.number; op = op }))) (op_in rest)) (waiter_of first)
+request_by first rest =
+    option_and_then (λ who. option_map
+    (λ op. Serve (Asks (record { element = who.element; number = who.number; op = op }))) (op_in rest))
+    (waiter_of first)
 
 -- what a line asks for, given its words
 abbrev pub asked_in : List (List ℕ) → Option Asked
 asked_in (word ∷ []) = asked_by_one word
 asked_in (word ∷ what ∷ []) = asked_by_two word what
-asked_in (word ∷ first ∷ second ∷ []) = option_or (asked_by_three word first second) (request_by word (first ∷ second ∷ []))
+asked_in (word ∷ first ∷ second ∷ []) =
+    option_or (asked_by_three word first second) (request_by word (first ∷ second ∷ []))
 asked_in (word ∷ first ∷ second ∷ third ∷ []) = request_by word (first ∷ second ∷ third ∷ [])
 asked_in _ = None
 

@@ -60,7 +60,8 @@ cell_said a held = codes "cell " ++ decimal a ++ codes " "
 -- block BASE KIND LENGTH, or block A noblock
 abbrev pub block_said : ℕ → Option Block → List ℕ
 block_said a None = codes "block " ++ decimal a ++ codes " noblock" ++ line_feed
-block_said a (Some b) = codes "block " ++ decimal b.base ++ codes " " ++ kind_text b.kind ++ codes " " ++ decimal b.length
+block_said a (Some b) =
+    codes "block " ++ decimal b.base ++ codes " " ++ kind_text b.kind ++ codes " " ++ decimal b.length
     ++ line_feed
 
 -- ---- counts

@@ -41,7 +41,8 @@ pub record Exchange : Type 0 where
 
 -- what an answer says of a command: its result on this memory, or that the journal has no room for it
 abbrev pub IsOf : Contents → Command → Result Outcome Refusal → Type 0
-IsOf m command answer = (answer ≡ (step m command).answer) ⊎ ((is_accepted m command ≡ true) × (answer ≡ Err JournalFull))
+IsOf m command answer =
+    (answer ≡ (step m command).answer) ⊎ ((is_accepted m command ≡ true) × (answer ≡ Err JournalFull))
 
 -- what `about` says of an image with this memory, this many slots, this many accepted commands and this room
 abbrev pub about_of : Contents → ℕ → ℕ → ℕ → About
@@ -56,7 +57,8 @@ about_of m slots commands room = record {
 
 -- the answer to what is asked, on this memory, after this many commands
 abbrev pub Answers : Contents → ℕ → Option Asked → Answer → Type 0
-Answers m commands (Some (asks.Serve command)) answer = (outcome : Result Outcome Refusal) × (answer ≡ Served command outcome) × IsOf m command outcome
+Answers m commands (Some (asks.Serve command)) answer =
+    (outcome : Result Outcome Refusal) × (answer ≡ Served command outcome) × IsOf m command outcome
 Answers m commands (Some (asks.Look look)) answer = answer ≡ Looked look
 Answers m commands (Some (asks.Window element)) answer = answer ≡ Window element (bounds m.windows element)
 Answers m commands (Some asks.Room) answer = (room : ℕ) × (answer ≡ Room room)
@@ -79,7 +81,9 @@ put_of m (x ∷ xs) = put_of m xs ++ put_by (after m (put_of m xs)) x.answer
 -- each line was answered on the memory after what was put before it
 abbrev pub AreAnswered : Contents → ℕ → List Exchange → Type 0
 AreAnswered m commands [] = Unit {0}
-AreAnswered m commands (x ∷ xs) = Answers (after m (put_of m xs)) (commands + length (put_of m xs)) (asked_of x.line) x.answer × AreAnswered m commands xs
+AreAnswered m commands (x ∷ xs) =
+    Answers (after m (put_of m xs)) (commands + length (put_of m xs)) (asked_of x.line) x.answer
+    × AreAnswered m commands xs
 
 -- the lines that were answered on this memory, one below the other; if the dialogue is watched, each is followed by the
 -- lines of the requests that it answered
@@ -98,54 +102,77 @@ is_end refusal = false
 
 -- All that was said was done. The memory is the one after all commands that were put, and every file that a crash
 -- leaves means it.
-pub record IsAt {D : Type 0} (now : D → Moment) (past : D → List Moment) (start engine : EngineState D) (said : List Exchange) : Type 0 where
+pub record IsAt {D : Type 0} (now : D → Moment) (past : D → List Moment) (start engine : EngineState D)
+    (said : List Exchange) : Type 0 where
   pub answered : AreAnswered start.memory start.count said
   pub works : engine.failed ≡ false
   pub run : HasRun start engine (put_of start.memory said)
-  pub leaves : Leaves (now start.disk) (now engine.disk) (past start.disk) (past engine.disk) (MeansBeginning start (put_of start.memory said))
+  pub leaves : Leaves (now start.disk) (now engine.disk) (past start.disk) (past engine.disk)
+      (MeansBeginning start (put_of start.memory said))
   pub kept : LeavesNow (now engine.disk) (MeansState engine)
 
 -- the file means the engine's state after all commands that were put by what was said, with those in doubt all together
 -- or not at all
 abbrev pub MeansSaid : {D : Type 0} → EngineState D → List Exchange → List Command → List ℕ → Type 0
-MeansSaid s said doubt file = (many : ℕ) × ((many ≡ length (put_of s.memory said)) ⊎ (many ≡ length (put_of s.memory said ++ doubt))) × MeansAfter s (put_of s.memory said ++ doubt) many file
+MeansSaid s said doubt file =
+    (many : ℕ) × ((many ≡ length (put_of s.memory said)) ⊎ (many ≡ length (put_of s.memory said ++ doubt)))
+    × MeansAfter s (put_of s.memory said ++ doubt) many file
 
 -- All that was said was done, and the dialogue was ended, by commands in doubt or without any. What was said is in
 -- every file that a crash leaves.
-pub record HasEnded {D : Type 0} (now : D → Moment) (past : D → List Moment) (start : EngineState D) (disk : D) (said : List Exchange) (doubt : List Command) : Type 0 where
+pub record HasEnded {D : Type 0} (now : D → Moment) (past : D → List Moment) (start : EngineState D) (disk : D)
+    (said : List Exchange) (doubt : List Command) : Type 0 where
   pub answered : AreAnswered start.memory start.count said
-  pub leaves : Leaves (now start.disk) (now disk) (past start.disk) (past disk) (MeansBeginning start (put_of start.memory said ++ doubt))
+  pub leaves : Leaves (now start.disk) (now disk) (past start.disk) (past disk)
+      (MeansBeginning start (put_of start.memory said ++ doubt))
   pub kept : LeavesNow (now disk) (MeansSaid start said doubt)
 
 -- a disk that is honest now was honest at the start, and this was said since
-abbrev pub Going : {D : Type 0} → (D → Moment) → (D → List Moment) → (D → Type 0) → EngineState D → EngineState D → List Exchange → Type 0
+abbrev pub Going : {D : Type 0} → (D → Moment) → (D → List Moment) → (D → Type 0) → EngineState D → EngineState D
+    → List Exchange → Type 0
 Going now past honest start engine said = honest engine.disk → honest start.disk × IsAt now past start engine said
 
 -- the same, and it was ended
-abbrev pub Ended : {D : Type 0} → (D → Moment) → (D → List Moment) → (D → Type 0) → EngineState D → D → List Exchange → Type 0
-Ended now past honest start disk said = honest disk → honest start.disk × ((doubt : List Command) × (length doubt ≤ MAX_GROUP) × HasEnded now past start disk said doubt)
+abbrev pub Ended : {D : Type 0} → (D → Moment) → (D → List Moment) → (D → Type 0) → EngineState D → D → List Exchange
+    → Type 0
+Ended now past honest start disk said =
+    honest disk → honest start.disk
+    × ((doubt : List Command) × (length doubt ≤ MAX_GROUP) × HasEnded now past start disk said doubt)
 
 -- nothing more was said
-abbrev pub GoesOn : {D : Type 0} → (D → Moment) → (D → List Moment) → (D → Type 0) → EngineState D → EngineState D → Type 0
-GoesOn {D} now past honest old new = (start : EngineState D) (said : List Exchange) → Going now past honest start old said → Going now past honest start new said
+abbrev pub GoesOn : {D : Type 0} → (D → Moment) → (D → List Moment) → (D → Type 0) → EngineState D → EngineState D
+    → Type 0
+GoesOn {D} now past honest old new =
+    (start : EngineState D) (said : List Exchange) → Going now past honest start old said
+    → Going now past honest start new said
 
 -- nothing more was said, and it was ended
-abbrev pub Halts : {D : Type 0} → (D → Moment) → (D → List Moment) → (D → Type 0) → EngineState D → EngineState D → Type 0
-Halts {D} now past honest old new = (start : EngineState D) (said : List Exchange) → Going now past honest start old said → Ended now past honest start new.disk said
+abbrev pub Halts : {D : Type 0} → (D → Moment) → (D → List Moment) → (D → Type 0) → EngineState D → EngineState D
+    → Type 0
+Halts {D} now past honest old new =
+    (start : EngineState D) (said : List Exchange) → Going now past honest start old said
+    → Ended now past honest start new.disk said
 
 -- this was asked and answered, if a line asks so
-abbrev pub Says : {D : Type 0} → (D → Moment) → (D → List Moment) → (D → Type 0) → EngineState D → EngineState D → Option Asked → Answer → Type 0
-Says {D} now past honest old new asked answer = (start : EngineState D) (said : List Exchange) (line name : List ℕ) → asked_of line ≡ asked → Going now past honest start old said
+abbrev pub Says : {D : Type 0} → (D → Moment) → (D → List Moment) → (D → Type 0) → EngineState D → EngineState D
+    → Option Asked → Answer → Type 0
+Says {D} now past honest old new asked answer =
+    (start : EngineState D) (said : List Exchange) (line name : List ℕ) → asked_of line ≡ asked
+    → Going now past honest start old said
     → Going now past honest start new (record { line = line; answer = answer; name = name } ∷ said)
 
 -- ---- and printed
 
 -- since the writer held this, what was said was printed, line by line
-abbrev pub Talking : {D : Type 0} → Bool → (D → Moment) → (D → List Moment) → (D → Type 0) → EngineState D → Option (List ℕ) → EngineState D → Option (List ℕ) → Type 0
-Talking watch now past honest start was engine is = honest engine.disk → honest start.disk × ((said : List Exchange) × (IsAt now past start engine said × Appends was is (texts_of watch start.memory said)))
+abbrev pub Talking : {D : Type 0} → Bool → (D → Moment) → (D → List Moment) → (D → Type 0) → EngineState D
+    → Option (List ℕ) → EngineState D → Option (List ℕ) → Type 0
+Talking watch now past honest start was engine is =
+    honest engine.disk → honest start.disk
+    × ((said : List Exchange) × (IsAt now past start engine said × Appends was is (texts_of watch start.memory said)))
 
 -- what was said, a prefix of which was printed, and the commands in doubt, if there are some
-pub record Silent {D : Type 0} (watch : Bool) (now : D → Moment) (past : D → List Moment) (start : EngineState D) (was : Option (List ℕ)) (disk : D) (is : Option (List ℕ)) : Type 0 where
+pub record Silent {D : Type 0} (watch : Bool) (now : D → Moment) (past : D → List Moment) (start : EngineState D)
+    (was : Option (List ℕ)) (disk : D) (is : Option (List ℕ)) : Type 0 where
   pub said : List Exchange
   pub doubt : List Command
   pub few : length doubt ≤ MAX_GROUP
@@ -153,19 +180,28 @@ pub record Silent {D : Type 0} (watch : Bool) (now : D → Moment) (past : D →
   pub printed : Begins was is (texts_of watch start.memory said)
 
 -- the same, and it was ended
-abbrev pub Silenced : {D : Type 0} → Bool → (D → Moment) → (D → List Moment) → (D → Type 0) → EngineState D → Option (List ℕ) → D → Option (List ℕ) → Type 0
-Silenced watch now past honest start was disk is = honest disk → honest start.disk × Silent watch now past start was disk is
+abbrev pub Silenced : {D : Type 0} → Bool → (D → Moment) → (D → List Moment) → (D → Type 0) → EngineState D
+    → Option (List ℕ) → D → Option (List ℕ) → Type 0
+Silenced watch now past honest start was disk is =
+    honest disk → honest start.disk × Silent watch now past start was disk is
 
 -- lines were asked and answered, and their answers printed
-abbrev pub TalksOn : {D : Type 0} → Bool → (D → Moment) → (D → List Moment) → (D → Type 0) → EngineState D → Option (List ℕ) → EngineState D → Option (List ℕ) → Type 0
-TalksOn {D} watch now past honest old was new is = (start : EngineState D) (held : Option (List ℕ)) → Talking watch now past honest start held old was → Talking watch now past honest start held new is
+abbrev pub TalksOn : {D : Type 0} → Bool → (D → Moment) → (D → List Moment) → (D → Type 0) → EngineState D
+    → Option (List ℕ) → EngineState D → Option (List ℕ) → Type 0
+TalksOn {D} watch now past honest old was new is =
+    (start : EngineState D) (held : Option (List ℕ)) → Talking watch now past honest start held old was
+    → Talking watch now past honest start held new is
 
 -- the same, and it was ended
-abbrev pub TalkEnds : {D : Type 0} → Bool → (D → Moment) → (D → List Moment) → (D → Type 0) → EngineState D → Option (List ℕ) → EngineState D → Option (List ℕ) → Type 0
-TalkEnds {D} watch now past honest old was new is = (start : EngineState D) (held : Option (List ℕ)) → Talking watch now past honest start held old was → Silenced watch now past honest start held new.disk is
+abbrev pub TalkEnds : {D : Type 0} → Bool → (D → Moment) → (D → List Moment) → (D → Type 0) → EngineState D
+    → Option (List ℕ) → EngineState D → Option (List ℕ) → Type 0
+TalkEnds {D} watch now past honest old was new is =
+    (start : EngineState D) (held : Option (List ℕ)) → Talking watch now past honest start held old was
+    → Silenced watch now past honest start held new.disk is
 
 -- what a call comes to that serves lines and prints their answers: they were answered and printed, or it was ended
-abbrev pub TalksThrough : {D T E : Type 0} → Ghosts D → Bool → EngineState D → Option (List ℕ) → EngineState D → Option (List ℕ) → Result T E → Type 0
+abbrev pub TalksThrough : {D T E : Type 0} → Ghosts D → Bool → EngineState D → Option (List ℕ) → EngineState D
+    → Option (List ℕ) → Result T E → Type 0
 TalksThrough disk watch old was new is result = MatchResult result
     (λ done. TalksOn watch disk.now disk.past disk.honest old was new is)
     (λ e. TalkEnds watch disk.now disk.past disk.honest old was new is)

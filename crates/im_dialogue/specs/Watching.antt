@@ -19,7 +19,8 @@ use Rattle.im_dialogue.specs.declared.answers.Answer.TheVariants.{Served}
 
 -- E.N now REPLY: the answer to a request that waited
 abbrev pub told_now : Waiter × Reply → List ℕ
-told_now resumed = now_line (Some (record { element = resumed.0.element; number = resumed.0.number; entry = Answered resumed.1 }))
+told_now resumed =
+    now_line (Some (record { element = resumed.0.element; number = resumed.0.number; entry = Answered resumed.1 }))
 
 -- the lines of the requests that were resumed, in order
 abbrev pub nows_text : List (Waiter × Reply) → List ℕ

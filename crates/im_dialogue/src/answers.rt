@@ -220,8 +220,9 @@ fn add_wrong(out: &mut String, number: u64, words: &str) -> Result<(), AllocErro
     write!(out, "error {number}: {words}\n")
 }
 
-/// Adds the line of an answer on this memory. `name` is the name of the refusal, if the answer is one. If the line isn't
-/// in the grammar, it is the words for where the line goes wrong. At an error, a part of the line may have been added.
+/// Adds the line of an answer on this memory. `name` is the name of the refusal, if the answer is one. If the line
+/// isn't in the grammar, it is the words for where the line goes wrong. At an error, a part of the line may have been
+/// added.
 pub fn add_answer(
     out: &mut String,
     memory: &Memory,

@@ -3,7 +3,8 @@
 //! A group acts as one, so nobody sees the memory between two of its members. The answer to a line that changes nothing
 //! is known all the same: from the memory before the group and the members ahead of the line, or from the memory behind
 //! the group, as long as no member behind the line may change that answer.
-ghost use Rattle.std.specs.Prelude.{◌≡◌, ◌≤◌, ◌++◌, [], ◌∷◌, length, map, not, true, ◌||◌, IfOk, IfSome, OnOk, string_bytes};
+ghost use Rattle.std.specs.Prelude.{◌≡◌, ◌≤◌, ◌++◌, [], ◌∷◌, length, map, not, true, ◌||◌, IfOk, IfSome, OnOk};
+ghost use Rattle.std.specs.Prelude.{string_bytes};
 ghost use Rattle.std.specs.List.{list_any};
 ghost use Rattle.im_types.specs.declared.TheConstants.{MAX_GROUP};
 ghost use Rattle.im_dialogue.specs.Together.{AreAsked, GroupStart, IsAsked, MayBeServed, MayStandNext, TellsWatchers};
@@ -59,8 +60,8 @@ fn disturbs(memory: &Memory, ahead: &[Command], command: &Command, part: GroupLi
     }
 }
 
-// Adds what those that watch are told of a request behind these members. Returns false if it isn't known before they act
-// whom the request answers.
+// Adds what those that watch are told of a request behind these members. Returns false if it isn't known before they
+// act whom the request answers.
 fn add_answered(
     memory: &Memory,
     ahead: &[Command],
@@ -214,8 +215,8 @@ fn take_part<D: Disk>(
 }
 
 /// Takes lines into a group, given what they ask for: the first ones, up to the first command that can't be a member.
-/// That is the seventeenth one, or one that may change what a line ahead of it shows that only looks. If the dialogue is
-/// watched, it is also a store or a put of which it isn't known before the group acts whom it answers.
+/// That is the seventeenth one, or one that may change what a line ahead of it shows that only looks. If the dialogue
+/// is watched, it is also a store or a put of which it isn't known before the group acts whom it answers.
 pub(crate) fn take_parts<D: Disk>(
     alloc: Global,
     engine: &Engine<D>,

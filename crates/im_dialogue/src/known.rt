@@ -110,7 +110,8 @@ fn count_behind<D: Disk>(engine: &Engine<D>, put: u32) -> u64
     engine.count() + put as u64
 }
 
-// Returns what an image is, and how far it has come after `put` more commands. `slots` is how many slots its journal has.
+// Returns what an image is, and how far it has come after `put` more commands. `slots` is how many slots its journal
+// has.
 fn about_behind<D: Disk>(engine: &Engine<D>, slots: u32, put: u32) -> About
     requires few { put ≤ LAST - engine.now.count }
     ensures about { (room : ℕ) × (result

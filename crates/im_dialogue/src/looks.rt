@@ -2,7 +2,8 @@
 ghost use Rattle.std.specs.Prelude.{◌≡◌, is_none};
 ghost use Rattle.im_types.specs.Contents.{kept_for};
 ghost use Rattle.std.specs.List.{list_any};
-ghost use Rattle.im_dialogue.specs.Looks.{asks_at, asks_for, is_first, kept_waits_at, may_answer, may_change, may_reach};
+ghost use Rattle.im_dialogue.specs.Looks.{asks_at, asks_for, is_first, kept_waits_at, may_answer, may_change};
+ghost use Rattle.im_dialogue.specs.Looks.{may_reach};
 ghost use Rattle.im_dialogue.specs.Looks.{may_alter, may_wait, reaches, op_waits_at};
 
 use crate::look::Look;
@@ -87,8 +88,8 @@ fn may_answer(memory: &Memory, ahead: &[Command], who: Waiter, op: Op) -> bool
     }
 }
 
-/// Returns whether a command may change what is kept for a request, after these commands. It is that request, or a store
-/// or put at the cell at which the request may wait, or a confirmation of its element.
+/// Returns whether a command may change what is kept for a request, after these commands. It is that request, or a
+/// store or put at the cell at which the request may wait, or a confirmation of its element.
 pub(crate) fn may_change(memory: &Memory, ahead: &[Command], who: Waiter, command: &Command) -> bool
     ensures { result ≡ may_change memory.now.contents ahead.now who command.now }
 {
@@ -158,8 +159,8 @@ fn is_unkept(memory: &Memory, who: Waiter) -> bool
 
 // ---- what a line shows that only looks
 
-/// Returns whether a command may change what a line shows that only looks, after these commands. Each command may change
-/// what `stat` shows.
+/// Returns whether a command may change what a line shows that only looks, after these commands. Each command may
+/// change what `stat` shows.
 pub(crate) fn may_alter(memory: &Memory, ahead: &[Command], look: Look, command: &Command) -> bool
     ensures { result ≡ may_alter memory.now.contents ahead.now look command.now }
 {

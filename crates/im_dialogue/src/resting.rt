@@ -16,7 +16,8 @@ use std::alloc::Global;
 // with the least journal.
 fn slots_in(bytes: usize, least: Limits) -> u32
     ensures { (slots : ℕ) → slots ≤ MAX_SLOTS → least.slots ≤ slots
-        → bytes ≡ length_of_image layout_in_use (record { cells = least.cells; elements = least.elements; slots = slots })
+        → bytes ≡ length_of_image layout_in_use
+        (record { cells = least.cells; elements = least.elements; slots = slots })
         → result ≡ slots }
 {
     let more = bytes.saturating_sub(image_length(least)) / SLOT;

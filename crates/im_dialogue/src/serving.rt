@@ -338,12 +338,12 @@ fn serve_rested<D: Disk, R: BufRead + Ear, W: Write>(
 /// A line that isn't in the grammar is answered by where it goes wrong, and changes nothing. A line of more than 4,096
 /// bytes is such a line, and no more of it is kept. An end of the input without a line feed before it is no line.
 ///
-/// Up to 16 requests and confirmations are served as one group, if their lines follow each other in the reader's buffer,
-/// with lines between them that change nothing. Their answers are written together, and are those that the lines would
-/// have by themselves. A group ends before a confirmation that would drop an entry of which it isn't known, before the
-/// group acts, that it is answered: one that waits, or that a fetch or a take of the group makes. It also ends before a
-/// command that may change what a line ahead of it shows that only looks. No line waits for another. All other lines are
-/// answered before the next one is read.
+/// Up to 16 requests and confirmations are served as one group, if their lines follow each other in the reader's
+/// buffer, with lines between them that change nothing. Their answers are written together, and are those that the
+/// lines would have by themselves. A group ends before a confirmation that would drop an entry of which it isn't known,
+/// before the group acts, that it is answered: one that waits, or that a fetch or a take of the group makes. It also
+/// ends before a command that may change what a line ahead of it shows that only looks. No line waits for another. All
+/// other lines are answered before the next one is read.
 ///
 /// The reader tells whether something is there to be read. While nothing is, turns of a checkpoint are taken if there
 /// is room for less than half as many commands as the journal has slots.

@@ -100,7 +100,8 @@ fn add_held(out: &mut String, memory: &Memory, a: u32) -> Result<(), AllocError>
 
 // Adds `cell A KIND STATE`, or `cell A nocell`.
 fn add_cell(out: &mut String, memory: &Memory, a: u32) -> Result<(), AllocError>
-    ensures { OnOk result (string_bytes out.new ≡ string_bytes out.old ++ cell_said a (held_at memory.now.contents.cells a)) }
+    ensures { OnOk result (string_bytes out.new ≡ string_bytes out.old
+        ++ cell_said a (held_at memory.now.contents.cells a)) }
 {
     write!(out, "cell {a} ")?;
     add_held(out, memory, a)?;

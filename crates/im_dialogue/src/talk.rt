@@ -184,9 +184,9 @@ pub fn wrong<D: Disk>(engine: &Engine<D>, number: u64, fault: LineFault) -> Answ
     Answer::Wrong(number, fault)
 }
 
-/// Does on an engine what is asked, and returns the answer. Returns `None` if that ends the dialogue. The answer to a line
-/// that only looks is what the engine's memory shows then ([`crate::add_answer`]). Before a command, turns of a checkpoint
-/// are taken while there is no room for one. `slots` is how many slots the journal has.
+/// Does on an engine what is asked, and returns the answer. Returns `None` if that ends the dialogue. The answer to a
+/// line that only looks is what the engine's memory shows then ([`crate::add_answer`]). Before a command, turns of a
+/// checkpoint are taken while there is no room for one. `slots` is how many slots the journal has.
 ///
 /// Returns `Device` or `Failed` if a call of the disk failed. Then at most this command is in doubt, and what was said
 /// before stays. Any other refusal is an answer.

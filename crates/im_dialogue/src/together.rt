@@ -1,10 +1,12 @@
 //! Lines that stand together in the reader's buffer are served as one group.
-ghost use Rattle.std.specs.Prelude.{◌≡◌, ◌+◌, ◌∷◌, [], Bool, length, map, IfSome, OnOk, Some, List, ℕ, string_bytes, ◌++◌};
+ghost use Rattle.std.specs.Prelude.{◌≡◌, ◌+◌, ◌∷◌, [], Bool, length, map, IfSome, OnOk, Some, List, ℕ, string_bytes};
+ghost use Rattle.std.specs.Prelude.{◌++◌};
 ghost use Rattle.im_types.specs.declared.commands.Command.{Command};
 ghost use Rattle.im_engine.specs.State.{EngineState};
 ghost use Rattle.im_dialogue.specs.Answers.{answer_text};
 ghost use Rattle.im_dialogue.specs.Talk.{TalksThrough};
-ghost use Rattle.im_dialogue.specs.Together.{AreAsked, IsAsked, MayBeServed, line_answer, group_start, answers_behind, result_of};
+ghost use Rattle.im_dialogue.specs.Together.{AreAsked, IsAsked, MayBeServed, line_answer, group_start, answers_behind};
+ghost use Rattle.im_dialogue.specs.Together.{result_of};
 ghost use Rattle.im_dialogue.specs.Telling.{WasServed, SaysAll};
 ghost use Rattle.im_dialogue.specs.Watching.{told_with};
 
@@ -160,8 +162,8 @@ fn result_of(served: Served) -> Result<Outcome, Refusal>
     }
 }
 
-// Returns the answer to a part of a group that was served, given the answers to the members that aren't told yet. Returns
-// `None` if no answer is left for the part.
+// Returns the answer to a part of a group that was served, given the answers to the members that aren't told yet.
+// Returns `None` if no answer is left for the part.
 fn line_answer(answers: &[Served], part: GroupLine) -> Option<Answer>
     ensures { result ≡ line_answer answers.now part }
 {
@@ -241,8 +243,8 @@ fn make_lines<D: Disk>(
     Ok(told)
 }
 
-/// Serves a group, and prints its answers in the order of its lines, each with what those that watch are told behind it.
-/// Returns how many lines it answered: those up to the first member that wasn't served, at least one.
+/// Serves a group, and prints its answers in the order of its lines, each with what those that watch are told behind
+/// it. Returns how many lines it answered: those up to the first member that wasn't served, at least one.
 ///
 /// A member that finds no room is answered `JournalFull`. If a call of the disk fails, the dialogue ends. Then the
 /// commands of the group are on the disk all together or not at all, and none is answered.

@@ -5,7 +5,8 @@ ghost use Rattle.im_types.specs.declared.operations.Reply.TheVariants.{Value};
 ghost use Rattle.im_types.specs.Act.{act, at_cell, put, store};
 ghost use Rattle.im_types.specs.Contents.{held_at};
 ghost use Rattle.im_types.specs.Step.{asker, is_accepted};
-ghost use Rattle.im_dialogue.specs.Watching.{answers_nobody, is_of_kind, is_quiet, nows_text, resumed_by, told_by, told_now, told_with};
+ghost use Rattle.im_dialogue.specs.Watching.{answers_nobody, is_of_kind, is_quiet, nows_text, resumed_by, told_by};
+ghost use Rattle.im_dialogue.specs.Watching.{told_now, told_with};
 
 use crate::answers::Answer;
 use crate::asking::Asked;

@@ -27,7 +27,8 @@ reached_in s = record { contents = s.memory; count = s.count; room = s.room }
 
 -- the engine after the members of a group, one after another
 abbrev pub after_group : {D : Type 0} → EngineState D → List Request → EngineState D
-after_group s members = let r = reached_by_all (reached_in s) members in record s { memory = r.contents; count = r.count; room = r.room }
+after_group s members =
+    let r = reached_by_all (reached_in s) members in record s { memory = r.contents; count = r.count; room = r.room }
 
 -- the maximum number of pages with a record that the members may change, one after another
 abbrev pub most_pages_in : Reached → List Request → ℕ
@@ -52,7 +53,8 @@ abbrev pub answers_in : {D : Type 0} → EngineState D → List Request → List
 answers_in s members = map as_served (answers_of (reached_in s) members)
 
 -- an engine's answers to a group, and the engine after it, on any disk
-pub record GroupAnswered {D : Type 0} (old : EngineState D) (members : List Request) (answers : List Served) (new : EngineState D) : Type 0 where
+pub record GroupAnswered {D : Type 0} (old : EngineState D) (members : List Request) (answers : List Served)
+    (new : EngineState D) : Type 0 where
   pub dead : old.failed ≡ true → (answers ≡ all_refused Failed members) × (new ≡ old)
   pub none : old.failed ≡ false → group_put old members ≡ [] → (answers ≡ answers_in old members) × (new ≡ old)
   pub put : old.failed ≡ false → 0 < length (group_put old members) →
@@ -77,7 +79,8 @@ pub record FitsGroup (j : JournalState) (commands : List Command) : Type 0 where
 
 -- The calls that put commands on the disk as one group: this exact number, or no more at a refusal. If there are no
 -- commands, nothing can fail, and the disk is as it was.
-pub record GroupPut {D : Type 0} (past : D → List Moment) (honest : Type 0) (old new : D) (commands : List Command) (result : Result (Unit {0}) Refusal) : Type 0 where
+pub record GroupPut {D : Type 0} (past : D → List Moment) (honest : Type 0) (old new : D) (commands : List Command)
+    (result : Result (Unit {0}) Refusal) : Type 0 where
   pub made : honest → CallsBy past old new (calls_for_group (length commands)) result
   pub none : commands ≡ [] → (result ≡ Ok tt) × (new ≡ old)
 

@@ -26,10 +26,13 @@ use Rattle.im_engine.specs.declared.run.Answer.TheVariants.{Served as Told, Grou
 use Rattle.im_engine.specs.declared.run.Answer.TheVariants.{Swept as DidSweep}
 
 -- an engine's answer to one command, and the engine after it, on any disk
-pub record Answered {D : Type 0} (old : EngineState D) (command : Command) (answer : Result Outcome Refusal) (new : EngineState D) : Type 0 where
+pub record Answered {D : Type 0} (old : EngineState D) (command : Command) (answer : Result Outcome Refusal)
+    (new : EngineState D) : Type 0 where
   pub dead : old.failed ≡ true → (answer ≡ Err Failed) × (new ≡ old)
-  pub unaccepted : old.failed ≡ false → is_accepted old.memory command ≡ false → (answer ≡ (step old.memory command).answer) × (new ≡ old)
-  pub full : old.failed ≡ false → is_accepted old.memory command ≡ true → old.room ≡ 0 → (answer ≡ Err JournalFull) × (new ≡ old)
+  pub unaccepted : old.failed ≡ false → is_accepted old.memory command ≡ false
+      → (answer ≡ (step old.memory command).answer) × (new ≡ old)
+  pub full : old.failed ≡ false → is_accepted old.memory command ≡ true → old.room ≡ 0
+      → (answer ≡ Err JournalFull) × (new ≡ old)
   pub put : old.failed ≡ false → is_accepted old.memory command ≡ true → 0 < old.room →
       ((answer ≡ (step old.memory command).answer)
       × (new ≡ record (with_command old command) { disk = new.disk; pages = new.pages }))
@@ -52,23 +55,27 @@ pub record TurnTaken {D : Type 0} (old : EngineState D) (done : TurnDone) (new :
   pub pages : Moved old.pages done new.step new.pages
 
 -- an engine's answer to one turn, and the engine after it, on any disk
-pub record TurnAnswered {D : Type 0} (old : EngineState D) (answer : Result TurnDone Refusal) (new : EngineState D) : Type 0 where
+pub record TurnAnswered {D : Type 0} (old : EngineState D) (answer : Result TurnDone Refusal)
+    (new : EngineState D) : Type 0 where
   pub dead : old.failed ≡ true → (answer ≡ Err Failed) × (new ≡ old)
   pub alive : old.failed ≡ false →
       ((done : TurnDone) × (answer ≡ Ok done) × TurnTaken old done new)
       ⊎ ((answer ≡ Err Device) × (new ≡ record old { disk = new.disk; failed = true }))
 
 -- an engine's answer to a sweep of at most `most` slots, and the engine after it, on any disk
-pub record SweepAnswered {D : Type 0} (old : EngineState D) (most : ℕ) (answer : Result ℕ Refusal) (new : EngineState D) : Type 0 where
+pub record SweepAnswered {D : Type 0} (old : EngineState D) (most : ℕ) (answer : Result ℕ Refusal)
+    (new : EngineState D) : Type 0 where
   pub dead : old.failed ≡ true → (answer ≡ Err Failed) × (new ≡ old)
   pub alive : old.failed ≡ false →
-      (let n = swept_at_once old.step (journal_in old) most in (answer ≡ Ok n) × (new ≡ record old { disk = new.disk; room = old.room + n }))
+      (let n = swept_at_once old.step (journal_in old) most
+      in (answer ≡ Ok n) × (new ≡ record old { disk = new.disk; room = old.room + n }))
       ⊎ ((answer ≡ Err Device) × (new ≡ record old { disk = new.disk; failed = true }))
 
 -- an engine's answer to one event; the answer to a group has the room that it found
 abbrev pub EventAnswered : {D : Type 0} → EngineState D → Event → Answer → EngineState D → Type 0
 EventAnswered old (Serve command) (Told answer) new = Answered old command answer new
-EventAnswered old (Together members) (Grouped room served) new = (room ≡ old.room) × GroupAnswered old members served.items new
+EventAnswered old (Together members) (Grouped room served) new =
+    (room ≡ old.room) × GroupAnswered old members served.items new
 EventAnswered old Turn (TookTurn answer) new = TurnAnswered old answer new
 EventAnswered old (Sweep most) (DidSweep answer) new = SweepAnswered old most answer new
 EventAnswered old (Serve command) (Grouped room served) new = ⊥
@@ -96,7 +103,8 @@ abbrev pub AnsweredInTurn : {D : Type 0} → EngineState D → List Event → Li
 AnsweredInTurn old [] [] new = new ≡ old
 AnsweredInTurn old [] (answer ∷ answers) new = ⊥
 AnsweredInTurn old (event ∷ events) [] new = ⊥
-AnsweredInTurn {D} old (event ∷ events) (answer ∷ answers) new = (mid : EngineState D) × EventAnswered old event answer mid × AnsweredInTurn mid events answers new
+AnsweredInTurn {D} old (event ∷ events) (answer ∷ answers) new =
+    (mid : EngineState D) × EventAnswered old event answer mid × AnsweredInTurn mid events answers new
 
 -- the refusal says that a call of the disk failed
 abbrev pub is_device : Refusal → Bool
@@ -178,7 +186,8 @@ reached_at m count room = record { contents = m; count = count; room = room }
 abbrev pub in_doubt_by : Contents → ℕ → Event → Answer → List Command
 in_doubt_by m count (Serve command) answer = if is_accepted m command && is_doubt answer then command ∷ [] else []
 in_doubt_by m count (Together members) (Told answer) = []
-in_doubt_by m count (Together members) (Grouped room served) = if has_device served.items then puts_of (reached_at m count room) members else []
+in_doubt_by m count (Together members) (Grouped room served) =
+    if has_device served.items then puts_of (reached_at m count room) members else []
 in_doubt_by m count (Together members) (TookTurn answer) = []
 in_doubt_by m count (Together members) (DidSweep answer) = []
 in_doubt_by m count Turn answer = []
@@ -211,7 +220,8 @@ MeansAll s commands file = Means (after s.memory commands) (s.count + length com
 -- the file means what the engine is after the commands of a prefix of these events: of each event all commands, or none
 abbrev pub MeansBeginningOf : {D : Type 0} → EngineState D → List Event → List Answer → List ℕ → Type 0
 MeansBeginningOf s events answers file =
-    (many : ℕ) × (many ≤ length answers) × MeansAll s (put_on_disk s.memory s.count (take many events) (take many answers)) file
+    (many : ℕ) × (many ≤ length answers)
+    × MeansAll s (put_on_disk s.memory s.count (take many events) (take many answers)) file
 
 -- the file means what the engine is after these commands, or after these and all of those in doubt
 abbrev pub MeansWithOrWithout : {D : Type 0} → EngineState D → List Command → List Command → List ℕ → Type 0
@@ -227,7 +237,8 @@ MeansBeginning s commands file = (many : ℕ) × (many ≤ length commands) × M
 
 -- the file means what the engine is after all these commands, or after all but the last one, if that is in doubt
 abbrev pub MeansAllOrInDoubt : {D : Type 0} → Type 0 → EngineState D → List Command → List ℕ → Type 0
-MeansAllOrInDoubt doubt s commands file = (many : ℕ) × ((many ≡ length commands) ⊎ (doubt × (length commands ≡ many + 1))) × MeansAfter s commands many file
+MeansAllOrInDoubt doubt s commands file =
+    (many : ℕ) × ((many ≡ length commands) ⊎ (doubt × (length commands ≡ many + 1))) × MeansAfter s commands many file
 
 -- ---- failures
 
@@ -246,7 +257,8 @@ HasDevice (answer ∷ answers) = IsDevice answer ⊎ HasDevice answers
 -- an answer is `Device` exactly if the count of failures rose
 abbrev pub HasCause : Answer → ℕ → ℕ → Type 0
 HasCause (Told answer) old new = Faults (λ e. Unit {0}) answer old new
-HasCause (Grouped room served) old new = (has_device served.items ≡ true → Rises old new × (old ≤ new)) × (has_device served.items ≡ false → new ≡ old)
+HasCause (Grouped room served) old new =
+    (has_device served.items ≡ true → Rises old new × (old ≤ new)) × (has_device served.items ≡ false → new ≡ old)
 HasCause (TookTurn answer) old new = Faults (λ e. Unit {0}) answer old new
 HasCause (DidSweep answer) old new = Faults (λ e. Unit {0}) answer old new
 

@@ -40,7 +40,9 @@ engine_of d c m j failed = record {
 
 -- a memory is empty, and its records are those of an empty one
 abbrev pub IsEmptyMemory : Limits → MemoryState → Type 0
-IsEmptyMemory limits m = (m.contents ≡ empty_contents limits.cells limits.elements) × (m.records ≡ empty_records limits.cells limits.elements)
+IsEmptyMemory limits m =
+    (m.contents ≡ empty_contents limits.cells limits.elements)
+    × (m.records ≡ empty_records limits.cells limits.elements)
 
 -- the file means what the engine is, with at least its room
 abbrev pub MeansState : {D : Type 0} → EngineState D → List ℕ → Type 0
@@ -48,7 +50,8 @@ MeansState s file = Means s.memory s.count s.room file
 
 -- the engine with one more accepted command
 abbrev pub with_command : {D : Type 0} → EngineState D → Command → EngineState D
-with_command s command = record s { memory = (step s.memory command).contents; count = s.count + 1; room = room_after s.count 1 s.room }
+with_command s command =
+    record s { memory = (step s.memory command).contents; count = s.count + 1; room = room_after s.count 1 s.room }
 
 -- the file means what the engine is without a command, or with it
 abbrev pub MeansEither : {D : Type 0} → EngineState D → Command → List ℕ → Type 0
@@ -83,4 +86,6 @@ IsFirstFault fault file = Opens file (Err fault)
 
 -- reading the file gives the engine's header, memory and count, and exactly its room
 abbrev pub IsFound : {D : Type 0} → EngineState D → List ℕ → Type 0
-IsFound s file = (s.header ≡ header_of file) × Reads layout_in_use file (Ok (record { contents = s.memory; count = s.count; room = s.room }))
+IsFound s file =
+    (s.header ≡ header_of file)
+    × Reads layout_in_use file (Ok (record { contents = s.memory; count = s.count; room = s.room }))

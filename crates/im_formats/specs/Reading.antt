@@ -47,11 +47,14 @@ kept_of (Some op) (Some entry) = Some (Some (record { op = op; entry = entry }))
 
 -- the place of a session record that these fields stand for
 abbrev pub place_of : ℕ → ℕ → ℕ → ℕ → ℕ → Option (Option Kept)
-place_of code reply address value n = if code == 0 then Some None else kept_of (op_of code address value) (entry_of reply n)
+place_of code reply address value n =
+    if code == 0 then Some None else kept_of (op_of code address value) (entry_of reply n)
 
 -- the place that the fields of bytes stand for
 unfoldable pub place_in : List ℕ → Option (Option Kept)
-place_in bytes = place_of (slice_index bytes 0) (slice_index bytes 2) (number_at 4 4 bytes) (number_at 8 8 bytes) (number_at 8 16 bytes)
+place_in bytes =
+    place_of (slice_index bytes 0) (slice_index bytes 2) (number_at 4 4 bytes) (number_at 8 8 bytes)
+    (number_at 8 16 bytes)
 
 -- a place, if bytes are its spelling
 abbrev pub place_if : List ℕ → Option Kept → Option (Option Kept)
@@ -78,7 +81,8 @@ kind_of code = if code == 1 then Some I else if code == 2 then Some M else None
 abbrev pub block_cell : ℕ → ℕ → Option Kind → Option PresenceTag → Option CellRecord
 block_cell base length None tag = None
 block_cell base length (Some kind) None = None
-block_cell base length (Some kind) (Some tag) = Some (BlockCell (record { base = base; length = length; kind = kind }) tag)
+block_cell base length (Some kind) (Some tag) =
+    Some (BlockCell (record { base = base; length = length; kind = kind }) tag)
 
 -- the cell record that these fields stand for; a free cell has no kind
 abbrev pub cell_of : ℕ → ℕ → ℕ → ℕ → ℕ → ℕ → ℕ → Option CellRecord
@@ -89,7 +93,8 @@ cell_of code kind base length first last value =
 -- the cell record that the fields of bytes stand for
 unfoldable pub cell_in : List ℕ → Option CellRecord
 cell_in bytes =
-    cell_of (slice_index bytes 0) (slice_index bytes 1) (number_at 4 4 bytes) (number_at 4 8 bytes) (number_at 4 12 bytes) (number_at 4 16 bytes) (number_at 8 24 bytes)
+    cell_of (slice_index bytes 0) (slice_index bytes 1) (number_at 4 4 bytes) (number_at 4 8 bytes)
+    (number_at 4 12 bytes) (number_at 4 16 bytes) (number_at 8 24 bytes)
 
 -- a cell record, if bytes are its spelling
 abbrev pub cell_if : List ℕ → CellRecord → Option CellRecord
@@ -101,7 +106,8 @@ read_cell bytes = option_and_then (cell_if bytes) (cell_in bytes)
 
 -- the node record that these fields stand for
 abbrev pub node_of : ℕ → ℕ → ℕ → ℕ → NodeRecord
-node_of next element mark number = if mark == 0 then FreeNode next else ListNode next (record { element = element; number = number })
+node_of next element mark number =
+    if mark == 0 then FreeNode next else ListNode next (record { element = element; number = number })
 
 -- the node record that the fields of bytes stand for
 unfoldable pub node_in : List ℕ → NodeRecord

@@ -19,7 +19,8 @@ CopyState = History × List (Option ℕ) × ℕ
 
 -- a copy after a change that was put ahead; a change that isn't of its cells alone leaves it as it is
 abbrev pub applied_to : CopyState → Ahead → CopyState
-applied_to s ahead = if is_below (length s.1) ahead.change then (ahead.seen, written s.1 ahead.change, ahead.count) else s
+applied_to s ahead =
+    if is_below (length s.1) ahead.change then (ahead.seen, written s.1 ahead.change, ahead.count) else s
 
 -- a copy after all that was put ahead
 abbrev pub after_all : CopyState → List Ahead → CopyState

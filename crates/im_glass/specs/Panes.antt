@@ -3,7 +3,8 @@ use Rattle.std.specs.Prelude.{◌≡◌, ℕ, List, []}
 use Rattle.logbook.specs.Pages.{Book}
 use Rattle.im_types.specs.declared.changes.Change.{Change}
 
--- the changes that are shown, those that are put ahead, how many cells there are, and how many readers weren't given out
+-- the changes that are shown, those that are put ahead, how many cells there are, and how many readers weren't given
+-- out
 pub record PaneView : Type 0 where
   pub shown : List Change
   pub ahead : List Change

@@ -22,7 +22,8 @@ IsOf known book = (seen : History) → known.seen ≡ Some seen → seen.book �
 -- what is shown is kept, and each who has seen it knows its book
 abbrev pub IsShown : Copy → List Known → Type 0
 IsShown copy knowns =
-    IsKept (state_of copy) × ((seat : ℕ) (known : Known) → get_elem? knowns seat ≡ some known → IsOf known copy.seen.book)
+    IsKept (state_of copy)
+    × ((seat : ℕ) (known : Known) → get_elem? knowns seat ≡ some known → IsOf known copy.seen.book)
 
 -- a look sees what is then shown, which is kept and of the book that was known
 abbrev pub Looks : Known → Copy → Copy → Known → Type 0

@@ -44,13 +44,15 @@ answers_with m left (command ∷ commands) = answer_with m left command ∷ answ
 -- the memory after all members
 abbrev pub contents_after : Contents → ℕ → List Command → Contents
 contents_after m left [] = m
-contents_after m left (command ∷ commands) = contents_after (contents_with m left command) (places_behind m left command)
+contents_after m left (command ∷ commands) =
+    contents_after (contents_with m left command) (places_behind m left command)
     commands
 
 -- the places that are left after all members
 abbrev pub left_after : Contents → ℕ → List Command → ℕ
 left_after m left [] = left
-left_after m left (command ∷ commands) = left_after (contents_with m left command) (places_behind m left command) commands
+left_after m left (command ∷ commands) =
+    left_after (contents_with m left command) (places_behind m left command) commands
 
 -- the commands of the members that take a place, each judged after the members before it
 abbrev pub commands_at : Contents → ℕ → List Command → List Command
@@ -66,4 +68,5 @@ most_pages_at m left command = if takes_place m left command then most_pages m c
 abbrev pub most_pages_with : Contents → ℕ → List Command → ℕ
 most_pages_with m left [] = 0
 most_pages_with m left (command ∷ commands) =
-    most_pages_at m left command + most_pages_with (contents_with m left command) (places_behind m left command) commands
+    most_pages_at m left command
+    + most_pages_with (contents_with m left command) (places_behind m left command) commands

@@ -16,4 +16,6 @@ MayBecome (Answered reply) last = last ≡ Answered reply
 -- each accepted request has an entry in the end, or had one when it was dropped; it is the entry that it was given at
 -- once, or came from it
 abbrev pub EntryLaw : Contents → List Command → Type 0
-EntryLaw m commands = AllByRecursion (λ event. IsSomeAnd (last_entry m commands (asker event.request)) (MayBecome event.entry)) (events m commands)
+EntryLaw m commands =
+    AllByRecursion (λ event. IsSomeAnd (last_entry m commands (asker event.request)) (MayBecome event.entry))
+    (events m commands)

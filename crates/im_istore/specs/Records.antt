@@ -21,7 +21,8 @@ pub record LeavesCells (kind : Kind) (a : ℕ) (old new : List (Option Slot)) : 
   pub refused : (reply : Reply) → access_in kind (slot_at old a) ≡ Err reply → new ≡ old
 
 -- the parts of a table and an arena that a request leaves, if it may wait at the cell
-pub record LeavesRest (kind : Kind) (a : ℕ) (entry : Entry) (slots slots2 : List (Option Slot)) (arena arena2 : Shown) : Type 0 where
+pub record LeavesRest (kind : Kind) (a : ℕ) (entry : Entry) (slots slots2 : List (Option Slot))
+    (arena arena2 : Shown) : Type 0 where
   pub cells : LeavesCells kind a slots slots2
   pub nodes : arena2.held.nodes ≡ arena.held.nodes
   pub links : LeavesLinks entry a arena arena2

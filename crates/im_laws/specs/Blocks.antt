@@ -12,4 +12,5 @@ LiesIn a block = (block.base ≤ a) × (a < block.base + block.length)
 -- the reply of the block with this base, whatever change of its cells was asked for
 abbrev pub IsRefused : List (Option Held) → ℕ → Reply → Type 0
 IsRefused cells a reply =
-    (after : Block → List (Option Held)) (meant : Reply) → unless_waited_for after meant cells a (block_with_base a (held_at cells a)) ≡ only_tells cells reply
+    (after : Block → List (Option Held)) (meant : Reply)
+    → unless_waited_for after meant cells a (block_with_base a (held_at cells a)) ≡ only_tells cells reply

@@ -38,7 +38,8 @@ waiter element number = record { element = element; number = number }
 
 -- the line of a request of an element under a number, and its answer
 abbrev pub asks : ℕ → ℕ → Op → Result Outcome Refusal → Line
-asks element number op answer = record { call = Commands (Asks (record { element = element; number = number; op = op })); answer = answer }
+asks element number op answer =
+    record { call = Commands (Asks (record { element = element; number = number; op = op })); answer = answer }
 
 -- a confirmation, and its answer
 abbrev pub confirms : ℕ → ℕ → Result Outcome Refusal → Line
@@ -251,14 +252,17 @@ two_lives =
     ∷ []
 
 -- for each request of a life, the entry that the laws give, if they give one, beside the last entry that it had
-abbrev pub beside : Contents → List Command → Kind → ℕ → List Event → List Event → List Event → List (Option Entry × Option Entry)
+abbrev pub beside : Contents → List Command → Kind → ℕ → List Event → List Event → List Event
+    → List (Option Entry × Option Entry)
 beside m commands kind a all before [] = []
 beside m commands kind a all before (event ∷ later) =
-    (lawful_entry kind a all before event event.request.op, last_entry m commands (asker event.request)) ∷ beside m commands kind a all (before ++ event ∷ []) later
+    (lawful_entry kind a all before event event.request.op, last_entry m commands (asker event.request))
+    ∷ beside m commands kind a all (before ++ event ∷ []) later
 
 -- the same for each life of a run
 abbrev pub in_lives : Contents → List Command → ℕ → List (List (Option Entry × Option Entry))
-in_lives m commands a = map (λ (life : Life). beside m commands life.kind a life.requests [] life.requests) (lives (events m commands))
+in_lives m commands a =
+    map (λ (life : Life). beside m commands life.kind a life.requests [] life.requests) (lives (events m commands))
 
 -- the laws give this entry, and it is the last one that the request had
 abbrev pub lawful : Entry → Option Entry × Option Entry

@@ -30,7 +30,8 @@ pub record TakesNextNumber (m : Contents) (r : Request) : Type 0 where
   pub base : ℕ
   pub before : bounds m.windows r.element ≡ Ok (base, r.number)
   pub after : bounds (step m (Asks r)).contents.windows r.element ≡ Ok (base, r.number + 1)
-  pub others : (element : ℕ) → element ≢ r.element → bounds (step m (Asks r)).contents.windows element ≡ bounds m.windows element
+  pub others : (element : ℕ) → element ≢ r.element
+      → bounds (step m (Asks r)).contents.windows element ≡ bounds m.windows element
 
 -- the base rises to the confirmed number; the next number stays, and so do the bounds of all other windows
 pub record MovesBase (m : Contents) (element upto : ℕ) : Type 0 where
@@ -40,7 +41,8 @@ pub record MovesBase (m : Contents) (element upto : ℕ) : Type 0 where
   pub after : bounds (step m (Confirm element upto)).contents.windows element ≡ Ok (upto, next)
   pub rises : base < upto
   pub reached : upto ≤ next
-  pub others : (other : ℕ) → other ≢ element → bounds (step m (Confirm element upto)).contents.windows other ≡ bounds m.windows other
+  pub others : (other : ℕ) → other ≢ element
+      → bounds (step m (Confirm element upto)).contents.windows other ≡ bounds m.windows other
 
 -- the request has its element's next number, which isn't past the last number of all, and the window has room for it
 pub record IsNextRequest (windows : List Window) (r : Request) : Type 0 where
@@ -55,5 +57,6 @@ pub record IsConfirmable (windows : List Window) (element upto : ℕ) : Type 0 w
   pub next : ℕ
   pub are : bounds windows element ≡ Ok (base, next)
   pub reached : upto ≤ next
-  pub answered : (number : ℕ) (k : Kept) → number < upto → kept_for windows (record { element = element; number = number }) ≡ Some k
+  pub answered : (number : ℕ) (k : Kept) → number < upto
+      → kept_for windows (record { element = element; number = number }) ≡ Some k
       → is_waiting k ≡ false

@@ -48,7 +48,8 @@ pub record Carries (old : Moment) (new : ImageState) (P : List ℕ → Type 0) :
   pub means : new.lost ≡ false → LeavesNow new.engine.disk.now (MeansState new.engine)
 
 -- The first members are served together, as many as there are answers. The others are untouched.
-pub record ServesFirst (old : ImageState) (members : List Command) (answers : List Served) (new : ImageState) : Type 0 where
+pub record ServesFirst (old : ImageState) (members : List Command) (answers : List Served)
+    (new : ImageState) : Type 0 where
   -- how many are served, and where it ends
   pub begins : ServesPrefix (begun_in old).memory (commands_put (begun_in old) (take (length answers) members)) members
       (length answers)

@@ -40,7 +40,8 @@ pub record Listing : Type 0 where
 
 -- what the disk shows, by the history of its calls
 abbrev pub shown : History → List Step → Bool → Listing
-shown h steps failed = record { now = h.now; past = h.past; begun = h.begun; steps = map task_of steps; failed = failed }
+shown h steps failed =
+    record { now = h.now; past = h.past; begun = h.begun; steps = map task_of steps; failed = failed }
 
 -- a moment later, with these steps
 abbrev pub later_with : Moment → List Task → Listing → Listing
@@ -77,7 +78,8 @@ Lists result told old new = MatchResult result (λ _. new ≡ told) (λ _. new �
 
 -- After any prefix of these steps, from this moment on, each file that a crash may leave has P.
 abbrev pub LeftOnTheWay : Moment → List Task → (List ℕ → Type 0) → Type 0
-LeftOnTheWay m steps P = (many : ℕ) (file : List ℕ) → many ≤ length steps → Left (carried m (take many steps)) file → P file
+LeftOnTheWay m steps P =
+    (many : ℕ) (file : List ℕ) → many ≤ length steps → Left (carried m (take many steps)) file → P file
 
 -- Carrying out the list leads from its start to the file now. A crash on the way leaves what the disk says.
 pub record Accounts (d : Listing) : Type 0 where

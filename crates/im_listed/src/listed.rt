@@ -176,7 +176,8 @@ impl Disk for Listed {
 
     fn sync(&mut self) -> Result<(), DeviceFault>
         ensures answer { Lists result
-            (later_with (synced self.old.now) (settled (is_calm self.old.now) self.old.steps) self.old) self.old self.new }
+            (later_with (synced self.old.now) (settled (is_calm self.old.now) self.old.steps) self.old)
+            self.old self.new }
         ensures failures { Counts result (told self.old.failed self.old.begun) (told self.new.failed self.new.begun) }
         ensures honest { ⟦<Listed as Disk>⟧.honest self.new }
     {

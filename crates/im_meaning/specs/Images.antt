@@ -28,7 +28,8 @@ pub record InForce (l : Layout) (h : Header) (file : List ℕ) : Type 0 where
   pub below : IsBelow h.generation (header_place (other h) file)
 
 -- an image: the header in force, the memory that its pages show, the commands of its journal and the room behind them
-pub record IsImage (l : Layout) (h : Header) (shown : Contents) (commands : List Command) (room : ℕ) (file : List ℕ) : Type 0 where
+pub record IsImage (l : Layout) (h : Header) (shown : Contents) (commands : List Command) (room : ℕ)
+    (file : List ℕ) : Type 0 where
   pub in_force : InForce l h file
   pub shows : Shows l h.sizes (area_of l h.sizes h.area file) shown
   pub journal : tail (ring_of l h.sizes) h.count file ≡ Some (record { commands = commands; room = room })

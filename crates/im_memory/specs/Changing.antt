@@ -10,7 +10,8 @@ use Rattle.im_memory.specs.declared.acts.Resumed.TheVariants.{Nobody, Taker, Rea
 use Rattle.im_memory.specs.Touched.{IsOther, Places, places}
 
 -- a table and an arena change only at these cells and nodes
-pub record ChangesAt (p : Places) (slots : List (Option Slot)) (arena : Shown) (slots2 : List (Option Slot)) (arena2 : Shown) : Type 0 where
+pub record ChangesAt (p : Places) (slots : List (Option Slot)) (arena : Shown) (slots2 : List (Option Slot))
+    (arena2 : Shown) : Type 0 where
   pub cells : (a : ℕ) → IsOther p.cells a → slice_get slots2 a ≡ slice_get slots a
   pub ends : (a : ℕ) → IsOther p.cells a → slice_get arena2.links.ends a ≡ slice_get arena.links.ends a
   pub nodes : (n : ℕ) → IsOther p.nodes n → slice_get arena2.links.records n ≡ slice_get arena.links.records n
@@ -27,7 +28,8 @@ IsAway arena list n = (i : ℕ) → i < length (list_at arena.held list) → n �
 abbrev pub AreAmong : Places → Resumed → Shown → Type 0
 AreAmong p Nobody arena = Unit {0}
 AreAmong p (Taker who value) arena = Unit {0}
-AreAmong p (Readers a value) arena = ((b : ℕ) → IsOther p.cells b → b ≢ a) × ((n : ℕ) → IsOther p.nodes n → IsAway arena a n)
+AreAmong p (Readers a value) arena =
+    ((b : ℕ) → IsOther p.cells b → b ≢ a) × ((n : ℕ) → IsOther p.nodes n → IsAway arena a n)
 
 -- the arena after the readers of a cell are taken off its list: other lists and nodes stay
 pub record IsDrained (a : ℕ) (arena arena2 : Shown) : Type 0 where

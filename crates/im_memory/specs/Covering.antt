@@ -126,5 +126,7 @@ IsOfBlock m (Confirm element upto) old new = Unit {0}
 -- a request that is answered with NoCell, and a confirmation, add only the page of the element's session
 abbrev pub IsAlone : Contents → Command → List Bool → List Bool → Type 0
 IsAlone m (Asks r) old new =
-    (act m.cells (asker r) r.op).entry ≡ Answered NoCell → new ≡ with_page old (page_of_session (length m.cells) (length m.windows) r.element)
-IsAlone m (Confirm element upto) old new = new ≡ with_page old (page_of_session (length m.cells) (length m.windows) element)
+    (act m.cells (asker r) r.op).entry ≡ Answered NoCell
+    → new ≡ with_page old (page_of_session (length m.cells) (length m.windows) r.element)
+IsAlone m (Confirm element upto) old new =
+    new ≡ with_page old (page_of_session (length m.cells) (length m.windows) element)

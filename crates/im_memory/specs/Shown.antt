@@ -41,7 +41,8 @@ cell_records (slot ∷ slots) (e ∷ ends) = cell_record slot e ∷ cell_records
 
 -- all records of a table, an arena and windows
 abbrev pub records_of : List (Option Slot) → Shown → List Window → Records
-records_of slots arena windows = record { cells = cell_records slots arena.links.ends; nodes = arena.links.records; windows = windows }
+records_of slots arena windows =
+    record { cells = cell_records slots arena.links.ends; nodes = arena.links.records; windows = windows }
 
 -- the links of this memory lead through its lists
 pub record IsShown (slots : List (Option Slot)) (arena : Shown) (windows : List Window) : Type 0 where

@@ -44,7 +44,8 @@ abbrev pub IsNoSource : Asked → Refusal → List ℕ → Type 0
 IsNoSource asked e old = Opens old (Err e) ⊎ ((e ≡ BadLimits) × ((reached : Reached)
     × Reads layout_in_use old (Ok reached) × HasNoCopy (sizes_asked asked (header_of old).sizes) reached.contents))
 
--- a refusal to read what is to be copied: too little memory, a call of the disk, or, if this holds, one of these reasons
+-- a refusal to read what is to be copied: too little memory, a call of the disk, or, if this holds, one of these
+-- reasons
 abbrev pub SourceFails : Asked → Type 0 → List ℕ → Refusal → Type 0
 SourceFails asked H old e = (e ≡ NoMemory) ⊎ (e ≡ Device) ⊎ (H → IsNoSource asked e old)
 

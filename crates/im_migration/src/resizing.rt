@@ -1,5 +1,6 @@
 //! Gives a memory other numbers of cells and elements.
-ghost use Rattle.std.specs.Prelude.{◌≡◌, ◌⊎◌, ◌*◌, ◌<◌, ◌≤◌, ◌-◌, ℕ, [], length, replicate, None, true, false, IfOk, IfErr};
+ghost use Rattle.std.specs.Prelude.{◌≡◌, ◌⊎◌, ◌*◌, ◌<◌, ◌≤◌, ◌-◌, ℕ, [], length, replicate, None, true, false, IfOk};
+ghost use Rattle.std.specs.Prelude.{IfErr};
 ghost use Rattle.std.specs.Prelude.{IfSome, IfNone, OnOk, IsSome, slice_set};
 ghost use Rattle.std.specs.List.{sum_by};
 ghost use Rattle.im_types.specs.declared.TheConstants.{NONE, WINDOW};

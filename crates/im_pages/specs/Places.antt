@@ -15,10 +15,12 @@ page_of_node cells n = pages_for cell_record_bytes cells + n / on_a_page node_re
 -- the page that shows an element's session, in an area with these numbers of cells and elements
 abbrev pub page_of_session : ℕ → ℕ → ℕ → ℕ
 page_of_session cells elements element =
-    pages_for cell_record_bytes cells + pages_for node_record_bytes (layout_in_use.window * elements) + element / on_a_page (session_record_bytes layout_in_use)
+    pages_for cell_record_bytes cells + pages_for node_record_bytes (layout_in_use.window * elements)
+    + element / on_a_page (session_record_bytes layout_in_use)
 
 -- the records of two memories, with these numbers of cells and elements, agree on all that a page shows
 pub record AgreeOnPage (cells elements : ℕ) (old new : Records) (page : ℕ) : Type 0 where
   pub cells_agree : (a : ℕ) → page_of_cell a ≡ page → slice_get new.cells a ≡ slice_get old.cells a
   pub nodes_agree : (n : ℕ) → page_of_node cells n ≡ page → slice_get new.nodes n ≡ slice_get old.nodes n
-  pub windows_agree : (e : ℕ) → page_of_session cells elements e ≡ page → slice_get new.windows e ≡ slice_get old.windows e
+  pub windows_agree : (e : ℕ) → page_of_session cells elements e ≡ page
+      → slice_get new.windows e ≡ slice_get old.windows e

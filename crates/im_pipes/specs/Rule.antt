@@ -20,9 +20,11 @@ module _ {T : Type 0} where
   -- a pass that may send is the writer's, and has the list of what was sent; one that may receive likewise
   abbrev pub Fits : ℕ → ℕ → List (Option T) → List (Option T) → ℕ → Log T → Type 0
   Fits writer reader sent received pass l =
-      (l.sends ≡ true → (pass ≡ writer) × (l.sent ≡ sent)) × (l.receives ≡ true → (pass ≡ reader) × (l.received ≡ received))
+      (l.sends ≡ true → (pass ≡ writer) × (l.sent ≡ sent))
+      × (l.receives ≡ true → (pass ≡ reader) × (l.received ≡ received))
 
   -- what was sent is what was received, and then what the pipe holds; one pass at most may send, and one receive
   abbrev pub IsRelayed : List (Option T) → List (Log T) → Type 0
-  IsRelayed held logs = (writer : ℕ) × (reader : ℕ) × (sent : List (Option T)) × (received : List (Option T)) × (sent ≡ received ++ held)
+  IsRelayed held logs =
+      (writer : ℕ) × (reader : ℕ) × (sent : List (Option T)) × (received : List (Option T)) × (sent ≡ received ++ held)
       × ((pass : ℕ) (l : Log T) → get_elem? logs pass ≡ some l → Fits writer reader sent received pass l)

@@ -83,7 +83,11 @@ impl<T: Drop> Model for Outlet<T> {
 
     ghost Value = { PipeEnd T };
 
-    ghost view = { λ s. record { pipe = pipe_of s.pass; items = items_of (handed_of (known s.pass).received s.held.items); ended = s.ended } };
+    ghost view = { λ s. record {
+      pipe = pipe_of s.pass;
+      items = items_of (handed_of (known s.pass).received s.held.items);
+      ended = s.ended;
+    } };
 
     ghost invariant = { λ s. IsSeatAt (receives_on s.receiver) s.pass
         × (known s.pass ≡ log false true []

@@ -12,7 +12,8 @@ abbrev pub contents_of : List (Option Slot) → List Deferred → List Window �
 contents_of slots queue windows = record { cells = joined slots queue; windows = windows }
 
 -- slots, a queue and windows show a memory, and the queue has room for a whole window of each element
-pub record MakesMemory (slots : List (Option Slot)) (queue : List Deferred) (capacity : ℕ) (windows : List Window) : Type 0 where
+pub record MakesMemory (slots : List (Option Slot)) (queue : List Deferred) (capacity : ℕ)
+    (windows : List Window) : Type 0 where
   pub fits : Fits slots queue
   pub memory : IsMemory (length slots) (length windows) (contents_of slots queue windows)
   pub few_cells : length slots ≤ MAX_CELLS

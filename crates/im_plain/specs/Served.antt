@@ -42,10 +42,12 @@ pub record HasServed (served : Served) (who : Waiter) (waiters : List Waiter) (w
 -- the same, for each asker and any waiting requests
 abbrev pub Serves : State → ℕ → Served → (Waiter → CellState → ServedCell) → Type 0
 Serves state waiting served was =
-    (who : Waiter) (waiters : List Waiter) → AreWaiting state waiting waiters → HasServed served who waiters (was who (state_of state waiters))
+    (who : Waiter) (waiters : List Waiter) → AreWaiting state waiting waiters
+    → HasServed served who waiters (was who (state_of state waiters))
 
 -- slots and queue are the effect of an operation, once the requests that are given a value have left the queue
-pub record HasActed (slots : List (Option Slot)) (queue : List Deferred) (acted : Acted) (was : ActedCells) : Type 0 where
+pub record HasActed (slots : List (Option Slot)) (queue : List Deferred) (acted : Acted)
+    (was : ActedCells) : Type 0 where
   pub cells : joined slots (without acted.count acted.address queue) ≡ was.cells
   pub fits : Fits slots (without acted.count acted.address queue)
   pub told : acted.entry ≡ was.entry

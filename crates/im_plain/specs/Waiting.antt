@@ -10,13 +10,15 @@ use Rattle.im_plain.specs.declared.queue.Deferred.{Deferred}
 -- the requests that wait at a cell, in their order
 abbrev pub waiting_at : ℕ → List Deferred → List Waiter
 waiting_at a [] = []
-waiting_at a (deferred ∷ queue) = if deferred.address == a then deferred.waiter ∷ waiting_at a queue else waiting_at a queue
+waiting_at a (deferred ∷ queue) =
+    if deferred.address == a then deferred.waiter ∷ waiting_at a queue else waiting_at a queue
 
 -- the queue without the first n requests that wait at a cell
 abbrev pub without : ℕ → ℕ → List Deferred → List Deferred
 without zero a queue = queue
 without (suc n) a [] = []
-without (suc n) a (deferred ∷ queue) = if deferred.address == a then without n a queue else deferred ∷ without (suc n) a queue
+without (suc n) a (deferred ∷ queue) =
+    if deferred.address == a then without n a queue else deferred ∷ without (suc n) a queue
 
 -- the queue after a request at a cell, by its entry: a waiting request is put at the end
 abbrev pub parked : Entry → ℕ → Waiter → List Deferred → List Deferred

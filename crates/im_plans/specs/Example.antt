@@ -20,7 +20,9 @@ two_cells = after (empty_contents 16 4) (Asks (asks 0 1 (Alloc I 2)) ∷ [])
 
 -- two fetches, the two stores, a fetch of a cell that another fetched too, and one in no block
 abbrev pub a_plan : List Request
-a_plan = asks 1 1 (Fetch 0) ∷ asks 1 2 (Fetch 1) ∷ asks 2 1 (Store 0 5) ∷ asks 2 2 (Store 1 6) ∷ asks 3 1 (Fetch 0) ∷ asks 3 2 (Fetch 9) ∷ []
+a_plan =
+    asks 1 1 (Fetch 0) ∷ asks 1 2 (Fetch 1) ∷ asks 2 1 (Store 0 5) ∷ asks 2 2 (Store 1 6) ∷ asks 3 1 (Fetch 0)
+    ∷ asks 3 2 (Fetch 9) ∷ []
 
 -- the results of a plan's requests
 abbrev pub results_of : Contents → List Request → List (Option Reply)

@@ -6,7 +6,18 @@ use Rattle.std.specs.List.{before_first, after_first, position_or_len}
 use Rattle.std.specs.Str.{bytes_eq}
 use Rattle.clap.specs.declared.builder.action.ArgAction.TheVariants.{SetTrue}
 use Rattle.clap.specs.declared.builder.value_parser.ValueParser.TheVariants.{Unsigned}
-use Rattle.clap.specs.Words.{App, Row, Rule, Text, first_of, new_app, new_rule, subcommand_of, with_rule, with_subcommand}
+use Rattle.clap.specs.Words.{
+  App,
+  Row,
+  Rule,
+  Text,
+  first_of,
+  new_app,
+  new_rule,
+  subcommand_of,
+  with_rule,
+  with_subcommand,
+}
 use Rattle.im_program.specs.declared.words.Way.{Way}
 use Rattle.im_program.specs.declared.words.Way.TheVariants.{Free, Planned, Once}
 use Rattle.im_program.specs.declared.words.Work.{Work}
@@ -40,11 +51,15 @@ wait_rule = record (option_rule (codes "wait")) { parser = Some (Unsigned 0 8640
 
 -- a subcommand that takes a path, with [--statuses] and [--wait SECONDS]
 abbrev pub file_app : Text → Text → App
-file_app name path = with_rule (with_rule (with_rule (new_app name) (flag_rule (codes "statuses"))) wait_rule) (path_rule path)
+file_app name path =
+    with_rule (with_rule (with_rule (new_app name) (flag_rule (codes "statuses"))) wait_rule) (path_rule path)
 
 -- format IMAGE [--cells N] [--elements N] [--slots N] [--new] [--statuses] [--wait SECONDS]
 abbrev pub format_app : App
-format_app = with_rule (with_rule (with_rule (with_rule (file_app (codes "format") (codes "IMAGE")) (option_rule (codes "cells"))) (option_rule (codes "elements"))) (option_rule (codes "slots"))) (flag_rule (codes "new"))
+format_app =
+    with_rule (with_rule (with_rule
+    (with_rule (file_app (codes "format") (codes "IMAGE")) (option_rule (codes "cells")))
+    (option_rule (codes "elements"))) (option_rule (codes "slots"))) (flag_rule (codes "new"))
 
 -- NAME IMAGE SCRIPT [--statuses] [--wait SECONDS]
 abbrev pub script_app : Text → App
@@ -66,7 +81,8 @@ serve_app = with_rule (file_app (codes "serve") (codes "IMAGE")) (flag_rule (cod
 -- inspect IMAGE [--cells FROM-TO] [--element K] [--waiting] [--json] [--statuses] [--wait SECONDS]
 abbrev pub inspect_app : App
 inspect_app = with_rule (with_rule (with_rule (with_rule (file_app (codes "inspect") (codes "IMAGE"))
-    (option_rule (codes "cells"))) (option_rule (codes "element"))) (flag_rule (codes "waiting"))) (flag_rule (codes "json"))
+    (option_rule (codes "cells"))) (option_rule (codes "element"))) (flag_rule (codes "waiting")))
+    (flag_rule (codes "json"))
 
 -- NAME IMAGE [--json] [--statuses] [--wait SECONDS]
 abbrev pub json_app : Text → App
@@ -177,7 +193,9 @@ is_given rows id = bytes_eq (path_in rows id) (codes "true")
 -- the task of format, if each number that is given is in decimal digits below 2^32
 abbrev pub format_task : List Row → Option Task
 format_task rows =
-    option_and_then (λ cells. option_and_then (λ elements. option_map (λ slots. format (path_in rows (codes "IMAGE")) cells elements slots (is_given rows (codes "new")))
+    option_and_then (λ cells. option_and_then
+    (λ elements. option_map
+    (λ slots. format (path_in rows (codes "IMAGE")) cells elements slots (is_given rows (codes "new")))
     (number_in rows (codes "slots") 256)) (number_in rows (codes "elements") 16)) (number_in rows (codes "cells") 4096)
 
 -- the task of serial, by its two paths and whether it is done once
@@ -214,7 +232,8 @@ is_dash byte = byte == 45
 -- the addresses of a text FROM-TO
 abbrev pub span_in : Text → Option Span
 span_in text =
-    if nat_lt (position_or_len is_dash text) (length text) then span_between (before_first is_dash text) (after_first is_dash text)
+    if nat_lt (position_or_len is_dash text) (length text)
+    then span_between (before_first is_dash text) (after_first is_dash text)
     else None
 
 -- the addresses that a text gives

@@ -21,7 +21,8 @@ use Rattle.im_program.specs.declared.words.Way.TheVariants.{Free, Planned, Once}
 use Rattle.im_program.specs.Words.{Task, demonstration, format, serial, run, serve, inspect, migrate, copy, dump, load}
 
 -- a script was served on this disk, once or anew
-abbrev pub ScriptServed : {D : Type 0} → Bool → (D → Moment) → (D → List Moment) → (D → ℕ) → Moment → D → Option (List ℕ) → Option (List ℕ) → ℕ → Type 0
+abbrev pub ScriptServed : {D : Type 0} → Bool → (D → Moment) → (D → List Moment) → (D → ℕ) → Moment → D
+    → Option (List ℕ) → Option (List ℕ) → ℕ → Type 0
 ScriptServed {D} true = ServedOnceFrom {D = D}
 ScriptServed {D} false = ServedFrom {D = D}
 
@@ -40,19 +41,27 @@ ScriptRan {D} false = RanFrom {D = D}
 -- A task was done on this disk, with this status. The disk's file held the first moment when it was opened. The writer
 -- held the first bytes before, and holds the others now. The demonstration opens no file. The result of a migration or
 -- a copy is stated below, because they open two files.
-abbrev pub DoneOn : {D : Type 0} → (D → Moment) → (D → List Moment) → (D → ℕ) → Moment → Task → Option (List ℕ) → Option (List ℕ) → ℕ → D → Type 0
+abbrev pub DoneOn : {D : Type 0} → (D → Moment) → (D → List Moment) → (D → ℕ) → Moment → Task → Option (List ℕ)
+    → Option (List ℕ) → ℕ → D → Type 0
 DoneOn now past failures first demonstration was is status disk = ⊥
 DoneOn now past failures first (format image cells elements slots is_new) was is status disk =
-    (status ≡ 0) × AreLimits cells elements slots × LeavesNow (now disk) (λ file. file ≡ new_image 0xA5 (record { cells = cells; elements = elements; slots = slots }))
-DoneOn now past failures first (serial image script once) was is status disk = ScriptServed once now past failures first disk was is status
+    (status ≡ 0) × AreLimits cells elements slots
+    × LeavesNow (now disk)
+    (λ file. file ≡ new_image 0xA5 (record { cells = cells; elements = elements; slots = slots }))
+DoneOn now past failures first (serial image script once) was is status disk =
+    ScriptServed once now past failures first disk was is status
 DoneOn now past failures first (run image script way trace) was is status disk =
     (calls : TraceState) × ScriptRan (is_once way) now past failures first disk was is calls status
-DoneOn now past failures first (serve image watch) was is status disk = TalkedFrom watch now past first disk was is status
-DoneOn now past failures first (inspect image look) was is status disk = (status ≡ 0 → ShowsView look first.bytes was is) × ReadsOnly first (now disk) [] (past disk)
+DoneOn now past failures first (serve image watch) was is status disk =
+    TalkedFrom watch now past first disk was is status
+DoneOn now past failures first (inspect image look) was is status disk =
+    (status ≡ 0 → ShowsView look first.bytes was is) × ReadsOnly first (now disk) [] (past disk)
 DoneOn now past failures first (migrate old new) was is status disk = Unit {0}
 DoneOn now past failures first (copy old new asked) was is status disk = Unit {0}
-DoneOn now past failures first (dump image) was is status disk = (status ≡ 0 → Dumps first.bytes was is) × ReadsOnly first (now disk) [] (past disk)
-DoneOn now past failures first (load text new asked) was is status disk = LoadedFrom now past first asked disk was is status
+DoneOn now past failures first (dump image) was is status disk =
+    (status ≡ 0 → Dumps first.bytes was is) × ReadsOnly first (now disk) [] (past disk)
+DoneOn now past failures first (load text new asked) was is status disk =
+    LoadedFrom now past first asked disk was is status
 
 -- the task opens two files
 abbrev pub IsOfTwo : Task → Type 0

@@ -156,7 +156,8 @@ impl<'a, R: Eprint + AllocGlobal> Console<'a, R> {
             }
             Reason::Request(element, Refusal::BadScript) => {
                 eprintln!(self.rt;
-                    "imem: {path}: element {element} confirmed requests that the script doesn't have: another script used this image"
+                    "imem: {path}: element {element} confirmed requests that the script doesn't have: \
+                     another script used this image"
                 )
             }
             Reason::Output(_) if self.held.stands_for(1) => {

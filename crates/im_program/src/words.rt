@@ -5,7 +5,8 @@ ghost use Rattle.clap.specs.Words.{app_of, fault_of, first_of, found_of, kind_of
 ghost use Rattle.clap.specs.Words.{subcommand_rows_of, takes};
 ghost use Rattle.clap.specs.declared.builder.command.Command.TheViews.{out-Command};
 ghost use Rattle.im_script.specs.Grammar.{texts};
-ghost use Rattle.im_program.specs.Words.{asked, asks_statuses, earlier_app, file_app, flag_rule, format_app, format_task};
+ghost use Rattle.im_program.specs.Words.{asked, asks_statuses, earlier_app, file_app, flag_rule, format_app};
+ghost use Rattle.im_program.specs.Words.{format_task};
 ghost use Rattle.im_program.specs.Words.{has_statuses, imem_app};
 ghost use Rattle.im_program.specs.Words.{is_given, migrate_app, migrate_task, number_in, option_rule, path_in};
 ghost use Rattle.im_program.specs.Words.{path_rule, run_app, run_task, script_app, way_with};

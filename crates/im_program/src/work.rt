@@ -406,8 +406,8 @@ pub(crate) fn warn<N: Observer>(is_unsynced: bool, observer: &mut N) {
     }
 }
 
-/// Prints what is wanted of the image of a file. Returns the status of [`look_on`] and the image's disk; [`look_on`] also
-/// says which lines are printed.
+/// Prints what is wanted of the image of a file. Returns the status of [`look_on`] and the image's disk; [`look_on`]
+/// also says which lines are printed.
 ///
 /// The clauses hold for whatever the image held when it was opened (`S`), as long as the file was honest. With status 0
 /// what is wanted of those bytes is written to `out`. A crash leaves nothing that the file couldn't leave when it was

@@ -1,5 +1,23 @@
 -- Whether events were answered as the sequential memory answers them, and how many calls left commands in doubt. (Own.)
-use Rattle.std.specs.Prelude.{◌≡◌, ◌⊎◌, ℕ, ◌+◌, ◌<◌, max, Bool, true, false, List, [], ◌∷◌, length, map, Ok, Err, if◌then◌else◌}
+use Rattle.std.specs.Prelude.{
+  ◌≡◌,
+  ◌⊎◌,
+  ℕ,
+  ◌+◌,
+  ◌<◌,
+  max,
+  Bool,
+  true,
+  false,
+  List,
+  [],
+  ◌∷◌,
+  length,
+  map,
+  Ok,
+  Err,
+  if◌then◌else◌,
+}
 use Rattle.im_types.specs.declared.refusals.Refusal.TheVariants.{JournalFull, Device, Failed}
 use Rattle.im_types.specs.Contents.{Contents}
 use Rattle.im_types.specs.Step.{step, is_accepted}
@@ -8,7 +26,13 @@ use Rattle.im_types.specs.Groups.{as_served, answers_of, puts_of}
 use Rattle.im_engine.specs.declared.run.Event.{Event}
 use Rattle.im_engine.specs.declared.run.Event.TheVariants.{Command as Serve, Group as Together, Turn, Sweep}
 use Rattle.im_engine.specs.declared.run.Answer.{Answer}
-use Rattle.im_engine.specs.declared.run.Answer.TheVariants.{Served as Told, Grouped, Turned as TookTurn, Swept as DidSweep}
+use Rattle.im_engine.specs.declared.run.Answer.TheVariants.{
+  Served as Told,
+  Grouped,
+  Turned as TookTurn,
+  Swept as
+      DidSweep,
+}
 use Rattle.im_engine.specs.Groups.{all_refused}
 use Rattle.im_engine.specs.Run.{is_device, has_device, is_doubt, acknowledged_by, reached_at}
 
@@ -63,7 +87,8 @@ IsFailed (Sweep most) (DidSweep answer) = answer ≡ Err Failed
 -- get `JournalFull`. If a member would have been put on the disk, all members may get `Device` instead.
 abbrev pub IsAnswer : Contents → ℕ → Event → Answer → Type 0
 IsAnswer m count (Serve command) (Told answer) =
-    ((step m command).answer ≡ answer) ⊎ ((is_accepted m command ≡ true) × ((answer ≡ Err JournalFull) ⊎ (answer ≡ Err Device)))
+    ((step m command).answer ≡ answer)
+    ⊎ ((is_accepted m command ≡ true) × ((answer ≡ Err JournalFull) ⊎ (answer ≡ Err Device)))
 IsAnswer m count (Serve command) (Grouped room served) = ⊥
 IsAnswer m count (Serve command) (TookTurn answer) = ⊥
 IsAnswer m count (Together members) (Told answer) = ⊥
@@ -88,6 +113,7 @@ abbrev pub AreAnswers : Bool → Contents → ℕ → List Event → List Answer
 AreAnswers failed m count [] [] = Unit {0}
 AreAnswers failed m count [] (answer ∷ answers) = ⊥
 AreAnswers failed m count (event ∷ events) [] = ⊥
-AreAnswers true m count (event ∷ events) (answer ∷ answers) = IsFailed event answer × AreAnswers true m count events answers
+AreAnswers true m count (event ∷ events) (answer ∷ answers) =
+    IsFailed event answer × AreAnswers true m count events answers
 AreAnswers false m count (event ∷ events) (answer ∷ answers) = let sure = acknowledged_by m event answer in
     IsAnswer m count event answer × AreAnswers (is_fault answer) (after m sure) (count + length sure) events answers

@@ -22,7 +22,9 @@ use Rattle.im_promise.specs.Recovery.{Recovers}
 
 -- the answer is the entry told before, or the answer that has come since, or `Forgotten` if the request was confirmed
 abbrev pub IsSaidAgain : Contents → Request → Entry → Result Outcome Refusal → Type 0
-IsSaidAgain m r before said = (IsForgotten m.windows (asker r) × (said ≡ Err Forgotten)) ⊎ ((entry : Entry) × IsSameOrAnswer before entry × (said ≡ Ok (Tells entry)))
+IsSaidAgain m r before said =
+    (IsForgotten m.windows (asker r) × (said ≡ Err Forgotten))
+    ⊎ ((entry : Entry) × IsSameOrAnswer before entry × (said ≡ Ok (Tells entry)))
 
 -- an engine's answer to a request: the memory's, but for a failed engine, a full journal, and a failed call of the disk
 pub record IsAnswerOf {D : Type 0} (old : EngineState D) (r : Request) (answer : Result Outcome Refusal) : Type 0 where
@@ -42,7 +44,8 @@ pub record IsUnused (m : Contents) (r : Request) : Type 0 where
 
 -- none of these commands is a request under this number that was accepted in its turn
 abbrev pub HasNotActed : Contents → List Command → Request → Type 0
-HasNotActed m commands r = (again : Request) (earlier later : List Command) → commands ≡ earlier ++ Asks again ∷ later → asker again ≡ asker r
+HasNotActed m commands r =
+    (again : Request) (earlier later : List Command) → commands ≡ earlier ++ Asks again ∷ later → asker again ≡ asker r
     → is_accepted (after m earlier) (Asks again) ≡ true → ⊥
 
 -- the count of all commands after a request: one more if it is accepted
@@ -51,9 +54,11 @@ count_after m r count = if is_accepted m (Asks r) then count + 1 else count
 
 -- A request was told an entry. Events were served and answered. The disk stopped, or not, and a crash left a file. The
 -- image was opened, and the request was sent again.
-pub record AskedOverACrash {D E : Type 0} (old : EngineState D) (r : Request) (events : List Event) (answers : List Answer) (before : Entry) (said : Result Outcome Refusal) (new : EngineState E) : Type 0 where
+pub record AskedOverACrash {D E : Type 0} (old : EngineState D) (r : Request) (events : List Event)
+    (answers : List Answer) (before : Entry) (said : Result Outcome Refusal) (new : EngineState E) : Type 0 where
   -- it is told the same entry, or the answer that has come since, and just what the memory says
   pub again : IsSaidAgain new.memory r before said
   pub told : said ≡ (step new.memory (Asks r)).answer
   -- it has acted once: the memory and the count are those after it, and after what a recovery gives of the events
-  pub once : Recovers (after_request old.memory r) (count_after old.memory r old.count) events answers new.memory new.count
+  pub once : Recovers (after_request old.memory r)
+      (count_after old.memory r old.count) events answers new.memory new.count

@@ -35,18 +35,22 @@ RecoversGroup old members answers now =
 abbrev pub AreSaidAgain : Reached → Reached → List Request → Type 0
 AreSaidAgain before now [] = Unit {0}
 AreSaidAgain before now (r ∷ rs) =
-    ((entry : Entry) → answer_of before r ≡ Ok (Tells entry) → IsSaidAgain now.contents r entry (answer_of now r) × (is_put now r ≡ false))
+    ((entry : Entry) → answer_of before r ≡ Ok (Tells entry)
+    → IsSaidAgain now.contents r entry (answer_of now r) × (is_put now r ≡ false))
     × AreSaidAgain (reached_by_one before r) (reached_by_one now r) rs
 
 -- each member was told an entry, one after another
 abbrev pub AreTold : Reached → List Request → Type 0
 AreTold before [] = Unit {0}
-AreTold before (r ∷ rs) = ((entry : Entry) × (answer_of before r ≡ Ok (Tells entry))) × AreTold (reached_by_one before r) rs
+AreTold before (r ∷ rs) =
+    ((entry : Entry) × (answer_of before r ≡ Ok (Tells entry))) × AreTold (reached_by_one before r) rs
 
 -- the answers to a group that was sent on `before` and is sent again, and the engine after it
-pub record GroupSaidAgain {D : Type 0} (before : Reached) (old : EngineState D) (members : List Request) (answers : List Served) (new : EngineState D) : Type 0 where
+pub record GroupSaidAgain {D : Type 0} (before : Reached) (old : EngineState D) (members : List Request)
+    (answers : List Served) (new : EngineState D) : Type 0 where
   -- its members are answered one after another, or all `Device` if one of them is new
-  pub answered : (answers ≡ answers_in old members) ⊎ ((answers ≡ all_refused Device members) × (0 < length (group_put old members)))
+  pub answered : (answers ≡ answers_in old members)
+      ⊎ ((answers ≡ all_refused Device members) × (0 < length (group_put old members)))
   -- those that were told an entry are answered as before, and don't act
   pub again : AreSaidAgain before (reached_in old) members
   -- if all were told one, nothing changes, and no call of the disk is made
@@ -54,11 +58,13 @@ pub record GroupSaidAgain {D : Type 0} (before : Reached) (old : EngineState D) 
 
 -- A group was served, and no member was answered `Device`. Events were served and answered. The disk stopped, or not,
 -- and a crash left a file. The image was opened, and the group was sent again.
-pub record GroupAskedOverACrash {D E : Type 0} (old : EngineState D) (members : List Request) (events : List Event) (answers : List Answer) (said : List Served) (new : EngineState E) : Type 0 where
+pub record GroupAskedOverACrash {D E : Type 0} (old : EngineState D) (members : List Request) (events : List Event)
+    (answers : List Answer) (said : List Served) (new : EngineState E) : Type 0 where
   -- The engine of the opening works. It has the memory and the count after the group, once, and after what a recovery
   -- gives of the events.
   pub opened : EngineState E
   pub works : opened.failed ≡ false
-  pub once : Recovers (after_group old members).memory (after_group old members).count events answers opened.memory opened.count
+  pub once : Recovers (after_group old members).memory
+      (after_group old members).count events answers opened.memory opened.count
   -- each member that was told an entry is told it again, or the answer that has come since, and doesn't act again
   pub again : GroupSaidAgain (reached_in old) opened members said new

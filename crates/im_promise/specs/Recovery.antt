@@ -12,7 +12,8 @@ use Rattle.im_promise.specs.Acknowledged.{calls_in_doubt, most_of_one, AreAnswer
 -- not, and a crash left a file. The image was opened again, with the memory `now` and the count `many`. They are those
 -- after the acknowledged commands, in their order. The commands of the one call in doubt may follow, all or none of
 -- them: one command, or all commands that a group had put into the journal's room.
-pub record Recovers (m : Contents) (before : ℕ) (events : List Event) (answers : List Answer) (now : Contents) (many : ℕ) : Type 0 where
+pub record Recovers (m : Contents) (before : ℕ) (events : List Event) (answers : List Answer) (now : Contents)
+    (many : ℕ) : Type 0 where
   -- the answers are the sequential memory's
   pub answered : AreAnswers false m before events answers
   -- the commands of at most one call are in doubt

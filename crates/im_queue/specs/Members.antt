@@ -1,5 +1,22 @@
 -- Which commands may be one group, and how they are taken out of the inbox. (Own.)
-use Rattle.std.specs.Prelude.{◌≡◌, ◌≢◌, ◌⊎◌, ℕ, ◌<◌, ◌==◌, List, [], ◌∷◌, Bool, true, false, Option, None, Some, slice_get}
+use Rattle.std.specs.Prelude.{
+  ◌≡◌,
+  ◌≢◌,
+  ◌⊎◌,
+  ℕ,
+  ◌<◌,
+  ◌==◌,
+  List,
+  [],
+  ◌∷◌,
+  Bool,
+  true,
+  false,
+  Option,
+  None,
+  Some,
+  slice_get,
+}
 use Rattle.std.specs.Prelude.{if◌then◌else◌}
 use Rattle.std.specs.List.{AllByRecursion}
 use Rattle.im_types.specs.declared.operations.Op.{Op}
@@ -47,7 +64,9 @@ are_apart_at (Some a) (Some b) = if a == b then false else true
 
 -- whether the later of two operations may be served in one group with the earlier
 abbrev pub are_together : Op → Op → Bool
-are_together earlier later = if is_social earlier then (if is_social later then are_apart_at (stored_at earlier) (stored_at later) else false) else false
+are_together earlier later =
+    if is_social earlier then (if is_social later then are_apart_at (stored_at earlier) (stored_at later) else false)
+    else false
 
 -- whether the later of two commands may be served in one group with the earlier: a confirmation may stand anywhere
 abbrev pub are_joined : Command → Command → Bool
@@ -98,7 +117,8 @@ abbrev pub AreFreeFor : List (Option UnclaimedState) → List Command → Type 0
 AreFreeFor places cs = AllByRecursion (λ (c : Command). slice_get places (sender_of c) ≡ Some None) cs
 
 -- a group of commands of elements below this one; their answers have free places
-pub record Gathers (places : List (Option UnclaimedState)) (m : Contents) (element : ℕ) (cs : List Command) : Type 0 where
+pub record Gathers (places : List (Option UnclaimedState)) (m : Contents) (element : ℕ)
+    (cs : List Command) : Type 0 where
   pub apart : AreOneOfEach cs
   pub free : AreFreeFor places cs
   pub below : AreBelow element cs

@@ -52,7 +52,8 @@ is_stuck m element Retired = true
 -- the same of each server but the caller's, from this element on
 abbrev pub are_stuck : Contents → ℕ → ℕ → List Server → Bool
 are_stuck m caller element [] = true
-are_stuck m caller element (server ∷ servers) = ((element == caller) || is_stuck m element server) && are_stuck m caller (suc element) servers
+are_stuck m caller element (server ∷ servers) =
+    ((element == caller) || is_stuck m element server) && are_stuck m caller (suc element) servers
 
 -- a server isn't active, or waits for an entry that isn't answered
 abbrev pub IsStuck : Contents → ℕ → Server → Type 0
@@ -63,13 +64,17 @@ IsStuck m element Retired = Unit {0}
 
 -- the same of each server but the caller's
 abbrev pub AllStuckBut : Contents → ℕ → List Server → Type 0
-AllStuckBut m caller servers = (element : ℕ) (server : Server) → slice_get servers element ≡ Some server → element ≢ caller → IsStuck m element server
+AllStuckBut m caller servers =
+    (element : ℕ) (server : Server) → slice_get servers element ≡ Some server → element ≢ caller
+    → IsStuck m element server
 
 -- the servers after an element's server, if it is active or waits, does something else
 abbrev pub with_server : List Server → ℕ → Server → List Server
-with_server servers element server = if is_active (slice_get servers element) then slice_set servers element server else servers
+with_server servers element server =
+    if is_active (slice_get servers element) then slice_set servers element server else servers
 
 -- the servers after an element's server is made; it is made if there is one that wasn't made before
 abbrev pub Makes : List Server → ℕ → Bool → List Server → Type 0
-Makes servers element true servers' = (slice_get servers element ≡ Some Unmade) × (servers' ≡ slice_set servers element Active)
+Makes servers element true servers' =
+    (slice_get servers element ≡ Some Unmade) × (servers' ≡ slice_set servers element Active)
 Makes servers element false servers' = (slice_get servers element ≢ Some Unmade) × (servers' ≡ servers)

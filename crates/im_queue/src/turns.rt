@@ -108,8 +108,8 @@ impl Queue {
 }
 
 impl Turns {
-    /// Makes a queue with so many places, of which the last one is the keeper's. Returns `AllocError` if `alloc` refuses
-    /// the memory.
+    /// Makes a queue with so many places, of which the last one is the keeper's. Returns `AllocError` if `alloc`
+    /// refuses the memory.
     pub fn new(alloc: Global, places: usize) -> Result<Turns, AllocError> {
         let mut all = Vec::with_capacity(alloc, places)?;
         for _ in 0..places {

@@ -16,9 +16,10 @@ use Rattle.im_promise.specs.Traces.{line_telling}
 abbrev pub GivesEntry : ReceiptState → Request → Entry → Type 0
 GivesEntry receipt r entry = (receipt.command ≡ Asks r) × (receipt.outcome ≡ Tells entry)
 
--- The later history goes on after the earlier one and ends in the request's line. That line has the earlier entry, or the
--- answer that has come since, and doesn't accept the request.
-pub record IsToldLater (m : Contents) (r : Request) (earlier : List Line) (first : Entry) (later : List Line) (second : Entry) : Type 0 where
+-- The later history goes on after the earlier one and ends in the request's line. That line has the earlier entry, or
+-- the answer that has come since, and doesn't accept the request.
+pub record IsToldLater (m : Contents) (r : Request) (earlier : List Line) (first : Entry) (later : List Line)
+    (second : Entry) : Type 0 where
   pub between : List Line
   pub goes : later ≡ (earlier ++ between) ++ (line_telling r second ∷ [])
   pub alike : IsSameOrAnswer first second

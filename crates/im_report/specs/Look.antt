@@ -88,8 +88,8 @@ pub record ShowsView (look : View) (file : List ℕ) (was now : Option (List ℕ
       (Ok (record { contents = memory; count = (header_of file).count + run; room = room }))
   pub added : Appends was now (looked_text look (header_of file) run room memory)
 
--- a run over a disk that ended with status 0 wrote what is wanted of the disk's bytes; that is known only if the disk is
--- honest at the end
+-- a run over a disk that ended with status 0 wrote what is wanted of the disk's bytes; that is known only if the disk
+-- is honest at the end
 abbrev pub ShowsAt : {D : Type 0} → Ghosts D → View → D → D → ℕ → Option (List ℕ) → Option (List ℕ) → Type 0
 ShowsAt disk look old new status was now =
     disk.honest new → status ≡ 0 → ShowsView look (disk.now old).bytes was now

@@ -9,7 +9,12 @@ use Rattle.im_types.specs.Contents.{Contents, Window, block_at, held_at, waiters
 use Rattle.im_types.specs.Header.{Header}
 use Rattle.im_types.specs.Window.{next_number}
 use Rattle.im_types.specs.declared.cells.Cell.{Cell}
-use Rattle.im_types.specs.declared.cells.Cell.TheVariants.{Empty as IsEmpty, Waiting as IsWaiting, Full as IsFull, Clashed as IsClashed}
+use Rattle.im_types.specs.declared.cells.Cell.TheVariants.{
+  Empty as IsEmpty,
+  Waiting as IsWaiting,
+  Full as IsFull,
+  Clashed as IsClashed,
+}
 use Rattle.im_types.specs.Presences.{presence_in}
 use Rattle.im_report.specs.declared.notation.Notation.{Notation}
 use Rattle.im_report.specs.declared.notation.Notation.TheVariants.{Lines, Json}
@@ -31,11 +36,15 @@ version_line h = codes "version " ++ decimal h.version ++ line_feed
 
 -- the sizes
 abbrev pub limits_line : Header → List ℕ
-limits_line h = codes "limits " ++ decimal h.sizes.cells ++ codes " " ++ decimal h.sizes.elements ++ codes " " ++ decimal h.sizes.slots ++ line_feed
+limits_line h =
+    codes "limits " ++ decimal h.sizes.cells ++ codes " " ++ decimal h.sizes.elements ++ codes " "
+    ++ decimal h.sizes.slots ++ line_feed
 
 -- the header in force, whose number is that of its area
 abbrev pub header_line : Header → List ℕ
-header_line h = codes "header " ++ decimal h.area ++ codes " generation " ++ decimal h.generation ++ codes " area " ++ decimal h.area ++ codes " count " ++ decimal h.count ++ line_feed
+header_line h =
+    codes "header " ++ decimal h.area ++ codes " generation " ++ decimal h.generation ++ codes " area "
+    ++ decimal h.area ++ codes " count " ++ decimal h.count ++ line_feed
 
 -- the version, the sizes and the header in force
 abbrev pub opening_lines : Header → List ℕ
@@ -69,13 +78,15 @@ waiters_text (who ∷ others) = waiter_text who ++ waiters_text others
 
 -- a request that waits, as an object
 abbrev pub waiter_object : Waiter → List ℕ
-waiter_object who = numbered (codes "{\"element\":") who.element ++ numbered (codes ",\"number\":\"") who.number ++ codes "\"}"
+waiter_object who =
+    numbered (codes "{\"element\":") who.element ++ numbered (codes ",\"number\":\"") who.number ++ codes "\"}"
 
 -- what stands before the first object of a list, and before another one
 abbrev pub mark_of : Bool → List ℕ
 mark_of is_first = if is_first then codes "[" else codes ","
 
--- objects of the requests that wait at a cell, in their order: the first behind this mark, each other one behind a comma
+-- objects of the requests that wait at a cell, in their order: the first behind this mark, each other one behind a
+-- comma
 unfoldable pub waiter_objects : List ℕ → List Waiter → List ℕ
 waiter_objects mark [] = []
 waiter_objects mark (who ∷ others) = (mark ++ waiter_object who) ++ waiter_objects (codes ",") others

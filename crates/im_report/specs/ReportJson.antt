@@ -12,7 +12,8 @@ report_head h run room = head_json h run room ++ codes "}\n"
 
 -- the version of such a dump and the sizes
 abbrev pub dump_sizes : Header → List ℕ
-dump_sizes h = three_words (codes "{\"dump\":1,\"limits\":{\"cells\":") h.sizes.cells (codes ",\"elements\":") h.sizes.elements
+dump_sizes h =
+    three_words (codes "{\"dump\":1,\"limits\":{\"cells\":") h.sizes.cells (codes ",\"elements\":") h.sizes.elements
     (codes ",\"slots\":") h.sizes.slots (codes "}")
 
 -- what an image means: its sizes and the commands so far, and the memory

@@ -1,5 +1,6 @@
 //! Counts the cells, the holes, the requests that wait and the windows of a memory.
-ghost use Rattle.std.specs.Prelude.{◌≡◌, ◌≤◌, ◌+◌, ◌==◌, ◌&&◌, IsTrue, if◌then◌else◌, is_none, length, nat_lt, slice_get};
+ghost use Rattle.std.specs.Prelude.{◌≡◌, ◌≤◌, ◌+◌, ◌==◌, ◌&&◌, IsTrue, if◌then◌else◌, is_none, length, nat_lt};
+ghost use Rattle.std.specs.Prelude.{slice_get};
 ghost use Rattle.im_types.specs.Act.{same_kind};
 ghost use Rattle.im_types.specs.Contents.{block_at};
 ghost use Rattle.im_report.specs.Figures.{cells_tagged, count_below, free_figures, has_asked, begins_at, is_tagged};

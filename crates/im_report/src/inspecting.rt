@@ -163,7 +163,7 @@ pub fn inspect_on<D: Disk, W: Write, N: Observer>(
 ///   that are kept, and the windows that are full.
 /// - `StatJson`: the same numbers as one object of JSON, on one line. A generation and a count are strings.
 /// - `ReportJson`: the same lines as of `Report`, each of them one object. The first four are one object, that of
-///   `StatJson` as far as `next`. The others have the keys `block`, `kind` and `length`; `cell`, `state` and `value`, or
+/// `StatJson` as far as `next`. The others have the keys `block`, `kind` and `length`; `cell`, `state` and `value`, or
 ///   `waiters` in its place, a list of objects with `element` and `number`; `element`, `base` and `kept`; and `entry`,
 ///   which is a number, `of`, `operation` and `reply`. A value, a base and a number of a request are strings.
 /// - `DumpJson`: first an object with `dump`, which is 1, `limits` and `count`, and then those of a `ReportJson` for

@@ -4,7 +4,8 @@ ghost use Rattle.im_types.specs.Contents.{Window, held_at, kept_for, waiters_at}
 ghost use Rattle.im_image.specs.Headers.{seen};
 ghost use Rattle.im_types.specs.Presences.{presence_in};
 ghost use Rattle.im_report.specs.Report.{Bounds, block_line, blocks_text, cell_line, cells_text, contents_text};
-ghost use Rattle.im_report.specs.Report.{elements_text, entries_text, entry_line, header_line, journal_line, limits_line};
+ghost use Rattle.im_report.specs.Report.{elements_text, entries_text, entry_line, header_line, journal_line};
+ghost use Rattle.im_report.specs.Report.{limits_line};
 ghost use Rattle.im_report.specs.Report.{opening_lines, version_line, window_text};
 
 use crate::notation::Notation;

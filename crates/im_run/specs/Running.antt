@@ -1,5 +1,27 @@
 -- What a run of element servers prints, and what it leaves on a disk. (Own.)
-use Rattle.std.specs.Prelude.{◌≡◌, ◌⊎◌, ℕ, ◌+◌, ◌<◌, ◌≤◌, List, [], ◌∷◌, ◌++◌, codes, decimal, false, length, Option, None, Some, Result, Ok, Err, slice_get}
+use Rattle.std.specs.Prelude.{
+  ◌≡◌,
+  ◌⊎◌,
+  ℕ,
+  ◌+◌,
+  ◌<◌,
+  ◌≤◌,
+  List,
+  [],
+  ◌∷◌,
+  ◌++◌,
+  codes,
+  decimal,
+  false,
+  length,
+  Option,
+  None,
+  Some,
+  Result,
+  Ok,
+  Err,
+  slice_get,
+}
 use Rattle.std.specs.Io.KnownBytes.{Appends}
 use Rattle.im_damage.specs.declared.damage.Damage.TheVariants.{Unknown}
 use Rattle.im_types.specs.declared.operations.Entry.{Entry}
@@ -60,7 +82,8 @@ seen_text (Some v) = codes "value " ++ decimal v
 
 -- K glance A value V, or K glance A none
 abbrev pub glance_line : ℕ → ℕ → Option ℕ → List ℕ
-glance_line element address value = decimal element ++ codes " glance " ++ decimal address ++ codes " " ++ seen_text value ++ line_feed
+glance_line element address value =
+    decimal element ++ codes " glance " ++ decimal address ++ codes " " ++ seen_text value ++ line_feed
 
 -- the line of what was done: of a request that was sent, with its final entry, or of a glance
 abbrev pub final_line : Contents → Option Did → List ℕ
@@ -74,12 +97,15 @@ finals m did many = texts_below (λ i. final_line m (slice_get did i)) many
 
 -- the lines of the first of these were printed after what was printed before
 abbrev pub PrintsFinals : Option (List ℕ) → Lines → Option (List ℕ) → Lines → Contents → List Did → Type 0
-PrintsFinals was before is after m did = (many : ℕ) × (many ≤ length did) × PrintsMore was before is after (finals m did many)
+PrintsFinals was before is after m did =
+    (many : ℕ) × (many ≤ length did) × PrintsMore was before is after (finals m did many)
 
 -- a prefix of this text was written: what was printed before, the lines of the first of these, and the line of a
 -- refusal
 abbrev pub BeginsFinals : Option (List ℕ) → Option (List ℕ) → List ℕ → Contents → List Did → Type 0
-BeginsFinals start is text m did = (many : ℕ) × ((many ≤ length did) × ((last : List ℕ) × (IsLast last × Begins start is (text ++ finals m did many ++ last))))
+BeginsFinals start is text m did =
+    (many : ℕ) × ((many ≤ length did)
+    × ((last : List ℕ) × (IsLast last × Begins start is (text ++ finals m did many ++ last))))
 
 -- After what was printed before, the lines of the first of these and of a refusal are written, as far as the writer
 -- took them. If the status is 0, the lines of all of these are.
@@ -89,13 +115,16 @@ Closes was before is m did status = (start : Option (List ℕ)) (text : List ℕ
 
 -- what elements' servers left since they began: this trace is legal and leads to the engine's memory, and a crash left
 -- a prefix of it
-pub record ServedOn {D : Type 0} (now : D → Moment) (past : D → List Moment) (failures : D → ℕ) (b : Begun) (m : Contents) (trace : List Line) (engine : EngineState D) : Type 0 where
+pub record ServedOn {D : Type 0} (now : D → Moment) (past : D → List Moment) (failures : D → ℕ) (b : Begun)
+    (m : Contents) (trace : List Line) (engine : EngineState D) : Type 0 where
   pub legal : IsLegal m trace
   pub ends : end_of m trace ≡ engine.memory
   pub kept : HasKept now past failures b m (accepted_in m trace) engine
 
 -- an engine's servers ended with this trace, the engine was closed, and this status was given
-pub record EndedOn {D : Type 0} (now : D → Moment) (past : D → List Moment) (failures : D → ℕ) (begun : EngineState D) (disk : D) (was : Option (List ℕ)) (before : Lines) (is : Option (List ℕ)) (trace : List Line) (status : ℕ) : Type 0 where
+pub record EndedOn {D : Type 0} (now : D → Moment) (past : D → List Moment) (failures : D → ℕ) (begun : EngineState D)
+    (disk : D) (was : Option (List ℕ)) (before : Lines) (is : Option (List ℕ)) (trace : List Line)
+    (status : ℕ) : Type 0 where
   pub engine : EngineState D
   pub disk_is : disk ≡ engine.disk
   pub served : ServedOn now past failures (begun_in now past failures begun) begun.memory trace engine
@@ -108,7 +137,8 @@ pub record EndedOn {D : Type 0} (now : D → Moment) (past : D → List Moment) 
 -- Each was accepted in its turn. All were acknowledged but those in doubt. There are commands in doubt only if a call
 -- of the disk failed. A crash leaves the memory after a prefix of all of them. Now it has all acknowledged commands,
 -- and those in doubt all or none.
-pub record Puts {D : Type 0} (now : D → Moment) (past : D → List Moment) (failures : D → ℕ) (start : EngineState D) (old new : D) (setup told doubt : List Command) : Type 0 where
+pub record Puts {D : Type 0} (now : D → Moment) (past : D → List Moment) (failures : D → ℕ) (start : EngineState D)
+    (old new : D) (setup told doubt : List Command) : Type 0 where
   pub first : (others : List Command) × (told ++ doubt ≡ setup ++ others)
   pub accepted : accept_each start.memory (told ++ doubt) ≡ Some (after start.memory (told ++ doubt))
   pub leaves : Leaves (now old) (now new) (past old) (past new) (MeansBeginning start (told ++ doubt))
@@ -118,23 +148,27 @@ pub record Puts {D : Type 0} (now : D → Moment) (past : D → List Moment) (fa
 -- if the status says that no call of the disk failed, nothing is in doubt, and each file means one memory
 abbrev pub Settles : {D : Type 0} → (D → Moment) → EngineState D → D → List Command → List Command → ℕ → Type 0
 Settles now start new told doubt status = (status ≡ 0) ⊎ (status ≡ STALLED)
-    → (doubt ≡ []) × ((room : ℕ) × LeavesNow (now new) (Means (after start.memory told) (start.count + length told) room))
+    → (doubt ≡ []) × ((room : ℕ)
+    × LeavesNow (now new) (Means (after start.memory told) (start.count + length told) room))
 
 -- What was printed, at the end: a prefix of this text, and all of it if the status is 0. The text is first the lines of
 -- the first commands of the setup, each of which is in every file that a crash leaves. Then come the lines of what was
 -- done: of the requests that were sent, each with its final entry in the memory after all acknowledged commands, and of
 -- the glances. Then comes the line of a refusal.
-pub record Says {D : Type 0} (now : D → Moment) (start : EngineState D) (new : D) (setup told doubt : List Command) (was is : Option (List ℕ)) (status : ℕ) : Type 0 where
+pub record Says {D : Type 0} (now : D → Moment) (start : EngineState D) (new : D) (setup told doubt : List Command)
+    (was is : Option (List ℕ)) (status : ℕ) : Type 0 where
   pub said : List Command
   pub others : List Command
   pub split : setup ≡ said ++ others
   pub kept : LeavesNow (now new) (MeansAtLeast start (told ++ doubt) (length said))
   pub did : List Did
   pub begins : BeginsFinals was is (replies start.memory said) (after start.memory told) did
-  pub whole : status ≡ 0 → Appends was is (replies start.memory setup ++ finals (after start.memory told) did (length did))
+  pub whole : status ≡ 0
+      → Appends was is (replies start.memory setup ++ finals (after start.memory told) did (length did))
 
 -- An engine was closed, and this status was given, after a run on it with these calls.
-pub record RunOn {D : Type 0} (now : D → Moment) (past : D → List Moment) (failures : D → ℕ) (start : EngineState D) (disk : D) (was is : Option (List ℕ)) (calls : TraceState) (status : ℕ) : Type 0 where
+pub record RunOn {D : Type 0} (now : D → Moment) (past : D → List Moment) (failures : D → ℕ) (start : EngineState D)
+    (disk : D) (was is : Option (List ℕ)) (calls : TraceState) (status : ℕ) : Type 0 where
   pub setup : List Command
   pub told : List Command
   pub doubt : List Command
@@ -144,7 +178,8 @@ pub record RunOn {D : Type 0} (now : D → Moment) (past : D → List Moment) (f
   pub traced : IsTraced start.memory setup told calls
 
 -- The image was opened, with the meaning of a file that a crash could leave then, and a script was run on it.
-pub record RanOn {D : Type 0} (now : D → Moment) (past : D → List Moment) (failures : D → ℕ) (old new : D) (was is : Option (List ℕ)) (calls : TraceState) (status : ℕ) : Type 0 where
+pub record RanOn {D : Type 0} (now : D → Moment) (past : D → List Moment) (failures : D → ℕ) (old new : D)
+    (was is : Option (List ℕ)) (calls : TraceState) (status : ℕ) : Type 0 where
   pub start : EngineState D
   pub found : (file : List ℕ) × Left (now old) file × MeansState start file
   pub setup : List Command
@@ -156,7 +191,8 @@ pub record RanOn {D : Type 0} (now : D → Moment) (past : D → List Moment) (f
   pub traced : IsTraced start.memory setup told calls
 
 -- The same of a disk that is at this moment, and has no moment before it; or the image was not opened.
-pub record RanFrom {D : Type 0} (now : D → Moment) (past : D → List Moment) (failures : D → ℕ) (first : Moment) (new : D) (was is : Option (List ℕ)) (calls : TraceState) (status : ℕ) : Type 0 where
+pub record RanFrom {D : Type 0} (now : D → Moment) (past : D → List Moment) (failures : D → ℕ) (first : Moment)
+    (new : D) (was is : Option (List ℕ)) (calls : TraceState) (status : ℕ) : Type 0 where
   pub old : D
   pub begins : now old ≡ first
   pub none : past old ≡ []

@@ -106,7 +106,8 @@ pub fn print_finals<W: Write>(
 ) -> Result<(), Reason>
     ensures all { OnOk result (PrintsMore (W.contents out.old) lines.old (W.contents out.new) lines.new
         (finals memory.now.contents did.now (length did.now))) }
-    ensures some { PrintsFinals (W.contents out.old) lines.old (W.contents out.new) lines.new memory.now.contents did.now }
+    ensures some { PrintsFinals (W.contents out.old) lines.old (W.contents out.new) lines.new
+        memory.now.contents did.now }
 {
     for at in 0..did.len() {
         match print_final(memory, did_at(did, at), line, lines, out) {

@@ -34,7 +34,8 @@ words_of line = filter (λ word. not (length word == 0)) (slice_split (λ byte. 
 
 -- n with a digit appended, if the byte is a digit and the number fits in a u64
 abbrev pub digit_after : ℕ → ℕ → Option ℕ
-digit_after n digit = if is_ascii_digit digit && nat_lt (n * 10 + (digit - 48)) (2 ^ 64) then Some (n * 10 + (digit - 48)) else None
+digit_after n digit =
+    if is_ascii_digit digit && nat_lt (n * 10 + (digit - 48)) (2 ^ 64) then Some (n * 10 + (digit - 48)) else None
 
 -- whether a text is decimal digits, one or more and nothing else
 abbrev pub is_numeral : List ℕ → Bool
@@ -42,7 +43,8 @@ is_numeral text = nat_lt 0 (length text) && all_ascii_digits text
 
 -- the number in a text of decimal digits, if it is at most `most`
 abbrev pub number_up_to : ℕ → List ℕ → Option ℕ
-number_up_to most text = if is_numeral text && nat_le (digits_value 10 text) most then Some (digits_value 10 text) else None
+number_up_to most text =
+    if is_numeral text && nat_le (digits_value 10 text) most then Some (digits_value 10 text) else None
 
 -- ---- kinds and names
 
@@ -68,7 +70,8 @@ offset_of (plus ∷ digits) = number_up_to 1048575 digits
 -- a place that begins with one of the names: the name is what comes before the first plus, or all of it
 abbrev pub place_past : List (List ℕ) → List ℕ → Option Place
 place_past names word =
-    option_and_then (λ index. option_map (Named index) (offset_of (drop (position_or_len (λ byte. byte == 43) word) word)))
+    option_and_then (λ index. option_map (Named index)
+    (offset_of (drop (position_or_len (λ byte. byte == 43) word) word)))
     (position (bytes_eq (before_first (λ byte. byte == 43) word)) names)
 
 -- a place: an address, or one of the names with its offset

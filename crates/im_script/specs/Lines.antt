@@ -12,7 +12,9 @@ use Rattle.im_script.specs.Grammar.{number_up_to, kind_of, is_name, place_of}
 
 -- KIND LEN
 abbrev pub block_of : List ℕ → List ℕ → Option Allocation
-block_of kind len = option_and_then (λ k. option_map (λ n. record { kind = k; length = n }) (number_up_to 4294967295 len)) (kind_of kind)
+block_of kind len =
+    option_and_then (λ k. option_map (λ n. record { kind = k; length = n }) (number_up_to 4294967295 len))
+    (kind_of kind)
 
 -- what a word asks for at a place
 abbrev pub plain_action : List ℕ → Place → Option Action
@@ -30,7 +32,8 @@ valued_action word place value = if bytes_eq word (codes "store") then Some (Sto
 abbrev pub action_past : List (List ℕ) → List ℕ → List ℕ → List ℕ → Option Action
 action_past names word first second =
     if bytes_eq word (codes "alloc") then option_map (λ b. Alloc b.kind b.length) (block_of first second)
-    else option_and_then (λ place. option_and_then (valued_action word place) (number_up_to 18446744073709551615 second)) (place_of names first)
+    else option_and_then (λ place. option_and_then (valued_action word place)
+    (number_up_to 18446744073709551615 second)) (place_of names first)
 
 -- a line in a part; the setup gave these names
 abbrev pub action_of : List (List ℕ) → List (List ℕ) → Option Action

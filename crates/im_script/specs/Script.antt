@@ -78,18 +78,23 @@ glance_of d line = if is_line line then glance_at d d.stage (words_of line) else
 
 -- a line by its words, if it may be a glance
 abbrev pub heard_in : Draft → List (List ℕ) → Option (Draft × Heard)
-heard_in d words = option_or (option_map (λ h. (d, h)) (glance_at d d.stage words)) (option_map (λ r. (r.0, Says r.1)) (words_after d words))
+heard_in d words =
+    option_or (option_map (λ h. (d, h)) (glance_at d d.stage words))
+    (option_map (λ r. (r.0, Says r.1)) (words_after d words))
 
 -- a line: a glance, if there may be one, or a line of any script
 abbrev pub heard : Bool → Draft → List ℕ → Option (Draft × Heard)
-heard glances d line = option_or (option_map (λ h. (d, h)) (if glances then glance_of d line else None)) (option_map (λ r. (r.0, Says r.1)) (counted d line))
+heard glances d line =
+    option_or (option_map (λ h. (d, h)) (if glances then glance_of d line else None))
+    (option_map (λ r. (r.0, Says r.1)) (counted d line))
 
 -- ---- all lines
 
 -- what these lines say, one after another, if each is in the grammar at its place; with glances, or without
 abbrev pub lines_say : Bool → Draft → List (List ℕ) → Option (List Heard)
 lines_say glances d [] = Some []
-lines_say glances d (line ∷ lines) = option_and_then (λ r. option_map (λ rest. r.1 ∷ rest) (lines_say glances r.0 lines)) (heard glances d line)
+lines_say glances d (line ∷ lines) =
+    option_and_then (λ r. option_map (λ rest. r.1 ∷ rest) (lines_say glances r.0 lines)) (heard glances d line)
 
 -- and where the next line stands after them
 abbrev pub lines_after : Bool → Draft → List (List ℕ) → Option Draft

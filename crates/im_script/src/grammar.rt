@@ -1,5 +1,6 @@
 //! Splits a line into words, and reads single words.
-ghost use Rattle.std.specs.Prelude.{◌≡◌, ◌==◌, ◌≤◌, ◌<◌, ◌++◌, ℕ, List, [], IfOk, IfSome, MatchOption, false, true, codes, drop, is_some, length, take};
+ghost use Rattle.std.specs.Prelude.{◌≡◌, ◌==◌, ◌≤◌, ◌<◌, ◌++◌, ℕ, List, [], IfOk, IfSome, MatchOption, false, true};
+ghost use Rattle.std.specs.Prelude.{codes, drop, is_some, length, take};
 ghost use Rattle.std.specs.List.{before_first, list_all, list_any, position, position_or_len};
 ghost use Rattle.std.specs.Char.{is_ascii};
 ghost use Rattle.std.specs.Option.{option_and_then, option_map, option_map_or};

@@ -31,7 +31,8 @@ use Rattle.im_serial.specs.Asked.{standing, wanted_of}
 -- Since the start these commands were put on the disk, each accepted in its turn. A crash leaves the memory after a
 -- prefix of them. Now it leaves the memory after all of them, or after all but the last if the engine has failed. The
 -- count of failures rose exactly if the engine has failed.
-pub record HasPut {D : Type 0} (now : D → Moment) (past : D → List Moment) (failures : D → ℕ) (start engine : EngineState D) (put : List Command) : Type 0 where
+pub record HasPut {D : Type 0} (now : D → Moment) (past : D → List Moment) (failures : D → ℕ)
+    (start engine : EngineState D) (put : List Command) : Type 0 where
   pub accepted : accept_each start.memory put ≡ Some (after start.memory put)
   pub memory : engine.failed ≡ false → engine.memory ≡ after start.memory put
   pub count : engine.failed ≡ false → engine.count ≡ start.count + length put
@@ -44,11 +45,13 @@ pub record HasPut {D : Type 0} (now : D → Moment) (past : D → List Moment) (
 
 -- the file means the engine's state after a prefix of these commands that has at least the given number of them
 abbrev pub MeansAtLeast : {D : Type 0} → EngineState D → List Command → ℕ → List ℕ → Type 0
-MeansAtLeast s commands least file = (many : ℕ) × (least ≤ many) × (many ≤ length commands) × MeansAfter s commands many file
+MeansAtLeast s commands least file =
+    (many : ℕ) × (least ≤ many) × (many ≤ length commands) × MeansAfter s commands many file
 
 -- It continues: the engine works, and these are the lines of all commands that were put, and those of them that had to
 -- wait.
-pub record GoesWith {D : Type 0} (now : D → Moment) (past : D → List Moment) (failures : D → ℕ) (start engine : EngineState D) (put : List Command) (text : List ℕ) (names : List Waiter) : Type 0 where
+pub record GoesWith {D : Type 0} (now : D → Moment) (past : D → List Moment) (failures : D → ℕ)
+    (start engine : EngineState D) (put : List Command) (text : List ℕ) (names : List Waiter) : Type 0 where
   pub has : HasPut now past failures start engine put
   pub works : engine.failed ≡ false
   pub lines : text ≡ replies start.memory put
@@ -56,7 +59,8 @@ pub record GoesWith {D : Type 0} (now : D → Moment) (past : D → List Moment)
 
 -- It continues or was ended. These are the lines of the first commands that were put, each of which is in every file
 -- that a crash leaves, and the first of them that had to wait.
-pub record HaltsWith {D : Type 0} (now : D → Moment) (past : D → List Moment) (failures : D → ℕ) (start engine : EngineState D) (put : List Command) (text : List ℕ) (names : List Waiter) : Type 0 where
+pub record HaltsWith {D : Type 0} (now : D → Moment) (past : D → List Moment) (failures : D → ℕ)
+    (start engine : EngineState D) (put : List Command) (text : List ℕ) (names : List Waiter) : Type 0 where
   pub told : List Command
   pub others : List Command
   pub split : put ≡ told ++ others
@@ -67,12 +71,18 @@ pub record HaltsWith {D : Type 0} (now : D → Moment) (past : D → List Moment
   pub waiting : names ≡ take many (waits start.memory told)
 
 -- a disk that is honest now was honest at the start, and some commands were put on it since
-abbrev pub Goes : {D : Type 0} → (D → Moment) → (D → List Moment) → (D → ℕ) → (D → Type 0) → EngineState D → EngineState D → List ℕ → List Waiter → Type 0
-Goes now past failures honest start engine text names = honest engine.disk → honest start.disk × ((put : List Command) × GoesWith now past failures start engine put text names)
+abbrev pub Goes : {D : Type 0} → (D → Moment) → (D → List Moment) → (D → ℕ) → (D → Type 0) → EngineState D
+    → EngineState D → List ℕ → List Waiter → Type 0
+Goes now past failures honest start engine text names =
+    honest engine.disk → honest start.disk
+    × ((put : List Command) × GoesWith now past failures start engine put text names)
 
 -- the same, or it was ended
-abbrev pub Halted : {D : Type 0} → (D → Moment) → (D → List Moment) → (D → ℕ) → (D → Type 0) → EngineState D → EngineState D → List ℕ → List Waiter → Type 0
-Halted now past failures honest start engine text names = honest engine.disk → honest start.disk × ((put : List Command) × HaltsWith now past failures start engine put text names)
+abbrev pub Halted : {D : Type 0} → (D → Moment) → (D → List Moment) → (D → ℕ) → (D → Type 0) → EngineState D
+    → EngineState D → List ℕ → List Waiter → Type 0
+Halted now past failures honest start engine text names =
+    honest engine.disk → honest start.disk
+    × ((put : List Command) × HaltsWith now past failures start engine put text names)
 
 -- ---- and printed
 
@@ -88,20 +98,32 @@ abbrev pub at : {D : Type 0} → EngineState D → Option (List ℕ) → Lines �
 at engine held lines waited = record { engine = engine; held = held; lines = lines; waited = waited }
 
 -- since the writer held this, the lines of what was put were printed
-abbrev pub Going : {D : Type 0} → (D → Moment) → (D → List Moment) → (D → ℕ) → (D → Type 0) → EngineState D → Option (List ℕ) → Server D → Type 0
-Going now past failures honest start held s = (text : List ℕ) × (Goes now past failures honest start s.engine text (map who_of s.waited) × Prints held s.held s.lines text)
+abbrev pub Going : {D : Type 0} → (D → Moment) → (D → List Moment) → (D → ℕ) → (D → Type 0) → EngineState D
+    → Option (List ℕ) → Server D → Type 0
+Going now past failures honest start held s =
+    (text : List ℕ) × (Goes now past failures honest start s.engine text (map who_of s.waited)
+    × Prints held s.held s.lines text)
 
 -- the same, or it was ended
-abbrev pub Ended : {D : Type 0} → (D → Moment) → (D → List Moment) → (D → ℕ) → (D → Type 0) → EngineState D → Option (List ℕ) → Server D → Type 0
-Ended now past failures honest start held s = (text : List ℕ) × (Halted now past failures honest start s.engine text (map who_of s.waited) × Prints held s.held s.lines text)
+abbrev pub Ended : {D : Type 0} → (D → Moment) → (D → List Moment) → (D → ℕ) → (D → Type 0) → EngineState D
+    → Option (List ℕ) → Server D → Type 0
+Ended now past failures honest start held s =
+    (text : List ℕ) × (Halted now past failures honest start s.engine text (map who_of s.waited)
+    × Prints held s.held s.lines text)
 
 -- between the two servers nothing was put on the disk but commands, and their lines were printed
-abbrev pub Serves : {D : Type 0} → (D → Moment) → (D → List Moment) → (D → ℕ) → (D → Type 0) → Server D → Server D → Type 0
-Serves {D} now past failures honest old new = (start : EngineState D) (held : Option (List ℕ)) → Going now past failures honest start held old → Going now past failures honest start held new
+abbrev pub Serves : {D : Type 0} → (D → Moment) → (D → List Moment) → (D → ℕ) → (D → Type 0) → Server D → Server D
+    → Type 0
+Serves {D} now past failures honest old new =
+    (start : EngineState D) (held : Option (List ℕ)) → Going now past failures honest start held old
+    → Going now past failures honest start held new
 
 -- the same, and there it was ended
-abbrev pub Ends : {D : Type 0} → (D → Moment) → (D → List Moment) → (D → ℕ) → (D → Type 0) → Server D → Server D → Type 0
-Ends {D} now past failures honest old new = (start : EngineState D) (held : Option (List ℕ)) → Going now past failures honest start held old → Ended now past failures honest start held new
+abbrev pub Ends : {D : Type 0} → (D → Moment) → (D → List Moment) → (D → ℕ) → (D → Type 0) → Server D → Server D
+    → Type 0
+Ends {D} now past failures honest old new =
+    (start : EngineState D) (held : Option (List ℕ)) → Going now past failures honest start held old
+    → Ended now past failures honest start held new
 
 -- ---- by a script
 
@@ -119,7 +141,8 @@ pub record IsServing (m : Contents) (s : Standing) (put : List Command) (n : Not
 -- What is known when it has ended. The commands that were put are the first requests of the script, and confirmations.
 -- The memory is the one after those that were done, which are all of them if the engine works. Of each request that had
 -- to wait, the last entry is noted, or it is kept.
-pub record IsOver {D : Type 0} (m : Contents) (script : Option Course) (engine : EngineState D) (put : List Command) (waited : List Waited) : Type 0 where
+pub record IsOver {D : Type 0} (m : Contents) (script : Option Course) (engine : EngineState D) (put : List Command)
+    (waited : List Waited) : Type 0 where
   pub left : List Wanted
   pub leads : LeadsIf m script put left
   pub done : List Command
@@ -141,7 +164,8 @@ pub record ScriptServer (D : Type 0) : Type 0 where
 
 -- a server of these
 abbrev pub server_of : {D : Type 0} → EngineState D → Option (List ℕ) → Lines → List Waited → List Mark → ScriptServer D
-server_of engine held lines waited marks = record { engine = engine; held = held; lines = lines; waited = waited; marks = marks }
+server_of engine held lines waited marks =
+    record { engine = engine; held = held; lines = lines; waited = waited; marks = marks }
 
 -- a server of the program, and what the writer holds
 abbrev pub seen_by : {D : Type 0} → Whole D → Option (List ℕ) → ScriptServer D
@@ -155,20 +179,31 @@ module _ {D : Type 0} (disk : Ghosts D) where
   -- it goes on
   abbrev pub GoesAt : EngineState D → Standing → EngineState D → List ℕ → Notes → Type 0
   GoesAt start s engine text n = disk.honest engine.disk → disk.honest start.disk
-      × ((put : List Command) × ((names : List Waiter) × (AreWaited s.script n.waited names × (GoesWith disk.now disk.past disk.failures start engine put text names × IsServing start.memory s put n))))
+      × ((put : List Command)
+      × ((names : List Waiter)
+      × (AreWaited s.script n.waited names
+      × (GoesWith disk.now disk.past disk.failures start engine put text names × IsServing start.memory s put n))))
 
   -- it goes on or was ended
   abbrev pub HaltsAt : EngineState D → Option Course → EngineState D → List ℕ → List Waited → Type 0
   HaltsAt start script engine text waited = disk.honest engine.disk → disk.honest start.disk
-      × ((put : List Command) × ((names : List Waiter) × (AreWaited script waited names × (HaltsWith disk.now disk.past disk.failures start engine put text names × IsOver start.memory script engine put waited))))
+      × ((put : List Command)
+      × ((names : List Waiter)
+      × (AreWaited script waited names
+      × (HaltsWith disk.now disk.past disk.failures start engine put text names
+      × IsOver start.memory script engine put waited))))
 
   -- between the two engines nothing was put on the disk but commands that have no line
   abbrev pub GoesOn : EngineState D → EngineState D → Type 0
-  GoesOn old new = (start : EngineState D) (s : Standing) (text : List ℕ) (n : Notes) → GoesAt start s old text n → GoesAt start s new text n
+  GoesOn old new =
+      (start : EngineState D) (s : Standing) (text : List ℕ) (n : Notes) → GoesAt start s old text n
+      → GoesAt start s new text n
 
   -- the same, and there it was ended
   abbrev pub Halts : EngineState D → EngineState D → Type 0
-  Halts old new = (start : EngineState D) (s : Standing) (text : List ℕ) (n : Notes) → GoesAt start s old text n → HaltsAt start s.script new text n.waited
+  Halts old new =
+      (start : EngineState D) (s : Standing) (text : List ℕ) (n : Notes) → GoesAt start s old text n
+      → HaltsAt start s.script new text n.waited
 
   -- the call only makes turns: it goes on if it succeeds
   abbrev pub Keeps : {T E : Type 0} → Result T E → EngineState D → EngineState D → Type 0
@@ -177,41 +212,54 @@ module _ {D : Type 0} (disk : Ghosts D) where
   -- the call drops the entries of this element below that number, if it succeeds
   abbrev pub Drops : {T E : Type 0} → ℕ → ℕ → Result T E → EngineState D → EngineState D → Type 0
   Drops element upto result old new = MatchResult result
-      (λ _. (start : EngineState D) (s : Standing) (text : List ℕ) (waited : List Waited) (marks : List Mark) → GoesAt start s old text (learnt waited marks element upto) → GoesAt start s new text (notes waited marks))
+      (λ _. (start : EngineState D) (s : Standing) (text : List ℕ) (waited : List Waited) (marks : List Mark)
+      → GoesAt start s old text (learnt waited marks element upto) → GoesAt start s new text (notes waited marks))
       (λ _. Halts old new)
 
   -- the call makes room, if it succeeds: the requests that had to wait and their marks may change
-  abbrev pub Prepares : {T E : Type 0} → Result T E → EngineState D → List Waited → List Mark → EngineState D → List Waited → List Mark → Type 0
+  abbrev pub Prepares : {T E : Type 0} → Result T E → EngineState D → List Waited → List Mark → EngineState D
+      → List Waited → List Mark → Type 0
   Prepares result old waited marks new learned later = MatchResult result
-      (λ _. (start : EngineState D) (s : Standing) (text : List ℕ) → GoesAt start s old text (notes waited marks) → GoesAt start s new text (notes learned later))
-      (λ _. (start : EngineState D) (s : Standing) (text : List ℕ) → GoesAt start s old text (notes waited marks) → HaltsAt start s.script new text learned)
+      (λ _. (start : EngineState D) (s : Standing) (text : List ℕ) → GoesAt start s old text (notes waited marks)
+      → GoesAt start s new text (notes learned later))
+      (λ _. (start : EngineState D) (s : Standing) (text : List ℕ) → GoesAt start s old text (notes waited marks)
+      → HaltsAt start s.script new text learned)
 
   -- the script stands there, and the lines of what was put were printed
   abbrev pub GoingAt : EngineState D → Option (List ℕ) → Standing → ScriptServer D → Type 0
-  GoingAt start held s t = (text : List ℕ) × (GoesAt start s t.engine text (notes t.waited t.marks) × Prints held t.held t.lines text)
+  GoingAt start held s t =
+      (text : List ℕ) × (GoesAt start s t.engine text (notes t.waited t.marks) × Prints held t.held t.lines text)
 
   -- the same, or it was ended
   abbrev pub EndedAt : EngineState D → Option (List ℕ) → Option Course → ScriptServer D → Type 0
-  EndedAt start held script t = (text : List ℕ) × (HaltsAt start script t.engine text t.waited × Prints held t.held t.lines text)
+  EndedAt start held script t =
+      (text : List ℕ) × (HaltsAt start script t.engine text t.waited × Prints held t.held t.lines text)
 
   -- the script goes on from these requests, with these bases, to those
   abbrev pub Passes : List Wanted → List ℕ → List Wanted → List ℕ → ScriptServer D → ScriptServer D → Type 0
-  Passes wanted before later after old new = (start : EngineState D) (held : Option (List ℕ)) (script : Option Course) (rest : List Wanted)
-      → GoingAt start held (standing script before (wanted ++ rest)) old → GoingAt start held (standing script after (later ++ rest)) new
+  Passes wanted before later after old new =
+      (start : EngineState D) (held : Option (List ℕ)) (script : Option Course) (rest : List Wanted)
+      → GoingAt start held (standing script before (wanted ++ rest)) old
+      → GoingAt start held (standing script after (later ++ rest)) new
 
   -- it goes on from these requests or is ended, at the last of them at the latest
   abbrev pub EndsAt : List Wanted → List ℕ → ScriptServer D → ScriptServer D → Type 0
-  EndsAt wanted before old new = (start : EngineState D) (held : Option (List ℕ)) (script : Option Course) (rest : List Wanted)
+  EndsAt wanted before old new =
+      (start : EngineState D) (held : Option (List ℕ)) (script : Option Course) (rest : List Wanted)
       → GoingAt start held (standing script before (wanted ++ rest)) old → EndedAt start held script new
 
   -- An element asked for an operation, and was answered: a request of the script was served.
-  pub record HasAsked {E : Type 0} (element : ℕ) (op : Op) (result : Result Entry E) (old new : ScriptServer D) : Type 0 where
-    pub serves : IfOk result (λ entry. (w : Wanted) (before more : List ℕ) → w.element ≡ element → op_of before w.action ≡ Some op
-        → bases_by w (Ok (Tells entry)) ≡ Some more → Passes (w ∷ []) before [] (before ++ more) old new)
-    pub ends : (w : Wanted) (before : List ℕ) → w.element ≡ element → op_of before w.action ≡ Some op → EndsAt (w ∷ []) before old new
+  pub record HasAsked {E : Type 0} (element : ℕ) (op : Op) (result : Result Entry E) (old new : ScriptServer D) : Type 0
+    where
+      pub serves : IfOk result
+          (λ entry. (w : Wanted) (before more : List ℕ) → w.element ≡ element → op_of before w.action ≡ Some op
+          → bases_by w (Ok (Tells entry)) ≡ Some more → Passes (w ∷ []) before [] (before ++ more) old new)
+      pub ends : (w : Wanted) (before : List ℕ) → w.element ≡ element → op_of before w.action ≡ Some op
+          → EndsAt (w ∷ []) before old new
 
   -- These requests of the script were served, if the call succeeded.
-  pub record HasServed {T E : Type 0} (wanted : List Wanted) (before after : List ℕ) (result : Result T E) (old new : ScriptServer D) : Type 0 where
+  pub record HasServed {T E : Type 0} (wanted : List Wanted) (before after : List ℕ) (result : Result T E)
+      (old new : ScriptServer D) : Type 0 where
     pub serves : OnOk result (Passes wanted before [] after old new)
     pub ends : EndsAt wanted before old new
 
@@ -221,7 +269,8 @@ module _ {D : Type 0} (disk : Ghosts D) where
 -- The text is the lines of the first of them, each of which is in every file that a crash leaves, then those of
 -- requests that had to wait, then that of a refusal. A request that had to wait is told with its last entry after the
 -- commands that were done: all of them, or all but one in doubt.
-pub record Told {D : Type 0} (now : D → Moment) (start : EngineState D) (put : List Command) (disk : D) (was is : Option (List ℕ)) (status : ℕ) : Type 0 where
+pub record Told {D : Type 0} (now : D → Moment) (start : EngineState D) (put : List Command) (disk : D)
+    (was is : Option (List ℕ)) (status : ℕ) : Type 0 where
   pub told : List Command
   pub others : List Command
   pub split : put ≡ told ++ others
@@ -237,10 +286,13 @@ pub record Told {D : Type 0} (now : D → Moment) (start : EngineState D) (put :
   pub last : List ℕ
   pub last_is : IsLast last
   pub begins : Begins was is (replies start.memory told ++ nows waited many ++ last)
-  pub whole : status ≡ 0 → (doubt ≡ []) × (map who_of waited ≡ waits start.memory put) × Appends was is (replies start.memory put ++ nows waited (length waited))
+  pub whole : status ≡ 0
+      → (doubt ≡ []) × (map who_of waited ≡ waits start.memory put)
+      × Appends was is (replies start.memory put ++ nows waited (length waited))
 
 -- An engine was closed, and this status was given, after these commands of a script were put on its disk.
-pub record Closed {D : Type 0} (now : D → Moment) (past : D → List Moment) (failures : D → ℕ) (text : List ℕ) (start : EngineState D) (disk : D) (was is : Option (List ℕ)) (status : ℕ) : Type 0 where
+pub record Closed {D : Type 0} (now : D → Moment) (past : D → List Moment) (failures : D → ℕ) (text : List ℕ)
+    (start : EngineState D) (disk : D) (was is : Option (List ℕ)) (status : ℕ) : Type 0 where
   pub put : List Command
   pub asked : IsAsked start.memory [] (wanted_of text) put status
   pub accepted : accept_each start.memory put ≡ Some (after start.memory put)
@@ -253,7 +305,8 @@ pub record Closed {D : Type 0} (now : D → Moment) (past : D → List Moment) (
 -- the requests of this script, in their order, and confirmations. With status 0 they are all its requests. From then on
 -- a crash leaves the memory after a prefix of them. At the end it leaves the memory after all of them, or after all but
 -- the last if a call of the disk failed. If the status is 0, it is after all of them.
-pub record Served {D : Type 0} (now : D → Moment) (past : D → List Moment) (failures : D → ℕ) (text : List ℕ) (old new : D) (was is : Option (List ℕ)) (status : ℕ) : Type 0 where
+pub record Served {D : Type 0} (now : D → Moment) (past : D → List Moment) (failures : D → ℕ) (text : List ℕ)
+    (old new : D) (was is : Option (List ℕ)) (status : ℕ) : Type 0 where
   pub start : EngineState D
   pub put : List Command
   pub asked : IsAsked start.memory [] (wanted_of text) put status
@@ -264,8 +317,10 @@ pub record Served {D : Type 0} (now : D → Moment) (past : D → List Moment) (
   pub done : status ≡ 0 → LeavesNow (now new) (MeansAfter start put (length put))
   pub printed : Told now start put new was is status
 
--- The image was not opened: a crash leaves nothing that it couldn't leave before, and no more than a refusal was printed.
-pub record NotOpened {D : Type 0} (now : D → Moment) (past : D → List Moment) (old new : D) (was is : Option (List ℕ)) (status : ℕ) : Type 0 where
+-- The image was not opened: a crash leaves nothing that it couldn't leave before, and no more than a refusal was
+-- printed.
+pub record NotOpened {D : Type 0} (now : D → Moment) (past : D → List Moment) (old new : D) (was is : Option (List ℕ))
+    (status : ℕ) : Type 0 where
   pub status_is : status ≡ 1
   pub printed : (last : List ℕ) × (IsLast last × Begins was is last)
   pub leaves : Leaves (now old) (now new) (past old) (past new) (Left (now old))
@@ -276,9 +331,11 @@ SerialOn disk text old new was is status = NotOpened disk.now disk.past old new 
     ⊎ Served disk.now disk.past disk.failures text old new was is status
 
 -- The same of some script, and of a disk that is at this moment, and has no moment before it.
-pub record ServedFrom {D : Type 0} (now : D → Moment) (past : D → List Moment) (failures : D → ℕ) (first : Moment) (new : D) (before after : Option (List ℕ)) (status : ℕ) : Type 0 where
+pub record ServedFrom {D : Type 0} (now : D → Moment) (past : D → List Moment) (failures : D → ℕ) (first : Moment)
+    (new : D) (before after : Option (List ℕ)) (status : ℕ) : Type 0 where
   pub old : D
   pub was : now old ≡ first
   pub none : past old ≡ []
   pub text : List ℕ
-  pub served : NotOpened now past old new before after status ⊎ Served now past failures text old new before after status
+  pub served : NotOpened now past old new before after status
+      ⊎ Served now past failures text old new before after status

@@ -161,8 +161,8 @@ impl<D: Disk> Server<D> {
         ensures engine { self.new.engine ≡ self.old.engine }
         ensures names { OnOk result (Names past.old.many.items past.old.end (wanted_by (Said.Block block))
             past.new.many.items past.new.end [] self.old.bases.items self.new.bases.items) }
-        ensures made { OnOk result (MakesBlocks self.old.engine.memory past.old.many.items (wanted_by (Said.Block block))
-            past.new.many.items []) }
+        ensures made { OnOk result (MakesBlocks self.old.engine.memory past.old.many.items
+            (wanted_by (Said.Block block)) past.new.many.items []) }
         ensures passed { HasPassed past.old.many.items (wanted_by (Said.Block block)) past.new.many.items result
             (seen_by self.old (W.contents out.old)) (seen_by self.new (W.contents out.new)) }
     {

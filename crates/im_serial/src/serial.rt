@@ -130,8 +130,8 @@ fn serve_on<D: Disk, W: Write, N: Observer>(
 /// order, each with its element's next number, and confirmations. If the status is 0, they are all of those.
 ///
 /// So stops may come anywhere, and any number of them. From a new image on, all such runs of one script are together
-/// what one run of [`serial_on`] is: its requests were put in their order, each once and with its element's next number,
-/// and names stand for the bases that were answered. If the status is 0, they are all its requests.
+/// what one run of [`serial_on`] is: its requests were put in their order, each once and with its element's next
+/// number, and names stand for the bases that were answered. If the status is 0, they are all its requests.
 pub fn serial_once_on<D: Disk, W: Write, N: Observer>(
     alloc: Global,
     disk: D,

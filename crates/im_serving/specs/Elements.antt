@@ -34,7 +34,8 @@ pub record End : Type 0 where
 -- A server came from the first deeds to the second, given what was asked for. It did all of it, in order, if nothing
 -- was refused, and else a prefix of it. Each glance tells what the element had seen. What was done is counted from the
 -- start, so nothing was done before.
-pub record HasServed (m : Contents) (p q : Deeds) (result : Result (Unit {0}) Refusal) (intents : List Intent) : Type 0 where
+pub record HasServed (m : Contents) (p q : Deeds) (result : Result (Unit {0}) Refusal)
+    (intents : List Intent) : Type 0 where
   pub element : q.port.element ≡ p.port.element
   pub first : q.served.first ≡ p.served.first
   pub begun : AreDone p.port p.served p.made [] → HasBegun q.port q.served q.made intents
@@ -62,4 +63,5 @@ HasStopped m p d outlet = HasServed m p d.deeds d.result outlet.items × OnOk d.
 
 -- what was sent into a pipe is a prefix of what is asked for, and all of it if nothing was handed back
 abbrev pub HasSent : PipeId Intent → List Intent → PipeEnd Intent → Bool → Type 0
-HasSent pipe intents finished all = (finished.pipe ≡ pipe) × IsPrefix finished.items intents × (all ≡ true → finished.items ≡ intents)
+HasSent pipe intents finished all =
+    (finished.pipe ≡ pipe) × IsPrefix finished.items intents × (all ≡ true → finished.items ≡ intents)

@@ -23,7 +23,8 @@ use Rattle.im_controller.specs.State.{PortState}
 abbrev pub IsAskedIn : Contents → ℕ → ℕ → Op → Entry → Type 0
 IsAskedIn memory element number op entry =
     (history : List Line) × IsLegal memory history
-    × EndsIn history (line_of (Commands (Asks (record { element = element; number = number; op = op }))) (Ok (Tells entry)))
+    × EndsIn history (line_of (Commands (Asks (record { element = element; number = number; op = op })))
+    (Ok (Tells entry)))
 
 -- ---- glances
 
@@ -33,13 +34,15 @@ abbrev pub HasLearnt : Contents → ℕ → Option ℕ → List Change → Type 
 HasLearnt m element None seen = IsPrefix (opening m) seen
 HasLearnt m element (Some number) seen =
     (op : Op) × (entry : Entry) × (history : List Line) × IsLegal m history
-    × EndsIn history (line_of (Commands (Asks (record { element = element; number = number; op = op }))) (Ok (Tells entry)))
+    × EndsIn history (line_of (Commands (Asks (record { element = element; number = number; op = op })))
+    (Ok (Tells entry)))
     × IsPrefix (shown_by m history) seen
 
 -- a glance tells the cell as it is after changes that the element had seen, which include all that was shown at its
 -- last answer
 abbrev pub IsGlanced : Contents → ℕ → Glanced → Type 0
-IsGlanced m element g = (seen : List Change) × HasLearnt m element g.after seen × (g.value ≡ value_after g.address None seen)
+IsGlanced m element g =
+    (seen : List Change) × HasLearnt m element g.after seen × (g.value ≡ value_after g.address None seen)
 
 -- the same of each of these glances, and the reader has seen these changes
 abbrev pub AreGlanced : Contents → ℕ → Option ℕ → List Change → List Glanced → Type 0
@@ -49,7 +52,8 @@ AreGlanced m element last seen made = HasLearnt m element last seen × All (IsGl
 
 -- the line of this request with this entry as its answer
 abbrev pub asked_line : ℕ → ℕ → Op → Entry → Line
-asked_line element number op entry = line_of (Commands (Asks (record { element = element; number = number; op = op }))) (Ok (Tells entry))
+asked_line element number op entry =
+    line_of (Commands (Asks (record { element = element; number = number; op = op }))) (Ok (Tells entry))
 
 -- the line that finds this entry under a number
 abbrev pub found_line : ℕ → ℕ → Entry → Line
@@ -58,13 +62,15 @@ found_line element number entry = line_of (Collect element number) (Ok (Tells en
 -- these lines stand in a trace, in this order
 abbrev pub StandIn : List Line → List Line → Type 0
 StandIn [] trace = Unit {0}
-StandIn (line ∷ lines) trace = (before : List Line) × (after : List Line) × (trace ≡ before ++ line ∷ after) × StandIn lines after
+StandIn (line ∷ lines) trace =
+    (before : List Line) × (after : List Line) × (trace ≡ before ++ line ∷ after) × StandIn lines after
 
 -- the lines of these operations under the numbers from this one on, each with its first entry
 abbrev pub asked_lines : ℕ → ℕ → List Op → List Entry → List Line
 asked_lines element number [] firsts = []
 asked_lines element number (op ∷ ops) [] = []
-asked_lines element number (op ∷ ops) (first ∷ firsts) = asked_line element number op first ∷ asked_lines element (suc number) ops firsts
+asked_lines element number (op ∷ ops) (first ∷ firsts) =
+    asked_line element number op first ∷ asked_lines element (suc number) ops firsts
 
 -- of the numbers from this one on: each of the later entries is the earlier one, or was found under its number in this
 -- trace
@@ -73,7 +79,8 @@ AreFound trace element number [] [] = Unit {0}
 AreFound trace element number [] (entry ∷ entries) = ⊥
 AreFound trace element number (first ∷ firsts) [] = ⊥
 AreFound trace element number (first ∷ firsts) (entry ∷ entries) =
-    ((entry ≡ first) ⊎ StandIn (found_line element number entry ∷ []) trace) × AreFound trace element (suc number) firsts entries
+    ((entry ≡ first) ⊎ StandIn (found_line element number entry ∷ []) trace)
+    × AreFound trace element (suc number) firsts entries
 
 -- These operations were asked in this order, under the numbers from this one on: their lines stand so in the trace. The
 -- i-th entry is the answer to the i-th of them, or what was found later under its number.
@@ -118,8 +125,8 @@ ops_of [] = []
 ops_of (Request op ∷ intents) = op ∷ ops_of intents
 ops_of (Glance a ∷ intents) = ops_of intents
 
--- All of these were done by a port, from the first number on. There is an entry for each request, and its line stands in
--- what the port has seen of the trace. Each glance was made in its place.
+-- All of these were done by a port, from the first number on. There is an entry for each request, and its line stands
+-- in what the port has seen of the trace. Each glance was made in its place.
 pub record AreDone (port : PortState) (served : Served) (made : List Glanced) (intents : List Intent) : Type 0 where
   pub count : length served.entries.items ≡ requests intents
   pub answered : HasAnswers port.history port.element served.first (ops_of intents) served.entries.items

@@ -10,8 +10,8 @@ use im_disk::Disk;
 use im_types::{Op, Refusal};
 use std::sync::Wait;
 
-/// Two receipts of a controller are of one trace, whichever threads were told them: their histories are legal, and one is
-/// a prefix of the other. Contracts alone see what it says.
+/// Two receipts of a controller are of one trace, whichever threads were told them: their histories are legal, and one
+/// is a prefix of the other. Contracts alone see what it says.
 pub fn are_in_order<K: Name>(one: &Receipt<K>, two: &Receipt<K>)
     ensures order { AreInOrder one.now.history two.now.history }
     ensures legal { IsLegal K.memory one.now.history × IsLegal K.memory two.now.history }
@@ -20,8 +20,8 @@ pub fn are_in_order<K: Name>(one: &Receipt<K>, two: &Receipt<K>)
     one.history().order(two.history());
 }
 
-/// A port asks for two operations, one after the other, each under its number. Where both are answered, the second one's
-/// line stands after the whole history of the first one's receipt.
+/// A port asks for two operations, one after the other, each under its number. Where both are answered, the second
+/// one's line stands after the whole history of the first one's receipt.
 pub fn ask_twice<D: Disk, K: Name, R: Wait>(
     rt: &R,
     controller: &Controller<D, K>,

@@ -16,7 +16,8 @@ place_of number = number % WINDOW
 -- this number of entries, from this number on
 abbrev pub entries_from : List Kept → ℕ → ℕ → List Kept
 entries_from places number zero = []
-entries_from places number (suc count) = slice_index_or places (place_of number) blank ∷ entries_from places (suc number) count
+entries_from places number (suc count) =
+    slice_index_or places (place_of number) blank ∷ entries_from places (suc number) count
 
 -- the window is numbered from 1 on, keeps at most WINDOW entries, and numbers none past the last number of all
 pub record AreBounds (base count : ℕ) : Type 0 where

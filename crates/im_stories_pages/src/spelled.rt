@@ -11,7 +11,7 @@
 //! byte 4..15 1 = refused 4..15             what is read where a byte of these, each in turn, is set to 1
 //! values 6 = read 0, refused 1..255        what is read where byte 6 is set to each value
 //! kept 15 = fetch 5 -> waiting             the entry with this number, of the session that was read
-//! kept stores = 64                         how many of its first entries are of stores of 0, 1, .. in cell 0 that clashed
+//! kept stores = 64                         how many of its first entries are of clashed stores of 0, 1, .. in cell 0
 //! area cell 0 = free hole 1 next none      of the area that was read; so `area node 3` and `area window 0`
 //! ```
 

@@ -2,7 +2,7 @@
 //!
 //! ```text
 //! limits 4096 16 256 = 4096 16 256
-//! version 1 = 1                            bytes are read by this version of the layout from now on; by 2, if none is named
+//! version 1 = 1                            bytes are read by this version from now on; by 2, if none is named
 //! refusal Gap = refused 1 Gap
 //! ```
 

@@ -1,5 +1,26 @@
 -- The lines that are printed while a script is served, and how far they were written. (Own.)
-use Rattle.std.specs.Prelude.{◌≡◌, ◌⊎◌, ℕ, ◌≤◌, false, List, [], ◌∷◌, ◌++◌, length, take, codes, decimal, Option, None, Some, Result, Ok, Err, slice_get}
+use Rattle.std.specs.Prelude.{
+  ◌≡◌,
+  ◌⊎◌,
+  ℕ,
+  ◌≤◌,
+  false,
+  List,
+  [],
+  ◌∷◌,
+  ◌++◌,
+  length,
+  take,
+  codes,
+  decimal,
+  Option,
+  None,
+  Some,
+  Result,
+  Ok,
+  Err,
+  slice_get,
+}
 use Rattle.std.specs.Io.KnownBytes.{Appends}
 use Rattle.im_types.specs.declared.commands.Command.{Command}
 use Rattle.im_types.specs.declared.commands.Command.TheVariants.{Request as Asks, Confirm}
@@ -20,12 +41,14 @@ use Rattle.im_text.specs.Texts.{entry_text, line_feed, texts_below}
 
 -- K.N REPLY: a request that was served
 abbrev pub told_line : ℕ → ℕ → Entry → List ℕ
-told_line element number entry = decimal element ++ codes "." ++ decimal number ++ codes " " ++ entry_text entry ++ line_feed
+told_line element number entry =
+    decimal element ++ codes "." ++ decimal number ++ codes " " ++ entry_text entry ++ line_feed
 
 -- K.N now REPLY: a request that had to wait, with the entry that was last kept for it
 abbrev pub now_line : Option Waited → List ℕ
 now_line None = []
-now_line (Some w) = decimal w.element ++ codes "." ++ decimal w.number ++ codes " now " ++ entry_text w.entry ++ line_feed
+now_line (Some w) =
+    decimal w.element ++ codes "." ++ decimal w.number ++ codes " now " ++ entry_text w.entry ++ line_feed
 
 -- refused N NAME
 abbrev pub refused_line : Refusal → List ℕ → List ℕ
@@ -41,7 +64,8 @@ reply_line (Confirm element upto) answer = []
 -- the lines of commands, one after another
 abbrev pub replies : Contents → List Command → List ℕ
 replies m [] = []
-replies m (command ∷ commands) = reply_line command (step m command).answer ++ replies (step m command).contents commands
+replies m (command ∷ commands) =
+    reply_line command (step m command).answer ++ replies (step m command).contents commands
 
 -- who has to wait, by the entry of a request
 abbrev pub waits_if : Waiter → Entry → List Waiter
@@ -84,15 +108,18 @@ pub record Prints (start now : Option (List ℕ)) (lines : Lines) (text : List �
 
 -- no text more
 abbrev pub PrintsOn : Option (List ℕ) → Lines → Option (List ℕ) → Lines → Type 0
-PrintsOn was before is after = (start : Option (List ℕ)) (text : List ℕ) → Prints start was before text → Prints start is after text
+PrintsOn was before is after =
+    (start : Option (List ℕ)) (text : List ℕ) → Prints start was before text → Prints start is after text
 
 -- this text more
 abbrev pub PrintsMore : Option (List ℕ) → Lines → Option (List ℕ) → Lines → List ℕ → Type 0
-PrintsMore was before is after more = (start : Option (List ℕ)) (text : List ℕ) → Prints start was before text → Prints start is after (text ++ more)
+PrintsMore was before is after more =
+    (start : Option (List ℕ)) (text : List ℕ) → Prints start was before text → Prints start is after (text ++ more)
 
 -- some of the lines of those that had to wait
 abbrev pub PrintsNows : Option (List ℕ) → Lines → Option (List ℕ) → Lines → List Waited → Type 0
-PrintsNows was before is after waited = (many : ℕ) × (many ≤ length waited) × PrintsMore was before is after (nows waited many)
+PrintsNows was before is after waited =
+    (many : ℕ) × (many ≤ length waited) × PrintsMore was before is after (nows waited many)
 
 -- the line of a refusal, or none
 abbrev pub IsLast : List ℕ → Type 0

@@ -78,7 +78,8 @@ impl Display for PathFault {
                 "there is a file of that name, and it is left as it is",
             ),
             PathFault::Unsynced => f.write_str(
-                "a sync of it failed since this machine was started, so what is read of it may not be on the disk: mount its file system anew and remove the note, or restart the machine",
+                "a sync of it failed since this machine was started, so what is read of it may not be on the disk: \
+                 mount its file system anew and remove the note, or restart the machine",
             ),
             PathFault::NotFile => f.write_str("it is no ordinary file"),
             PathFault::IsFolder => f.write_str("it is a folder"),
@@ -89,7 +90,8 @@ impl Display for PathFault {
                 let words = Words(kind);
                 write!(
                     f,
-                    "a sync of the file failed as it was opened: {words}; mount its file system anew, or restart the machine, before it is opened again"
+                    "a sync of the file failed as it was opened: {words}; \
+                     mount its file system anew, or restart the machine, before it is opened again"
                 )
             }
             PathFault::System(kind) => Words(kind).fmt(f),

@@ -84,8 +84,8 @@ fn words(refusal: Refusal) -> &'static str {
         Refusal::Forgotten => "its number was confirmed",
         Refusal::Mismatch => "its number is kept for another operation",
         Refusal::NotAnswered => "an entry still waits",
-        Refusal::BadPlan =>
-            "it is in no plan: it is neither a fetch nor a store, its cell has a second store, or its cell can't answer it",
+        Refusal::BadPlan => "it is in no plan: \
+             it is neither a fetch nor a store, its cell has a second store, or its cell can't answer it",
         Refusal::Stalled => "the elements wait for each other",
         _ => "it is refused",
     }
@@ -162,8 +162,8 @@ fn add_unmade<W: fmt::Write>(
 fn add_call<W: fmt::Write>(f: &mut Formatter<W>, fault: CallFault) -> fmt::Result {
     write!(f, "{fault}")?;
     f.write_str(match fault {
-        CallFault::Sync(_) =>
-            "; what is read of it from now on may not be on the disk: mount its file system anew, or restart the machine, before it is opened again",
+        CallFault::Sync(_) => "; what is read of it from now on may not be on the disk: \
+             mount its file system anew, or restart the machine, before it is opened again",
         _ => "; the last command is there or not",
     })
 }

@@ -60,8 +60,10 @@ impl Reason {
     /// another program. It is [`USELESS`] if there is no image, if the image is damaged or old, or if there is no file
     /// or no permission. Else it is 1.
     pub fn status(&self) -> u8
-        ensures in_use { (self.now ≡ Reason.File PathFault.InUse) ⊎ (self.now ≡ Reason.NewFile PathFault.InUse) → result ≡ 4 }
-        ensures image { (refusal : Refusal) (damage : Damage) → self.now ≡ Reason.Image refusal damage → result ≡ status_of_image refusal }
+        ensures in_use { (self.now ≡ Reason.File PathFault.InUse) ⊎ (self.now ≡ Reason.NewFile PathFault.InUse)
+            → result ≡ 4 }
+        ensures image { (refusal : Refusal) (damage : Damage) → self.now ≡ Reason.Image refusal damage
+            → result ≡ status_of_image refusal }
         ensures range { (result ≡ 1) ⊎ (result ≡ 4) ⊎ (result ≡ 5) }
     {
         match *self {

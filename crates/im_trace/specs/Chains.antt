@@ -29,7 +29,8 @@ first_of book = record { tracked = true; key = 0; book = book }
 -- the lines that the pen with this key and the pens after it wrote
 abbrev pub lines_from : ℕ → List Link → List Line
 lines_from key [] = []
-lines_from key (link ∷ links) = if link.from == key then link.line ∷ lines_from link.next links else lines_from key links
+lines_from key (link ∷ links) =
+    if link.from == key then link.line ∷ lines_from link.next links else lines_from key links
 
 -- the key of the pen that writes next
 abbrev pub tip_from : ℕ → List Link → ℕ

@@ -28,4 +28,8 @@ pub record IsCounted (marks : Line → Bool) (trace : List Line) (claimed : Bool
 
 -- a log at its end after a port's share is back
 abbrev pub with_share_back : EndedState → Counts → EndedState
-with_share_back e tally = record e { back = e.back + 1; told = record { lines = e.told.lines + tally.lines; marked = e.told.marked + tally.marked } }
+with_share_back e tally =
+    record e {
+      back = e.back + 1;
+      told = record { lines = e.told.lines + tally.lines; marked = e.told.marked + tally.marked };
+    }

@@ -42,7 +42,8 @@ pub record Counts : Type 0 where
 
 -- the counts after these lines more
 abbrev pub counts_after : (Line → Bool) → Counts → List Line → Counts
-counts_after marks counts lines = record { lines = counts.lines + length lines; marked = counts.marked + count_by marks lines }
+counts_after marks counts lines =
+    record { lines = counts.lines + length lines; marked = counts.marked + count_by marks lines }
 
 -- one of two traces is a prefix of the other
 abbrev pub AreInOrder : List Line → List Line → Type 0

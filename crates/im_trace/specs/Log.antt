@@ -37,7 +37,8 @@ abbrev pub sender_of : Command → ℕ
 sender_of (Asks r) = r.element
 sender_of (Confirm element upto) = element
 
--- the answer to a command that its port hasn't taken yet, how many lines there were before it, and the trace right after it
+-- the answer to a command that its port hasn't taken yet, how many lines there were before it, and the trace right
+-- after it
 pub record UnclaimedState : Type 0 where
   pub command : Command
   pub answer : Result Outcome Refusal
@@ -57,7 +58,8 @@ plain (Err refusal) = Err refusal
 
 -- an answer with its receipt, which has this trace and these shown changes
 abbrev pub receipt_for : List Line → List Change → Command → Result Outcome Refusal → Result ReceiptState Refusal
-receipt_for history shown command (Ok outcome) = Ok (record { command = command; outcome = outcome; history = history; told = shown })
+receipt_for history shown command (Ok outcome) =
+    Ok (record { command = command; outcome = outcome; history = history; told = shown })
 receipt_for history shown command (Err refusal) = Err refusal
 
 -- the full cells that were opened, followed by the changes of this trace, are a prefix of what was shown
@@ -82,7 +84,12 @@ with_line l call answer = record l { trace = l.trace ++ lines_of call answer }
 abbrev pub with_unclaimed : LogState → Command → Result Outcome Refusal → LogState
 with_unclaimed l command answer =
     let trace = l.trace ++ lines_of (Commands command) answer in
-    record { trace = trace; limit = l.limit; places = slice_set l.places (sender_of command) (Some (record { command = command; answer = answer; before = length l.trace; history = trace })) }
+    record {
+      trace = trace;
+      limit = l.limit;
+      places = slice_set l.places (sender_of command)
+          (Some (record { command = command; answer = answer; before = length l.trace; history = trace }));
+    }
 
 -- the log with an element's place free
 abbrev pub without_unclaimed : LogState → ℕ → LogState
@@ -95,7 +102,8 @@ IsBefore before last lines = (start : List Line) × (length start ≡ before) ×
 -- an answer that waits in a place has a prefix of the trace, which is legal and ends in its line
 abbrev pub IsProofIn : Contents → List Line → Option UnclaimedState → Type 0
 IsProofIn m trace None = Unit {0}
-IsProofIn m trace (Some waiting) = IsProof m (Commands waiting.command) waiting.answer waiting.history × IsPrefix waiting.history trace
+IsProofIn m trace (Some waiting) =
+    IsProof m (Commands waiting.command) waiting.answer waiting.history × IsPrefix waiting.history trace
     × IsBefore waiting.before (unclaimed_lines (Some waiting)) waiting.history
 
 -- A legal trace with no more lines than it may have. The books count each line that its port was told: all but those of
@@ -114,26 +122,31 @@ IsOf command (Ok receipt) = receipt.command ≡ command
 IsOf command (Err refusal) = Unit {0}
 
 -- the answer to a command is taken from an element's place, or isn't there
-abbrev pub Takes : List (Option UnclaimedState) → ℕ → Command → Option UnclaimedState → List (Option UnclaimedState) → Type 0
+abbrev pub Takes : List (Option UnclaimedState) → ℕ → Command → Option UnclaimedState → List (Option UnclaimedState)
+    → Type 0
 Takes places element command None others = others ≡ places
-Takes places element command (Some w) others = (slice_get places element ≡ Some (Some w)) × (w.command ≡ command) × (others ≡ slice_set places element None)
+Takes places element command (Some w) others =
+    (slice_get places element ≡ Some (Some w)) × (w.command ≡ command) × (others ≡ slice_set places element None)
 
 -- A port looks for the answer to its command in its element's place. There is none, or it takes it, and its line is
 -- counted.
-abbrev pub Claims : (Line → Bool) → LogState → Counts → ℕ → Command → Option (Result ReceiptState Refusal) → LogState → Counts → Type 0
+abbrev pub Claims : (Line → Bool) → LogState → Counts → ℕ → Command → Option (Result ReceiptState Refusal) → LogState
+    → Counts → Type 0
 Claims marks l t element command None l' t' = (l' ≡ l) × (t' ≡ t)
 Claims marks l t element command (Some answer) l' t' =
-    (l' ≡ without_unclaimed l element) × (t' ≡ counts_after marks t (lines_of (Commands command) (plain answer))) × IsOf command answer
+    (l' ≡ without_unclaimed l element) × (t' ≡ counts_after marks t (lines_of (Commands command) (plain answer)))
+    × IsOf command answer
 
 -- a receipt has this trace
 abbrev pub HasHistory : List Line → Result ReceiptState Refusal → Type 0
 HasHistory history (Ok receipt) = receipt.history ≡ history
 HasHistory history (Err refusal) = Unit {0}
 
--- What a port has seen of the trace, once it was told the answer to a command: the command's line, if it left one, stands
--- after all that the port saw before, and the receipt has the same trace.
+-- What a port has seen of the trace, once it was told the answer to a command: the command's line, if it left one,
+-- stands after all that the port saw before, and the receipt has the same trace.
 abbrev pub SeesReceipt : List Line → Command → Result ReceiptState Refusal → List Line → Type 0
-SeesReceipt seen command answer seen' = GoesOnTo seen (lines_of (Commands command) (plain answer)) seen' × HasHistory seen' answer
+SeesReceipt seen command answer seen' =
+    GoesOnTo seen (lines_of (Commands command) (plain answer)) seen' × HasHistory seen' answer
 
 -- the same, when it looks for the answer to its command: it sees no more if there is none
 abbrev pub SeesAnswer : List Line → Command → Option (Result ReceiptState Refusal) → List Line → Type 0

@@ -1,5 +1,6 @@
-//! The book of the lines: the trace, of which each port and each receipt has a prefix. It is one book of the toolchain's
-//! `logbook`, and contracts alone see its entries. Who has the next pen knows all its lines, and nobody else adds one.
+//! The book of the lines: the trace, of which each port and each receipt has a prefix. It is one book of the
+//! toolchain's `logbook`, and contracts alone see its entries. Who has the next pen knows all its lines, and nobody
+//! else adds one.
 ghost use Rattle.std.specs.Prelude.{◌≡◌, ◌<◌, ◌++◌, ◌∷◌, [], length};
 ghost use mathlib.Core.List.{IsPrefix};
 ghost use Rattle.logbook.specs.Pages.{may_write};

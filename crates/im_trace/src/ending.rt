@@ -85,8 +85,8 @@ impl<K: Name> Ended<K> {
         self.marked.merge(marked);
     }
 
-    /// Audits the books, and returns the trace, and whether no line waits for a port that didn't take its answer. If all
-    /// shares are back, no line waits exactly if the ports were told as many lines as the trace has.
+    /// Audits the books, and returns the trace, and whether no line waits for a port that didn't take its answer. If
+    /// all shares are back, no line waits exactly if the ports were told as many lines as the trace has.
     pub fn close(self) -> (Vec<Traced>, bool)
         ensures trace { result.0.items ≡ self.trace }
         ensures claimed { result.1 ≡ self.claimed }

@@ -237,7 +237,8 @@ impl<K: Name> Log<K> {
         command: &Command,
     ) -> Option<Result<Receipt<K>, Refusal>>
         requires told { IsToldOf K.memory self.old.trace told }
-        ensures claims { Claims K.marks self.old tally.old (sender_of command.now) command.now result self.new tally.new }
+        ensures claims { Claims K.marks self.old tally.old (sender_of command.now) command.now result
+            self.new tally.new }
         ensures proof { IfSome result (IsOfTrace K.memory self.old.trace) }
         ensures trace { self.new.trace ≡ self.old.trace }
         ensures order { SeesAnswer seen.old command.now result seen.new }
@@ -340,8 +341,8 @@ fn is_of(place: &Option<Unclaimed>, command: &Command, seen: usize) -> bool
     ensures later { result ≡ true → MatchOption place.now ⊥ (λ w. seen ≤ w.before) }
 {
     match place {
-        // It was served after the port asked, so its line stands after all that the port has seen. No clause of the inbox
-        // says so.
+        // It was served after the port asked, so its line stands after all that the port has seen. No clause of the
+        // inbox says so.
         Some(waiting) => waiting.command == *command && seen <= waiting.before,
         None => false,
     }

@@ -40,7 +40,8 @@ fetch who (Clashed v) = tells Clash (Clashed v)
 
 -- each reader that waits gets the value
 abbrev pub store : ℕ → CellState → Served
-store v (Empty readers) = record { state = Full v; entry = Answered Stored; resumed = map (λ reader. (reader, Value v)) readers }
+store v (Empty readers) =
+    record { state = Full v; entry = Answered Stored; resumed = map (λ reader. (reader, Value v)) readers }
 store v (Full w) = tells Clash (Clashed w)
 store v (Clashed w) = tells Clash (Clashed w)
 
@@ -53,7 +54,8 @@ take_from who (Clashed v) = tells Clash (Clashed v)
 -- the first taker that waits gets the value, and the cell stays empty
 abbrev pub put : ℕ → CellState → Served
 put v (Empty []) = tells Stored (Full v)
-put v (Empty (taker ∷ takers)) = record { state = Empty takers; entry = Answered Stored; resumed = (taker, Value v) ∷ [] }
+put v (Empty (taker ∷ takers)) =
+    record { state = Empty takers; entry = Answered Stored; resumed = (taker, Value v) ∷ [] }
 put v (Full w) = tells Clash (Clashed w)
 put v (Clashed w) = tells Clash (Clashed w)
 
@@ -85,7 +87,9 @@ serve_cell cells a block served = record {
 -- one cell, in a block of the operation's kind
 abbrev pub at_cell : Kind → (CellState → Served) → List (Option Held) → ℕ → Option Held → Acted
 at_cell kind serve cells a None = only_tells cells NoCell
-at_cell kind serve cells a (Some held) = if same_kind kind held.block.kind then serve_cell cells a held.block (serve held.state) else only_tells cells WrongKind
+at_cell kind serve cells a (Some held) =
+    if same_kind kind held.block.kind then serve_cell cells a held.block (serve held.state)
+    else only_tells cells WrongKind
 
 -- a new block's cells
 abbrev pub new_cell : ℕ → ℕ → Kind → Option Held
@@ -94,7 +98,8 @@ new_cell base n kind = Some (record { block = record { base = base; length = n; 
 -- a block at the place that was found, if there is one
 abbrev pub allocate_at : List (Option Held) → Kind → ℕ → Option ℕ → Acted
 allocate_at cells kind n None = only_tells cells NoSpace
-allocate_at cells kind n (Some base) = record { cells = fill cells base n (new_cell base n kind); entry = Answered (Base base); resumed = [] }
+allocate_at cells kind n (Some base) =
+    record { cells = fill cells base n (new_cell base n kind); entry = Answered (Base base); resumed = [] }
 
 -- a block of n cells, at the least place
 abbrev pub allocate : List (Option Held) → Kind → ℕ → Acted

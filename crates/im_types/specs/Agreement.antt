@@ -51,9 +51,11 @@ address_of (Put a v) = a
 -- the lists of waiters agree with the entries; `kept` gives the operation and the entry of each request
 pub record WaitersAgree (cells : List (Option Held)) (kept : Waiter → Option Kept) : Type 0 where
   -- a request stands once in the list of the cell that its entry waits for, and in no other list
-  pub listed : (who : Waiter) (a : ℕ) → times who (waiters_at cells a) ≡ (if waits_in a (held_at cells a) (kept who) then 1 else 0)
+  pub listed : (who : Waiter) (a : ℕ)
+      → times who (waiters_at cells a) ≡ (if waits_in a (held_at cells a) (kept who) then 1 else 0)
   -- each Waiting entry waits for the cell that it names
-  pub somewhere : (who : Waiter) (k : Kept) → kept who ≡ Some k → is_waiting k ≡ true → waits_in (address_of k.op) (held_at cells (address_of k.op)) (Some k) ≡ true
+  pub somewhere : (who : Waiter) (k : Kept) → kept who ≡ Some k → is_waiting k ≡ true
+      → waits_in (address_of k.op) (held_at cells (address_of k.op)) (Some k) ≡ true
 
 -- the requests that wait at the cells of a memory are those with a waiting entry in its windows
 abbrev pub WaitingAgrees : Contents → Type 0
@@ -61,7 +63,9 @@ WaitingAgrees m = WaitersAgree m.cells (kept_for m.windows)
 
 -- an entry stays as it is, or one that was waiting is answered
 abbrev pub StaysOrIsAnswered : Kept → Option Kept → Type 0
-StaysOrIsAnswered k after = (after ≡ Some k) ⊎ ((reply : Reply) × (is_waiting k ≡ true) × (after ≡ Some (record { op = k.op; entry = Answered reply })))
+StaysOrIsAnswered k after =
+    (after ≡ Some k) ⊎ ((reply : Reply) × (is_waiting k ≡ true)
+    × (after ≡ Some (record { op = k.op; entry = Answered reply })))
 
 -- a confirmation drops this entry
 abbrev pub drops : Command → Waiter → Bool
@@ -71,4 +75,5 @@ drops (Confirm element upto) who = (who.element == element) && nat_lt who.number
 -- each entry stays kept until it is confirmed
 abbrev pub KeepsEntries : Contents → Command → Contents → Type 0
 KeepsEntries m command next =
-    (who : Waiter) (k : Kept) → kept_for m.windows who ≡ Some k → (drops command who ≡ true) ⊎ StaysOrIsAnswered k (kept_for next.windows who)
+    (who : Waiter) (k : Kept) → kept_for m.windows who ≡ Some k
+    → (drops command who ≡ true) ⊎ StaysOrIsAnswered k (kept_for next.windows who)

@@ -23,7 +23,8 @@ last_of (node ∷ next ∷ chain) = last_of (next ∷ chain)
 -- these nodes hold these waiters, each linked to the next one
 abbrev pub Holds : List NodeRecord → List ℕ → List Waiter → Type 0
 Holds nodes [] [] = Unit {0}
-Holds nodes (node ∷ chain) (who ∷ waiters) = (slice_index_or nodes node (FreeNode NONE) ≡ ListNode (first_of chain) who) × Holds nodes chain waiters
+Holds nodes (node ∷ chain) (who ∷ waiters) =
+    (slice_index_or nodes node (FreeNode NONE) ≡ ListNode (first_of chain) who) × Holds nodes chain waiters
 Holds nodes [] (who ∷ waiters) = ⊥
 Holds nodes (node ∷ chain) [] = ⊥
 
@@ -49,7 +50,8 @@ HasChain nodes (BlockCell block (TagClashed v)) chain waiters = HasNoChain chain
 -- each cell record has its chain and its waiters
 abbrev pub HaveChains : List NodeRecord → List CellRecord → List (List ℕ) → List (List Waiter) → Type 0
 HaveChains nodes [] [] [] = Unit {0}
-HaveChains nodes (cell ∷ cells) (chain ∷ chains) (waiters ∷ lists) = HasChain nodes cell chain waiters × HaveChains nodes cells chains lists
+HaveChains nodes (cell ∷ cells) (chain ∷ chains) (waiters ∷ lists) =
+    HasChain nodes cell chain waiters × HaveChains nodes cells chains lists
 HaveChains nodes cells chains lists = ⊥
 
 -- 1 if a test holds, else 0

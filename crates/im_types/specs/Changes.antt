@@ -53,7 +53,8 @@ store_change_in a v (Some held) = if same_kind I held.block.kind then store_chan
 -- them
 abbrev pub emptying_change : List (Option Held) → ℕ → Option Block → Change
 emptying_change cells a None = Same
-emptying_change cells a (Some block) = if list_any is_waiting_cell (take block.length (drop a cells)) then Same else Gone a block.length
+emptying_change cells a (Some block) =
+    if list_any is_waiting_cell (take block.length (drop a cells)) then Same else Gone a block.length
 
 -- the change of an operation that is served
 abbrev pub change_of : List (Option Held) → Op → Change

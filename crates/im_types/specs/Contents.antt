@@ -87,5 +87,7 @@ block_at cells a = option_map (λ held. held.block) (held_at cells a)
 
 -- each block lies below the cell count, and each of its cells is in that block alone
 pub record HasBlocks (cells : List (Option Held)) : Type 0 where
-  pub within : (a : ℕ) (block : Block) → block_at cells a ≡ Some block → (block.base ≤ a) × (a < block.base + block.length) × (block.base + block.length ≤ length cells)
-  pub whole : (a : ℕ) (block : Block) → block_at cells a ≡ Some block → (b : ℕ) → block.base ≤ b → b < block.base + block.length → block_at cells b ≡ Some block
+  pub within : (a : ℕ) (block : Block) → block_at cells a ≡ Some block
+      → (block.base ≤ a) × (a < block.base + block.length) × (block.base + block.length ≤ length cells)
+  pub whole : (a : ℕ) (block : Block) → block_at cells a ≡ Some block → (b : ℕ) → block.base ≤ b
+      → b < block.base + block.length → block_at cells b ≡ Some block

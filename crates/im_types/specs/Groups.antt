@@ -43,7 +43,12 @@ is_put s r = is_new s r && nat_lt 0 s.room
 
 -- the state after one more request; at the last count of all the room is 0
 abbrev pub with_request : Reached → Request → Reached
-with_request s r = record { contents = (step s.contents (Asks r)).contents; count = s.count + 1; room = if s.count + 1 == LAST then 0 else s.room - 1 }
+with_request s r =
+    record {
+      contents = (step s.contents (Asks r)).contents;
+      count = s.count + 1;
+      room = if s.count + 1 == LAST then 0 else s.room - 1;
+    }
 
 -- a member's answer: `JournalFull` if it would change the memory and there is no room
 abbrev pub answer_of : Reached → Request → Result Outcome Refusal

@@ -20,8 +20,10 @@ pub record Header : Type 0 where
 -- the 63 bytes after a header's gate
 abbrev pub header_body : Header → List ℕ
 header_body h =
-    h.area ∷ little_bytes 2 h.version ++ 0x49 ∷ 0x4D ∷ 0x45 ∷ 0x4D ∷ little_bytes 8 h.generation ++ little_bytes 8 h.count
-    ++ little_bytes 4 h.sizes.cells ++ little_bytes 2 h.sizes.elements ++ zeros 2 ++ little_bytes 4 h.sizes.slots ++ zeros 28
+    h.area ∷ little_bytes 2 h.version ++ 0x49 ∷ 0x4D ∷ 0x45 ∷ 0x4D ∷ little_bytes 8 h.generation
+    ++ little_bytes 8 h.count
+    ++ little_bytes 4 h.sizes.cells ++ little_bytes 2 h.sizes.elements ++ zeros 2 ++ little_bytes 4 h.sizes.slots
+    ++ zeros 28
 
 -- the fields of a header, whatever its other bytes are
 abbrev pub header_in : List ℕ → Header
@@ -35,11 +37,14 @@ header_in bytes = record {
 
 -- these numbers can stand in the header of an area
 abbrev pub is_header : Layout → ℕ → Header → Bool
-is_header l number h = (h.version == l.version) && (h.area == number) && nat_le 1 h.generation && nat_le h.generation LAST && nat_le h.count LAST && are_sizes l h.sizes
+is_header l number h =
+    (h.version == l.version) && (h.area == number) && nat_le 1 h.generation && nat_le h.generation LAST
+    && nat_le h.count LAST && are_sizes l h.sizes
 
 -- the bytes spell the header of an area
 abbrev pub spells_header : Layout → ℕ → List ℕ → Bool
-spells_header l number bytes = same_bytes (slice_range bytes 1 64) (header_body (header_in bytes)) && is_header l number (header_in bytes)
+spells_header l number bytes =
+    same_bytes (slice_range bytes 1 64) (header_body (header_in bytes)) && is_header l number (header_in bytes)
 
 -- the bytes of a header place that are read: its first 64
 abbrev pub header_place : ℕ → List ℕ → List ℕ
@@ -55,7 +60,8 @@ generation_in place = (header_in place).generation
 
 -- whether the second header place is in force: it is open, and the first one is closed or has a lower generation
 abbrev pub is_second : List ℕ → List ℕ → Bool
-is_second zero one = is_open_header one && (not (is_open_header zero) || nat_lt (generation_in zero) (generation_in one))
+is_second zero one =
+    is_open_header one && (not (is_open_header zero) || nat_lt (generation_in zero) (generation_in one))
 
 -- the number of the header in force
 abbrev pub number_in_force : List ℕ → List ℕ → ℕ
@@ -73,7 +79,8 @@ are_ambiguous zero one = is_open_header zero && is_open_header one && (generatio
 abbrev pub place_fault : Layout → List ℕ → List ℕ → Option Refusal
 place_fault l zero one =
     if not (is_open_header zero || is_open_header one) then Some NoHeader
-    else if are_ambiguous zero one || not (spells_header l (number_in_force zero one) (place_in_force zero one)) then Some BadHeader
+    else if are_ambiguous zero one || not (spells_header l (number_in_force zero one) (place_in_force zero one))
+    then Some BadHeader
     else None
 
 -- the header in force

@@ -28,7 +28,8 @@ pub record Event : Type 0 where
 
 -- the event of a command, if it is an accepted request
 abbrev pub event_of : Contents → Command → List Event
-event_of m (Asks r) = if is_fresh (judge m.windows r) then record { request = r; entry = (act m.cells (asker r) r.op).entry } ∷ [] else []
+event_of m (Asks r) =
+    if is_fresh (judge m.windows r) then record { request = r; entry = (act m.cells (asker r) r.op).entry } ∷ [] else []
 event_of m (Confirm element upto) = []
 
 -- the accepted requests of a run
@@ -53,7 +54,8 @@ ends_life base op entry = releases base op entry || clears base op entry
 -- the events before the end of the block's life
 abbrev pub until_end : ℕ → List Event → List Event
 until_end base [] = []
-until_end base (event ∷ events) = if ends_life base event.request.op event.entry then [] else event ∷ until_end base events
+until_end base (event ∷ events) =
+    if ends_life base event.request.op event.entry then [] else event ∷ until_end base events
 
 -- a life of a block: its kind, its base, the number of its cells, and the requests from its allocation or a reset to
 -- its release or its next reset
@@ -93,7 +95,8 @@ latest (Some kept) before = Some kept
 -- the last entry that was kept for a continuation during a list of commands
 abbrev pub last_kept : Contents → List Command → Waiter → Option Kept → Option Kept
 last_kept m [] who before = latest (kept_for m.windows who) before
-last_kept m (command ∷ commands) who before = last_kept (step m command).contents commands who (latest (kept_for m.windows who) before)
+last_kept m (command ∷ commands) who before =
+    last_kept (step m command).contents commands who (latest (kept_for m.windows who) before)
 
 -- the entry of a request at the end of a list of commands, or the one that it had when it was dropped
 abbrev pub last_entry : Contents → List Command → Waiter → Option Entry
@@ -140,11 +143,13 @@ entry_of_fetch before all = if nat_lt (length before) 2 then value_or_waiting (s
 abbrev pub has_clash : ℕ → List Event → List Event → Bool
 has_clash a earlier [] = false
 has_clash a earlier (event ∷ later) =
-    (is_some (value_put a event.request.op) && nat_lt (takes a earlier) (length (puts a earlier))) || has_clash a (earlier ++ event ∷ []) later
+    (is_some (value_put a event.request.op) && nat_lt (takes a earlier) (length (puts a earlier)))
+    || has_clash a (earlier ++ event ∷ []) later
 
 -- before the first clash, the k-th take has the value of the k-th put of the whole life; after it, a take has a clash
 abbrev pub entry_of_take : ℕ → List Event → List Event → Entry
-entry_of_take a before all = if has_clash a [] before then Answered Clash else value_or_waiting (slice_get (puts a all) (takes a before))
+entry_of_take a before all =
+    if has_clash a [] before then Answered Clash else value_or_waiting (slice_get (puts a all) (takes a before))
 
 -- the put that clashes first has a clash, and so has each put after it
 abbrev pub entry_of_put : ℕ → List Event → Event → Entry
@@ -153,7 +158,8 @@ entry_of_put a before event = if has_clash a [] (before ++ event ∷ []) then An
 -- the entry that the laws give to a request on a cell, from the requests before it and all requests of the block's
 -- life; None if they give none
 abbrev pub lawful_entry : Kind → ℕ → List Event → List Event → Event → Op → Option Entry
-lawful_entry I a all before event (Fetch b) = if a == b then Some (entry_of_fetch (stores a before) (stores a all)) else None
+lawful_entry I a all before event (Fetch b) =
+    if a == b then Some (entry_of_fetch (stores a before) (stores a all)) else None
 lawful_entry M a all before event (Take b) = if a == b then Some (entry_of_take a before all) else None
 lawful_entry M a all before event (Put b v) = if a == b then Some (entry_of_put a before event) else None
 lawful_entry kind a all before event op = None
@@ -166,7 +172,8 @@ EachAfter {X} P xs = (before later : List X) (x : X) → xs ≡ before ++ x ∷ 
 abbrev pub IsLawfulLife : Contents → List Command → Life → Type 0
 IsLawfulLife m commands life =
     (a : ℕ) → life.base ≤ a → a < life.base + life.cells → EachAfter (λ before event.
-    IfSome (lawful_entry life.kind a life.requests before event event.request.op) (λ entry. last_entry m commands (asker event.request) ≡ Some entry)) life.requests
+    IfSome (lawful_entry life.kind a life.requests before event event.request.op)
+    (λ entry. last_entry m commands (asker event.request) ≡ Some entry)) life.requests
 
 -- The value law, of the lives of I blocks: a fetch has the first value that is stored, before or after it; after a
 -- second store it has a clash.
@@ -175,4 +182,5 @@ ValueLaw m commands = AllByRecursion (λ life. life.kind ≡ I → IsLawfulLife 
 
 -- The matching law, of the lives of M blocks: the k-th take has the value of the k-th put, up to the first clash.
 abbrev pub MatchingLaw : Contents → List Command → Type 0
-MatchingLaw m commands = AllByRecursion (λ life. life.kind ≡ M → IsLawfulLife m commands life) (lives (events m commands))
+MatchingLaw m commands =
+    AllByRecursion (λ life. life.kind ≡ M → IsLawfulLife m commands life) (lives (events m commands))

@@ -33,7 +33,9 @@ next_if false slot slots = []
 -- counts, whatever they hold.
 abbrev pub run_from : Ring → ℕ → ℕ → ℕ → List ℕ → List (List ℕ)
 run_from ring zero due s file = []
-run_from ring (suc n) zero s file = next_if (continues (slot ring s file) s) (slot ring s file) (run_from ring n (group_of (slot ring s file) - 1) (s + 1) file)
+run_from ring (suc n) zero s file =
+    next_if (continues (slot ring s file) s) (slot ring s file)
+    (run_from ring n (group_of (slot ring s file) - 1) (s + 1) file)
 run_from ring (suc n) (suc due) s file = slot ring s file ∷ run_from ring n due (s + 1) file
 
 -- the run continues at most once round the ring
@@ -70,7 +72,8 @@ abbrev pub commands_in : ℕ → ℕ → List (List ℕ) → Option (List Comman
 commands_in zero s [] = Some []
 commands_in (suc due) s [] = None
 commands_in zero s (slot ∷ slots) = with_first (member zero s slot) (commands_in (due_after zero slot) (s + 1) slots)
-commands_in (suc due) s (slot ∷ slots) = with_first (member (suc due) s slot) (commands_in (due_after (suc due) slot) (s + 1) slots)
+commands_in (suc due) s (slot ∷ slots) =
+    with_first (member (suc due) s slot) (commands_in (due_after (suc due) slot) (s + 1) slots)
 
 -- the first k slots exist and are whole groups, after the first `due` slots, which follow in a group that began before
 abbrev pub is_boundary : ℕ → ℕ → List (List ℕ) → Bool
@@ -93,7 +96,8 @@ closed_from ring (suc n) s file = if is_open (slot ring s file) then 0 else suc 
 -- each of n slots from sequence number s on belongs to a command before the first one
 abbrev pub are_stale : Ring → ℕ → ℕ → ℕ → List ℕ → Bool
 are_stale ring zero s first file = true
-are_stale ring (suc n) s first file = nat_lt (sequence_of (slot ring s file)) first && are_stale ring n (s + 1) first file
+are_stale ring (suc n) s first file =
+    nat_lt (sequence_of (slot ring s file)) first && are_stale ring n (s + 1) first file
 
 -- the number of closed gates after the run, up to the first open one
 abbrev pub behind : Ring → ℕ → ℕ → List ℕ → ℕ
@@ -123,4 +127,5 @@ tail_if false room commands = None
 unfoldable pub tail : Ring → ℕ → List ℕ → Option Tail
 tail ring first file =
     let count = length (run ring first file) in
-    option_and_then (tail_if (ends_stale ring first count file) (room_of ring first count file)) (commands_in 0 first (run ring first file))
+    option_and_then (tail_if (ends_stale ring first count file) (room_of ring first count file))
+    (commands_in 0 first (run ring first file))

@@ -48,7 +48,9 @@ sizes_of limits = record { cells = limits.cells; elements = limits.elements; slo
 
 -- the sizes are in range
 abbrev pub are_sizes : Layout → Sizes → Bool
-are_sizes l s = nat_le 1 s.cells && nat_le s.cells l.most_cells && nat_le 1 s.elements && nat_le s.elements MAX_ELEMENTS && nat_le MIN_SLOTS s.slots && nat_le s.slots MAX_SLOTS
+are_sizes l s =
+    nat_le 1 s.cells && nat_le s.cells l.most_cells && nat_le 1 s.elements && nat_le s.elements MAX_ELEMENTS
+    && nat_le MIN_SLOTS s.slots && nat_le s.slots MAX_SLOTS
 
 -- the bytes of a page, and of a header place
 abbrev pub page_bytes : ℕ

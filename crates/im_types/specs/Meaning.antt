@@ -27,7 +27,9 @@ can_stand l m = l.resets || list_all (has_room_for l) m.windows
 -- None
 abbrev pub accept_in : Layout → Contents → List Command → Option Contents
 accept_in l m [] = Some m
-accept_in l m (command ∷ commands) = if can_stand l (step m command).contents && is_accepted m command then accept_in l (step m command).contents commands else None
+accept_in l m (command ∷ commands) =
+    if can_stand l (step m command).contents && is_accepted m command
+    then accept_in l (step m command).contents commands else None
 
 -- the same in the layout in use, where each memory can stand
 abbrev pub accept_each : Contents → List Command → Option Contents
@@ -55,7 +57,8 @@ IsShown l file m = let h = header_of file in Shows l h.sizes (area_of l h.sizes 
 -- and of the journal
 abbrev pub Reads : Layout → List ℕ → Result Reached Refusal → Type 0
 Reads l file outcome = MatchOption (header_fault l file)
-    (((m : Contents) × IsShown l file m × (outcome ≡ read_journal l file m)) ⊎ (((m : Contents) → IsShown l file m → ⊥) × (outcome ≡ Err BadPage)))
+    (((m : Contents) × IsShown l file m × (outcome ≡ read_journal l file m))
+    ⊎ (((m : Contents) → IsShown l file m → ⊥) × (outcome ≡ Err BadPage)))
     (λ fault. outcome ≡ Err fault)
 
 -- the outcome of opening an image: an old one is refused, and another one is read
@@ -69,4 +72,5 @@ Opens file outcome = OpensBy (is_old file) file outcome
 
 -- an image of the layout in use means this memory after `count` commands, with room for at least `room` more
 abbrev pub Means : Contents → ℕ → ℕ → List ℕ → Type 0
-Means m count room file = (there : ℕ) × (room ≤ there) × Reads layout_in_use file (Ok (record { contents = m; count = count; room = there }))
+Means m count room file =
+    (there : ℕ) × (room ≤ there) × Reads layout_in_use file (Ok (record { contents = m; count = count; room = there }))

@@ -24,7 +24,8 @@ pub record Records : Type 0 where
   pub windows : List Window
 
 -- the bytes are a row of records of one size, each spelled as it should be, and then zeros
-pub record IsRow {X : Type 0} (size : ℕ) (spelled : X → List ℕ) (Fits : X → Type 0) (none : X) (count : ℕ) (bytes : List ℕ) (row : List X) : Type 0 where
+pub record IsRow {X : Type 0} (size : ℕ) (spelled : X → List ℕ) (Fits : X → Type 0) (none : X) (count : ℕ)
+    (bytes : List ℕ) (row : List X) : Type 0 where
   pub many : length row ≡ count
   pub each : (i : ℕ) → i < count → record_at size bytes i ≡ spelled (slice_index_or row i none)
   pub fits : (i : ℕ) → i < count → Fits (slice_index_or row i none)
@@ -32,9 +33,12 @@ pub record IsRow {X : Type 0} (size : ℕ) (spelled : X → List ℕ) (Fits : X 
 
 -- an area's bytes spell these records
 pub record SpellsArea (l : Layout) (s : Sizes) (area : List ℕ) (r : Records) : Type 0 where
-  pub cells : IsRow cell_record_bytes cell_bytes (FitsCell s.cells (node_count l s)) (FreeCell 0 NONE) s.cells (cell_part s area) r.cells
-  pub nodes : IsRow node_record_bytes node_bytes (FitsNode (node_count l s)) (FreeNode NONE) (node_count l s) (node_part l s area) r.nodes
-  pub sessions : IsRow (session_record_bytes l) (session_bytes l) (FitsWindow l) new_window s.elements (session_part l s area) r.windows
+  pub cells : IsRow cell_record_bytes cell_bytes (FitsCell s.cells (node_count l s)) (FreeCell 0 NONE) s.cells
+      (cell_part s area) r.cells
+  pub nodes : IsRow node_record_bytes node_bytes (FitsNode (node_count l s)) (FreeNode NONE) (node_count l s)
+      (node_part l s area) r.nodes
+  pub sessions : IsRow (session_record_bytes l) (session_bytes l) (FitsWindow l) new_window s.elements
+      (session_part l s area) r.windows
 
 -- the state of a cell with this tag and these waiters
 abbrev pub state_shown : PresenceTag → List Waiter → CellState

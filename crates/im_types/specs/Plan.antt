@@ -53,7 +53,8 @@ is_planned op = false
 -- fetches and stores, each under its own number, with at most one store to an address
 pub record IsPlan (plan : List Request) : Type 0 where
   pub planned : (i : ℕ) (r : Request) → slice_get plan i ≡ Some r → is_planned r.op ≡ true
-  pub numbered : (i j : ℕ) (r s : Request) → slice_get plan i ≡ Some r → slice_get plan j ≡ Some s → asker r ≡ asker s → i ≡ j
+  pub numbered : (i j : ℕ) (r s : Request) → slice_get plan i ≡ Some r → slice_get plan j ≡ Some s → asker r ≡ asker s
+      → i ≡ j
   pub stored_once : (i j a : ℕ) (r s : Request) → slice_get plan i ≡ Some r → slice_get plan j ≡ Some s
       → is_some (stored_by a r.op) ≡ true → is_some (stored_by a s.op) ≡ true → i ≡ j
 
@@ -62,5 +63,6 @@ pub record FitsPlan (m : Contents) (plan : List Request) : Type 0 where
   pub element : (i : ℕ) (r : Request) → slice_get plan i ≡ Some r → is_some (slice_get m.windows r.element) ≡ true
   pub number : (i : ℕ) (r : Request) (w : Window) → slice_get plan i ≡ Some r → slice_get m.windows r.element ≡ Some w
       → (next_number w ≤ r.number) × (r.number ≤ LAST)
-  pub empty : (i : ℕ) (r : Request) (held : Held) → slice_get plan i ≡ Some r → held_at m.cells (address_of r.op) ≡ Some held
+  pub empty : (i : ℕ) (r : Request) (held : Held) → slice_get plan i ≡ Some r
+      → held_at m.cells (address_of r.op) ≡ Some held
       → held.block.kind ≡ I → held.state ≡ Empty []

@@ -48,7 +48,8 @@ tag_value tag = 0
 
 -- the 32 bytes of a cell
 abbrev pub cell_bytes : CellRecord → List ℕ
-cell_bytes (FreeCell hole next) = zeros 4 ++ little_bytes 4 hole ++ little_bytes 4 next ++ little_bytes 4 NONE ++ little_bytes 4 NONE ++ zeros 12
+cell_bytes (FreeCell hole next) =
+    zeros 4 ++ little_bytes 4 hole ++ little_bytes 4 next ++ little_bytes 4 NONE ++ little_bytes 4 NONE ++ zeros 12
 cell_bytes (BlockCell block tag) =
     tag_code tag ∷ kind_code block.kind ∷ zeros 2 ++ little_bytes 4 block.base ++ little_bytes 4 block.length
     ++ little_bytes 4 (tag_first tag) ++ little_bytes 4 (tag_last tag) ++ zeros 4 ++ little_bytes 8 (tag_value tag)
@@ -56,7 +57,8 @@ cell_bytes (BlockCell block tag) =
 -- the 16 bytes of a node
 abbrev pub node_bytes : NodeRecord → List ℕ
 node_bytes (FreeNode next) = little_bytes 4 next ++ zeros 12
-node_bytes (ListNode next who) = little_bytes 4 next ++ little_bytes 2 who.element ++ little_bytes 2 1 ++ little_bytes 8 who.number
+node_bytes (ListNode next who) =
+    little_bytes 4 next ++ little_bytes 2 who.element ++ little_bytes 2 1 ++ little_bytes 8 who.number
 
 -- a link to a number below n, or to NONE
 abbrev pub IsLink : ℕ → ℕ → Type 0
@@ -84,7 +86,8 @@ FitsNode nodes (ListNode next who) = IsLink nodes next × (who.element < 2 ^ 16)
 abbrev pub place_bytes : Option Kept → List ℕ
 place_bytes None = zeros 32
 place_bytes (Some k) =
-    op_code k.op ∷ 0 ∷ entry_code k.entry ∷ 0 ∷ little_bytes 4 (address_of k.op) ++ little_bytes 8 (op_value k.op) ++ little_bytes 8 (entry_number k.entry) ++ zeros 8
+    op_code k.op ∷ 0 ∷ entry_code k.entry ∷ 0 ∷ little_bytes 4 (address_of k.op) ++ little_bytes 8 (op_value k.op)
+    ++ little_bytes 8 (entry_number k.entry) ++ zeros 8
 
 -- a kept entry within its bounds
 abbrev pub FitsPlace : Option Kept → Type 0
@@ -103,7 +106,8 @@ places_from n w place (one ∷ rest) = place_bytes (entry_at n w place) ++ place
 -- a session record: the base, the number of entries, the places, and zeros to its end
 abbrev pub session_bytes : Layout → Window → List ℕ
 session_bytes l w =
-    little_bytes 8 w.base ++ length w.kept ∷ zeros 23 ++ places_from l.window w 0 (replicate l.window 0) ++ zeros (32 * l.window - 32)
+    little_bytes 8 w.base ++ length w.kept ∷ zeros 23 ++ places_from l.window w 0 (replicate l.window 0)
+    ++ zeros (32 * l.window - 32)
 
 -- whether an operation is a reset
 abbrev pub is_reset : Op → Bool

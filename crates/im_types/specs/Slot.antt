@@ -13,11 +13,13 @@ use Rattle.im_types.specs.Bytes.{open_gate, zeros, same_bytes, number_at, op_cod
 -- the 63 bytes after a slot's gate
 abbrev pub slot_fields : ℕ → ℕ → ℕ → ℕ → ℕ → ℕ → ℕ → List ℕ
 slot_fields group code element sequence number address value =
-    group ∷ code ∷ 0 ∷ little_bytes 2 element ++ zeros 2 ++ little_bytes 8 sequence ++ little_bytes 8 number ++ little_bytes 4 address ++ zeros 4 ++ little_bytes 8 value ++ zeros 24
+    group ∷ code ∷ 0 ∷ little_bytes 2 element ++ zeros 2 ++ little_bytes 8 sequence ++ little_bytes 8 number
+    ++ little_bytes 4 address ++ zeros 4 ++ little_bytes 8 value ++ zeros 24
 
 -- the bytes after the gate for a command, in a group with this count, under a sequence number
 abbrev pub slot_body : ℕ → ℕ → Command → List ℕ
-slot_body group sequence (Asks r) = slot_fields group (op_code r.op) r.element sequence r.number (address_of r.op) (op_value r.op)
+slot_body group sequence (Asks r) =
+    slot_fields group (op_code r.op) r.element sequence r.number (address_of r.op) (op_value r.op)
 slot_body group sequence (Confirm element upto) = slot_fields group 8 element sequence upto 0 0
 
 -- the operation that a code, an address and a value stand for
@@ -48,7 +50,9 @@ sequence_of slot = number_at 8 8 slot
 
 -- the command that the fields of a slot stand for
 unfoldable pub command_in : List ℕ → Option Command
-command_in slot = command_of (slice_index slot 2) (number_at 2 4 slot) (number_at 8 16 slot) (op_of (slice_index slot 2) (number_at 4 24 slot) (number_at 8 32 slot))
+command_in slot =
+    command_of (slice_index slot 2) (number_at 2 4 slot) (number_at 8 16 slot)
+    (op_of (slice_index slot 2) (number_at 4 24 slot) (number_at 8 32 slot))
 
 -- the group count in a slot: the number of its group's commands in the slot that leads the group, and 0 in a slot that
 -- follows
@@ -57,7 +61,8 @@ group_of slot = slice_index slot 1
 
 -- the command of a slot, if the bytes after its gate spell it with this group count
 abbrev pub if_spelled_in : ℕ → List ℕ → Command → Option Command
-if_spelled_in group slot command = if same_bytes (drop 1 slot) (slot_body group (sequence_of slot) command) then Some command else None
+if_spelled_in group slot command =
+    if same_bytes (drop 1 slot) (slot_body group (sequence_of slot) command) then Some command else None
 
 -- the command of a slot, if it spells one with this group count
 unfoldable pub read_in : ℕ → List ℕ → Option Command

@@ -38,7 +38,11 @@ step_request m r (Ok Fresh) = serve m r (act m.cells (asker r) r.op)
 -- a confirmation that was judged
 abbrev pub step_confirm : Contents → ℕ → Result Window Refusal → Stepped
 step_confirm m element (Err refusal) = record { answer = Err refusal; contents = m }
-step_confirm m element (Ok window) = record { answer = Ok Confirmed; contents = record { cells = m.cells; windows = slice_set m.windows element window } }
+step_confirm m element (Ok window) =
+    record {
+      answer = Ok Confirmed;
+      contents = record { cells = m.cells; windows = slice_set m.windows element window };
+    }
 
 -- one command on a memory
 abbrev pub step : Contents → Command → Stepped
@@ -59,7 +63,8 @@ moves_base upto w (Err refusal) = false
 -- whether a command changes the memory: a new request, or a confirmation that drops an entry
 abbrev pub is_accepted : Contents → Command → Bool
 is_accepted m (Asks r) = is_fresh (judge m.windows r)
-is_accepted m (Confirm element upto) = moves_base upto (slice_index_or m.windows element new_window) (confirm_window upto (slice_get m.windows element))
+is_accepted m (Confirm element upto) =
+    moves_base upto (slice_index_or m.windows element new_window) (confirm_window upto (slice_get m.windows element))
 
 -- a verdict, unless the answer is a refusal
 abbrev pub unless_refused : Bool → Result Outcome Refusal → Result Bool Refusal

@@ -45,7 +45,8 @@ judge_number w r None =
 -- a number below the base is forgotten; without a window there is no such element
 abbrev pub judge_window : Request → Option Window → Result Judged Refusal
 judge_window r None = Err NoElement
-judge_window r (Some w) = if nat_lt r.number w.base then Err Forgotten else judge_number w r (slice_get w.kept (r.number - w.base))
+judge_window r (Some w) =
+    if nat_lt r.number w.base then Err Forgotten else judge_number w r (slice_get w.kept (r.number - w.base))
 
 -- whether a request is new or a repeat, or why it is refused
 abbrev pub judge : List Window → Request → Result Judged Refusal
@@ -107,7 +108,8 @@ ask_number (Some kept) = Ok kept.entry
 -- the entry that a window keeps under a number, or why there is none
 abbrev pub ask_window : ℕ → Option Window → Result Entry Refusal
 ask_window number None = Err NoElement
-ask_window number (Some w) = if nat_lt number w.base then Err Forgotten else ask_number (slice_get w.kept (number - w.base))
+ask_window number (Some w) =
+    if nat_lt number w.base then Err Forgotten else ask_number (slice_get w.kept (number - w.base))
 
 -- the entry that is kept for a continuation, or why there is none
 abbrev pub ask : List Window → Waiter → Result Entry Refusal
