@@ -1,6 +1,6 @@
 -- The requests that had to wait: what is noted of each until it is dropped, and at last. (Own.)
 use Rattle.std.specs.Prelude.{◌≡◌, ◌⊎◌, ℕ, ◌+◌, ◌*◌, ◌%◌, ◌<◌, ◌==◌, ◌&&◌, List, [], ◌∷◌, Option, Some, length}
-use Rattle.std.specs.Prelude.{slice_get, if◌then◌else◌}
+use Rattle.std.specs.Prelude.{◌++◌, Result, MatchResult, slice_get, if◌then◌else◌}
 use Rattle.std.specs.Option.{option_map}
 use Rattle.im_types.specs.declared.TheConstants.{WINDOW}
 use Rattle.im_types.specs.declared.commands.Command.{Command}
@@ -90,6 +90,15 @@ noted_by (Here at) who entry i found = entered at who entry i found
 abbrev pub noted_if : Waiter → Entry → List Waited
 noted_if who Waiting = record { element = who.element; number = who.number; entry = Waiting } ∷ []
 noted_if who (Answered reply) = []
+
+-- these are noted more, or at an error none
+abbrev pub NotesMore : {T E : Type 0} → Result T E → List Waited → List Waited → List Waited → Type 0
+NotesMore result old new more = MatchResult result (λ _. new ≡ old ++ more) (λ _. new ≡ old)
+
+-- if a request is kept and waits, its mark says this index
+abbrev pub MarksWaiting : Contents → Waiter → List Mark → ℕ → Type 0
+MarksWaiting m who marks at = (k : Kept) → kept_for m.windows who ≡ Some k → k.entry ≡ Waiting
+    → slice_get marks (mark_place who) ≡ Some (Here at)
 
 -- ---- the notes of a server
 

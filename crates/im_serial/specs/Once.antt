@@ -20,7 +20,9 @@ use Rattle.im_disk.specs.declared.disk.Disk.{Ghosts}
 use Rattle.im_engine.specs.State.{EngineState, MeansState}
 use Rattle.im_engine.specs.Run.{MeansAfter, MeansBeginning, MeansAllOrInDoubt}
 use Rattle.im_text.specs.declared.replies.Waited.{Waited}
-use Rattle.im_text.specs.Printing.{Begins, IsLast, Prints, nows, replies, told_line, waits, waits_if, who_of}
+use Rattle.im_text.specs.declared.lines.Lines.{Lines}
+use Rattle.im_text.specs.Printing.{Begins, IsLast, Prints, PrintsMore, PrintsOn, nows, replies, told_line, waits}
+use Rattle.im_text.specs.Printing.{waits_if, who_of}
 use Rattle.im_text.specs.Texts.{line_feed}
 use Rattle.im_serial.specs.Asked.{Course, IsAsked, Wanted, standing, wanted_of}
 use Rattle.im_serial.specs.declared.meeting.Met.{Met}
@@ -161,6 +163,23 @@ pub record HasShown {D : Type 0} (script : List Wanted) (bases known : List ℕ)
   pub names : known ≡ bases ++ bases_had (numbers_had old.engine.memory) 0 script
   pub pending : mid.lines.pending.items ≡ []
   pub works : mid.lines.broken ≡ false
+
+-- What a memory has of a script was shown, or at a refusal it was ended there.
+abbrev pub ShowsOrBreaks : {D T E : Type 0} → Result T E → List Wanted → List ℕ → List ℕ → ScriptServer D
+    → ScriptServer D → Type 0
+ShowsOrBreaks result script bases known old new = MatchResult result (λ _. HasShown script bases known old new)
+    (λ _. Breaks (numbers_had old.engine.memory) script old new)
+
+-- A script fits a memory, or there is a refusal, and nothing was printed.
+abbrev pub FitsOrStays : {D T E : Type 0} → Result T E → List Wanted → ScriptServer D → ScriptServer D → Type 0
+FitsOrStays result script old new = MatchResult result (λ _. FitsScript old.engine.memory script)
+    (λ _. FitsScript old.engine.memory script ⊎ (new ≡ old))
+
+-- The line of a request that a memory has was printed. At a refusal it may be printed.
+abbrev pub TellsPast : {T E : Type 0} → Result T E → Option (List ℕ) → Lines → Option (List ℕ) → Lines → List ℕ
+    → Type 0
+TellsPast result was before is after line = MatchResult result (λ _. PrintsMore was before is after line)
+    (λ _. PrintsOn was before is after ⊎ PrintsMore was before is after line)
 
 -- what an image has of a request: nothing, that it was confirmed, or its entry
 abbrev pub is_had : Met → Bool

@@ -125,6 +125,12 @@ Ends {D} now past failures honest old new =
     (start : EngineState D) (held : Option (List ℕ)) → Going now past failures honest start held old
     → Ended now past failures honest start held new
 
+-- commands were put and their lines printed; if there is a refusal, it was ended there
+abbrev pub ServesOrEnds : {D T E : Type 0} → Ghosts D → Result T E → Server D → Server D → Type 0
+ServesOrEnds disk result old new = MatchResult result
+    (λ _. Serves disk.now disk.past disk.failures disk.honest old new)
+    (λ _. Ends disk.now disk.past disk.failures disk.honest old new)
+
 -- ---- by a script
 
 -- the notes of the requests that had to wait are right, on a memory after these commands

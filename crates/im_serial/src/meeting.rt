@@ -1,18 +1,15 @@
 //! Prints what an image has of a script's requests.
-ghost use Rattle.std.specs.Prelude.{◌≡◌, ◌⊎◌, ◌+◌, ◌++◌, ℕ, true, [], ◌∷◌, IfOk, OnOk, None, Some, MatchResult};
+ghost use Rattle.std.specs.Prelude.{◌≡◌, ◌+◌, ◌++◌, ℕ, true, [], ◌∷◌, IfOk, OnOk, None, Some};
 ghost use Rattle.std.specs.Prelude.{false, length, not, slice_get};
-ghost use Rattle.im_types.specs.declared.operations.Entry.TheVariants.{Waiting};
 ghost use Rattle.im_types.specs.declared.operations.Kept.{Kept};
 ghost use Rattle.im_types.specs.declared.operations.Waiter.{Waiter};
 ghost use Rattle.im_types.specs.Contents.{kept_for};
-ghost use Rattle.im_text.specs.Printing.{PrintsMore, PrintsOn};
-ghost use Rattle.im_serial.specs.declared.waits.Mark.TheVariants.{Here};
-ghost use Rattle.im_serial.specs.Noted.{mark_place};
+ghost use Rattle.im_serial.specs.Noted.{MarksWaiting, NotesMore, mark_place};
 ghost use Rattle.im_serial.specs.Asked.{Wanted, wanted_by, wanted_of};
 ghost use Rattle.im_serial.specs.Had.{has_next, met};
 ghost use Rattle.im_serial.specs.Once.{HasPassed, IsMade, MakesBlocks, Names, is_had, met_of, noted_of};
 ghost use Rattle.im_serial.specs.Had.{who_next};
-ghost use Rattle.im_serial.specs.Once.{past_line};
+ghost use Rattle.im_serial.specs.Once.{TellsPast, past_line};
 ghost use Rattle.im_serial.specs.Serving.{seen_by};
 
 use crate::hearing::hear;
@@ -94,21 +91,16 @@ impl<D: Disk> Server<D> {
         ensures bases { self.new.bases.items ≡ self.old.bases.items }
         ensures found { let who : Waiter = record { element = who.0; number = who.1 } in
             IfOk result (λ it. it ≡ met_of self.old.engine.memory who) }
-        ensures pushed { let who : Waiter = record { element = who.0; number = who.1 } in MatchResult result
-            (λ _. self.new.waited.items ≡ self.old.waited.items ++ noted_of self.old.engine.memory who)
-            (λ _. self.new.waited.items ≡ self.old.waited.items) }
+        ensures pushed { let who : Waiter = record { element = who.0; number = who.1 } in
+            NotesMore result self.old.waited.items self.new.waited.items (noted_of self.old.engine.memory who) }
         ensures mark { let who : Waiter = record { element = who.0; number = who.1 } in OnOk result
-            ((k : Kept) → kept_for self.old.engine.memory.windows who ≡ Some k → k.entry ≡ Waiting
-            → slice_get self.new.places.marks.items (mark_place who) ≡ Some (Here (length self.old.waited.items))) }
+            (MarksWaiting self.old.engine.memory who self.new.places.marks.items (length self.old.waited.items)) }
         ensures others { let at = mark_place (record { element = who.0; number = who.1 }) in (i : ℕ) → (i ≡ at → ⊥)
             → slice_get self.new.places.marks.items i ≡ slice_get self.old.places.marks.items i }
         ensures unmarked { kept_for self.old.engine.memory.windows (record { element = who.0; number = who.1 }) ≡ None
             → self.new.places.marks.items ≡ self.old.places.marks.items }
         ensures more { let line = past_line self.old.engine.memory (record { element = who.0; number = who.1 }) in
-            MatchResult result
-            (λ _. PrintsMore (W.contents out.old) self.old.lines (W.contents out.new) self.new.lines line)
-            (λ _. PrintsOn (W.contents out.old) self.old.lines (W.contents out.new) self.new.lines
-            ⊎ PrintsMore (W.contents out.old) self.old.lines (W.contents out.new) self.new.lines line) }
+            TellsPast result (W.contents out.old) self.old.lines (W.contents out.new) self.new.lines line }
     {
         match self.engine.memory().kept(who.0, who.1) {
             Some(kept) => match self.print(who, kept.entry, out) {

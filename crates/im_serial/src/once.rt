@@ -1,9 +1,8 @@
 //! A script's requests, each served once, whatever stopped before.
-ghost use Rattle.std.specs.Prelude.{◌≡◌, ◌⊎◌, MatchResult};
+ghost use Rattle.std.specs.Prelude.{◌≡◌};
 ghost use Rattle.im_serial.specs.Asked.{wanted_by, wanted_of};
-ghost use Rattle.im_serial.specs.Had.{met_all, news, numbers_had};
-ghost use Rattle.im_serial.specs.Fitting.{FitsScript};
-ghost use Rattle.im_serial.specs.Once.{Breaks, HasServedOnce, HasShown};
+ghost use Rattle.im_serial.specs.Had.{met_all, news};
+ghost use Rattle.im_serial.specs.Once.{FitsOrStays, HasServedOnce, ShowsOrBreaks};
 ghost use Rattle.im_serial.specs.Serving.{HasServed, seen_by};
 
 use crate::comparing::compare_script;
@@ -82,15 +81,11 @@ impl<D: Disk> Server<D> {
         script: &Script<'_>,
         out: &mut W,
     ) -> Result<(), Reason>
-        ensures shown { MatchResult result
-            (λ _. HasShown (wanted_of script.now) self.old.bases.items self.new.bases.items
-            (seen_by self.old (W.contents out.old)) (seen_by self.new (W.contents out.new)))
-            (λ _. Breaks (numbers_had self.old.engine.memory) (wanted_of script.now)
-            (seen_by self.old (W.contents out.old)) (seen_by self.new (W.contents out.new))) }
+        ensures shown { ShowsOrBreaks result (wanted_of script.now) self.old.bases.items self.new.bases.items
+            (seen_by self.old (W.contents out.old)) (seen_by self.new (W.contents out.new)) }
         ensures engine { self.new.engine ≡ self.old.engine }
-        ensures fit { MatchResult result (λ _. FitsScript self.old.engine.memory (wanted_of script.now))
-            (λ _. FitsScript self.old.engine.memory (wanted_of script.now)
-            ⊎ (seen_by self.new (W.contents out.new) ≡ seen_by self.old (W.contents out.old))) }
+        ensures fit { FitsOrStays result (wanted_of script.now)
+            (seen_by self.old (W.contents out.old)) (seen_by self.new (W.contents out.new)) }
     {
         match compare_script(alloc, self.engine.memory(), script) {
             Ok(()) => {}

@@ -1,6 +1,6 @@
 //! An engine that serves requests one after another, and prints their lines.
-ghost use Rattle.std.specs.Prelude.{◌≡◌, ◌≤◌, ◌++◌, ℕ, [], false, Ok};
-ghost use Rattle.std.specs.Prelude.{List, Some, OnOk, IfOk, MatchResult, length, map, slice_get};
+ghost use Rattle.std.specs.Prelude.{◌≡◌, ℕ, [], false, Ok};
+ghost use Rattle.std.specs.Prelude.{List, Some, OnOk, IfOk, length, map, slice_get};
 ghost use Rattle.im_types.specs.declared.commands.Command.{Command};
 ghost use Rattle.im_types.specs.declared.operations.Entry.TheVariants.{Waiting};
 ghost use Rattle.im_types.specs.declared.operations.Waiter.{Waiter};
@@ -8,13 +8,13 @@ ghost use Rattle.im_types.specs.Contents.{Contents};
 ghost use Rattle.im_types.specs.Memory.{IsMemory};
 ghost use Rattle.im_types.specs.Run.{after};
 ghost use Rattle.im_types.specs.Window.{bounds};
-ghost use Rattle.im_text.specs.Printing.{PrintsMore, PrintsNows, PrintsOn, now_line, nows, told_line};
+ghost use Rattle.im_text.specs.Printing.{PrintsMore, PrintsNows, Pushes, now_line, nows, told_line};
 ghost use Rattle.im_text.specs.Printing.{who_of};
 ghost use Rattle.im_serial.specs.declared.waits.Mark.TheVariants.{Here};
-ghost use Rattle.im_serial.specs.Noted.{AreKnown, AreLast, noted_if, mark_place};
+ghost use Rattle.im_serial.specs.Noted.{AreKnown, AreLast, NotesMore, noted_if, mark_place};
 ghost use Rattle.im_serial.specs.Asked.{wanted_by, wanted_of};
 ghost use Rattle.im_serial.specs.Once.{done_line};
-ghost use Rattle.im_serial.specs.Serving.{Ends, HasAsked, HasServed, Prepares, Serves, at, seen_by};
+ghost use Rattle.im_serial.specs.Serving.{HasAsked, HasServed, Prepares, ServesOrEnds, at, seen_by};
 
 use crate::hearing::hear;
 use crate::past::make_done;
@@ -175,10 +175,8 @@ impl<D: Disk> Server<D> {
         ensures names { self.new.waited.items ≡ self.old.waited.items }
         ensures marks { self.new.places.marks.items ≡ self.old.places.marks.items }
         ensures bases { self.new.bases.items ≡ self.old.bases.items }
-        ensures more { MatchResult result
-            (λ _. PrintsMore (W.contents out.old) self.old.lines (W.contents out.new) self.new.lines
-            (told_line who.0 who.1 entry))
-            (λ _. PrintsOn (W.contents out.old) self.old.lines (W.contents out.new) self.new.lines) }
+        ensures more { Pushes result (W.contents out.old) self.old.lines (W.contents out.new) self.new.lines
+            (told_line who.0 who.1 entry) }
     {
         let (element, number) = who;
         match make_line(&mut self.line, element, number, entry) {
@@ -192,9 +190,8 @@ impl<D: Disk> Server<D> {
         ensures engine { self.new.engine ≡ self.old.engine }
         ensures lines { self.new.lines ≡ self.old.lines }
         ensures bases { self.new.bases.items ≡ self.old.bases.items }
-        ensures pushed { let who : Waiter = record { element = who.0; number = who.1 } in MatchResult result
-            (λ _. self.new.waited.items ≡ self.old.waited.items ++ noted_if who entry)
-            (λ _. self.new.waited.items ≡ self.old.waited.items) }
+        ensures pushed { let who : Waiter = record { element = who.0; number = who.1 } in
+            NotesMore result self.old.waited.items self.new.waited.items (noted_if who entry) }
         ensures mark { let at = mark_place (record { element = who.0; number = who.1 }) in OnOk result (entry ≡ Waiting
             → slice_get self.new.places.marks.items at ≡ Some (Here (length self.old.waited.items))) }
         ensures others { let at = mark_place (record { element = who.0; number = who.1 }) in (i : ℕ) → (i ≡ at → ⊥)
@@ -303,13 +300,9 @@ impl<D: Disk> Server<D> {
         out: &mut W,
         observer: &mut N,
     ) -> Result<(), Reason>
-        ensures serves { MatchResult result
-            (λ _. Serves D.now D.past D.failures D.honest
+        ensures serves { ServesOrEnds D.Disk result
             (at self.old.engine (W.contents out.old) self.old.lines self.old.waited.items)
-            (at self.new.engine (W.contents out.new) self.new.lines self.new.waited.items))
-            (λ _. Ends D.now D.past D.failures D.honest
-            (at self.old.engine (W.contents out.old) self.old.lines self.old.waited.items)
-            (at self.new.engine (W.contents out.new) self.new.lines self.new.waited.items)) }
+            (at self.new.engine (W.contents out.new) self.new.lines self.new.waited.items) }
     {
         self.name_block(block, out, observer)
     }
@@ -361,10 +354,8 @@ impl<D: Disk> Server<D> {
         ensures names { self.new.waited.items ≡ self.old.waited.items }
         ensures marks { self.new.places.marks.items ≡ self.old.places.marks.items }
         ensures bases { self.new.bases.items ≡ self.old.bases.items }
-        ensures more { MatchResult result
-            (λ _. PrintsMore (W.contents out.old) self.old.lines (W.contents out.new) self.new.lines
-            (done_line (record { element = who.0; number = who.1 })))
-            (λ _. PrintsOn (W.contents out.old) self.old.lines (W.contents out.new) self.new.lines) }
+        ensures more { Pushes result (W.contents out.old) self.old.lines (W.contents out.new) self.new.lines
+            (done_line (record { element = who.0; number = who.1 })) }
     {
         match make_done(&mut self.line, who.0, who.1) {
             Ok(()) => self.lines.push(out, self.line.as_str()),
@@ -489,9 +480,7 @@ fn push_now<W: Write>(
     lines: &mut Lines,
     out: &mut W,
 ) -> Result<(), Reason>
-    ensures more { MatchResult result
-        (λ _. PrintsMore (W.contents out.old) lines.old (W.contents out.new) lines.new (now_line waited))
-        (λ _. PrintsOn (W.contents out.old) lines.old (W.contents out.new) lines.new) }
+    ensures more { Pushes result (W.contents out.old) lines.old (W.contents out.new) lines.new (now_line waited) }
 {
     match make_now(line, waited) {
         Ok(()) => lines.push(out, line.as_str()),

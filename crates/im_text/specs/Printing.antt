@@ -17,6 +17,7 @@ use Rattle.std.specs.Prelude.{
   None,
   Some,
   Result,
+  MatchResult,
   Ok,
   Err,
   slice_get,
@@ -115,6 +116,16 @@ PrintsOn was before is after =
 abbrev pub PrintsMore : Option (List ℕ) → Lines → Option (List ℕ) → Lines → List ℕ → Type 0
 PrintsMore was before is after more =
     (start : Option (List ℕ)) (text : List ℕ) → Prints start was before text → Prints start is after (text ++ more)
+
+-- this text more, or at an error no text more
+abbrev pub Pushes : {T E : Type 0} → Result T E → Option (List ℕ) → Lines → Option (List ℕ) → Lines → List ℕ → Type 0
+Pushes result was before is after more =
+    MatchResult result (λ _. PrintsMore was before is after more) (λ _. PrintsOn was before is after)
+
+-- this text more or no text more
+abbrev pub MayPrint : Option (List ℕ) → Lines → Option (List ℕ) → Lines → List ℕ → Type 0
+MayPrint was before is after more = (start : Option (List ℕ)) (text : List ℕ) → Prints start was before text
+    → Prints start is after text ⊎ Prints start is after (text ++ more)
 
 -- some of the lines of those that had to wait
 abbrev pub PrintsNows : Option (List ℕ) → Lines → Option (List ℕ) → Lines → List Waited → Type 0

@@ -1,7 +1,7 @@
 //! How work ends: the lines that were kept back are written, and then the line of a refusal.
-ghost use Rattle.std.specs.Prelude.{◌≡◌, ◌⊎◌, ◌≤◌, ◌++◌, List, ℕ, Option, IsOk, OnOk, OnErr};
+ghost use Rattle.std.specs.Prelude.{◌≡◌, ◌≤◌, ◌++◌, List, ℕ, Option, IsOk, OnOk, OnErr};
 ghost use Rattle.std.specs.Io.KnownBytes.{Appends, Keeps};
-ghost use Rattle.im_text.specs.Printing.{Begins, IsLast, Prints};
+ghost use Rattle.im_text.specs.Printing.{Begins, IsLast, MayPrint, Prints};
 
 use crate::lines::{Lines, put_through};
 use crate::observer::Observer;
@@ -13,9 +13,7 @@ use std::io::Write;
 
 // Prints a last line after the others, if it can be printed.
 fn push_through<W: Write>(lines: &mut Lines, line: &str, out: &mut W)
-    ensures { (start : Option (List ℕ)) (text : List ℕ) → Prints start (W.contents out.old) lines.old text
-        → Prints start (W.contents out.new) lines.new text
-        ⊎ Prints start (W.contents out.new) lines.new (text ++ line.now) }
+    ensures { MayPrint (W.contents out.old) lines.old (W.contents out.new) lines.new line.now }
 {
     match lines.push(out, line) {
         Ok(()) => {

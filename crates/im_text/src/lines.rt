@@ -1,7 +1,7 @@
 //! Writes lines in batches.
-ghost use Rattle.std.specs.Prelude.{◌≡◌, ◌≤◌, [], false, take, length, IfOk, OnOk, MatchResult};
+ghost use Rattle.std.specs.Prelude.{◌≡◌, ◌≤◌, [], false, take, length, IfOk, OnOk};
 ghost use Rattle.std.specs.Io.KnownBytes.{Appends, WriteAppends};
-ghost use Rattle.im_text.specs.Printing.{Begins, PrintsMore, PrintsOn};
+ghost use Rattle.im_text.specs.Printing.{Begins, PrintsOn, Pushes};
 
 use crate::reasons::Reason;
 use std::alloc::{AllocError, Global};
@@ -135,9 +135,7 @@ impl Lines {
 
     /// Takes a line. If it doesn't fit into the batch with the lines before it, those are written first.
     pub fn push<W: Write>(&mut self, out: &mut W, line: &str) -> Result<(), Reason>
-        ensures more { MatchResult result
-            (λ _. PrintsMore (W.contents out.old) self.old (W.contents out.new) self.new line.now)
-            (λ _. PrintsOn (W.contents out.old) self.old (W.contents out.new) self.new) }
+        ensures more { Pushes result (W.contents out.old) self.old (W.contents out.new) self.new line.now }
     {
         if self.broken {
             return Err(Reason::Output(ErrorKind::BrokenPipe));
