@@ -11,7 +11,8 @@ use Rattle.im_engine.specs.State.{EngineState, MeansState}
 use Rattle.im_engine.specs.Run.{MeansBeginning}
 use Rattle.im_text.specs.Printing.{Begins, IsLast}
 use Rattle.im_text.proofs.PrintingLemmas.{take-all}
-use Rattle.im_dialogue.specs.Talk.{put_of, texts_of, Talking, TalksOn, TalkEnds}
+use Rattle.im_dialogue.specs.Backups.{Backup}
+use Rattle.im_dialogue.specs.Talk.{Outputs, outputs, put_of, texts_of, Talking, TalksOn, TalkEnds}
 use Rattle.im_dialogue.specs.Dialogue.{Closed, Talked}
 use Rattle.im_dialogue.proofs.TalkLemmas.{at_start, ended_at}
 
@@ -27,7 +28,7 @@ same_start was is new past_was past_is past_new now past it = subst (λ (m : Mom
 
 module _ {D : Type 0} (watch : Bool) (now : D → Moment) (past : D → List Moment) where
   -- an opening leaves nothing new, and what it found was there
-  pub talked : (old : D) (start : EngineState D) (new : D) (was is : Option (List ℕ)) (status : ℕ) → Leaves (now old) (now start.disk) (past old) (past start.disk) (Left (now old)) → LeavesNow (now start.disk) (MeansState start)
+  pub talked : (old : D) (start : EngineState D) (new : D) (was is : Outputs) (status : ℕ) → Leaves (now old) (now start.disk) (past old) (past start.disk) (Left (now old)) → LeavesNow (now start.disk) (MeansState start)
       → Closed watch now past start new was is status → Talked watch now past old new was is status
   talked old start new was is status opened means it = record {
     start = start;
@@ -45,15 +46,16 @@ module _ {D : Type 0} (watch : Bool) (now : D → Moment) (past : D → List Mom
     kept = it.ended.kept;
     printed = it.printed;
     whole = it.whole;
+    backups = it.backups;
   }
 
   module _ (honest : D → Type 0) where
     -- nothing is said yet
-    talking : (start : EngineState D) (was : Option (List ℕ)) → start.failed ≡ false → (honest start.disk → LeavesNow (now start.disk) (MeansState start)) → Talking watch now past honest start was start was
-    talking start was works means = λ h. (h, ([], (at_start now past honest start works (means h), Appends-nil was)))
+    talking : (start : EngineState D) (was : Outputs) → start.failed ≡ false → (honest start.disk → LeavesNow (now start.disk) (MeansState start)) → Talking watch now past honest start was start was
+    talking start was works means = λ h. (h, ([], (at_start now past honest start works (means h), (Appends-nil was.text, refl))))
 
     -- all lines of the input were served
-    pub closed_on : (start engine : EngineState D) (disk : D) (was is : Option (List ℕ)) (status : ℕ) → disk ≡ engine.disk → start.failed ≡ false → (honest start.disk → LeavesNow (now start.disk) (MeansState start))
+    pub closed_on : (start engine : EngineState D) (disk : D) (was is : Outputs) (status : ℕ) → disk ≡ engine.disk → start.failed ≡ false → (honest start.disk → LeavesNow (now start.disk) (MeansState start))
         → TalksOn watch now past honest start was engine is → honest disk → honest start.disk × Closed watch now past start disk was is status
     closed_on start engine disk was is status same works means on = subst (λ (d : D). honest d → honest start.disk × Closed watch now past start d was is status) (sym same) (λ h.
         let far = on start was (talking start was works means) h in (
@@ -63,15 +65,16 @@ module _ {D : Type 0} (watch : Bool) (now : D → Moment) (past : D → List Mom
             doubt = [];
             few = omega arith;
             ended = ended_at now past honest start engine far.1.0 far.1.1.0;
-            printed = (is, (length (texts_of watch start.memory far.1.0), subst (Appends was is) (sym (take-all (texts_of watch start.memory far.1.0))) far.1.1.1), ([], (inl refl, (0, Appends-nil is))));
-            whole = λ zero. (refl, far.1.1.1);
+            printed = (is.text, (length (texts_of watch start.memory far.1.0), subst (Appends was.text is.text) (sym (take-all (texts_of watch start.memory far.1.0))) far.1.1.1.0), ([], (inl refl, (0, Appends-nil is.text))));
+            whole = λ zero. (refl, far.1.1.1.0);
+            backups = far.1.1.1.1;
           },
         ))
 
     -- it was ended, and no more than a refusal printed then
-    pub closed_by : (start engine : EngineState D) (disk : D) (was mid is : Option (List ℕ)) (status : ℕ) → disk ≡ engine.disk → start.failed ≡ false → (honest start.disk → LeavesNow (now start.disk) (MeansState start))
-        → TalkEnds watch now past honest start was engine mid → (last : List ℕ) × (IsLast last × Begins mid is last) → status ≡ 1 → honest disk → honest start.disk × Closed watch now past start disk was is status
-    closed_by start engine disk was mid is status same works means ends last refused = subst (λ (d : D). honest d → honest start.disk × Closed watch now past start d was is status) (sym same) (λ h.
+    pub closed_by : (start engine : EngineState D) (disk : D) (was : Outputs) (mid is : Option (List ℕ)) (kept : List Backup) (status : ℕ) → disk ≡ engine.disk → start.failed ≡ false → (honest start.disk → LeavesNow (now start.disk) (MeansState start))
+        → TalkEnds watch now past honest start was engine (outputs mid kept) → (last : List ℕ) × (IsLast last × Begins mid is last) → status ≡ 1 → honest disk → honest start.disk × Closed watch now past start disk was (outputs is kept) status
+    closed_by start engine disk was mid is kept status same works means ends last refused = subst (λ (d : D). honest d → honest start.disk × Closed watch now past start d was (outputs is kept) status) (sym same) (λ h.
         let far = ends start was (talking start was works means) h in (
           far.0,
           record {
@@ -81,5 +84,6 @@ module _ {D : Type 0} (watch : Bool) (now : D → Moment) (past : D → List Mom
             ended = far.1.ended;
             printed = (mid, far.1.printed, last);
             whole = λ zero. absurd (omega arith);
+            backups = far.1.backups;
           },
         ))

@@ -62,10 +62,16 @@ module _ (b : GroupStart) (ahead ones : List Command) (is : ones ≡ commands_at
         ∙ ap (λ (m : Contents). bounds m.windows element) after_put);
     puts = λ any. refl;
     tells = λ watch any. refl;
+    keeps = λ any. refl;
   }
 
   pub room_shown : (room : ℕ) → IsKnown (memory_between b ahead) (count_between b ahead) asks.Room (answer.Room room)
-  room_shown room = record { answers = (room, refl); puts = λ any. refl; tells = λ watch any. refl }
+  room_shown room = record {
+    answers = (room, refl);
+    puts = λ any. refl;
+    tells = λ watch any. refl;
+    keeps = λ any. refl;
+  }
 
   pub count_shown : (n : ℕ) → n ≡ b.count + length ones
       → IsKnown (memory_between b ahead) (count_between b ahead) asks.Count (answer.Count n)
@@ -73,6 +79,7 @@ module _ (b : GroupStart) (ahead ones : List Command) (is : ones ≡ commands_at
     answers = ap (λ k. answer.Count k) (same ∙ ap (λ (l : List Command). b.count + length l) is);
     puts = λ any. refl;
     tells = λ watch any. refl;
+    keeps = λ any. refl;
   }
 
   pub about_shown : IsMemory (length b.memory.cells) (length b.memory.windows) b.memory
@@ -99,6 +106,7 @@ module _ (b : GroupStart) (ahead ones : List Command) (is : ones ≡ commands_at
         answers = (slots, room, ap (λ a. answer.About a) (same ∙ alike));
         puts = λ any. refl;
         tells = λ watch any. refl;
+        keeps = λ any. refl;
       }
 
 -- no more is put than can be counted

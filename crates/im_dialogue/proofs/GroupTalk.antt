@@ -42,8 +42,9 @@ use Rattle.im_dialogue.specs.Watching.{watch_text}
 use Rattle.im_dialogue.specs.Together.{IsKnown, GroupStart, group_start, count_between, memory_between}
 use Rattle.im_dialogue.specs.Together.{places_between}
 use Rattle.im_dialogue.specs.Telling.{Reaches, SaidMore, SaysAll}
+use Rattle.im_dialogue.specs.Backups.{Backup}
 use Rattle.im_dialogue.specs.Talk.{Exchange, IsOf, Answers, put_of, texts_of, IsAt, MeansSaid}
-use Rattle.im_dialogue.specs.Talk.{Halts, TalksOn, TalkEnds}
+use Rattle.im_dialogue.specs.Talk.{Halts, TalksOn, TalkEnds, AreKept, Outputs, backups_of, outputs}
 use Rattle.im_dialogue.proofs.TalkLemmas.{silent}
 use Rattle.im_dialogue.proofs.ReachLemmas.{contents_behind}
 
@@ -100,6 +101,7 @@ module _ {D : Type 0} (watch : Bool) (start : EngineState D) (b : GroupStart) wh
     reach = at;
     put = sym (append-nil (put_of start.memory base));
     texts = sym (append-nil (texts_of watch start.memory base));
+    backups = refl;
   }
 
   -- one more line was answered
@@ -178,6 +180,7 @@ module _ {D : Type 0} (watch : Bool) (start : EngineState D) (b : GroupStart) wh
             ∙ append_assoc (put_of start.memory base) (commands_at b.memory b.places ahead) put_one
             ∙ ap (λ (l : List Command). put_of start.memory base ++ l) (sym all_put);
         texts = texts_on (ServedAs c answered_so) more is;
+        backups = told.backups;
       }
 
     pub told_shown : (asked : Asked) (answer : Answer) → asked_of line ≡ Some asked
@@ -206,7 +209,15 @@ module _ {D : Type 0} (watch : Bool) (start : EngineState D) (b : GroupStart) wh
           };
           put = same ∙ told.put;
           texts = texts_on answer more is;
+          backups = ap (λ (l : List Backup). l ++ backups_of start.memory told.said) (shown.keeps here) ∙ told.backups;
         }
+
+-- no backup is among the lines of a group
+kept_still : {D : Type 0} (watch : Bool) (start : EngineState D) (b : GroupStart) (base : List Exchange)
+    (ahead : List Command) (text : List ℕ) (told : SaidMore watch start b base ahead text) (held was is : Outputs)
+    → is.backups ≡ was.backups → AreKept start.memory held was base → AreKept start.memory held is told.said
+kept_still watch start b base ahead text told held was is same kept = same ∙ kept
+    ∙ ap (λ (l : List Backup). l ++ held.backups) (sym told.backups)
 
 -- ---- on the disk
 
@@ -356,8 +367,9 @@ module _ {D : Type 0} (now : D → Moment) (past : D → List Moment) (honest : 
         }
 
     -- all their lines were printed
-    pub group_on : (was is : Option (List ℕ)) → Appends was is text → TalksOn watch now past honest old was new is
-    group_on was is printed = λ start held so_far h.
+    pub group_on : (was is : Option (List ℕ)) → Appends was is text → (kept : List Backup)
+        → TalksOn watch now past honest old (outputs was kept) new (outputs is kept)
+    group_on was is printed kept = λ start held so_far h.
         let far = so_far (back h) in
         let told = said_all start far.1.0 far.1.1.0 in (
           far.0,
@@ -365,20 +377,27 @@ module _ {D : Type 0} (now : D → Moment) (past : D → List Moment) (honest : 
             told.said,
             (
               said_at start far.1.0 far.1.1.0 h,
-              subst (λ (t : List ℕ). Appends held is t) (sym told.texts)
-                  (Appends-trans held was is (texts_of watch start.memory far.1.0) text far.1.1.1 printed),
+              (
+                subst (λ (t : List ℕ). Appends held.text is t) (sym told.texts)
+                    (Appends-trans held.text was is (texts_of watch start.memory far.1.0) text far.1.1.1.0 printed),
+                kept_still watch start (group_start old) far.1.0 cs text told held (outputs was kept)
+                    (outputs is kept) refl far.1.1.1.1,
+              ),
             ),
           ),
         )
 
     -- a beginning of them was printed
-    pub group_cut : (was is : Option (List ℕ)) → Begins was is text → TalkEnds watch now past honest old was new is
-    group_cut was is printed = λ start held so_far h.
+    pub group_cut : (was is : Option (List ℕ)) → Begins was is text → (kept : List Backup)
+        → TalkEnds watch now past honest old (outputs was kept) new (outputs is kept)
+    group_cut was is printed kept = λ start held so_far h.
         let far = so_far (back h) in
         let told = said_all start far.1.0 far.1.1.0 in (
           far.0,
-          silent now past honest watch start new held was is far.1.0 told.said text
-              (said_at start far.1.0 far.1.1.0 h) told.texts far.1.1.1 printed,
+          silent now past honest watch start new held (outputs was kept) (outputs is kept) far.1.0 told.said text
+              (said_at start far.1.0 far.1.1.0 h) told.texts far.1.1.1.0 printed
+              (kept_still watch start (group_start old) far.1.0 cs text told held (outputs was kept)
+              (outputs is kept) refl far.1.1.1.1),
         )
 
 -- nothing of a text

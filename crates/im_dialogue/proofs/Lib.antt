@@ -1,3 +1,4 @@
+pub mod BackupLemmas
 pub mod TalkLemmas
 pub mod WatchLemmas
 pub mod LookLemmas

@@ -30,7 +30,7 @@ use Rattle.im_dialogue.specs.declared.look.Look.TheVariants.{Collect, Entry, Cel
 use Rattle.im_dialogue.specs.Answers.{answer_text, kept_line, look_text, recalled_line}
 use Rattle.im_dialogue.specs.Looks.{may_alter, may_change, may_reach}
 use Rattle.im_dialogue.specs.Showing.{block_said, cell_said, recall}
-use Rattle.im_dialogue.specs.Talk.{Answers, put_by}
+use Rattle.im_dialogue.specs.Talk.{Answers, KeepsNone, put_by}
 use Rattle.im_dialogue.specs.Together.{IsAsked, GroupStart, group_start, memory_between, places_between}
 use Rattle.im_dialogue.specs.Together.{count_between, with_member, members_in}
 use Rattle.im_dialogue.specs.Together.{disturbs, LeavesShown, IsKnown, IsGroupLine, StandTogether, MayBeServed}
@@ -190,6 +190,7 @@ told_nothing (answer.Room room) = refl
 told_nothing (answer.Turned done) = refl
 told_nothing (answer.Count count) = refl
 told_nothing (answer.About about) = refl
+told_nothing (answer.Backup name kept) = refl
 told_nothing (answer.Wrong number fault) = refl
 
 back : (a : Result Outcome Refusal) → result_of (as_served a) ≡ a
@@ -251,8 +252,9 @@ module _ {D : Type 0} (watch : Bool) (old : EngineState D) where
 
   looked : (m : Contents) (n : ℕ) (asked : Asked) (given : Answer) → Answers m n (Some asked) given
       → ((any : Contents) → put_by any given ≡ []) → ((watch : Bool) (any : Contents) → watch_text watch any given ≡ [])
-      → IsKnown m n asked given
-  looked m n asked given answers puts tells = record { answers = answers; puts = puts; tells = tells }
+      → KeepsNone given → IsKnown m n asked given
+  looked m n asked given answers puts tells keeps =
+      record { answers = answers; puts = puts; tells = tells; keeps = keeps }
 
   module _ (cells elements : ℕ) (is : IsMemory cells elements old.memory) (m : Contents) (cs : List Command)
       (after_all : m ≡ memory_between b cs) where
@@ -328,7 +330,7 @@ module _ {D : Type 0} (watch : Bool) (old : EngineState D) where
           tells = tells_shown telling.ahead text more name (asks.Look look) (answer.Looked look) telling.tells
               telling.parts_are.0.0
               (looked (memory_between b telling.ahead) (count_between b telling.ahead) (asks.Look look)
-              (answer.Looked look) refl (λ any. refl) (λ watch any. refl))
+              (answer.Looked look) refl (λ any. refl) (λ watch any. refl) (λ any. refl))
               (same ∙ ap (λ (g : Answer). text ++ (answer_text name m g ++ told_with g t)) given_is
               ∙ ap (λ (l : List ℕ). text ++ (look_text name m look ++ told_with (answer.Looked look) l))
               telling.parts_are.0.1

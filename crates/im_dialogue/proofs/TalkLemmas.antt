@@ -1,5 +1,5 @@
 -- What was said over an engine, line by line.
-use Rattle.std.proofs.Common.{◌≡◌, ◌∙◌, inl, inr, ⊎_elim, ℕ, suc, ◌+◌, ◌≤◌, Bool, false, List, [], ◌∷◌, ◌++◌, length, take, refl, sym, ap, subst, length-append, arith}
+use Rattle.std.proofs.Common.{◌≡◌, ◌∙◌, inl, inr, ⊎_elim, ℕ, suc, ◌+◌, ◌≤◌, Bool, false, List, [], ◌∷◌, ◌++◌, length, take, refl, sym, ap, subst, append_assoc, length-append, arith}
 use Rattle.std.specs.Prelude.{Option, Some, Result, Ok, Err, MatchResult}
 use Rattle.std.specs.Io.KnownBytes.{Appends}
 use Rattle.std.proofs.KnownBytes.{Appends-trans}
@@ -30,7 +30,9 @@ use Rattle.im_dialogue.specs.declared.asking.Asked.TheVariants as asks
 use Rattle.im_dialogue.specs.declared.answers.Answer.{Answer}
 use Rattle.im_dialogue.specs.declared.answers.Answer.TheVariants.{Served}
 use Rattle.im_dialogue.specs.Asking.{asked_of}
+use Rattle.im_dialogue.specs.Backups.{Backup}
 use Rattle.im_dialogue.specs.Talk.{Exchange, IsOf, Answers, put_by, put_of, is_end, IsAt, MeansSaid, HasEnded, GoesOn, Halts, Says, texts_of, Silent, TalksOn, TalkEnds}
+use Rattle.im_dialogue.specs.Talk.{AreKept, Outputs, backup_by, backups_of}
 
 -- what a command is answered, where the engine works still
 is_of : {D : Type 0} (old new : EngineState D) (c : Command) (a : Result Outcome Refusal) → old.failed ≡ false → new.failed ≡ false → Answered old c a new → IsOf old.memory c a
@@ -68,6 +70,15 @@ take-past [] ys n = ap (λ k. take k ys) (omega arith)
 take-past (x ∷ xs) ys n =
     let e : length (x ∷ xs) + n ≡ suc (length xs + n) = omega arith in
     ap (λ k. take k (x ∷ (xs ++ ys))) e ∙ ap (λ l. x ∷ l) (take-past xs ys n)
+
+-- one answer more, and the backup that it says is kept
+kept_on : (m here : Contents) (said : List Exchange) (x : Exchange) (held was is : List Backup)
+    → here ≡ after m (put_of m said) → was ≡ backups_of m said ++ held → is ≡ backup_by here x.answer ++ was
+    → is ≡ backups_of m (x ∷ said) ++ held
+kept_on m here said x held was is same kept more = more
+    ∙ ap (λ (l : List Backup). backup_by here x.answer ++ l) kept
+    ∙ sym (append_assoc (backup_by here x.answer) (backups_of m said) held)
+    ∙ ap (λ (n : Contents). (backup_by n x.answer ++ backups_of m said) ++ held) same
 
 module _ {D : Type 0} (now : D → Moment) (past : D → List Moment) (honest : D → Type 0) where
   -- nothing was said yet
@@ -253,9 +264,12 @@ module _ {D : Type 0} (now : D → Moment) (past : D → List Moment) (honest : 
   -- ---- what was printed
 
   module _ (watch : Bool) where
-    pub silent : (start engine : EngineState D) (held was is : Option (List ℕ)) (said after_all : List Exchange) (text : List ℕ) → IsAt now past start engine after_all
-        → texts_of watch start.memory after_all ≡ texts_of watch start.memory said ++ text → Appends held was (texts_of watch start.memory said) → Begins was is text → Silent watch now past start held engine.disk is
-    silent start engine held was is said after_all text at same before (many, more) =
+    pub silent : (start engine : EngineState D) (held was is : Outputs) (said after_all : List Exchange) (text : List ℕ)
+        → IsAt now past start engine after_all
+        → texts_of watch start.memory after_all ≡ texts_of watch start.memory said ++ text
+        → Appends held.text was.text (texts_of watch start.memory said) → Begins was.text is.text text
+        → AreKept start.memory held is after_all → Silent watch now past start held engine.disk is
+    silent start engine held was is said after_all text at same before (many, more) kept =
         let here : List ℕ = texts_of watch start.memory said in
         record {
           said = after_all;
@@ -264,34 +278,40 @@ module _ {D : Type 0} (now : D → Moment) (past : D → List Moment) (honest : 
           ended = ended_at start engine after_all at;
           printed = (
             length here + many,
-            subst (λ (l : List ℕ). Appends held is (take (length here + many) l)) (sym same)
-                (subst (Appends held is) (sym (take-past here text many)) (Appends-trans held was is here (take many text) before more)),
+            subst (λ (l : List ℕ). Appends held.text is.text (take (length here + many) l)) (sym same)
+                (subst (Appends held.text is.text) (sym (take-past here text many)) (Appends-trans held.text was.text is.text here (take many text) before more)),
           );
+          backups = kept;
         }
 
     -- nothing more was printed of what was said and is ended
-    silent_here : (start engine : EngineState D) (held is : Option (List ℕ)) (said : List Exchange) (doubt : List Command) → length doubt ≤ MAX_GROUP → HasEnded now past start engine.disk said doubt
-        → Appends held is (texts_of watch start.memory said) → Silent watch now past start held engine.disk is
-    silent_here start engine held is said doubt few ended printed = record {
+    silent_here : (start engine : EngineState D) (held is : Outputs) (said : List Exchange) (doubt : List Command)
+        → length doubt ≤ MAX_GROUP → HasEnded now past start engine.disk said doubt
+        → Appends held.text is.text (texts_of watch start.memory said) → AreKept start.memory held is said
+        → Silent watch now past start held engine.disk is
+    silent_here start engine held is said doubt few ended printed kept = record {
       said = said;
       doubt = doubt;
       few = few;
       ended = ended;
-      printed = (length (texts_of watch start.memory said), subst (Appends held is) (sym (take-all (texts_of watch start.memory said))) printed);
+      printed = (length (texts_of watch start.memory said), subst (Appends held.text is.text) (sym (take-all (texts_of watch start.memory said))) printed);
+      backups = kept;
     }
 
     -- it is ended with nothing more said
-    pub halts_talk : (old new : EngineState D) (was : Option (List ℕ)) → (honest new.disk → honest old.disk) → Halts now past honest old new → TalkEnds watch now past honest old was new was
+    pub halts_talk : (old new : EngineState D) (was : Outputs) → (honest new.disk → honest old.disk)
+        → Halts now past honest old new → TalkEnds watch now past honest old was new was
     halts_talk old new was back halts = λ start held so_far h.
         let far = so_far (back h) in
         let ended = halts start far.1.0 (λ b. (far.0, far.1.1.0)) h in
-        (far.0, silent_here start new held was far.1.0 ended.1.0 ended.1.1 ended.1.2 far.1.1.1)
+        (far.0, silent_here start new held was far.1.0 ended.1.0 ended.1.1 ended.1.2 far.1.1.1.0 far.1.1.1.1)
 
-    pub talk_ends_here : (engine : EngineState D) (was : Option (List ℕ)) → TalkEnds watch now past honest engine was engine was
+    pub talk_ends_here : (engine : EngineState D) (was : Outputs) → TalkEnds watch now past honest engine was engine was
     talk_ends_here engine was = halts_talk engine engine was (λ h. h) (ends_here engine)
 
     -- what was said without a line of its own goes on
-    pub goes_talk : (old new : EngineState D) (was : Option (List ℕ)) → (honest new.disk → honest old.disk) → GoesOn now past honest old new → TalksOn watch now past honest old was new was
+    pub goes_talk : (old new : EngineState D) (was : Outputs) → (honest new.disk → honest old.disk)
+        → GoesOn now past honest old new → TalksOn watch now past honest old was new was
     goes_talk old new was back goes = λ start held so_far h.
         let far = so_far (back h) in
         let on = goes start far.1.0 (λ b. (far.0, far.1.1.0)) h in
@@ -316,10 +336,13 @@ module _ {D : Type 0} (now : D → Moment) (past : D → List Moment) (honest : 
         subst (λ (m : Contents). told ≡ line_on name m answer) same (is (start.count + length (put_of start.memory said)) answers)
 
     -- the line of an answer was printed, and those behind it
-    pub talks_on : (old new : EngineState D) (was is : Option (List ℕ)) (asked : Option Asked) (answer : Answer) (line name told : List ℕ) → asked_of line ≡ asked → (honest new.disk → honest old.disk)
-        → Says now past honest old new asked answer → ((n : ℕ) → Answers old.memory n asked answer → told ≡ line_on name old.memory answer)
-        → Appends was is told → TalksOn watch now past honest old was new is
-    talks_on old new was is asked answer line name told read back says tells printed = λ start held so_far h.
+    pub talks_on : (old new : EngineState D) (was is : Outputs) (asked : Option Asked) (answer : Answer) (line name told : List ℕ)
+        → asked_of line ≡ asked → (honest new.disk → honest old.disk)
+        → Says now past honest old new asked answer
+        → ((n : ℕ) → Answers old.memory n asked answer → told ≡ line_on name old.memory answer)
+        → Appends was.text is.text told → is.backups ≡ backup_by old.memory answer ++ was.backups
+        → TalksOn watch now past honest old was new is
+    talks_on old new was is asked answer line name told read back says tells printed kept = λ start held so_far h.
         let far = so_far (back h) in
         let said = says start far.1.0 line name read (λ b. (far.0, far.1.1.0)) h in
         let same = told_at start old new far.1.0 asked answer line name told read far.1.1.0 said.1 tells in (
@@ -328,38 +351,53 @@ module _ {D : Type 0} (now : D → Moment) (past : D → List Moment) (honest : 
             record { line = line; answer = answer; name = name } ∷ far.1.0,
             (
               said.1,
-              subst (λ (t : List ℕ). Appends held is (texts_of watch start.memory far.1.0 ++ t)) same
-                  (Appends-trans held was is (texts_of watch start.memory far.1.0) told far.1.1.1 printed),
+              (
+                subst (λ (t : List ℕ). Appends held.text is.text (texts_of watch start.memory far.1.0 ++ t)) same
+                    (Appends-trans held.text was.text is.text (texts_of watch start.memory far.1.0) told far.1.1.1.0 printed),
+                kept_on start.memory old.memory far.1.0 (record { line = line; answer = answer; name = name })
+                    held.backups was.backups is.backups (far.1.1.0.run.memory far.1.1.0.works) far.1.1.1.1 kept,
+              ),
             ),
           ),
         )
 
     -- a beginning of them was printed
-    pub talk_ends : (old new : EngineState D) (was is : Option (List ℕ)) (asked : Option Asked) (answer : Answer) (line name told : List ℕ) → asked_of line ≡ asked → (honest new.disk → honest old.disk)
-        → Says now past honest old new asked answer → ((n : ℕ) → Answers old.memory n asked answer → told ≡ line_on name old.memory answer)
-        → Begins was is told → TalkEnds watch now past honest old was new is
-    talk_ends old new was is asked answer line name told read back says tells printed = λ start held so_far h.
+    pub talk_ends : (old new : EngineState D) (was is : Outputs) (asked : Option Asked) (answer : Answer) (line name told : List ℕ)
+        → asked_of line ≡ asked → (honest new.disk → honest old.disk)
+        → Says now past honest old new asked answer
+        → ((n : ℕ) → Answers old.memory n asked answer → told ≡ line_on name old.memory answer)
+        → Begins was.text is.text told → is.backups ≡ backup_by old.memory answer ++ was.backups
+        → TalkEnds watch now past honest old was new is
+    talk_ends old new was is asked answer line name told read back says tells printed kept = λ start held so_far h.
         let far = so_far (back h) in
         let said = says start far.1.0 line name read (λ b. (far.0, far.1.1.0)) h in
         let same = told_at start old new far.1.0 asked answer line name told read far.1.1.0 said.1 tells in (
           far.0,
           silent start new held was is far.1.0 (record { line = line; answer = answer; name = name } ∷ far.1.0) told said.1
-              (ap (λ (t : List ℕ). texts_of watch start.memory far.1.0 ++ t) (sym same)) far.1.1.1 printed,
+              (ap (λ (t : List ℕ). texts_of watch start.memory far.1.0 ++ t) (sym same)) far.1.1.1.0 printed
+              (kept_on start.memory old.memory far.1.0 (record { line = line; answer = answer; name = name })
+              held.backups was.backups is.backups (far.1.1.0.run.memory far.1.1.0.works) far.1.1.1.1 kept),
         )
 
-    pub ends_after : (old mid new : EngineState D) (was been is : Option (List ℕ)) → TalksOn watch now past honest old was mid been → TalkEnds watch now past honest mid been new is → TalkEnds watch now past honest old was new is
+    pub ends_after : (old mid new : EngineState D) (was been is : Outputs)
+        → TalksOn watch now past honest old was mid been → TalkEnds watch now past honest mid been new is
+        → TalkEnds watch now past honest old was new is
     ends_after old mid new was been is on ends = λ start held so_far. ends start held (on start held so_far)
 
     -- what was said is ended where it stands
-    pub end_here : (old new : EngineState D) (was is : Option (List ℕ)) → TalksOn watch now past honest old was new is → TalkEnds watch now past honest old was new is
+    pub end_here : (old new : EngineState D) (was is : Outputs) → TalksOn watch now past honest old was new is
+        → TalkEnds watch now past honest old was new is
     end_here old new was is on = ends_after old new new was is is on (talk_ends_here new is)
 
     -- what was said, and then what the last call comes to
-    pub then_talks : {T E : Type 0} (old mid new : EngineState D) (was been is : Option (List ℕ)) (result : Result T E) → TalksOn watch now past honest old was mid been
+    pub then_talks : {T E : Type 0} (old mid new : EngineState D) (was been is : Outputs) (result : Result T E)
+        → TalksOn watch now past honest old was mid been
         → MatchResult result (λ n. TalksOn watch now past honest mid been new is) (λ e. TalkEnds watch now past honest mid been new is)
         → MatchResult result (λ n. TalksOn watch now past honest old was new is) (λ e. TalkEnds watch now past honest old was new is)
     then_talks old mid new was been is (Ok n) on it = λ start held so_far. it start held (on start held so_far)
     then_talks old mid new was been is (Err e) on it = ends_after old mid new was been is on it
 
-    pub on_after : (old mid new : EngineState D) (was been is : Option (List ℕ)) → TalksOn watch now past honest old was mid been → TalksOn watch now past honest mid been new is → TalksOn watch now past honest old was new is
+    pub on_after : (old mid new : EngineState D) (was been is : Outputs)
+        → TalksOn watch now past honest old was mid been → TalksOn watch now past honest mid been new is
+        → TalksOn watch now past honest old was new is
     on_after old mid new was been is on it = λ start held so_far. it start held (on start held so_far)

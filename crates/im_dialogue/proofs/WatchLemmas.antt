@@ -98,6 +98,8 @@ told_is watch m n (Some asks.Turn) answer (done, is) = subst (λ (x : Answer). t
 told_is watch m n (Some asks.Count) answer is = subst (λ (x : Answer). told_with x [] ≡ watch_text watch m x) (sym is) refl
 told_is watch m n (Some asks.About) answer (slots, room, is) =
     subst (λ (x : Answer). told_with x [] ≡ watch_text watch m x) (sym is) refl
+told_is watch m n (Some (asks.Backup backup)) answer (kept, is, of) =
+    subst (λ (x : Answer). told_with x [] ≡ watch_text watch m x) (sym is) refl
 told_is watch m n (Some asks.Quit) answer none = absurd none
 told_is watch m n None answer (number, (fault, is)) = subst (λ (x : Answer). told_with x [] ≡ watch_text watch m x) (sym is) refl
 
@@ -118,6 +120,8 @@ plain_line name m now n asks.Turn answer same (done, is) =
 plain_line name m now n asks.Count answer same is =
     subst (λ (x : Answer). answer_text name now x ≡ answer_text name m x) (sym is) refl
 plain_line name m now n asks.About answer same (slots, room, is) =
+    subst (λ (x : Answer). answer_text name now x ≡ answer_text name m x) (sym is) refl
+plain_line name m now n (asks.Backup backup) answer same (kept, is, of) =
     subst (λ (x : Answer). answer_text name now x ≡ answer_text name m x) (sym is) refl
 plain_line name m now n asks.Quit answer same none = absurd none
 

@@ -16,9 +16,12 @@ use Rattle.im_text.specs.Printing.{told_line, refused_line}
 use Rattle.im_dialogue.specs.declared.about.About.{About}
 use Rattle.im_dialogue.specs.declared.answers.Answer.{Answer}
 use Rattle.im_dialogue.specs.declared.answers.Answer.TheVariants.{Served, Looked, Window}
-use Rattle.im_dialogue.specs.declared.answers.Answer.TheVariants.{Room, Turned, Count, About as Facts, Wrong}
+use Rattle.im_dialogue.specs.declared.answers.Answer.TheVariants.{Room, Turned, Count, About as Facts, Backup, Wrong}
+use Rattle.im_dialogue.specs.declared.backup_name.BackupName.{BackupName}
+use Rattle.im_dialogue.specs.declared.backups.BackupFault.{BackupFault}
 use Rattle.im_dialogue.specs.declared.look.Look.{Look}
 use Rattle.im_dialogue.specs.declared.look.Look.TheVariants.{Collect, Entry as Recalls, Cell, Block, Stat, Help}
+use Rattle.im_dialogue.specs.Backups.{bytes_of}
 use Rattle.im_dialogue.specs.Showing.{recall, cell_said, block_said, stat_line, help_line}
 
 -- E.N refused NUMBER NAME
@@ -88,6 +91,12 @@ turn_text Synced = codes "turn synced"
 turn_text InForce = codes "turn inforce"
 turn_text Swept = codes "turn swept"
 
+-- backup NAME count N, or backup NAME refused: WORDS
+abbrev pub backup_line : BackupName → List ℕ → Result ℕ BackupFault → List ℕ
+backup_line name words (Ok count) =
+    codes "backup " ++ bytes_of name ++ codes " count " ++ decimal count ++ line_feed
+backup_line name words (Err fault) = codes "backup " ++ bytes_of name ++ codes " refused: " ++ words ++ line_feed
+
 -- error LINE: WORDS
 abbrev pub wrong_line : ℕ → List ℕ → List ℕ
 wrong_line number words = codes "error " ++ decimal number ++ codes ": " ++ words ++ line_feed
@@ -101,8 +110,8 @@ look_text name m (Block a) = block_said a (block_at m.cells a)
 look_text name m Stat = stat_line m
 look_text name m Help = help_line
 
--- the line of an answer on this memory; the words are the name of its refusal, or where a line that isn't in the
--- grammar goes wrong
+-- the line of an answer on this memory; the words are the name of its refusal, where a line that isn't in the grammar
+-- goes wrong, or why a backup isn't kept
 abbrev pub answer_text : List ℕ → Contents → Answer → List ℕ
 answer_text name m (Served command outcome) = served_line name command outcome
 answer_text name m (Looked look) = look_text name m look
@@ -111,4 +120,5 @@ answer_text name m (Room room) = codes "room " ++ decimal room ++ line_feed
 answer_text name m (Turned done) = turn_text done ++ line_feed
 answer_text name m (Count count) = codes "count " ++ decimal count ++ line_feed
 answer_text name m (Facts about) = about_line about
+answer_text name m (Backup backup kept) = backup_line backup name kept
 answer_text name m (Wrong number fault) = wrong_line number name

@@ -11,8 +11,9 @@ use Rattle.im_script.specs.Lines.{action_of}
 use Rattle.im_script.specs.Places.{op_of}
 use Rattle.im_dialogue.specs.declared.asking.Asked.{Asked}
 use Rattle.im_dialogue.specs.declared.asking.Asked.TheVariants.{Serve, Look, Window}
-use Rattle.im_dialogue.specs.declared.asking.Asked.TheVariants.{Room, Turn, Count, About, Quit}
+use Rattle.im_dialogue.specs.declared.asking.Asked.TheVariants.{Room, Turn, Count, About, Backup, Quit}
 use Rattle.im_dialogue.specs.declared.look.Look.TheVariants.{Collect, Entry, Cell, Block, Stat, Help}
+use Rattle.im_dialogue.specs.Backups.{backup_name_of}
 
 -- an element's number
 abbrev pub element_of : List ℕ → Option ℕ
@@ -55,12 +56,13 @@ abbrev pub asked_at : List ℕ → ℕ → Option Asked
 asked_at word a = if bytes_eq word (codes "cell") then Some (Look (Cell a))
     else (if bytes_eq word (codes "block") then Some (Look (Block a)) else None)
 
--- collect E.N, entry E.N, window E, cell A or block A
+-- collect E.N, entry E.N, window E, backup NAME, cell A or block A
 abbrev pub asked_by_two : List ℕ → List ℕ → Option Asked
 asked_by_two word what = if bytes_eq word (codes "collect") then option_map (λ w. Look (Collect w)) (waiter_of what)
     else (if bytes_eq word (codes "entry") then option_map (λ w. Look (Entry w)) (waiter_of what)
     else (if bytes_eq word (codes "window") then option_map Window (element_of what)
-    else option_and_then (asked_at word) (number_up_to 4294967295 what)))
+    else (if bytes_eq word (codes "backup") then option_map Backup (backup_name_of what)
+    else option_and_then (asked_at word) (number_up_to 4294967295 what))))
 
 -- confirm E UPTO
 abbrev pub asked_by_three : List ℕ → List ℕ → List ℕ → Option Asked

@@ -8,7 +8,7 @@ use Rattle.im_disk.specs.Since.{Leaves, LeavesNow}
 use Rattle.im_engine.specs.State.{EngineState, MeansState}
 use Rattle.im_engine.specs.Run.{MeansBeginning}
 use Rattle.im_text.specs.Printing.{Begins, IsLast}
-use Rattle.im_dialogue.specs.Talk.{AreAnswered, Exchange, HasEnded, MeansSaid, put_of, texts_of}
+use Rattle.im_dialogue.specs.Talk.{AreAnswered, AreKept, Exchange, HasEnded, MeansSaid, Outputs, put_of, texts_of}
 
 -- a prefix of the text was written, and then at most a refusal
 abbrev pub PrintsThenLast : Option (List ℕ) → Option (List ℕ) → List ℕ → Type 0
@@ -16,22 +16,24 @@ PrintsThenLast was is text =
     (mid : Option (List ℕ)) × Begins was mid text × ((last : List ℕ) × (IsLast last × Begins mid is last))
 
 -- An engine was closed, and this status was given, after this was said on it. If the status is 0, nothing is in doubt,
--- and all answers were printed, and nothing else.
+-- and all answers were printed, and nothing else. The backups that were answered are kept.
 pub record Closed {D : Type 0} (watch : Bool) (now : D → Moment) (past : D → List Moment) (start : EngineState D)
-    (disk : D) (was is : Option (List ℕ)) (status : ℕ) : Type 0 where
+    (disk : D) (was is : Outputs) (status : ℕ) : Type 0 where
   pub said : List Exchange
   pub doubt : List Command
   pub few : length doubt ≤ MAX_GROUP
   pub ended : HasEnded now past start disk said doubt
-  pub printed : PrintsThenLast was is (texts_of watch start.memory said)
-  pub whole : status ≡ 0 → (doubt ≡ []) × Appends was is (texts_of watch start.memory said)
+  pub printed : PrintsThenLast was.text is.text (texts_of watch start.memory said)
+  pub whole : status ≡ 0 → (doubt ≡ []) × Appends was.text is.text (texts_of watch start.memory said)
+  pub backups : AreKept start.memory was is said
 
 -- The image was opened, with the meaning of a file that a crash could leave then, and this was said on it, the last
 -- first. Each line was answered on the memory after those before it. From then on a crash leaves the memory after a
 -- prefix of the commands that were put. At the end it leaves the memory after all of them, with those in doubt all
--- together or not at all. If the status is 0, none is in doubt, and all answers were printed, and nothing else.
+-- together or not at all. If the status is 0, none is in doubt, and all answers were printed, and nothing else. The
+-- backups that were answered are kept, each with the memory and the count after the commands before it.
 pub record Talked {D : Type 0} (watch : Bool) (now : D → Moment) (past : D → List Moment) (old new : D)
-    (was is : Option (List ℕ)) (status : ℕ) : Type 0 where
+    (was is : Outputs) (status : ℕ) : Type 0 where
   pub start : EngineState D
   pub said : List Exchange
   pub doubt : List Command
@@ -41,19 +43,22 @@ pub record Talked {D : Type 0} (watch : Bool) (now : D → Moment) (past : D →
   pub leaves : Leaves (now old) (now new) (past old) (past new)
       (MeansBeginning start (put_of start.memory said ++ doubt))
   pub kept : LeavesNow (now new) (MeansSaid start said doubt)
-  pub printed : PrintsThenLast was is (texts_of watch start.memory said)
-  pub whole : status ≡ 0 → (doubt ≡ []) × Appends was is (texts_of watch start.memory said)
+  pub printed : PrintsThenLast was.text is.text (texts_of watch start.memory said)
+  pub whole : status ≡ 0 → (doubt ≡ []) × Appends was.text is.text (texts_of watch start.memory said)
+  pub backups : AreKept start.memory was is said
 
--- The image was not opened: a crash leaves nothing that it couldn't leave before, and at most a refusal was printed.
-pub record NotOpened {D : Type 0} (now : D → Moment) (past : D → List Moment) (old new : D) (was is : Option (List ℕ))
+-- The image was not opened: a crash leaves nothing that it couldn't leave before, at most a refusal was printed, and no
+-- backup was kept.
+pub record NotOpened {D : Type 0} (now : D → Moment) (past : D → List Moment) (old new : D) (was is : Outputs)
     (status : ℕ) : Type 0 where
   pub status_is : status ≡ 1
-  pub printed : (last : List ℕ) × (IsLast last × Begins was is last)
+  pub printed : (last : List ℕ) × (IsLast last × Begins was.text is.text last)
+  pub backups : is.backups ≡ was.backups
   pub leaves : Leaves (now old) (now new) (past old) (past new) (Left (now old))
 
 -- The same of a disk that is at this moment, and has no moment before it.
 pub record TalkedFrom {D : Type 0} (watch : Bool) (now : D → Moment) (past : D → List Moment) (first : Moment) (new : D)
-    (before after : Option (List ℕ)) (status : ℕ) : Type 0 where
+    (before after : Outputs) (status : ℕ) : Type 0 where
   pub old : D
   pub was : now old ≡ first
   pub none : past old ≡ []

@@ -1,3 +1,4 @@
+pub mod Backups
 pub mod Asking
 pub mod Counting
 pub mod Showing

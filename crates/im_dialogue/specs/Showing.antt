@@ -94,7 +94,7 @@ requests_said = codes "help E.N alloc i LENGTH, E.N alloc m LENGTH, E.N release 
 -- its other lines
 abbrev pub lines_said : List ℕ
 lines_said = codes "collect E.N, entry E.N, confirm E UPTO, window E, cell A, block A, "
-    ++ codes "stat, room, turn, count, about, help, quit" ++ line_feed
+    ++ codes "stat, room, turn, count, about, backup NAME, help, quit" ++ line_feed
 
 -- what `help` says
 abbrev pub help_line : List ℕ

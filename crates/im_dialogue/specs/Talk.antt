@@ -1,6 +1,6 @@
 -- A dialogue over an engine: what was asked, what it was answered, and what a crash leaves of it. (Own.)
 use Rattle.std.specs.Prelude.{◌≡◌, ◌⊎◌, ℕ, ◌+◌, ◌≤◌, Bool, true, false, List, [], ◌∷◌, ◌++◌, length}
-use Rattle.std.specs.Prelude.{Option, None, Some, MatchResult, Result, Err}
+use Rattle.std.specs.Prelude.{Option, None, Some, MatchResult, Result, Ok, Err}
 use Rattle.im_types.specs.declared.TheConstants.{MAX_GROUP}
 use Rattle.std.specs.Io.KnownBytes.{Appends}
 use Rattle.im_types.specs.declared.commands.Command.{Command}
@@ -25,15 +25,17 @@ use Rattle.im_script.specs.declared.faults.LineFault.{LineFault}
 use Rattle.im_dialogue.specs.declared.about.About.{About}
 use Rattle.im_dialogue.specs.declared.answers.Answer.{Answer}
 use Rattle.im_dialogue.specs.declared.answers.Answer.TheVariants.{Served, Looked, Window, Room, Turned, Count}
-use Rattle.im_dialogue.specs.declared.answers.Answer.TheVariants.{About as Facts, Wrong}
+use Rattle.im_dialogue.specs.declared.answers.Answer.TheVariants.{About as Facts, Backup as BackedUp, Wrong}
+use Rattle.im_dialogue.specs.declared.backups.BackupFault.{BackupFault}
 use Rattle.im_dialogue.specs.Asking.{asked_of}
 use Rattle.im_dialogue.specs.Answers.{answer_text}
+use Rattle.im_dialogue.specs.Backups.{Backup, bytes_of}
 use Rattle.im_dialogue.specs.Watching.{watch_text}
 
 -- ---- what was said
 
 -- a line that was asked, without its line feed, or the first 4,097 bytes of a longer one; its answer; and the name of
--- the refusal, or the words for where the line goes wrong
+-- the refusal, or the words for where the line goes wrong or why a backup isn't kept
 pub record Exchange : Type 0 where
   pub line : List ℕ
   pub answer : Answer
@@ -55,6 +57,11 @@ about_of m slots commands room = record {
   room = room;
 }
 
+-- if a backup is kept, it is said to be of this many commands
+abbrev pub CountsIf : ℕ → Result ℕ BackupFault → Type 0
+CountsIf commands (Ok count) = count ≡ commands
+CountsIf commands (Err fault) = Unit {0}
+
 -- the answer to what is asked, on this memory, after this many commands
 abbrev pub Answers : Contents → ℕ → Option Asked → Answer → Type 0
 Answers m commands (Some (asks.Serve command)) answer =
@@ -65,6 +72,8 @@ Answers m commands (Some asks.Room) answer = (room : ℕ) × (answer ≡ Room ro
 Answers m commands (Some asks.Turn) answer = (done : TurnDone) × (answer ≡ Turned done)
 Answers m commands (Some asks.Count) answer = answer ≡ Count commands
 Answers m commands (Some asks.About) answer = (slots room : ℕ) × (answer ≡ Facts (about_of m slots commands room))
+Answers m commands (Some (asks.Backup name)) answer =
+    (kept : Result ℕ BackupFault) × (answer ≡ BackedUp name kept) × CountsIf commands kept
 Answers m commands (Some asks.Quit) answer = ⊥
 Answers m commands None answer = (number : ℕ) × ((fault : LineFault) × (answer ≡ Wrong number fault))
 
@@ -91,6 +100,20 @@ abbrev pub texts_of : Bool → Contents → List Exchange → List ℕ
 texts_of watch m [] = []
 texts_of watch m (x ∷ xs) = texts_of watch m xs
     ++ (answer_text x.name (after m (put_of m xs)) x.answer ++ watch_text watch (after m (put_of m xs)) x.answer)
+
+-- the backup that an answer on this memory says is kept
+abbrev pub backup_by : Contents → Answer → List Backup
+backup_by m (BackedUp name (Ok count)) = record { name = bytes_of name; memory = m; count = count } ∷ []
+backup_by m answer = []
+
+-- an answer says of no backup that it is kept
+abbrev pub KeepsNone : Answer → Type 0
+KeepsNone answer = (m : Contents) → backup_by m answer ≡ []
+
+-- the backups that were kept, given what was said, the last first; each is of the memory after what was put before it
+abbrev pub backups_of : Contents → List Exchange → List Backup
+backups_of m [] = []
+backups_of m (x ∷ xs) = backup_by (after m (put_of m xs)) x.answer ++ backups_of m xs
 
 -- the refusal says that a call of the disk failed, and ends the dialogue
 abbrev pub is_end : Refusal → Bool
@@ -163,45 +186,69 @@ Says {D} now past honest old new asked answer =
 
 -- ---- and printed
 
--- since the writer held this, what was said was printed, line by line
-abbrev pub Talking : {D : Type 0} → Bool → (D → Moment) → (D → List Moment) → (D → Type 0) → EngineState D
-    → Option (List ℕ) → EngineState D → Option (List ℕ) → Type 0
-Talking watch now past honest start was engine is =
-    honest engine.disk → honest start.disk
-    × ((said : List Exchange) × (IsAt now past start engine said × Appends was is (texts_of watch start.memory said)))
+-- what a dialogue puts out: what the writer holds, and the backups that are kept, the last first
+pub record Outputs : Type 0 where
+  pub text : Option (List ℕ)
+  pub backups : List Backup
 
--- what was said, a prefix of which was printed, and the commands in doubt, if there are some
+-- what a writer holds, and what is kept, as one
+abbrev pub outputs : Option (List ℕ) → List Backup → Outputs
+outputs text backups = record { text = text; backups = backups }
+
+-- exactly the backups that were answered are kept besides those that were
+abbrev pub AreKept : Contents → Outputs → Outputs → List Exchange → Type 0
+AreKept m was is said = is.backups ≡ backups_of m said ++ was.backups
+
+-- since then what was said was printed, line by line, and its backups are kept
+abbrev pub Talking : {D : Type 0} → Bool → (D → Moment) → (D → List Moment) → (D → Type 0) → EngineState D → Outputs
+    → EngineState D → Outputs → Type 0
+Talking watch now past honest start was engine is =
+    honest engine.disk → honest start.disk × ((said : List Exchange) × (IsAt now past start engine said
+    × (Appends was.text is.text (texts_of watch start.memory said) × AreKept start.memory was is said)))
+
+-- what was said, a prefix of which was printed, and the commands in doubt, if there are some; the backups that were
+-- answered are kept
 pub record Silent {D : Type 0} (watch : Bool) (now : D → Moment) (past : D → List Moment) (start : EngineState D)
-    (was : Option (List ℕ)) (disk : D) (is : Option (List ℕ)) : Type 0 where
+    (was : Outputs) (disk : D) (is : Outputs) : Type 0 where
   pub said : List Exchange
   pub doubt : List Command
   pub few : length doubt ≤ MAX_GROUP
   pub ended : HasEnded now past start disk said doubt
-  pub printed : Begins was is (texts_of watch start.memory said)
+  pub printed : Begins was.text is.text (texts_of watch start.memory said)
+  pub backups : AreKept start.memory was is said
 
 -- the same, and it was ended
-abbrev pub Silenced : {D : Type 0} → Bool → (D → Moment) → (D → List Moment) → (D → Type 0) → EngineState D
-    → Option (List ℕ) → D → Option (List ℕ) → Type 0
+abbrev pub Silenced : {D : Type 0} → Bool → (D → Moment) → (D → List Moment) → (D → Type 0) → EngineState D → Outputs
+    → D → Outputs → Type 0
 Silenced watch now past honest start was disk is =
     honest disk → honest start.disk × Silent watch now past start was disk is
 
--- lines were asked and answered, and their answers printed
-abbrev pub TalksOn : {D : Type 0} → Bool → (D → Moment) → (D → List Moment) → (D → Type 0) → EngineState D
-    → Option (List ℕ) → EngineState D → Option (List ℕ) → Type 0
+-- lines were asked and answered, their answers printed, and their backups kept
+abbrev pub TalksOn : {D : Type 0} → Bool → (D → Moment) → (D → List Moment) → (D → Type 0) → EngineState D → Outputs
+    → EngineState D → Outputs → Type 0
 TalksOn {D} watch now past honest old was new is =
-    (start : EngineState D) (held : Option (List ℕ)) → Talking watch now past honest start held old was
+    (start : EngineState D) (held : Outputs) → Talking watch now past honest start held old was
     → Talking watch now past honest start held new is
 
 -- the same, and it was ended
-abbrev pub TalkEnds : {D : Type 0} → Bool → (D → Moment) → (D → List Moment) → (D → Type 0) → EngineState D
-    → Option (List ℕ) → EngineState D → Option (List ℕ) → Type 0
+abbrev pub TalkEnds : {D : Type 0} → Bool → (D → Moment) → (D → List Moment) → (D → Type 0) → EngineState D → Outputs
+    → EngineState D → Outputs → Type 0
 TalkEnds {D} watch now past honest old was new is =
-    (start : EngineState D) (held : Option (List ℕ)) → Talking watch now past honest start held old was
+    (start : EngineState D) (held : Outputs) → Talking watch now past honest start held old was
     → Silenced watch now past honest start held new.disk is
 
 -- what a call comes to that serves lines and prints their answers: they were answered and printed, or it was ended
+abbrev pub TalksWith : {D T E : Type 0} → Ghosts D → Bool → EngineState D → Outputs → EngineState D → Outputs
+    → Result T E → Type 0
+TalksWith disk watch old was new is result = MatchResult result
+    (λ done. TalksOn watch disk.now disk.past disk.honest old was new is)
+    (λ e. TalkEnds watch disk.now disk.past disk.honest old was new is)
+
+-- the same of lines that ask for no backup: whatever is kept stays as it is
 abbrev pub TalksThrough : {D T E : Type 0} → Ghosts D → Bool → EngineState D → Option (List ℕ) → EngineState D
     → Option (List ℕ) → Result T E → Type 0
 TalksThrough disk watch old was new is result = MatchResult result
-    (λ done. TalksOn watch disk.now disk.past disk.honest old was new is)
-    (λ e. TalkEnds watch disk.now disk.past disk.honest old was new is)
+    (λ done. (backups : List Backup)
+    → TalksOn watch disk.now disk.past disk.honest old (outputs was backups) new (outputs is backups))
+    (λ e. (backups : List Backup)
+    → TalkEnds watch disk.now disk.past disk.honest old (outputs was backups) new (outputs is backups))

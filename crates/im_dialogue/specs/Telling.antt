@@ -9,7 +9,7 @@ use Rattle.im_types.specs.Run.{after}
 use Rattle.im_groups.specs.Commands.{answers_with, commands_at}
 use Rattle.im_engine.specs.State.{EngineState}
 use Rattle.im_dialogue.specs.declared.group_line.GroupLine.{GroupLine}
-use Rattle.im_dialogue.specs.Talk.{AreAnswered, Exchange, put_of, texts_of}
+use Rattle.im_dialogue.specs.Talk.{AreAnswered, Exchange, backups_of, put_of, texts_of}
 use Rattle.im_dialogue.specs.Together.{GroupStart, MayBeServed, group_start, count_between, memory_between}
 
 -- what was said comes to the memory and the count behind these members
@@ -19,13 +19,14 @@ pub record Reaches {D : Type 0} (start : EngineState D) (b : GroupStart) (said :
   pub memory : memory_between b ahead ≡ after start.memory (put_of start.memory said)
   pub count : count_between b ahead ≡ start.count + length (put_of start.memory said)
 
--- lines with these members and this text were said on what was said before
+-- lines with these members and this text were said on what was said before, and no backup was kept
 pub record SaidMore {D : Type 0} (watch : Bool) (start : EngineState D) (b : GroupStart) (base : List Exchange)
     (ahead : List Command) (text : List ℕ) : Type 0 where
   pub said : List Exchange
   pub reach : Reaches start b said ahead
   pub put : put_of start.memory said ≡ put_of start.memory base ++ commands_at b.memory b.places ahead
   pub texts : texts_of watch start.memory said ≡ texts_of watch start.memory base ++ text
+  pub backups : backups_of start.memory said ≡ backups_of start.memory base
 
 -- whatever was said before the group, lines with these members and this text were said on it
 abbrev pub SaysAll : {D : Type 0} → Bool → EngineState D → List Command → List ℕ → Type 0

@@ -21,7 +21,7 @@ use Rattle.im_dialogue.specs.declared.group_line.GroupLine.TheVariants.{Member, 
 use Rattle.im_dialogue.specs.Answers.{answer_text}
 use Rattle.im_dialogue.specs.Asking.{asked_of}
 use Rattle.im_dialogue.specs.Looks.{may_alter}
-use Rattle.im_dialogue.specs.Talk.{Answers, put_by}
+use Rattle.im_dialogue.specs.Talk.{Answers, KeepsNone, put_by}
 use Rattle.im_dialogue.specs.Watching.{told_with, watch_text}
 
 -- ---- what lines ask for
@@ -92,11 +92,13 @@ LeavesShown m ahead shown (Member command) = list_any (disturbs m ahead command)
 LeavesShown m ahead shown (Look look) = Unit {0}
 LeavesShown m ahead shown (Known answer) = Unit {0}
 
--- what is asked has this answer on this memory, after this many commands, and nothing is put on the disk or told for it
+-- what is asked has this answer on this memory, after this many commands, and nothing is put on the disk, told or kept
+-- for it
 pub record IsKnown (m : Contents) (commands : ℕ) (asked : Asked) (answer : Answer) : Type 0 where
   pub answers : Answers m commands (Some asked) answer
   pub puts : (any : Contents) → put_by any answer ≡ []
   pub tells : (watch : Bool) (any : Contents) → watch_text watch any answer ≡ []
+  pub keeps : KeepsNone answer
 
 -- the line of an answer is the same on each memory
 abbrev pub IsPlain : Answer → Type 0

@@ -1,11 +1,15 @@
 //! The answers to lines.
-ghost use Rattle.std.specs.Prelude.{◌≡◌, ◌++◌, OnOk, string_bytes};
+ghost use Rattle.std.specs.Prelude.{◌≡◌, ◌++◌, OnOk, codes, string_bytes};
 ghost use Rattle.im_text.specs.Printing.{refused_line, told_line};
-ghost use Rattle.im_dialogue.specs.Answers.{about_line, answer_text, cells_said, confirmed_line, element_refused};
+ghost use Rattle.im_dialogue.specs.Answers.{about_line, answer_text, backup_line, cells_said, confirmed_line};
+ghost use Rattle.im_dialogue.specs.Answers.{element_refused};
 ghost use Rattle.im_dialogue.specs.Answers.{kept_line, operation_line};
+ghost use Rattle.im_dialogue.specs.Backups.{bytes_of};
 ghost use Rattle.im_dialogue.specs.Answers.{request_refused, served_line, turn_text, window_line, wrong_line};
 
 use crate::about::About;
+use crate::backup_name::BackupName;
+use crate::backups::BackupFault;
 use crate::look::Look;
 use crate::showing::{add_look, look_refused};
 use im_checkpoint::TurnDone;
@@ -32,6 +36,8 @@ pub enum Answer {
     Count(u64),
     /// To `about`: what the image is, and how far it has come.
     About(About),
+    /// To `backup NAME`: how many commands the copy has, or why it isn't kept.
+    Backup(BackupName, Result<u64, BackupFault>),
     /// To a line that isn't in the grammar: its number, from 1, and where it goes wrong.
     Wrong(u64, LineFault),
 }
@@ -213,6 +219,33 @@ fn add_turn(out: &mut String, done: TurnDone) -> Result<(), AllocError>
     }
 }
 
+// Adds `backup NAME`.
+fn add_backup_name(out: &mut String, name: BackupName) -> Result<(), AllocError>
+    ensures { OnOk result (string_bytes out.new ≡ string_bytes out.old ++ codes "backup " ++ bytes_of name) }
+{
+    out.push_str("backup ")?;
+    match name.text() {
+        Some(text) => out.push_str(text),
+        None => Err(AllocError), // No name is so.
+    }
+}
+
+// Adds `backup NAME count N`, or why the copy isn't kept.
+fn add_backup(
+    out: &mut String,
+    name: BackupName,
+    kept: Result<u64, BackupFault>,
+    words: &str,
+) -> Result<(), AllocError>
+    ensures { OnOk result (string_bytes out.new ≡ string_bytes out.old ++ backup_line name words.now kept) }
+{
+    add_backup_name(out, name)?;
+    match kept {
+        Ok(count) => write!(out, " count {count}\n"),
+        Err(_) => write!(out, " refused: {words}\n"),
+    }
+}
+
 // Adds `error LINE: ` and the words for where the line goes wrong.
 fn add_wrong(out: &mut String, number: u64, words: &str) -> Result<(), AllocError>
     ensures { OnOk result (string_bytes out.new ≡ string_bytes out.old ++ wrong_line number words.now) }
@@ -221,8 +254,8 @@ fn add_wrong(out: &mut String, number: u64, words: &str) -> Result<(), AllocErro
 }
 
 /// Adds the line of an answer on this memory. `name` is the name of the refusal, if the answer is one. If the line
-/// isn't in the grammar, it is the words for where the line goes wrong. At an error, a part of the line may have been
-/// added.
+/// isn't in the grammar, it is the words for where the line goes wrong. If a backup isn't kept, it is the words for
+/// why. At an error, a part of the line may have been added.
 pub fn add_answer(
     out: &mut String,
     memory: &Memory,
@@ -243,6 +276,7 @@ pub fn add_answer(
         }
         Answer::Count(count) => write!(out, "count {count}\n"),
         Answer::About(about) => add_about(out, about),
+        Answer::Backup(backup, kept) => add_backup(out, backup, kept, name),
         Answer::Wrong(number, _) => add_wrong(out, number, name),
     }
 }

@@ -1,14 +1,16 @@
 //! What a line asks for.
 ghost use Rattle.std.specs.Prelude.{◌≡◌, ◌==◌, ◌∷◌, [], IfOk};
 ghost use Rattle.im_types.specs.declared.commands.Command.TheVariants.{Request as Asks};
-ghost use Rattle.im_dialogue.specs.declared.asking.Asked.TheVariants.{Look as Looks, Serve, Window};
+ghost use Rattle.im_dialogue.specs.declared.asking.Asked.TheVariants.{Backup, Look as Looks, Serve, Window};
 ghost use Rattle.im_dialogue.specs.declared.look.Look.TheVariants.{Collect, Entry};
 ghost use Rattle.std.specs.List.{slice_split};
 ghost use Rattle.std.specs.Option.{option_and_then, option_map, option_or};
 ghost use Rattle.im_script.specs.Grammar.{texts, words_of};
 ghost use Rattle.im_dialogue.specs.Asking.{asked_at, asked_by_one, asked_by_three, asked_by_two, asked_in, asked_of};
 ghost use Rattle.im_dialogue.specs.Asking.{element_of, number_of, op_in, request_by, waiter_by, waiter_in, waiter_of};
+ghost use Rattle.im_dialogue.specs.Backups.{backup_name_of};
 
+use crate::backup_name::BackupName;
 use crate::look::Look;
 use im_script::{is_line, read_action, read_number, read_u32, split_words};
 use im_types::{Command, Op, Request, Waiter};
@@ -32,6 +34,8 @@ pub enum Asked {
     Count,
     /// `about`: the layout and sizes of the image, how many commands were accepted, and the room.
     About,
+    /// `backup NAME`: a copy of the image, kept under the name.
+    Backup(BackupName),
     /// `quit`: the end of the dialogue.
     Quit,
 }
@@ -122,6 +126,16 @@ fn read_window(element: &[u8]) -> Option<Asked>
     }
 }
 
+// Asks for a backup under a name.
+fn read_backup(name: &[u8]) -> Option<Asked>
+    ensures { result ≡ option_map Backup (backup_name_of name.now) }
+{
+    match BackupName::read(name) {
+        Some(name) => Some(Asked::Backup(name)),
+        None => None,
+    }
+}
+
 // Asks what is kept for a request.
 fn ask_collect(who: Option<Waiter>) -> Option<Asked>
     ensures { result ≡ option_map (λ w. Looks (Collect w)) who }
@@ -168,6 +182,8 @@ fn read_two(alloc: Global, word: &[u8], what: &[u8]) -> Result<Option<Asked>, Al
         Ok(ask_entry(who))
     } else if word == b"window".as_slice() {
         Ok(read_window(what))
+    } else if word == b"backup".as_slice() {
+        Ok(read_backup(what))
     } else {
         Ok(ask_at(word, read_u32(what)))
     }

@@ -3,7 +3,9 @@ ghost use Rattle.std.specs.Prelude.{◌≡◌, ◌⊎◌, ◌≤◌, false};
 ghost use Rattle.im_disk.specs.Since.{LeavesNow};
 ghost use Rattle.im_engine.specs.State.{MeansState};
 ghost use Rattle.im_dialogue.specs.Dialogue.{Closed, NotOpened, Talked};
+ghost use Rattle.im_dialogue.specs.Talk.{outputs};
 
+use crate::backups::Backups;
 use crate::resting::open_with_slots;
 use crate::serving::{Setting, serve_lines};
 use im_disk::Disk;
@@ -27,24 +29,29 @@ use std::io::{BufRead, Write};
 ///
 /// What was printed is a prefix of the answers, followed by the refusal. If the status is 0, it is all answers and
 /// nothing else.
-pub fn dialogue_on<D: Disk, R: BufRead + Ear, W: Write, N: Observer>(
+///
+/// Each backup that was answered is kept, with the memory and the count of commands after the lines before it, and no
+/// other is.
+pub fn dialogue_on<D: Disk, B: Backups, R: BufRead + Ear, W: Write, N: Observer>(
     alloc: Global,
     disk: D,
+    backups: &mut B,
     input: &mut R,
     watch: bool,
     out: &mut W,
     observer: &mut N,
 ) -> (u8, D)
     ensures status { result.0 ≤ 1 }
-    ensures talked { D.honest result.1
-        → NotOpened D.now D.past disk result.1 (W.contents out.old) (W.contents out.new) result.0
-        ⊎ Talked watch D.now D.past disk result.1 (W.contents out.old) (W.contents out.new) result.0 }
+    ensures talked { let before = outputs (W.contents out.old) (B.kept backups.old) in
+        let after = outputs (W.contents out.new) (B.kept backups.new) in
+        D.honest result.1 → NotOpened D.now D.past disk result.1 before after result.0
+        ⊎ Talked watch D.now D.past disk result.1 before after result.0 }
     ensures honest { D.honest result.1 → D.honest disk }
 {
     match open_with_slots(alloc, disk) {
         Ok((engine, slots)) => {
             let setting = Setting { watch, slots };
-            talk_on(alloc, engine, input, setting, out, observer)
+            talk_on(alloc, engine, backups, input, setting, out, observer)
         }
         Err((refusal, mut disk)) => {
             let reason = diagnose(alloc, &mut disk, refusal);
@@ -54,9 +61,10 @@ pub fn dialogue_on<D: Disk, R: BufRead + Ear, W: Write, N: Observer>(
 }
 
 // Serves a dialogue on an engine. Returns the status and the engine's disk.
-fn talk_on<D: Disk, R: BufRead + Ear, W: Write, N: Observer>(
+fn talk_on<D: Disk, B: Backups, R: BufRead + Ear, W: Write, N: Observer>(
     alloc: Global,
     mut engine: Engine<D>,
+    backups: &mut B,
     input: &mut R,
     setting: Setting,
     out: &mut W,
@@ -65,11 +73,12 @@ fn talk_on<D: Disk, R: BufRead + Ear, W: Write, N: Observer>(
     requires works { engine.failed ≡ false }
     requires means { D.honest engine.disk → LeavesNow (D.now engine.disk) (MeansState engine) }
     ensures status { result.0 ≤ 1 }
-    ensures closed { D.honest result.1
-        → Closed setting.watch D.now D.past engine result.1 (W.contents out.old) (W.contents out.new) result.0 }
+    ensures closed { D.honest result.1 → Closed setting.watch D.now D.past engine result.1
+        (outputs (W.contents out.old) (B.kept backups.old)) (outputs (W.contents out.new) (B.kept backups.new))
+        result.0 }
     ensures honest { D.honest result.1 → D.honest engine.disk }
 {
-    match serve_lines(alloc, &mut engine, input, setting, out) {
+    match serve_lines(alloc, &mut engine, backups, input, setting, out) {
         Ok(()) => (0, engine.close()),
         Err(reason) => (end(alloc, Err(reason), out, observer), engine.close()),
     }

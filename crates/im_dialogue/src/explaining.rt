@@ -4,6 +4,7 @@ ghost use Rattle.im_script.specs.Faults.{is_of_length};
 ghost use Rattle.im_script.specs.Grammar.{is_short};
 
 use crate::asking::{read_element, read_one, read_waiter};
+use crate::backup_name::BackupName;
 use im_script::{
     Expected, LineFault, MAX_LINE, Quoted, behind_request, bytes_fault, read_number, read_u32,
     split_words,
@@ -24,6 +25,8 @@ fn behind(word: &[u8]) -> Option<&'static [Expected]> {
         Some(&[Expected::Asker])
     } else if word == b"cell".as_slice() || word == b"block".as_slice() {
         Some(&[Expected::Address])
+    } else if word == b"backup".as_slice() {
+        Some(&[Expected::BackupName])
     } else {
         None
     }
@@ -46,6 +49,7 @@ fn fits(alloc: Global, word: &[u8], expected: Expected) -> Result<bool, AllocErr
         Expected::Kind => word == b"i".as_slice() || word == b"m".as_slice(),
         Expected::Length | Expected::Address => read_u32(word).is_some(),
         Expected::Number | Expected::Value => read_number(word, u64::MAX).is_some(),
+        Expected::BackupName => BackupName::read(word).is_some(),
         _ => true,
     })
 }

@@ -4,11 +4,12 @@ ghost use Rattle.std.specs.Io.KnownBytes.{Appends};
 ghost use Rattle.im_text.specs.Printing.{Begins};
 ghost use Rattle.im_dialogue.specs.Answers.{answer_text};
 ghost use Rattle.im_dialogue.specs.Asking.{asked_of};
-ghost use Rattle.im_dialogue.specs.Talk.{TalkEnds, TalksOn, TalksThrough};
+ghost use Rattle.im_dialogue.specs.Talk.{TalksThrough, TalksWith, outputs};
 ghost use Rattle.im_dialogue.specs.Together.{AreAsked};
 
 use crate::answers::{Answer, add_answer};
 use crate::asking::{Asked, read_asked};
+use crate::backups::Backups;
 use crate::explaining::explain;
 use crate::grouping::{Gathered, take_parts};
 use crate::lines::next_line;
@@ -26,8 +27,8 @@ use im_text::{Reason, put_through};
 use std::alloc::{AllocError, Global};
 use std::io::{BufRead, Write};
 
-/// Returns the name of the refusal that an answer is, or the words for where a line goes wrong. It is empty for any
-/// other answer.
+/// Returns the name of the refusal that an answer is, or the words for where a line goes wrong or why a backup isn't
+/// kept. It is empty for any other answer.
 pub(crate) fn name_of(
     alloc: Global,
     memory: &Memory,
@@ -35,6 +36,9 @@ pub(crate) fn name_of(
 ) -> Result<String, AllocError> {
     let mut name = String::new(alloc);
     if let Answer::Wrong(_, fault) = answer {
+        write!(name, "{fault}")?;
+    }
+    if let Answer::Backup(_, Err(fault)) = answer {
         write!(name, "{fault}")?;
     }
     if let Some(refusal) = answer.refusal(memory) {
@@ -106,27 +110,44 @@ struct Drafts {
     group: Gathered,
 }
 
+// Room for lines, in which nothing is yet.
+fn no_drafts(alloc: Global) -> Drafts {
+    Drafts {
+        line: Vec::new(alloc),
+        text: String::new(alloc),
+        nows: String::new(alloc),
+        standing: InBuffer {
+            asked: Vec::new(alloc),
+            ends: Vec::new(alloc),
+        },
+        group: Gathered {
+            parts: Vec::new(alloc),
+            nows: Vec::new(alloc),
+            members: ArrayVec::new(),
+        },
+    }
+}
+
 // Does what a line asks, and prints the answer. Returns whether the dialogue continues.
-fn serve_asked<D: Disk, W: Write>(
+fn serve_asked<D: Disk, B: Backups, W: Write>(
     alloc: Global,
     engine: &mut Engine<D>,
+    backups: &mut B,
     asked: Asked,
     setting: Setting,
     text: &mut String,
     nows: &mut String,
     out: &mut W,
 ) -> Result<bool, Reason>
-    ensures { (line : List ℕ) → asked_of line ≡ Some asked → MatchResult result
-        (λ _. TalksOn setting.watch D.now D.past D.honest
-        engine.old (W.contents out.old) engine.new (W.contents out.new))
-        (λ _. TalkEnds setting.watch D.now D.past D.honest
-        engine.old (W.contents out.old) engine.new (W.contents out.new)) }
+    ensures { (line : List ℕ) → asked_of line ≡ Some asked → TalksWith D.Disk setting.watch
+        engine.old (outputs (W.contents out.old) (B.kept backups.old))
+        engine.new (outputs (W.contents out.new) (B.kept backups.new)) result }
 {
     // The waiting requests are looked up before the command acts, since it resumes them.
     if let Err(_) = make_nows(nows, engine.memory(), asked, setting.watch) {
         return Err(Reason::Memory);
     }
-    match answer(engine, setting.slots, asked) {
+    match answer(engine, backups, setting.slots, asked) {
         Ok(None) => Ok(false),
         // The command is on the disk before its line is printed. After a crash between the two it can be asked again.
         Ok(Some(answer)) => {
@@ -150,9 +171,8 @@ fn explain_line<D: Disk, W: Write>(
     out: &mut W,
 ) -> Result<(), Reason>
     requires wrong { asked_of line.now ≡ None }
-    ensures { (watch : Bool) → MatchResult result
-        (λ _. TalksOn watch D.now D.past D.honest engine.now (W.contents out.old) engine.now (W.contents out.new))
-        (λ _. TalkEnds watch D.now D.past D.honest engine.now (W.contents out.old) engine.now (W.contents out.new)) }
+    ensures { (watch : Bool) → TalksThrough D.Disk watch
+        engine.now (W.contents out.old) engine.now (W.contents out.new) result }
 {
     match explain(alloc, line) {
         Ok(fault) => {
@@ -167,9 +187,10 @@ fn explain_line<D: Disk, W: Write>(
 }
 
 // Serves a line. Returns whether the dialogue continues.
-fn serve_line<D: Disk, W: Write>(
+fn serve_line<D: Disk, B: Backups, W: Write>(
     alloc: Global,
     engine: &mut Engine<D>,
+    backups: &mut B,
     number: u64,
     setting: Setting,
     line: &[u8],
@@ -177,14 +198,12 @@ fn serve_line<D: Disk, W: Write>(
     nows: &mut String,
     out: &mut W,
 ) -> Result<bool, Reason>
-    ensures { MatchResult result
-        (λ _. TalksOn setting.watch D.now D.past D.honest
-        engine.old (W.contents out.old) engine.new (W.contents out.new))
-        (λ _. TalkEnds setting.watch D.now D.past D.honest
-        engine.old (W.contents out.old) engine.new (W.contents out.new)) }
+    ensures { TalksWith D.Disk setting.watch
+        engine.old (outputs (W.contents out.old) (B.kept backups.old))
+        engine.new (outputs (W.contents out.new) (B.kept backups.new)) result }
 {
     match read_asked(alloc, line) {
-        Ok(Some(asked)) => serve_asked(alloc, engine, asked, setting, text, nows, out),
+        Ok(Some(asked)) => serve_asked(alloc, engine, backups, asked, setting, text, nows, out),
         Ok(None) => match explain_line(alloc, engine, number, line, text, out) {
             Ok(()) => Ok(true),
             Err(reason) => Err(reason),
@@ -248,20 +267,19 @@ fn serve_together<D: Disk, R: BufRead, W: Write>(
 }
 
 // Reads a line and serves it by itself. Returns 1, or 0 if the dialogue is at its end.
-fn serve_alone<D: Disk, R: BufRead, W: Write>(
+fn serve_alone<D: Disk, B: Backups, R: BufRead, W: Write>(
     alloc: Global,
     engine: &mut Engine<D>,
+    backups: &mut B,
     input: &mut R,
     number: u64,
     setting: Setting,
     drafts: &mut Drafts,
     out: &mut W,
 ) -> Result<u64, Reason>
-    ensures { MatchResult result
-        (λ _. TalksOn setting.watch D.now D.past D.honest
-        engine.old (W.contents out.old) engine.new (W.contents out.new))
-        (λ _. TalkEnds setting.watch D.now D.past D.honest
-        engine.old (W.contents out.old) engine.new (W.contents out.new)) }
+    ensures { TalksWith D.Disk setting.watch
+        engine.old (outputs (W.contents out.old) (B.kept backups.old))
+        engine.new (outputs (W.contents out.new) (B.kept backups.new)) result }
 {
     match next_line(input, &mut drafts.line) {
         Ok(true) => {}
@@ -272,6 +290,7 @@ fn serve_alone<D: Disk, R: BufRead, W: Write>(
     match serve_line(
         alloc,
         engine,
+        backups,
         number,
         setting,
         line,
@@ -285,51 +304,31 @@ fn serve_alone<D: Disk, R: BufRead, W: Write>(
     }
 }
 
-// Serves what is read next: lines that stand together, or one. Returns how many, or 0 if the dialogue is at its end.
-fn serve_next<D: Disk, R: BufRead, W: Write>(
-    alloc: Global,
-    engine: &mut Engine<D>,
-    input: &mut R,
-    number: u64,
-    setting: Setting,
-    drafts: &mut Drafts,
-    out: &mut W,
-) -> Result<u64, Reason>
-    ensures { MatchResult result
-        (λ _. TalksOn setting.watch D.now D.past D.honest
-        engine.old (W.contents out.old) engine.new (W.contents out.new))
-        (λ _. TalkEnds setting.watch D.now D.past D.honest
-        engine.old (W.contents out.old) engine.new (W.contents out.new)) }
-{
-    match serve_together(alloc, engine, input, setting, drafts, out) {
-        Ok(0) => serve_alone(alloc, engine, input, number, setting, drafts, out),
-        Ok(many) => Ok(many),
-        Err(reason) => Err(reason),
-    }
-}
-
 // Takes turns while nothing is there to be read and there is room for less than half of what the journal holds. Then
-// serves what is read next. Returns how many lines, or 0 if the dialogue is at its end.
-fn serve_rested<D: Disk, R: BufRead + Ear, W: Write>(
+// serves what is read next: lines that stand together, or one. Returns how many, or 0 if the dialogue is at its end.
+fn serve_rested<D: Disk, B: Backups, R: BufRead + Ear, W: Write>(
     alloc: Global,
     engine: &mut Engine<D>,
+    backups: &mut B,
     input: &mut R,
     number: u64,
     setting: Setting,
     drafts: &mut Drafts,
     out: &mut W,
 ) -> Result<u64, Reason>
-    ensures { MatchResult result
-        (λ _. TalksOn setting.watch D.now D.past D.honest
-        engine.old (W.contents out.old) engine.new (W.contents out.new))
-        (λ _. TalkEnds setting.watch D.now D.past D.honest
-        engine.old (W.contents out.old) engine.new (W.contents out.new)) }
+    ensures { TalksWith D.Disk setting.watch
+        engine.old (outputs (W.contents out.old) (B.kept backups.old))
+        engine.new (outputs (W.contents out.new) (B.kept backups.new)) result }
 {
     // All that was asked is answered by now, so nobody waits for these turns.
     if let Err(refusal) = turn_while_quiet(engine, input, half_of(setting.slots)) {
         return Err(Reason::Image(refusal, Damage::Unknown));
     }
-    serve_next(alloc, engine, input, number, setting, drafts, out)
+    match serve_together(alloc, engine, input, setting, drafts, out) {
+        Ok(0) => serve_alone(alloc, engine, backups, input, number, setting, drafts, out),
+        Ok(many) => Ok(many),
+        Err(reason) => Err(reason),
+    }
 }
 
 /// Serves a dialogue on an engine, until the input ends or `quit` is asked. Each line of the input is answered by one
@@ -352,40 +351,37 @@ fn serve_rested<D: Disk, R: BufRead + Ear, W: Write>(
 /// and is answered by it, in the order in which they came. A group then ends before a store or put of which it isn't
 /// known, before the group acts, whom it answers.
 ///
+/// A backup is kept of the memory after all commands before its line. Its answer is written once it is kept.
+///
 /// A refusal is an answer, except for `Device` and `Failed`, which say that a call of the disk failed. They end the
 /// dialogue, as do an input that can't be read, an output that can't be written, and want of memory. What was printed
 /// is then a prefix of the answers. Each command that was answered is in every file that a crash leaves. The commands
 /// of a group that wasn't answered are there all together or not at all.
-pub fn serve_lines<D: Disk, R: BufRead + Ear, W: Write>(
+pub fn serve_lines<D: Disk, B: Backups, R: BufRead + Ear, W: Write>(
     alloc: Global,
     engine: &mut Engine<D>,
+    backups: &mut B,
     input: &mut R,
     setting: Setting,
     out: &mut W,
 ) -> Result<(), Reason>
-    ensures { MatchResult result
-        (λ _. TalksOn setting.watch D.now D.past D.honest
-        engine.old (W.contents out.old) engine.new (W.contents out.new))
-        (λ _. TalkEnds setting.watch D.now D.past D.honest
-        engine.old (W.contents out.old) engine.new (W.contents out.new)) }
+    ensures { TalksWith D.Disk setting.watch
+        engine.old (outputs (W.contents out.old) (B.kept backups.old))
+        engine.new (outputs (W.contents out.new) (B.kept backups.new)) result }
 {
-    let mut drafts = Drafts {
-        line: Vec::new(alloc),
-        text: String::new(alloc),
-        nows: String::new(alloc),
-        standing: InBuffer {
-            asked: Vec::new(alloc),
-            ends: Vec::new(alloc),
-        },
-        group: Gathered {
-            parts: Vec::new(alloc),
-            nows: Vec::new(alloc),
-            members: ArrayVec::new(),
-        },
-    };
+    let mut drafts = no_drafts(alloc);
     let mut number: u64 = 1;
     for _served in 0..u64::MAX {
-        match serve_rested(alloc, engine, input, number, setting, &mut drafts, out) {
+        match serve_rested(
+            alloc,
+            engine,
+            backups,
+            input,
+            number,
+            setting,
+            &mut drafts,
+            out,
+        ) {
             Ok(0) => return Ok(()),
             Ok(many) => number = number.saturating_add(many),
             Err(reason) => return Err(reason),

@@ -173,7 +173,7 @@ fn add_help(out: &mut String) -> Result<(), AllocError>
     )?;
     out.push_str("E.N store A VALUE, E.N take A, E.N put A VALUE, ")?;
     out.push_str("collect E.N, entry E.N, confirm E UPTO, window E, cell A, block A, ")?;
-    out.push_str("stat, room, turn, count, about, help, quit\n")
+    out.push_str("stat, room, turn, count, about, backup NAME, help, quit\n")
 }
 
 // ---- all of them

@@ -1,14 +1,16 @@
 //! Does on an engine what is asked.
-ghost use Rattle.std.specs.Prelude.{◌≡◌, ◌≤◌, true, Some, None, MatchOption, MatchResult};
-ghost use Rattle.im_dialogue.specs.declared.asking.Asked.TheVariants.{Count, Quit, Room};
+ghost use Rattle.std.specs.Prelude.{◌≡◌, ◌≤◌, ◌++◌, true, Some, None, IfOk, MatchOption, MatchResult};
+ghost use Rattle.im_dialogue.specs.declared.asking.Asked.TheVariants.{Backup, Count, Quit, Room};
 ghost use Rattle.im_dialogue.specs.declared.asking.Asked.TheVariants.{Serve, Turn, Window};
 ghost use Rattle.im_dialogue.specs.declared.answers.Answer.TheVariants as answer;
 ghost use Rattle.im_dialogue.specs.declared.look.Look.{Look};
-ghost use Rattle.im_dialogue.specs.Talk.{GoesOn, Halts, Says, about_of, is_end};
+ghost use Rattle.im_dialogue.specs.Talk.{GoesOn, Halts, KeepsNone, Says, about_of, backup_by, is_end};
 
 use crate::about::About;
 use crate::answers::Answer;
 use crate::asking::Asked;
+use crate::backup_name::BackupName;
+use crate::backups::Backups;
 use im_checkpoint::TurnDone;
 use im_disk::Disk;
 use im_engine::Engine;
@@ -99,6 +101,7 @@ fn serve<D: Disk>(engine: &mut Engine<D>, command: Command) -> Result<Answer, Re
         (λ answer. Says D.now D.past D.honest engine.old engine.new (Some (Serve command)) answer)
         (λ _. Halts D.now D.past D.honest engine.old engine.new) }
     ensures honest { D.honest engine.new.disk → D.honest engine.old.disk }
+    ensures same { IfOk result (λ answer. KeepsNone answer) }
 {
     // A crash in this call leaves the memory with the command, or without it. It isn't answered yet.
     match engine.serve(&command) {
@@ -119,6 +122,7 @@ fn serve_with_room<D: Disk>(engine: &mut Engine<D>, command: Command) -> Result<
         (λ answer. Says D.now D.past D.honest engine.old engine.new (Some (Serve command)) answer)
         (λ _. Halts D.now D.past D.honest engine.old engine.new) }
     ensures honest { D.honest engine.new.disk → D.honest engine.old.disk }
+    ensures same { IfOk result (λ answer. KeepsNone answer) }
 {
     match make_room(engine, 1) {
         Ok(()) => serve(engine, command),
@@ -132,6 +136,7 @@ fn turn<D: Disk>(engine: &mut Engine<D>) -> Result<Answer, Refusal>
         (λ answer. Says D.now D.past D.honest engine.old engine.new (Some Turn) answer)
         (λ _. Halts D.now D.past D.honest engine.old engine.new) }
     ensures honest { D.honest engine.new.disk → D.honest engine.old.disk }
+    ensures same { IfOk result (λ answer. KeepsNone answer) }
 {
     match take_turn(engine) {
         Ok(done) => Ok(Answer::Turned(done)),
@@ -141,14 +146,16 @@ fn turn<D: Disk>(engine: &mut Engine<D>) -> Result<Answer, Refusal>
 
 // Returns an element's window, as an answer.
 fn window<D: Disk>(engine: &Engine<D>, element: u16) -> Answer
-    ensures { Says D.now D.past D.honest engine.now engine.now (Some (Window element)) result }
+    ensures answered { Says D.now D.past D.honest engine.now engine.now (Some (Window element)) result }
+    ensures same { KeepsNone result }
 {
     Answer::Window(element, engine.window(element))
 }
 
 // Returns how many commands were accepted, as an answer.
 fn count<D: Disk>(engine: &Engine<D>) -> Answer
-    ensures { Says D.now D.past D.honest engine.now engine.now (Some Count) result }
+    ensures answered { Says D.now D.past D.honest engine.now engine.now (Some Count) result }
+    ensures same { KeepsNone result }
 {
     Answer::Count(engine.count())
 }
@@ -176,6 +183,23 @@ fn about<D: Disk>(engine: &Engine<D>, slots: u32) -> Answer
     })
 }
 
+// Keeps a copy of the image, and returns the answer. `slots` is how many slots the journal has.
+fn keep<D: Disk, B: Backups>(
+    engine: &Engine<D>,
+    backups: &mut B,
+    slots: u32,
+    name: BackupName,
+) -> Answer
+    ensures answered { Says D.now D.past D.honest engine.now engine.now (Some (Backup name)) result }
+    ensures kept { B.kept backups.new ≡ backup_by engine.now.memory result ++ B.kept backups.old }
+{
+    let count = engine.count();
+    match backups.keep(engine.memory(), slots, count, name) {
+        Ok(()) => Answer::Backup(name, Ok(count)),
+        Err(fault) => Answer::Backup(name, Err(fault)),
+    }
+}
+
 /// Returns the answer to a line that isn't in the grammar: its number, and where it goes wrong.
 pub fn wrong<D: Disk>(engine: &Engine<D>, number: u64, fault: LineFault) -> Answer
     ensures answered { Says D.now D.past D.honest engine.now engine.now None result }
@@ -188,10 +212,14 @@ pub fn wrong<D: Disk>(engine: &Engine<D>, number: u64, fault: LineFault) -> Answ
 /// line that only looks is what the engine's memory shows then ([`crate::add_answer`]). Before a command, turns of a
 /// checkpoint are taken while there is no room for one. `slots` is how many slots the journal has.
 ///
+/// A backup is kept of the memory as it is, with the count of its commands. Each other line leaves the backups as they
+/// are.
+///
 /// Returns `Device` or `Failed` if a call of the disk failed. Then at most this command is in doubt, and what was said
 /// before stays. Any other refusal is an answer.
-pub fn answer<D: Disk>(
+pub fn answer<D: Disk, B: Backups>(
     engine: &mut Engine<D>,
+    backups: &mut B,
     slots: u32,
     asked: Asked,
 ) -> Result<Option<Answer>, Refusal>
@@ -201,6 +229,10 @@ pub fn answer<D: Disk>(
         (λ _. Halts D.now D.past D.honest engine.old engine.new) }
     ensures honest { D.honest engine.new.disk → D.honest engine.old.disk }
     ensures same { (look : Look) → asked ≡ Asked.Look look → engine.new ≡ engine.old }
+    ensures kept { let before = B.kept backups.old in MatchResult result
+        (λ given. MatchOption given (B.kept backups.new ≡ before)
+        (λ answer. B.kept backups.new ≡ backup_by engine.old.memory answer ++ before))
+        (λ _. B.kept backups.new ≡ before) }
 {
     match asked {
         Asked::Serve(command) => match serve_with_room(engine, command) {
@@ -216,6 +248,7 @@ pub fn answer<D: Disk>(
         Asked::Room => Ok(Some(room(engine))),
         Asked::Count => Ok(Some(count(engine))),
         Asked::About => Ok(Some(about(engine, slots))),
+        Asked::Backup(name) => Ok(Some(keep(engine, backups, slots, name))),
         Asked::Quit => Ok(None),
     }
 }

@@ -60,6 +60,7 @@ fn groups(asked: Option<Asked>) -> Option<Asked>
 {
     match asked {
         Some(Asked::Turn) => None,
+        Some(Asked::Backup(_)) => None,
         Some(Asked::Quit) => None,
         other => other,
     }

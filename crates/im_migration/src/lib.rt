@@ -22,5 +22,5 @@ pub use copying::{copy, length_for_copy};
 pub use follower::{Follower, Unfollowed};
 pub use misfits::Misfit;
 pub use moving::{length_for, migrate};
-pub use preparing::{Original, prepare, put_new};
+pub use preparing::{Original, prepare, put_memory, put_new};
 pub use resized::Resized;

@@ -4,9 +4,10 @@ ghost use Rattle.im_types.specs.declared.TheConstants.{LAST};
 ghost use Rattle.im_types.specs.declared.refusals.Refusal.TheVariants.{BadLimits, Device, NoMemory};
 ghost use Rattle.im_types.specs.Layout.{sizes_of};
 ghost use Rattle.im_image.specs.Headers.{seen};
+ghost use Rattle.im_image.specs.Reading.{HasSizes};
 ghost use Rattle.im_disk.specs.Since.{LeavesNow};
 ghost use Rattle.im_migration.specs.Migration.{IsLaidDown, IsNoPlace, LeavesBlankOrLaid, MayRefusePlace};
-ghost use Rattle.im_migration.specs.Migration.{UnwrittenOrDevice};
+ghost use Rattle.im_migration.specs.Migration.{LeavesLaid, PlaceFails, UnwrittenOrDevice, moved_header};
 ghost use Rattle.im_migration.specs.Resizing.{Fits, HasNoCopy, IsResized, sizes_asked};
 ghost use Rattle.im_migration.specs.Copying.{IsWhole};
 
@@ -138,5 +139,30 @@ pub fn put_new<N: Disk, F: Follower>(
     match put_image(&mut new, &source.header, &source.memory, follower) {
         Ok(()) => Ok(new),
         Err(refusal) => Err((refusal, new)),
+    }
+}
+
+/// Makes a new file an image of this memory, with its limits and its count, at generation 1 and with an empty journal.
+/// Each refusal gives the file back. What a crash leaves, and the refusals, are those of [`put_new`].
+pub fn put_memory<N: Disk, F: Follower>(
+    mut new: N,
+    original: &Original,
+    follower: &F,
+) -> Result<N, (Refusal, N)>
+    requires sizes { HasSizes (sizes_of original.now.limits) original.now.memory.now.contents }
+    requires last { original.now.count ≤ LAST }
+    ensures leaves { let h = moved_header (sizes_of original.now.limits) original.now.count in MatchResult result
+        (λ to. LeavesBlankOrLaid N.Disk new to h original.now.memory.now.contents)
+        (λ e. LeavesBlankOrLaid N.Disk new e.1 h original.now.memory.now.contents) }
+    ensures laid { let h = moved_header (sizes_of original.now.limits) original.now.count in IfOk result
+        (λ to. LeavesLaid N.Disk to h original.now.memory.now.contents) }
+    ensures refused { IfErr result (λ e. PlaceFails N.Disk new e.1 e.0 (sizes_of original.now.limits)) }
+    ensures unwritten { IfErr result (λ e. UnwrittenOrDevice N.Disk new e.1 e.0) }
+    ensures only { IfErr result (λ e. MayRefusePlace e.0) }
+{
+    let header = header_for(original.limits, original.count);
+    match put_image(&mut new, &header, original.memory, follower) {
+        Ok(()) => Ok(new),
+        Err(fault) => Err((fault, new)),
     }
 }

@@ -1,6 +1,8 @@
-use Rattle.std.proofs.Common.{rules, ◌≡◌, ◌∙◌, ap}
+use Rattle.std.proofs.Common.{rules, ◌≡◌, ◌∙◌, List, ap, subst, sym}
 use Rattle.std.specs.Prelude.{Some}
 use Rattle.im_engine.specs.State.{EngineState}
+use Rattle.im_dialogue.specs.Backups.{Backup}
+use Rattle.im_dialogue.specs.Talk.{TalkEnds, outputs}
 use Rattle.im_dialogue.specs.Watching.{told_by, told_with}
 use Rattle.im_dialogue.proofs.TalkLemmas.{halts_talk, talk_ends, talk_ends_here, talks_on}
 use Rattle.im_dialogue.proofs.WatchLemmas.{line_is}
@@ -8,7 +10,8 @@ use Rattle.im_dialogue.proofs.serving.serve_asked.Goals as goal
 
 pub returns-in-Err : goal.returns-in-Err
 returns-in-Err g c = λ line read.
-    talk_ends_here g.D.Disk.now g.D.Disk.past g.D.Disk.honest c.args.setting.watch c.args.engine.now (g.W.Write.contents c.args.out.now)
+    talk_ends_here g.D.Disk.now g.D.Disk.past g.D.Disk.honest c.args.setting.watch c.args.engine.now
+    (outputs (g.W.Write.contents c.args.out.now) (g.B.Backups.kept c.args.backups.now))
 
 pub returns-in-Ok : goal.returns-in-Ok
 returns-in-Ok g c = λ line read.
@@ -19,12 +22,14 @@ returns-in-Ok g c = λ line read.
     let told : c.told_with-told.result.now ≡ told_with answer (told_by watch old.memory (Some c.args.asked)) = search rules
     in
     talks_on g.D.Disk.now g.D.Disk.past g.D.Disk.honest watch old c.answer.new.engine
-    (g.W.Write.contents c.args.out.now) (g.W.Write.contents c.say.new.out) (Some c.args.asked) answer line said.0 _ read
+    (outputs (g.W.Write.contents c.args.out.now) (g.B.Backups.kept c.args.backups.now))
+    (outputs (g.W.Write.contents c.say.new.out) (g.B.Backups.kept c.answer.new.backups))
+    (Some c.args.asked) answer line said.0 _ read
     c.answer.ensures.honest (rw c.in-Ok-Some.field-0-is at c.in-Ok-Some.ensures.answered)
     (λ n a. line_is watch said.0 old.memory _ n c.args.asked answer c.told_with-told.result.now
     (λ look is. c.memory-in-Ok-Some.ensures
     ∙ ap (λ (e : EngineState _). e.memory) (c.answer.ensures.same look is))
-    told a) said.1
+    told a) said.1 (rw c.in-Ok-Some.field-0-is at c.in-Ok-Some.ensures.kept)
 
 pub returns-in-Err-say : goal.returns-in-Err-say
 returns-in-Err-say g c = λ line read.
@@ -35,14 +40,24 @@ returns-in-Err-say g c = λ line read.
     let told : c.told_with-told.result.now ≡ told_with answer (told_by watch old.memory (Some c.args.asked)) = search rules
     in
     talk_ends g.D.Disk.now g.D.Disk.past g.D.Disk.honest watch old c.answer.new.engine
-    (g.W.Write.contents c.args.out.now) (g.W.Write.contents c.say.new.out) (Some c.args.asked) answer line said.0 _ read
+    (outputs (g.W.Write.contents c.args.out.now) (g.B.Backups.kept c.args.backups.now))
+    (outputs (g.W.Write.contents c.say.new.out) (g.B.Backups.kept c.answer.new.backups))
+    (Some c.args.asked) answer line said.0 _ read
     c.answer.ensures.honest (rw c.in-Ok-Some.field-0-is at c.in-Ok-Some.ensures.answered)
     (λ n a. line_is watch said.0 old.memory _ n c.args.asked answer c.told_with-told.result.now
     (λ look is. c.memory-in-Ok-Some.ensures
     ∙ ap (λ (e : EngineState _). e.memory) (c.answer.ensures.same look is))
-    told a) said.1
+    told a) said.1 (rw c.in-Ok-Some.field-0-is at c.in-Ok-Some.ensures.kept)
 
 pub returns-in-Err-answer : goal.returns-in-Err-answer
 returns-in-Err-answer g c = λ line read.
-    halts_talk g.D.Disk.now g.D.Disk.past g.D.Disk.honest c.args.setting.watch c.args.engine.now c.answer.new.engine
-    (g.W.Write.contents c.args.out.now) c.answer.ensures.honest c.in-Err-answer.ensures.answered
+    let now = g.D.Disk.now in
+    let past = g.D.Disk.past in
+    let honest = g.D.Disk.honest in
+    let watch = c.args.setting.watch in
+    let text = g.W.Write.contents c.args.out.now in
+    let was = outputs text (g.B.Backups.kept c.args.backups.now) in
+    subst (λ (l : List Backup). TalkEnds watch now past honest c.args.engine.now was c.answer.new.engine
+    (outputs text l)) (sym c.in-Err-answer.ensures.kept)
+    (halts_talk now past honest watch c.args.engine.now c.answer.new.engine was c.answer.ensures.honest
+    c.in-Err-answer.ensures.answered)

@@ -1,9 +1,10 @@
-use Rattle.std.proofs.Common.{ap, refl}
+use Rattle.std.proofs.Common.{◌++◌, List, ap, refl, sym}
 use Rattle.std.specs.Prelude.{Some}
 use Rattle.im_dialogue.specs.declared.asking.Asked.TheVariants.{About, Look}
 use Rattle.im_dialogue.specs.declared.answers.Answer.{Answer}
 use Rattle.im_dialogue.specs.declared.answers.Answer.TheVariants.{Looked}
-use Rattle.im_dialogue.specs.Talk.{put_by}
+use Rattle.im_dialogue.specs.Backups.{Backup}
+use Rattle.im_dialogue.specs.Talk.{backup_by, put_by}
 use Rattle.im_dialogue.proofs.TalkLemmas.{quiet, says_as}
 use Rattle.im_dialogue.proofs.talk.answer.Goals as goal
 
@@ -21,10 +22,10 @@ returns-in-Look-clause-answered g c =
     (λ m. refl) (λ f. refl))
 
 pub returns-in-Window-clause-answered : goal.returns-in-Window-clause-answered
-returns-in-Window-clause-answered g c = says_as g.D.Disk.now g.D.Disk.past g.D.Disk.honest c.args.engine.now c.args.engine.now _ (Some c.args.asked) _ (ap Some c.in-Window.is) c.window.ensures
+returns-in-Window-clause-answered g c = says_as g.D.Disk.now g.D.Disk.past g.D.Disk.honest c.args.engine.now c.args.engine.now _ (Some c.args.asked) _ (ap Some c.in-Window.is) c.window.ensures.answered
 
 pub returns-in-Count-clause-answered : goal.returns-in-Count-clause-answered
-returns-in-Count-clause-answered g c = says_as g.D.Disk.now g.D.Disk.past g.D.Disk.honest c.args.engine.now c.args.engine.now _ (Some c.args.asked) _ (ap Some c.in-Count.is) c.count.ensures
+returns-in-Count-clause-answered g c = says_as g.D.Disk.now g.D.Disk.past g.D.Disk.honest c.args.engine.now c.args.engine.now _ (Some c.args.asked) _ (ap Some c.in-Count.is) c.count.ensures.answered
 
 pub returns-in-About-clause-answered : goal.returns-in-About-clause-answered
 returns-in-About-clause-answered g c =
@@ -33,3 +34,33 @@ returns-in-About-clause-answered g c =
     (quiet g.D.Disk.now g.D.Disk.past g.D.Disk.honest engine (Some About) c.about.result
     (λ m. ap (λ (a : Answer). put_by m a) c.about.ensures)
     (λ f. (c.args.slots, c.args.engine.now.room, c.about.ensures)))
+
+pub returns-in-Backup-clause-answered : goal.returns-in-Backup-clause-answered
+returns-in-Backup-clause-answered g c = says_as g.D.Disk.now g.D.Disk.past g.D.Disk.honest c.args.engine.now c.args.engine.now _ (Some c.args.asked) _ (ap Some c.in-Backup.is) c.keep.ensures.answered
+
+pub returns-in-Ok-clause-kept : goal.returns-in-Ok-clause-kept
+returns-in-Ok-clause-kept g c = let before = g.B.Backups.kept c.args.backups.now in
+    ap (λ (l : List Backup). l ++ before) (sym (c.in-Ok.ensures.same c.args.engine.now.memory))
+
+pub returns-in-Ok-turn-clause-kept : goal.returns-in-Ok-turn-clause-kept
+returns-in-Ok-turn-clause-kept g c = let before = g.B.Backups.kept c.args.backups.now in
+    ap (λ (l : List Backup). l ++ before) (sym (c.in-Ok-turn.ensures.same c.args.engine.now.memory))
+
+pub returns-in-Look-clause-kept : goal.returns-in-Look-clause-kept
+returns-in-Look-clause-kept g c = refl
+
+pub returns-in-Window-clause-kept : goal.returns-in-Window-clause-kept
+returns-in-Window-clause-kept g c = let before = g.B.Backups.kept c.args.backups.now in
+    ap (λ (l : List Backup). l ++ before) (sym (c.window.ensures.same c.args.engine.now.memory))
+
+pub returns-in-Room-clause-kept : goal.returns-in-Room-clause-kept
+returns-in-Room-clause-kept g c = let before = g.B.Backups.kept c.args.backups.now in
+    ap (λ (a : Answer). backup_by c.args.engine.now.memory a ++ before) (sym c.room.ensures.room)
+
+pub returns-in-Count-clause-kept : goal.returns-in-Count-clause-kept
+returns-in-Count-clause-kept g c = let before = g.B.Backups.kept c.args.backups.now in
+    ap (λ (l : List Backup). l ++ before) (sym (c.count.ensures.same c.args.engine.now.memory))
+
+pub returns-in-About-clause-kept : goal.returns-in-About-clause-kept
+returns-in-About-clause-kept g c = let before = g.B.Backups.kept c.args.backups.now in
+    ap (λ (a : Answer). backup_by c.args.engine.now.memory a ++ before) (sym c.about.ensures)

@@ -1,3 +1,4 @@
+use Rattle.std.proofs.Common.{refl}
 use Rattle.std.specs.Prelude.{Ok, Err}
 use Rattle.im_dialogue.proofs.TalkLemmas.{no_device, ok_no_device, serve_halts, serve_says}
 use Rattle.im_dialogue.proofs.talk.serve.Goals as goal
@@ -11,3 +12,9 @@ returns-then-ends-clause-answered g c = let e = c.serve.ensures in serve_halts g
 pub returns-else-ends-clause-answered : goal.returns-else-ends-clause-answered
 returns-else-ends-clause-answered g c = let e = c.serve.ensures in serve_says g.D.Disk.now g.D.Disk.past g.D.Disk.honest c.args.engine.now c.serve.new.self c.args.command c.serve.result (Err c.in-Err.refusal) e.answered e.honest e.leaves e.means c.in-Err.is
     (no_device c.in-Err.refusal c.ends.result c.ends.ensures c.if-ends.false c.serve.result c.in-Err.is)
+
+pub returns-in-Ok-clause-same : goal.returns-in-Ok-clause-same
+returns-in-Ok-clause-same g c = λ m. refl
+
+pub returns-else-ends-clause-same : goal.returns-else-ends-clause-same
+returns-else-ends-clause-same g c = λ m. refl

@@ -5,11 +5,12 @@ use Rattle.im_types.specs.Contents.{Contents}
 use Rattle.im_types.specs.Memory.{IsMemory}
 use Rattle.im_dialogue.proofs.GroupTalk.{done_by, group_cut, group_halts, group_on, none_of, worked}
 use Rattle.im_dialogue.proofs.PartLemmas.{some_text}
+use Rattle.im_dialogue.specs.Talk.{outputs}
 use Rattle.im_dialogue.proofs.TalkLemmas.{halts_talk}
 use Rattle.im_dialogue.proofs.together.serve_parts.Goals as goal
 
 pub returns-then-failed : goal.returns-then-failed
-returns-then-failed g c = λ watch group.
+returns-then-failed g c = λ watch group kept.
     let many = length c.serve_commands.new.served.items in
     let e = c.serve_commands.ensures in
     let engine = c.args.engine.now in
@@ -18,7 +19,7 @@ returns-then-failed g c = λ watch group.
     let same = length-take-le many members e.begins.within in
     let few : length (take many members) ≤ MAX_GROUP = omega (arith, same, all, e.begins.within) in
     halts_talk g.D.Disk.now g.D.Disk.past g.D.Disk.honest watch engine c.serve_commands.new.self
-    (g.W.Write.contents c.args.out.now) e.runs.honest
+    (outputs (g.W.Write.contents c.args.out.now) kept) e.runs.honest
     (group_halts g.D.Disk.now g.D.Disk.past g.D.Disk.honest engine c.serve_commands.new.self
     (take many members) few e.runs.honest e.runs.leaves e.runs.doubt)
 

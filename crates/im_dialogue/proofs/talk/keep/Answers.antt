@@ -1,0 +1,25 @@
+use Rattle.std.proofs.Common.{◌∙◌, ◌∷◌, ap, refl}
+use Rattle.std.specs.Prelude.{Err, Ok, Some}
+use Rattle.im_types.specs.Contents.{Contents}
+use Rattle.im_dialogue.specs.declared.asking.Asked.TheVariants as asks
+use Rattle.im_dialogue.specs.declared.answers.Answer.TheVariants as answer
+use Rattle.im_dialogue.specs.Backups.{Backup, bytes_of}
+use Rattle.im_dialogue.proofs.TalkLemmas.{quiet}
+use Rattle.im_dialogue.proofs.talk.keep.Goals as goal
+
+pub returns-in-Ok-clause-answered : goal.returns-in-Ok-clause-answered
+returns-in-Ok-clause-answered g c =
+    let engine = c.args.engine.now in
+    quiet g.D.Disk.now g.D.Disk.past g.D.Disk.honest engine (Some (asks.Backup c.args.name))
+    (answer.Backup c.args.name (Ok c.count-count.result)) (λ m. refl) (λ f. (Ok c.count-count.result, refl, c.count-count.ensures))
+
+pub returns-in-Ok-clause-kept : goal.returns-in-Ok-clause-kept
+returns-in-Ok-clause-kept g c =
+    let made : Contents → Backup = λ m. record { name = bytes_of c.args.name; memory = m; count = c.count-count.result } in
+    c.in-Ok.ensures.kept ∙ ap (λ (m : Contents). made m ∷ g.B.Backups.kept c.args.backups.now) c.memory.ensures
+
+pub returns-in-Err-clause-answered : goal.returns-in-Err-clause-answered
+returns-in-Err-clause-answered g c =
+    let engine = c.args.engine.now in
+    quiet g.D.Disk.now g.D.Disk.past g.D.Disk.honest engine (Some (asks.Backup c.args.name))
+    (answer.Backup c.args.name (Err c.in-Err.fault)) (λ m. refl) (λ f. (Err c.in-Err.fault, refl, tt))

@@ -1,0 +1,38 @@
+-- Backups: their names, and what of a memory is kept under a name. (Own.)
+use Rattle.std.specs.Prelude.{ℕ, ◌==◌, ◌&&◌, ◌||◌, Bool, nat_le, List, ◌++◌, length, min, take, drop}
+use Rattle.std.specs.Prelude.{replicate, Option, Some, None, if◌then◌else◌, slice_index_or}
+use Rattle.std.specs.Char.{is_ascii_digit, is_ascii_lowercase}
+use Rattle.std.specs.List.{list_all}
+use Rattle.im_types.specs.Contents.{Contents}
+use Rattle.im_dialogue.specs.declared.backup_name.BackupName.{BackupName}
+
+-- ---- names
+
+-- a to z, 0 to 9, - or .
+abbrev pub is_backup_byte : ℕ → Bool
+is_backup_byte byte = is_ascii_lowercase byte || (is_ascii_digit byte || (byte == 45 || byte == 46))
+
+-- 1 to 64 of them, the first one a letter
+abbrev pub is_backup_name : List ℕ → Bool
+is_backup_name word = is_ascii_lowercase (slice_index_or word 0 0)
+    && (nat_le (length word) 64 && list_all is_backup_byte word)
+
+-- the name that these characters are, with zeros behind them
+abbrev pub backup_named : List ℕ → BackupName
+backup_named word = record { bytes = word ++ drop (length word) (replicate 64 0); length = length word }
+
+-- the name that a word is, if it is one
+abbrev pub backup_name_of : List ℕ → Option BackupName
+backup_name_of word = if is_backup_name word then Some (backup_named word) else None
+
+-- the characters of a name
+abbrev pub bytes_of : BackupName → List ℕ
+bytes_of name = take (min name.length 64) name.bytes
+
+-- ---- what is kept
+
+-- a file that is kept under a name: the memory that it means, and the count of that memory's commands
+pub record Backup : Type 0 where
+  pub name : List ℕ
+  pub memory : Contents
+  pub count : ℕ
