@@ -1,3 +1,5 @@
+pub mod DoingLemmas
+pub mod OrdersLemmas
 pub mod RestLemmas
 pub mod RunningLemmas
 pub mod TracingLemmas

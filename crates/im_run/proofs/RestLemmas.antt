@@ -1,6 +1,7 @@
 -- A script that is run once: what is known at its end. (Own.)
-use Rattle.std.proofs.Common.{◌≡◌, ◌∙◌, inl, inr, ⊎_elim, ℕ, List, [], ◌++◌, refl, sym, ap, subst}
+use Rattle.std.proofs.Common.{◌≡◌, ◌∙◌, inl, inr, ⊎_elim, ℕ, true, List, [], ◌++◌, refl, sym, ap, subst}
 use Rattle.std.specs.Prelude.{◌⊎◌, Option}
+use Rattle.std.specs.Io.KnownBytes.{Appends}
 use Rattle.im_disk.specs.declared.disk.Disk.{Ghosts}
 use Rattle.im_disk.specs.Moment.{Left}
 use Rattle.im_disk.specs.Since.{Leaves, LeavesNow}
@@ -9,10 +10,10 @@ use Rattle.im_engine.specs.State.{EngineState, MeansState}
 use Rattle.im_text.specs.declared.replies.Waited.{Waited}
 use Rattle.im_text.specs.Printing.{Begins, IsLast, Prints}
 use Rattle.im_text.proofs.PrintingLemmas.{prints_none}
-use Rattle.im_serial.specs.Asked.{Wanted}
+use Rattle.im_serial.specs.Asked.{Wanted, wanted_of}
 use Rattle.im_serial.specs.Fitting.{FitsScript}
 use Rattle.im_serial.specs.Had.{numbers_had}
-use Rattle.im_serial.specs.Once.{Breaks, HasServedNothing, HasShown, IsPrefix, lines_had}
+use Rattle.im_serial.specs.Once.{Breaks, HasMade, HasServedNothing, HasShown, IsPrefix, lines_had}
 use Rattle.im_serial.specs.Serving.{ScriptServer, at}
 use Rattle.im_serial.proofs.OnceLemmas.{met_start, shown_written}
 use Rattle.im_run.specs.Once.{IsRest, IsUnrun, NotRun, RanRest}
@@ -72,30 +73,32 @@ module _ {D : Type 0} (disk : Ghosts D) where
         }
 
         -- it ran
-        pub rest_by : FitsScript old.engine.memory script → (new : D) (is : Option (List ℕ)) (calls : TraceState)
-            (status : ℕ) → RunOn disk.now disk.past disk.failures mid.engine new mid.held is calls status
-            → IsRest disk script old.engine new old.held is calls status
-        rest_by fit new is calls status run = record {
-          fit = fit;
-          made = it.made;
+        pub rest_by : (text : List ℕ) → script ≡ wanted_of text → FitsScript old.engine.memory script → (new : D)
+            (is : Option (List ℕ)) (calls : TraceState) (status : ℕ)
+            → RunOn disk.now disk.past disk.failures true text mid.engine new mid.held is calls status
+            → IsRest disk text old.engine new old.held is calls status
+        rest_by text same fit new is calls status run = record {
+          fit = subst (FitsScript old.engine.memory) same fit;
+          made = subst (HasMade old.engine.memory) same it.made;
           mid = mid.held;
-          shown = shown_written disk script bases known old mid it fit ready;
-          run = subst (λ (e : EngineState D). RunOn disk.now disk.past disk.failures e new mid.held is calls status)
-              it.engine run;
+          shown = subst (λ (s : List Wanted). Appends old.held mid.held (lines_had old.engine.memory
+              (numbers_had old.engine.memory) s)) same (shown_written disk script bases known old mid it fit ready);
+          run = subst (λ (e : EngineState D). RunOn disk.now disk.past disk.failures true text e new mid.held is calls
+              status) it.engine run;
         }
 
   -- ---- on an image
 
   -- an opening leaves nothing new, and what it found was there
-  pub opened_rest : (script : List Wanted) (old : D) (start : EngineState D) (new : D) (was is : Option (List ℕ))
+  pub opened_rest : (text : List ℕ) (old : D) (start : EngineState D) (new : D) (was is : Option (List ℕ))
       (calls : TraceState) (status : ℕ)
       → Leaves (disk.now old) (disk.now start.disk) (disk.past old) (disk.past start.disk) (Left (disk.now old))
       → LeavesNow (disk.now start.disk) (MeansState start) → disk.failures start.disk ≡ disk.failures old
-      → IsUnrun script start new was is calls status ⊎ IsRest disk script start new was is calls status
-      → NotRun disk.now disk.past script old new was is calls status
-      ⊎ RanRest disk.now disk.past disk.failures script old new was is calls status
+      → IsUnrun (wanted_of text) start new was is calls status ⊎ IsRest disk text start new was is calls status
+      → NotRun disk.now disk.past (wanted_of text) old new was is calls status
+      ⊎ RanRest disk.now disk.past disk.failures text old new was is calls status
   unfolding ran_on
-  opened_rest script old start new was is calls status opened means same (inl unrun) = inl (record {
+  opened_rest text old start new was is calls status opened means same (inl unrun) = inl (record {
     start = start;
     found = (
       (disk.now start.disk).bytes,
@@ -108,9 +111,9 @@ module _ {D : Type 0} (disk : Ghosts D) where
     leaves = subst (λ (d : D). Leaves (disk.now old) (disk.now d) (disk.past old) (disk.past d) (Left (disk.now old)))
         (sym unrun.same) opened;
   })
-  opened_rest script old start new was is calls status opened means same (inr rest) = inr (record {
+  opened_rest text old start new was is calls status opened means same (inr rest) = inr (record {
     mid = rest.mid;
-    ran = ran_on disk old start new rest.mid is calls status opened means same rest.run;
+    ran = ran_on disk true text old start new rest.mid is calls status opened means same rest.run;
     fit = rest.fit;
     made = rest.made;
     shown = rest.shown;

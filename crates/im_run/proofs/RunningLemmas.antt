@@ -32,7 +32,10 @@ use Rattle.im_run.specs.Setup.{CanServe}
 use Rattle.im_run.specs.declared.run.TheConstants.{STALLED}
 use Rattle.im_run.specs.declared.served.Did.{Did}
 use Rattle.im_run.specs.Tracing.{TraceState}
-use Rattle.im_run.specs.Running.{BeginsFinals, Closes, EndedOn, PrintsFinals, Puts, Ran, RanOn, RunOn, ServedOn, Settles, final_line, finals}
+use Rattle.im_run.specs.Doing.{AreAllTold}
+use Rattle.im_run.specs.Orders.{Ask, AreOrders, script_heard, settled_when}
+use Rattle.im_run.specs.Running.{BeginsFinals, Closes, EndedOn, PrintsFinals, Puts, Ran, RanOn, RunOn, ServedOn}
+use Rattle.im_run.specs.Running.{Settles, final_line, finals}
 
 -- ---- what holds of a result
 
@@ -265,11 +268,11 @@ module _ {D : Type 0} (now : D → Moment) (past : D → List Moment) (failures 
       no_finals (suc many) few = absurd (omega arith)
 
   -- the setup was ended
-  pub halted_run : (start engine : EngineState D) (put : List Command) (text : List ℕ) (names : List Waiter) (was mid is : Option (List ℕ)) (lines : Lines) (did : List Did) (disk : D) (calls : TraceState) (status : ℕ) → HaltsWith now past failures start engine put text names
+  pub halted_run : (once : Bool) (script : List ℕ) (start engine : EngineState D) (put : List Command) (text : List ℕ) (names : List Waiter) (was mid is : Option (List ℕ)) (lines : Lines) (did : List Did) (disk : D) (calls : TraceState) (status : ℕ) → HaltsWith now past failures start engine put text names
       → Prints was mid lines text → did ≡ [] → disk ≡ engine.disk → ((status ≡ 0) ⊎ (status ≡ STALLED) → engine.failed ≡ false) → (engine.failed ≡ false → LeavesNow (now disk) (MeansState engine)) → (status ≡ 0 → ⊥)
       → Closes mid lines is engine.memory did status → calls.served ≡ []
-      → RunOn now past failures start disk was is calls status
-  halted_run start engine put text names was mid is lines did disk calls status it prints none at_end works means never
+      → RunOn now past failures once script start disk was is calls status
+  halted_run once script start engine put text names was mid is lines did disk calls status it prints none at_end works means never
       closes unserved =
       let on = put_on now past failures start engine put it.has in
       let whole = on.whole ∙ append-nil put in
@@ -290,14 +293,17 @@ module _ {D : Type 0} (now : D → Moment) (past : D → List Moment) (failures 
           whole = λ zero. absurd (never zero);
         };
         traced = record { legal = subst (IsLegal (after start.memory put)) (sym unserved) tt; accepted = inl unserved };
+        tells = inr (none, never);
       }
 
   -- the elements' servers ended
-  pub ended_run : (start mid : EngineState D) (setup : List Command) (text : List ℕ) (names : List Waiter) (was held is : Option (List ℕ)) (lines : Lines) (disk : D) (calls : TraceState) (status : ℕ) → GoesWith now past failures start mid setup text names
-      → Prints was held lines text → EndedOn now past failures mid disk held lines is calls.served status
-      → RunOn now past failures start disk was is calls status
+  pub ended_run : (once : Bool) (script bases : List ℕ) (orders : List Ask) (start mid : EngineState D) (setup : List Command) (text : List ℕ) (names : List Waiter) (was held is : Option (List ℕ)) (lines : Lines) (disk : D) (calls : TraceState) (status : ℕ) → GoesWith now past failures start mid setup text names
+      → Prints was held lines text → EndedOn now past failures orders mid disk held lines is calls.served status
+      → AreOrders once mid.memory (settled_when once start.memory) bases (script_heard script) orders
+      → RunOn now past failures once script start disk was is calls status
   unfolding puts_on
-  ended_run start mid setup text names was held is lines disk calls status it prints ended =
+  ended_run once script bases orders start mid setup text names was held is lines disk calls status it prints ended
+      of_script =
       let served = ended.served in
       let trace = calls.served in
       let begun = it.has.memory it.works in
@@ -326,14 +332,21 @@ module _ {D : Type 0} (now : D → Moment) (past : D → List Moment) (failures 
           legal = subst (λ (m : Contents). IsLegal m trace) begun served.legal;
           accepted = inr (ap (λ (m : Contents). setup ++ accepted_in m trace) begun);
         };
+        tells = inl (record {
+          bases = bases;
+          orders = orders;
+          of_script = subst (λ (m : Contents). AreOrders once m (settled_when once start.memory) bases
+              (script_heard script) orders) begun of_script;
+          all = subst (λ (m : Contents). AreAllTold m trace (status ≡ 0) orders ended.did) begun ended.told;
+        });
       }
 
 module _ {D : Type 0} (disk : Ghosts D) where
   -- an opening leaves nothing new, and what it found was there
-  unfoldable pub ran_on : (old : D) (start : EngineState D) (new : D) (was is : Option (List ℕ)) (calls : TraceState) (status : ℕ) → Leaves (disk.now old) (disk.now start.disk) (disk.past old) (disk.past start.disk) (Left (disk.now old)) → LeavesNow (disk.now start.disk) (MeansState start) → disk.failures start.disk ≡ disk.failures old
-      → RunOn disk.now disk.past disk.failures start new was is calls status
-      → RanOn disk.now disk.past disk.failures old new was is calls status
-  ran_on old start new was is calls status opened means same it =
+  unfoldable pub ran_on : (once : Bool) (script : List ℕ) (old : D) (start : EngineState D) (new : D) (was is : Option (List ℕ)) (calls : TraceState) (status : ℕ) → Leaves (disk.now old) (disk.now start.disk) (disk.past old) (disk.past start.disk) (Left (disk.now old)) → LeavesNow (disk.now start.disk) (MeansState start) → disk.failures start.disk ≡ disk.failures old
+      → RunOn disk.now disk.past disk.failures once script start new was is calls status
+      → RanOn disk.now disk.past disk.failures once script old new was is calls status
+  ran_on once script old start new was is calls status opened means same it =
       let file = (disk.now start.disk).bytes in
       let here = left_now (disk.now start.disk) in
       record {
@@ -354,16 +367,20 @@ module _ {D : Type 0} (disk : Ghosts D) where
         settles = it.settles;
         printed = it.printed;
         traced = it.traced;
+        tells = it.tells;
       }
 
   -- a run by what is known at its end
-  pub ran : (old new : D) (was is : Option (List ℕ)) (calls : TraceState) (status : ℕ) → (status ≡ 0) ⊎ (status ≡ STALLED) → NotOpened disk.now disk.past old new was is status ⊎ RanOn disk.now disk.past disk.failures old new was is calls status → Ran disk.now new was is status
-  ran old new was is calls status ends (inl none) = absurd (no_end status none.status_is ends)
+  pub ran : (once : Bool) (script : List ℕ) (old new : D) (was is : Option (List ℕ)) (calls : TraceState) (status : ℕ)
+      → (status ≡ 0) ⊎ (status ≡ STALLED) → NotOpened disk.now disk.past old new was is status
+      ⊎ RanOn disk.now disk.past disk.failures once script old new was is calls status
+      → Ran disk.now new was is status
+  ran once script old new was is calls status ends (inl none) = absurd (no_end status none.status_is ends)
     where
       no_end : (n : ℕ) → n ≡ 1 → (n ≡ 0) ⊎ (n ≡ STALLED) → ⊥
       no_end n is (inl none) = omega (arith, is, none)
       no_end n is (inr stalled) = omega (arith, is, stalled)
-  ran old new was is calls status ends (inr it) =
+  ran once script old new was is calls status ends (inr it) =
       let settled = it.settles ends in
       record {
         memory = after it.start.memory it.told;

@@ -1,4 +1,6 @@
+pub mod Doing
 pub mod Once
+pub mod Orders
 pub mod Running
 pub mod Setup
 pub mod Tracing

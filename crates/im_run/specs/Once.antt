@@ -1,5 +1,5 @@
 -- A script that is run once, whatever stopped it before. (Own.)
-use Rattle.std.specs.Prelude.{◌≡◌, ◌⊎◌, ℕ, List, [], ◌++◌, Option}
+use Rattle.std.specs.Prelude.{◌≡◌, ◌⊎◌, ℕ, true, List, [], ◌++◌, Option}
 use Rattle.std.specs.Io.KnownBytes.{Appends}
 use Rattle.im_disk.specs.declared.disk.Disk.{Ghosts}
 use Rattle.im_disk.specs.Moment.{Moment, Left}
@@ -32,20 +32,20 @@ pub record IsUnrun {D : Type 0} (script : List Wanted) (start : EngineState D) (
   pub unserved : calls ≡ record { setup = []; served = [] }
 
 -- The lines of what the memory has of the script were printed and written out; it fits the script, and each block of
--- the setup that it has was made. From then on it is a run.
-pub record IsRest {D : Type 0} (disk : Ghosts D) (script : List Wanted) (start : EngineState D) (new : D)
+-- the setup that it has was made. From then on it is a run of the rest.
+pub record IsRest {D : Type 0} (disk : Ghosts D) (text : List ℕ) (start : EngineState D) (new : D)
     (was is : Option (List ℕ)) (calls : TraceState) (status : ℕ) : Type 0 where
-  pub fit : FitsScript start.memory script
-  pub made : HasMade start.memory script
+  pub fit : FitsScript start.memory (wanted_of text)
+  pub made : HasMade start.memory (wanted_of text)
   pub mid : Option (List ℕ)
-  pub shown : Appends was mid (lines_had start.memory (numbers_had start.memory) script)
-  pub run : RunOn disk.now disk.past disk.failures start new mid is calls status
+  pub shown : Appends was mid (lines_had start.memory (numbers_had start.memory) (wanted_of text))
+  pub run : RunOn disk.now disk.past disk.failures true text start new mid is calls status
 
 -- the one or the other, of a disk that is honest at the end
-abbrev pub EndsOnce : {D : Type 0} → Ghosts D → List Wanted → EngineState D → D → Option (List ℕ) → Option (List ℕ)
+abbrev pub EndsOnce : {D : Type 0} → Ghosts D → List ℕ → EngineState D → D → Option (List ℕ) → Option (List ℕ)
     → TraceState → ℕ → Type 0
-EndsOnce disk script start new was is calls status = disk.honest new → disk.honest start.disk
-    × (IsUnrun script start new was is calls status ⊎ IsRest disk script start new was is calls status)
+EndsOnce disk text start new was is calls status = disk.honest new → disk.honest start.disk
+    × (IsUnrun (wanted_of text) start new was is calls status ⊎ IsRest disk text start new was is calls status)
 
 -- ---- on an image
 
@@ -58,15 +58,16 @@ pub record NotRun {D : Type 0} (now : D → Moment) (past : D → List Moment) (
   pub unrun : IsUnrun script start new was is calls status
   pub leaves : Leaves (now old) (now new) (past old) (past new) (Left (now old))
 
--- The image was opened, and what its memory had of the script was printed and written out. The rest was run, as a whole
--- script is; the lines of what was done come behind those.
-pub record RanRest {D : Type 0} (now : D → Moment) (past : D → List Moment) (failures : D → ℕ) (script : List Wanted)
+-- The image was opened, and what its memory had of the script was printed and written out. It fits the script: what is
+-- kept under the script's numbers is of its operations. The rest was run, as a whole script is, but for the requests
+-- before an element's first one that waits. The lines of what was done come behind those.
+pub record RanRest {D : Type 0} (now : D → Moment) (past : D → List Moment) (failures : D → ℕ) (text : List ℕ)
     (old new : D) (was is : Option (List ℕ)) (calls : TraceState) (status : ℕ) : Type 0 where
   pub mid : Option (List ℕ)
-  pub ran : RanOn now past failures old new mid is calls status
-  pub fit : FitsScript ran.start.memory script
-  pub made : HasMade ran.start.memory script
-  pub shown : Appends was mid (lines_had ran.start.memory (numbers_had ran.start.memory) script)
+  pub ran : RanOn now past failures true text old new mid is calls status
+  pub fit : FitsScript ran.start.memory (wanted_of text)
+  pub made : HasMade ran.start.memory (wanted_of text)
+  pub shown : Appends was mid (lines_had ran.start.memory (numbers_had ran.start.memory) (wanted_of text))
 
 -- A script was run once on the image of a disk that is honest at the end: the image was not opened, or it ended before
 -- the run, or the rest was run.
@@ -75,7 +76,7 @@ abbrev pub RunsOnceOn : {D : Type 0} → Ghosts D → List ℕ → D → D → O
 RunsOnceOn disk text old new was is calls status = disk.honest new → disk.honest old
     × (NotOpened disk.now disk.past old new was is status
     ⊎ (NotRun disk.now disk.past (wanted_of text) old new was is calls status
-    ⊎ RanRest disk.now disk.past disk.failures (wanted_of text) old new was is calls status))
+    ⊎ RanRest disk.now disk.past disk.failures text old new was is calls status))
 
 -- The same of some script, and of a disk that is at this moment, and has no moment before it.
 pub record RanOnceFrom {D : Type 0} (now : D → Moment) (past : D → List Moment) (failures : D → ℕ) (first : Moment)
@@ -85,4 +86,4 @@ pub record RanOnceFrom {D : Type 0} (now : D → Moment) (past : D → List Mome
   pub none : past old ≡ []
   pub text : List ℕ
   pub run : NotOpened now past old new was is status ⊎ (NotRun now past (wanted_of text) old new was is calls status
-      ⊎ RanRest now past failures (wanted_of text) old new was is calls status)
+      ⊎ RanRest now past failures text old new was is calls status)

@@ -3,6 +3,7 @@ use Rattle.std.specs.Prelude.{
   ◌≡◌,
   ◌⊎◌,
   ℕ,
+  Bool,
   ◌+◌,
   ◌<◌,
   ◌≤◌,
@@ -34,6 +35,7 @@ use Rattle.im_types.specs.declared.commands.Line.{Line}
 use Rattle.im_types.specs.Window.{ask}
 use Rattle.im_types.specs.Meaning.{Means, accept_each}
 use Rattle.im_types.specs.Run.{after}
+use Rattle.im_disk.specs.declared.disk.Disk.{Ghosts}
 use Rattle.im_disk.specs.Moment.{Moment, Left, Rises}
 use Rattle.im_disk.specs.Since.{Leaves, LeavesNow}
 use Rattle.im_engine.specs.State.{EngineState, MeansState}
@@ -50,6 +52,8 @@ use Rattle.im_run.specs.declared.sheet.Order.{Order}
 use Rattle.im_run.specs.declared.run.TheConstants.{STALLED}
 use Rattle.im_run.specs.declared.served.Did.{Did}
 use Rattle.im_run.specs.declared.served.Did.TheVariants.{Sent, Glanced}
+use Rattle.im_run.specs.Doing.{AreAllTold, HasToldScript}
+use Rattle.im_run.specs.Orders.{Ask}
 use Rattle.im_run.specs.Tracing.{IsTraced, TraceState}
 
 -- the reason that a call of the disk failed
@@ -121,16 +125,17 @@ pub record ServedOn {D : Type 0} (now : D → Moment) (past : D → List Moment)
   pub ends : end_of m trace ≡ engine.memory
   pub kept : HasKept now past failures b m (accepted_in m trace) engine
 
--- an engine's servers ended with this trace, the engine was closed, and this status was given
-pub record EndedOn {D : Type 0} (now : D → Moment) (past : D → List Moment) (failures : D → ℕ) (begun : EngineState D)
-    (disk : D) (was : Option (List ℕ)) (before : Lines) (is : Option (List ℕ)) (trace : List Line)
-    (status : ℕ) : Type 0 where
+-- an engine's servers of these orders ended with this trace, the engine was closed, and this status was given
+pub record EndedOn {D : Type 0} (now : D → Moment) (past : D → List Moment) (failures : D → ℕ) (orders : List Ask)
+    (begun : EngineState D) (disk : D) (was : Option (List ℕ)) (before : Lines) (is : Option (List ℕ))
+    (trace : List Line) (status : ℕ) : Type 0 where
   pub engine : EngineState D
   pub disk_is : disk ≡ engine.disk
   pub served : ServedOn now past failures (begun_in now past failures begun) begun.memory trace engine
   pub works : (status ≡ 0) ⊎ (status ≡ STALLED) → engine.failed ≡ false
   pub means : engine.failed ≡ false → LeavesNow (now disk) (MeansState engine)
   pub did : List Did
+  pub told : AreAllTold begun.memory trace (status ≡ 0) orders did
   pub printed : Closes was before is engine.memory did status
 
 -- Since the image was opened these commands were put on it: those of the setup, then those of the elements' servers.
@@ -166,9 +171,16 @@ pub record Says {D : Type 0} (now : D → Moment) (start : EngineState D) (new :
   pub whole : status ≡ 0
       → Appends was is (replies start.memory setup ++ finals (after start.memory told) did (length did))
 
--- An engine was closed, and this status was given, after a run on it with these calls.
-pub record RunOn {D : Type 0} (now : D → Moment) (past : D → List Moment) (failures : D → ℕ) (start : EngineState D)
-    (disk : D) (was is : Option (List ℕ)) (calls : TraceState) (status : ℕ) : Type 0 where
+-- This is told of a script. It is told of all that its parts ask for, if the status is 0. Nothing is told of it if its
+-- setup wasn't served, and then the status isn't 0.
+abbrev pub TellsScript : Bool → Contents → List ℕ → List Command → List Line → ℕ → List Did → Type 0
+TellsScript once start text setup trace status did = HasToldScript once start text setup trace (status ≡ 0) did
+    ⊎ ((did ≡ []) × (status ≡ 0 → ⊥))
+
+-- An engine was closed, and this status was given, after a run of a script on it with these calls.
+pub record RunOn {D : Type 0} (now : D → Moment) (past : D → List Moment) (failures : D → ℕ) (once : Bool)
+    (text : List ℕ) (start : EngineState D) (disk : D) (was is : Option (List ℕ)) (calls : TraceState)
+    (status : ℕ) : Type 0 where
   pub setup : List Command
   pub told : List Command
   pub doubt : List Command
@@ -176,10 +188,12 @@ pub record RunOn {D : Type 0} (now : D → Moment) (past : D → List Moment) (f
   pub settles : Settles now start disk told doubt status
   pub printed : Says now start disk setup told doubt was is status
   pub traced : IsTraced start.memory setup told calls
+  pub tells : TellsScript once start.memory text setup calls.served status printed.did
 
--- The image was opened, with the meaning of a file that a crash could leave then, and a script was run on it.
-pub record RanOn {D : Type 0} (now : D → Moment) (past : D → List Moment) (failures : D → ℕ) (old new : D)
-    (was is : Option (List ℕ)) (calls : TraceState) (status : ℕ) : Type 0 where
+-- The image was opened, with the meaning of a file that a crash could leave then, and a script was run on it, once or
+-- anew.
+pub record RanOn {D : Type 0} (now : D → Moment) (past : D → List Moment) (failures : D → ℕ) (once : Bool)
+    (text : List ℕ) (old new : D) (was is : Option (List ℕ)) (calls : TraceState) (status : ℕ) : Type 0 where
   pub start : EngineState D
   pub found : (file : List ℕ) × Left (now old) file × MeansState start file
   pub setup : List Command
@@ -189,14 +203,23 @@ pub record RanOn {D : Type 0} (now : D → Moment) (past : D → List Moment) (f
   pub settles : Settles now start new told doubt status
   pub printed : Says now start new setup told doubt was is status
   pub traced : IsTraced start.memory setup told calls
+  pub tells : TellsScript once start.memory text setup calls.served status printed.did
 
--- The same of a disk that is at this moment, and has no moment before it; or the image was not opened.
+-- A script was run on the image of a disk, or the image was not opened.
+abbrev pub RunsOn : {D : Type 0} → Ghosts D → List ℕ → D → D → Option (List ℕ) → Option (List ℕ) → TraceState → ℕ
+    → Type 0
+RunsOn disk text old new was is calls status = NotOpened disk.now disk.past old new was is status
+    ⊎ RanOn disk.now disk.past disk.failures false text old new was is calls status
+
+-- The same of some script, and of a disk that is at this moment, and has no moment before it; or the image was not
+-- opened.
 pub record RanFrom {D : Type 0} (now : D → Moment) (past : D → List Moment) (failures : D → ℕ) (first : Moment)
     (new : D) (was is : Option (List ℕ)) (calls : TraceState) (status : ℕ) : Type 0 where
   pub old : D
   pub begins : now old ≡ first
   pub none : past old ≡ []
-  pub run : NotOpened now past old new was is status ⊎ RanOn now past failures old new was is calls status
+  pub text : List ℕ
+  pub run : NotOpened now past old new was is status ⊎ RanOn now past failures false text old new was is calls status
 
 -- At the end each file that a crash may leave means one memory. If the status is 0, what was printed is the setup's
 -- lines, then the lines of what was done: of the requests that were sent, each with its final entry in that memory, and

@@ -3,9 +3,12 @@
 //! The crate stands on `im_serving`. The setup is served first, through the engine.
 #![tactic(auto)]
 
+mod deeds;
 mod noting;
+mod numbering;
 mod once;
 mod orders;
+mod parts;
 mod planned;
 mod run;
 mod served;

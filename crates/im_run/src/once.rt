@@ -1,7 +1,6 @@
 //! A script that is run once, whatever stopped it before.
 ghost use Rattle.std.specs.Prelude.{◌≡◌, ◌⊎◌, ◌≤◌, ◌++◌, ℕ, List, Option};
 ghost use Rattle.im_text.specs.Printing.{Begins, IsLast, Prints};
-ghost use Rattle.im_serial.specs.Asked.{wanted_of};
 ghost use Rattle.im_serial.specs.Once.{HasServedNothing};
 ghost use Rattle.im_serial.specs.Serving.{seen_by};
 ghost use Rattle.im_run.specs.Once.{EndsOnce, RunsOnceOn};
@@ -66,8 +65,8 @@ fn run_rest<
 ) -> (u8, D, Trace)
     requires ready { HasServedNothing D.Disk (seen_by server (W.contents out.old)) server.bases.items }
     ensures status { (result.0 ≤ 1) ⊎ (result.0 ≡ STALLED) }
-    ensures ends { EndsOnce D.Disk (wanted_of script.now) server.engine result.1 (W.contents out.old)
-        (W.contents out.new) result.2 result.0 }
+    ensures ends { EndsOnce D.Disk script.now server.engine result.1 (W.contents out.old) (W.contents out.new)
+        result.2 result.0 }
 {
     let mut server = server;
     match server.show_past(alloc, script, out) {
@@ -98,6 +97,9 @@ fn run_rest<
 ///
 /// Before anything is printed, the script is compared with what the image has of it, and refused if another script used
 /// the image, as [`serial_once_on`](im_serial::serial_once_on) says.
+///
+/// So at status 0 each request of a part was sent now, or is before its element's first one that waits: confirmed,
+/// or kept with its operation.
 ///
 /// All else is as [`run_on`](crate::run_on) says. Nothing more is confirmed at the end, so that one more call prints
 /// the last replies again.

@@ -1,9 +1,10 @@
 //! A script on the image of a disk, from opening to end.
-ghost use Rattle.std.specs.Prelude.{◌≡◌, ◌⊎◌, ◌≤◌, [], false, IsOk};
+ghost use Rattle.std.specs.Prelude.{◌≡◌, ◌⊎◌, ◌≤◌, [], None, false, map, IsOk};
 ghost use Rattle.im_disk.specs.Since.{LeavesNow};
 ghost use Rattle.im_engine.specs.State.{MeansState};
-ghost use Rattle.im_serial.specs.Serving.{NotOpened, at};
-ghost use Rattle.im_run.specs.Running.{Closes, EndedOn, Ran, RanOn, RunOn, disk_failed, told_as};
+ghost use Rattle.im_serial.specs.Serving.{at};
+ghost use Rattle.im_run.specs.Orders.{ask_of};
+ghost use Rattle.im_run.specs.Running.{Closes, EndedOn, Ran, RunOn, RunsOn, disk_failed, told_as};
 ghost use Rattle.im_run.specs.Setup.{CanServe};
 
 use crate::orders::read_orders;
@@ -43,7 +44,9 @@ fn trace_room(orders: &[Order], elements: u16) -> usize {
 }
 
 // Returns the refusal of the servers as a reason, if there is one.
-fn reason_of(refused: Option<(u16, Refusal)>) -> Result<(), Reason> {
+fn reason_of(refused: Option<(u16, Refusal)>) -> Result<(), Reason>
+    ensures none { IsOk result → refused ≡ None }
+{
     match refused {
         None => Ok(()),
         Some((element, refusal)) => Err(Reason::Request(element, refusal)),
@@ -192,8 +195,8 @@ fn serve_on<
 ) -> (u8, D, Vec<Traced>)
     ensures status { (result.0 ≤ 1) ⊎ (result.0 ≡ STALLED) }
     ensures ended { D.honest result.1 → engine.failed ≡ false
-        → EndedOn D.now D.past D.failures engine result.1 (W.contents out.old) paper.lines (W.contents out.new)
-        result.2.items result.0 }
+        → EndedOn D.now D.past D.failures (map ask_of orders.items) engine result.1 (W.contents out.old) paper.lines
+        (W.contents out.new) result.2.items result.0 }
     ensures honest { D.honest result.1 → D.honest engine.disk }
 {
     let none = Vec::new(alloc);
@@ -240,8 +243,8 @@ pub(crate) fn run_server<
     requires ready { CanServe D.Disk (at server.engine (W.contents out.old) server.lines server.waited.items) }
     ensures status { (result.0 ≤ 1) ⊎ (result.0 ≡ STALLED) }
     ensures run { D.honest result.1
-        → RunOn D.now D.past D.failures server.engine result.1 (W.contents out.old) (W.contents out.new)
-        result.2 result.0 }
+        → RunOn D.now D.past D.failures asked.entry.once asked.entry.script.now server.engine result.1
+        (W.contents out.old) (W.contents out.new) result.2 result.0 }
     ensures honest { D.honest result.1 → D.honest server.engine.disk }
 {
     let none = Vec::new(alloc);
@@ -304,6 +307,12 @@ pub(crate) fn run_server<
 /// in the order of the lock. What the servers were answered is legal from the memory after the setup, and the commands
 /// that were accepted are those that were put on the image behind the setup's.
 ///
+/// What the elements' lines tell is of the script: of each element, from the least, a prefix of what its lines ask for,
+/// in their order, and all of it if the status is 0. Its requests have the numbers from its next one on. A request's
+/// line with its number and its operation stands in the trace: its entry is the answer there, or what was found later
+/// under that number. What a glance tells was seen by its element's reader. No clause says which bases the names stand
+/// for.
+///
 /// If the status is 0 or 3, each file that a crash may leave at the return means one memory. If it is 0, all lines are
 /// written. The elements' lines tell the entries that this memory keeps, or what a server was told of an entry that it
 /// confirmed, and what was seen at glances.
@@ -329,8 +338,7 @@ pub fn run_on<
     ensures ran { D.honest result.1 → (result.0 ≡ 0) ⊎ (result.0 ≡ STALLED)
         → Ran D.now result.1 (W.contents out.old) (W.contents out.new) result.0 }
     ensures run { D.honest result.1
-        → NotOpened D.now D.past disk result.1 (W.contents out.old) (W.contents out.new) result.0
-        ⊎ RanOn D.now D.past D.failures disk result.1 (W.contents out.old) (W.contents out.new) result.2 result.0 }
+        → RunsOn D.Disk script.now disk result.1 (W.contents out.old) (W.contents out.new) result.2 result.0 }
     ensures honest { D.honest result.1 → D.honest disk }
 {
     let Ok(desk) = Desk::new(alloc) else {

@@ -1,15 +1,19 @@
 //! Serves all elements through one controller.
-ghost use Rattle.std.specs.Prelude.{◌≡◌, false};
+ghost use Rattle.std.specs.Prelude.{◌≡◌, ◌∷◌, [], ℕ, List, IfOk, IsOk, None, OnErr, false, map};
 ghost use Rattle.im_types.specs.Trace.{IsLegal, end_of};
 ghost use Rattle.im_types.specs.declared.commands.Line.{Line};
 ghost use Rattle.im_controller.specs.Kept.{begun_in};
+ghost use Rattle.im_run.specs.Doing.{AddsLines, AreAllNoted, AreAllTold, HaveSeen, NotesEnd, elements_at_end};
+ghost use Rattle.im_run.specs.Orders.{ask_of};
 ghost use Rattle.im_run.specs.Running.{ServedOn};
 
+use crate::deeds::told_at;
+use crate::parts::{Parts, first_refusal, make_parts};
 use crate::sheet::Order;
-use im_controller::{Controller, Finished, Name, Opening, Port, Traced, finish};
+use im_controller::{Finished, Name, Opening, Port, Traced, finish};
 use im_disk::Disk;
 use im_engine::Engine;
-use im_serving::{Done, Gate, Glanced, Glances, Part, Served, Watcher, serve_elements};
+use im_serving::{Done, Gate, Watcher, serve_elements};
 use im_text::Waited;
 use im_types::Refusal;
 use std::alloc::{AllocError, Global};
@@ -38,147 +42,153 @@ pub struct Outcome<D: Disk> {
     pub refused: Option<(u16, Refusal)>,
 }
 
-// What is noted while the elements' ports are made and come back.
+// What is noted while the elements' ports come back.
 #[derive(Drop)]
 struct Notes<K: Name> {
+    alloc: Global,
     ports: Vec<Port<K>>,
     did: Vec<Did>,
     refused: Option<(u16, Refusal)>,
 }
 
 impl<K: Name> Notes<K> {
-    // Starts with nothing noted.
-    fn new(alloc: Global) -> Notes<K> {
+    // Starts with nothing noted, but for a refusal.
+    fn new(alloc: Global, refused: Option<(u16, Refusal)>) -> Notes<K>
+        ensures did { result.did.items ≡ [] }
+        ensures refused { result.refused ≡ refused }
+    {
         Notes {
+            alloc,
             ports: Vec::new(alloc),
             did: Vec::new(alloc),
-            refused: None,
+            refused,
         }
     }
 
     // Notes an element's refusal. Elements come from the least.
-    fn refuse(&mut self, element: u16, refusal: Refusal) {
-        self.refused = match (self.refused, refusal) {
-            (None, _) => Some((element, refusal)),
-            (Some(earlier), Refusal::Stalled) => Some(earlier),
-            (Some((_, Refusal::Stalled)), _) => Some((element, refusal)),
-            (Some(earlier), _) => Some(earlier),
-        };
+    fn refuse(&mut self, element: u16, refusal: Refusal)
+        ensures refused { self.new.refused ≡ None → ⊥ }
+        ensures did { self.new.did.items ≡ self.old.did.items }
+        ensures ports { self.new.ports.items ≡ self.old.ports.items }
+    {
+        self.refused = first_refusal(self.refused, element, refusal);
     }
 
-    // Notes those of an element's glances that were made after at most `behind` requests, and returns the later ones.
-    fn add_glances<'a>(
-        &mut self,
-        element: u16,
-        made: &'a [Glanced],
-        behind: usize,
-    ) -> Result<&'a [Glanced], AllocError> {
-        let mut rest = made;
-        for _ in 0..made.len() {
-            let Some((glanced, later)) = rest.split_first() else {
-                return Ok(rest);
-            };
-            if glanced.behind > behind {
-                return Ok(rest);
-            }
-            self.did
-                .push(Did::Glanced(element, glanced.address, glanced.value))?;
-            rest = later;
+    // Keeps an element's port, and adds what is told of the element. If there is no room for it, nothing is told of it,
+    // and the element is refused.
+    fn add(&mut self, element: u16, port: Port<K>, told: Vec<Did>)
+        ensures ports { (trace : List Line) → HaveSeen trace self.new.ports.items
+            → HaveSeen trace self.old.ports.items }
+        ensures none { self.new.refused ≡ None → self.old.refused ≡ None }
+        ensures added { AddsLines port told.items self.new.ports.items self.old.did.items self.new.did.items
+            self.new.refused }
+    {
+        if self.ports.push(port).is_err() {
+            self.refuse(element, Refusal::NoMemory);
+            return;
         }
-        Ok(rest)
+        match self.did.extend_from_slice(told.as_slice()) {
+            Ok(()) => {}
+            Err(_) => self.refuse(element, Refusal::NoMemory),
+        }
     }
 
-    // Notes what was done for an element: its requests that were sent, and its glances in their place among them.
-    fn add(&mut self, served: &Served, made: &[Glanced]) -> Result<(), AllocError> {
-        let mut number = served.first;
-        let mut rest = made;
-        for (at, entry) in served.entries.iter().enumerate() {
-            rest = self.add_glances(served.element, rest, at)?;
-            self.did.push(Did::Sent(Waited {
-                element: served.element,
-                number,
-                entry: *entry,
-            }))?;
-            number = number.saturating_add(1);
+    // Notes how an element ended.
+    fn end(&mut self, element: u16, done: Result<(), Refusal>)
+        ensures did { self.new.did.items ≡ self.old.did.items }
+        ensures ports { self.new.ports.items ≡ self.old.ports.items }
+        ensures none { self.new.refused ≡ None → self.old.refused ≡ None }
+        ensures well { self.new.refused ≡ None → IsOk done }
+    {
+        match done {
+            Ok(()) => {}
+            Err(refusal) => self.refuse(element, refusal),
         }
-        let _none = self.add_glances(served.element, rest, served.entries.len())?;
-        Ok(())
     }
 
     // Notes what became of an element.
-    fn take(&mut self, done: Done<K>) {
+    fn take(&mut self, element: u16, done: Done<K>)
+        requires { element ≡ done.deeds.port.element }
+        ensures { NotesEnd done self.old.ports.items self.new.ports.items self.old.did.items self.new.did.items
+            self.old.refused self.new.refused }
+    {
         let Done {
             port,
             served,
             glances,
-            done,
+            done: ended,
         } = done;
-        let element = served.element;
-        if self.add(&served, glances.made.as_slice()).is_err() || self.ports.push(port).is_err() {
-            self.refuse(element, Refusal::NoMemory);
-        }
-        if let Err(refusal) = done {
-            self.refuse(element, refusal);
+        match told_at(self.alloc, element, &served, glances.made.as_slice()) {
+            Ok(told) => {
+                self.add(element, port, told);
+                self.end(element, ended);
+            }
+            Err(_) => {
+                self.refuse(element, Refusal::NoMemory);
+                self.end(element, ended);
+            }
         }
     }
 }
 
-// Makes a port for an element, which serves from its next number on, and its reader.
-fn make_part<D: Disk, K: Name, R: Wait>(
-    rt: &R,
-    alloc: Global,
-    controller: &Controller<D, K>,
-    order: Order,
-) -> Result<Part<K>, Refusal> {
-    let Order {
-        element,
-        base,
-        next,
-        intents,
-    } = order;
-    let glances = match Glances::new(rt, alloc, controller, element) {
-        Ok(glances) => glances,
-        Err(refusal) => return Err(refusal),
-    };
-    let port = match controller.port(rt, element) {
-        Ok(port) => port,
-        Err(refusal) => return Err(refusal),
-    };
-    Ok(Part {
-        port,
-        served: Served {
-            element,
-            first: next,
-            base,
-            entries: Vec::new(alloc),
-        },
-        glances,
-        intents,
-    })
+// Returns the first of these elements, and the others.
+fn next_element(elements: &[u16]) -> (u16, &[u16])
+    ensures { (first : ℕ) (others : List ℕ) → elements.now ≡ first ∷ others
+        → (result.0 ≡ first) × (result.1.now ≡ others) }
+{
+    match elements.split_first() {
+        Some((first, others)) => (*first, others),
+        None => (0, elements),
+    }
 }
 
-// Makes a port for each element that asks for something. An element is noted as refused if it doesn't exist or there is
-// no room for its part. No port is made for it, since others would wait for a port that nobody serves.
-fn make_parts<D: Disk, K: Name, R: Wait>(
-    rt: &R,
-    alloc: Global,
-    controller: &Controller<D, K>,
-    orders: Vec<Order>,
-    notes: &mut Notes<K>,
-) -> Vec<Part<K>> {
-    let mut parts = Vec::new(alloc);
-    for order in orders {
-        let element = order.element;
-        if parts.reserve(1).is_err() {
-            notes.refuse(element, Refusal::NoMemory);
-            continue;
-        }
-        match make_part(rt, alloc, controller, order) {
-            Ok(part) => parts.push_reserved(part),
-            Err(refusal) => notes.refuse(element, refusal),
-        }
+// Notes what became of each of these elements.
+fn note_ends<K: Name>(notes: Notes<K>, elements: &[u16], all: Vec<Done<K>>) -> Notes<K>
+    requires none { notes.did.items ≡ [] }
+    requires elements { elements_at_end all.items ≡ elements.now }
+    ensures none { result.refused ≡ None → notes.refused ≡ None }
+    ensures noted { (trace : List Line) → HaveSeen trace result.ports.items
+        → AreAllNoted trace (result.refused ≡ None) all.items result.did.items }
+{
+    let mut notes = notes;
+    let mut rest = elements;
+    for done in all {
+        let (element, later) = next_element(rest);
+        notes.take(element, done);
+        rest = later;
     }
-    parts
+    notes
+}
+
+// Notes that nothing was served, for want of memory.
+fn note_none<K: Name>(notes: Notes<K>) -> Notes<K>
+    requires { notes.did.items ≡ [] }
+    ensures none { result.refused ≡ None → ⊥ }
+    ensures did { result.did.items ≡ [] }
+{
+    let mut notes = notes;
+    notes.refuse(0, Refusal::NoMemory);
+    notes
+}
+
+// Notes what became of all elements, if they were served.
+fn note_all<K: Name>(
+    alloc: Global,
+    elements: Vec<u16>,
+    served: Result<Vec<Done<K>>, AllocError>,
+    unmade: Option<(u16, Refusal)>,
+) -> Notes<K>
+    requires { IfOk served (λ all. elements_at_end all.items ≡ elements.items) }
+    ensures some { IfOk served (λ all. (result.refused ≡ None → unmade ≡ None)
+        × ((trace : List Line) → HaveSeen trace result.ports.items
+        → AreAllNoted trace (result.refused ≡ None) all.items result.did.items)) }
+    ensures none { OnErr served ((result.refused ≡ None → ⊥) × (result.did.items ≡ [])) }
+{
+    let notes = Notes::new(alloc, unmade);
+    match served {
+        Ok(all) => note_ends(notes, elements.as_slice(), all),
+        Err(_) => note_none(notes),
+    }
 }
 
 /// Serves what each element asks for, all at once, through a controller over an engine, and gives the engine and the
@@ -186,6 +196,9 @@ fn make_parts<D: Disk, K: Name, R: Wait>(
 ///
 /// An element that doesn't exist is refused with `NoElement`, and one for which memory or a thread is missing with
 /// `NoMemory`. Nothing of it is served then. The requests of the others continue.
+///
+/// What is told is, for each order in its turn, a prefix of what it asks for, and all of it if nothing was refused.
+/// Each request has its own number. Its entry is its answer in the trace, or what was found later under that number.
 pub fn serve_orders<
     D: Disk + Drop + Send,
     K: Name + Send + Sync,
@@ -213,23 +226,23 @@ pub fn serve_orders<
     ensures kept { D.honest result.engine.disk → K.begun.failed ≡ false
         → ServedOn D.now D.past D.failures K.begun K.memory result.trace.items result.engine }
     ensures honest { D.honest result.engine.disk → K.honest }
+    ensures told { AreAllTold K.memory result.trace.items (result.refused ≡ None) (map ask_of orders.items)
+        result.did.items }
 {
     let controller = opening.named::<K>();
-    let mut notes = Notes::new(alloc);
-    let parts = make_parts(rt, alloc, &controller, orders, &mut notes);
-    match serve_elements(rt, alloc, &controller, gate, watcher, parts) {
-        Ok(all) => {
-            for done in all {
-                notes.take(done);
-            }
-        }
-        Err(_) => notes.refuse(0, Refusal::NoMemory),
-    }
+    let Parts {
+        parts,
+        elements,
+        refused: unmade,
+        ..
+    } = make_parts(rt, alloc, &controller, orders);
+    let served = serve_elements(rt, alloc, &controller, gate, watcher, parts);
     let Notes {
         ports,
         did,
         refused,
-    } = notes;
+        ..
+    } = note_all(alloc, elements, served, unmade);
     let Finished {
         engine,
         trace,

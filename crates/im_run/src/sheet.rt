@@ -1,12 +1,11 @@
 //! What is read of a script.
-ghost use Rattle.std.specs.Prelude.{◌≡◌};
 
+use crate::numbering::{no_orders, settled};
 use im_memory::Memory;
 use im_script::{Said, Script};
-use im_serial::{Past, first_open};
+use im_serial::Past;
 use im_serving::Intent;
-use im_text::Reason;
-use im_types::{Line, MAX_ELEMENTS};
+use im_types::Line;
 use std::alloc::{AllocError, Global};
 
 /// What an element asks for, in order.
@@ -40,22 +39,38 @@ pub struct Sheet {
     pub orders: Vec<Order>,
     /// The calls of the setup.
     pub setup: Vec<Line>,
-    // What is settled of the lines that weren't read yet, if the script is done once.
-    past: Option<Past>,
+    /// The base of each block of the setup that has a name so far.
+    pub bases: Vec<u32>,
+    /// What is settled of the lines that weren't read yet, if the script is done once.
+    pub past: Option<Past>,
 }
 
 impl Sheet {
-    /// Starts with nothing read.
-    pub fn new(alloc: Global, memory: &Memory, once: bool) -> Result<Sheet, AllocError> {
-        let past = if once {
-            Some(Past::settled(alloc, memory)?)
-        } else {
-            None
-        };
+    ghost use Rattle.std.specs.Prelude.{◌≡◌, ℕ, [], IfOk, false, true};
+    ghost use Rattle.im_serial.specs.Asked.{wanted_by};
+    ghost use Rattle.im_serial.specs.Had.{met_all, news};
+    ghost use Rattle.im_run.specs.Orders.{AreInTurn, intents_at, settled_by, settled_when};
+
+    /// Starts with nothing read. These bases are known already.
+    pub fn new(
+        alloc: Global,
+        memory: &Memory,
+        once: bool,
+        known: &[u32],
+    ) -> Result<Sheet, AllocError>
+        ensures settled { IfOk result (λ sheet. settled_by sheet.past ≡ settled_when once memory.now.contents) }
+        ensures places { IfOk result (λ sheet. AreInTurn 0 sheet.orders.items) }
+        ensures none { IfOk result (λ sheet. (element : ℕ) → intents_at sheet.orders.items element ≡ []) }
+    {
+        let past = settled(alloc, memory, once)?;
+        let orders = no_orders(alloc)?;
+        let mut bases = Vec::new(alloc);
+        bases.extend_from_slice(known)?;
         Ok(Sheet {
             alloc,
-            orders: no_orders(alloc)?,
+            orders,
             setup: Vec::new(alloc),
+            bases,
             past,
         })
     }
@@ -63,64 +78,15 @@ impl Sheet {
     /// Meets what a line says. Returns whether that is settled.
     pub fn has(&mut self, said: Said) -> bool
         ensures setup { self.new.setup ≡ self.old.setup }
-        ensures orders { self.new.orders ≡ self.old.orders }
+        ensures orders { self.new.orders.items ≡ self.old.orders.items }
+        ensures bases { self.new.bases.items ≡ self.old.bases.items }
+        ensures new { result ≡ false → news (settled_by self.old.past) (wanted_by said) ≡ wanted_by said }
+        ensures had { result ≡ true → news (settled_by self.old.past) (wanted_by said) ≡ [] }
+        ensures left { settled_by self.new.past ≡ met_all (settled_by self.old.past) (wanted_by said) }
     {
         match &mut self.past {
             Some(past) => past.has(said),
             None => false,
         }
     }
-}
-
-// Makes an order for each element that a script can name. It asks for nothing yet.
-fn no_orders(alloc: Global) -> Result<Vec<Order>, AllocError> {
-    let mut orders = Vec::with_capacity(alloc, MAX_ELEMENTS as usize)?;
-    for element in 0..MAX_ELEMENTS {
-        orders.push(Order {
-            element,
-            base: 0,
-            next: 0,
-            intents: Vec::new(alloc),
-        })?;
-    }
-    Ok(orders)
-}
-
-// Returns the least number of an element that is kept, and that of its first request to be sent: of its next one, or of
-// the first that waits if the script is done once. They are 0 for an element that doesn't exist.
-fn numbers_of(memory: &Memory, element: u16, once: bool) -> (u64, u64) {
-    let (base, next) = memory.window(element).unwrap_or((0, 0));
-    if once {
-        (base, first_open(memory, element))
-    } else {
-        (base, next)
-    }
-}
-
-/// Returns the orders that ask for something, with their elements' numbers.
-pub fn number_orders(
-    alloc: Global,
-    memory: &Memory,
-    orders: Vec<Order>,
-    once: bool,
-) -> Result<Vec<Order>, Reason> {
-    let Ok(mut numbered) = Vec::with_capacity(alloc, orders.len()) else {
-        return Err(Reason::Memory);
-    };
-    for order in orders {
-        if order.intents.is_empty() {
-            continue;
-        }
-        let (base, next) = numbers_of(memory, order.element, once);
-        let order = Order {
-            element: order.element,
-            base,
-            next,
-            intents: order.intents,
-        };
-        if numbered.push(order).is_err() {
-            return Err(Reason::Memory);
-        }
-    }
-    Ok(numbered)
 }

@@ -1,6 +1,5 @@
 use Rattle.std.proofs.Common.{inr, subst}
 use Rattle.im_engine.specs.State.{EngineState}
-use Rattle.im_serial.specs.Asked.{wanted_of}
 use Rattle.im_serial.proofs.OnceLemmas.{ready_of}
 use Rattle.im_run.specs.Once.{EndsOnce}
 use Rattle.im_run.proofs.RestLemmas.{opened_rest}
@@ -19,10 +18,10 @@ returns-in-Ok-open-clause-run g c = λ honest.
     let e = c.in-Ok-open.ensures in
     let n = c.new-server in
     let r = c.run_rest.result in
-    let it = subst (λ (x : EngineState g.row.D.Denot). EndsOnce g.D.Disk (wanted_of c.args.script.now) x r.1
+    let it = subst (λ (x : EngineState g.row.D.Denot). EndsOnce g.D.Disk c.args.script.now x r.1
     (g.W.Write.contents c.args.out.now) (g.W.Write.contents c.run_rest.new.out) r.2 r.0) n.ensures.engine
     c.run_rest.ensures.ends honest in (
       e.honest it.0,
-      inr (opened_rest g.D.Disk (wanted_of c.args.script.now) c.args.disk c.in-Ok-open.engine r.1 _ _ r.2 r.0
+      inr (opened_rest g.D.Disk c.args.script.now c.args.disk c.in-Ok-open.engine r.1 _ _ r.2 r.0
           (e.leaves it.0) (e.means it.0) e.faults it.1),
     )

@@ -1,4 +1,4 @@
-use Rattle.std.proofs.Common.{inr, subst}
+use Rattle.std.proofs.Common.{false, inr, subst}
 use Rattle.im_engine.specs.State.{EngineState}
 use Rattle.im_run.specs.Running.{RunOn}
 use Rattle.im_run.proofs.RunningLemmas.{ran, ran_on, ready_new}
@@ -19,10 +19,11 @@ returns-in-Ok-open-clause-run g c = λ honest.
     let same = c.new-server.ensures.engine in
     let was = subst (λ (x : EngineState g.row.D.Denot). d.honest x.disk) same (r.ensures.honest honest) in
     let e = c.in-Ok-open.ensures in
-    let run = subst (λ (x : EngineState g.row.D.Denot). RunOn d.now d.past d.failures x r.result.1
+    let run = subst (λ (x : EngineState g.row.D.Denot). RunOn d.now d.past d.failures false c.args.script.now x
+    r.result.1
     (g.W.Write.contents c.args.out.now) (g.W.Write.contents r.new.out) r.result.2 r.result.0) same
     (r.ensures.run honest) in
-    inr (ran_on d c.args.disk c.in-Ok-open.engine r.result.1 _ _ r.result.2 r.result.0
+    inr (ran_on d false c.args.script.now c.args.disk c.in-Ok-open.engine r.result.1 _ _ r.result.2 r.result.0
     (e.leaves was) (e.means was) e.faults run)
 
 pub returns-in-Ok-open-clause-ran : goal.returns-in-Ok-open-clause-ran
@@ -32,9 +33,10 @@ returns-in-Ok-open-clause-ran g c = λ honest is.
     let same = c.new-server.ensures.engine in
     let was = subst (λ (x : EngineState g.row.D.Denot). d.honest x.disk) same (r.ensures.honest honest) in
     let e = c.in-Ok-open.ensures in
-    let run = subst (λ (x : EngineState g.row.D.Denot). RunOn d.now d.past d.failures x r.result.1
+    let run = subst (λ (x : EngineState g.row.D.Denot). RunOn d.now d.past d.failures false c.args.script.now x
+    r.result.1
     (g.W.Write.contents c.args.out.now) (g.W.Write.contents r.new.out) r.result.2 r.result.0) same
     (r.ensures.run honest) in
-    ran d c.args.disk r.result.1 _ _ r.result.2 r.result.0 is
-    (inr (ran_on d c.args.disk c.in-Ok-open.engine r.result.1 _ _ r.result.2 r.result.0
+    ran d false c.args.script.now c.args.disk r.result.1 _ _ r.result.2 r.result.0 is
+    (inr (ran_on d false c.args.script.now c.args.disk c.in-Ok-open.engine r.result.1 _ _ r.result.2 r.result.0
     (e.leaves was) (e.means was) e.faults run))

@@ -1,8 +1,13 @@
-use Rattle.std.proofs.Common.{◌∙◌, ap, subst}
+use Rattle.std.proofs.Common.{◌≡◌, ◌∙◌, ap, map, subst, sym}
+use Rattle.std.specs.Prelude.{None}
 use Rattle.im_disk.specs.Since.{LeavesNow}
 use Rattle.im_engine.specs.State.{EngineState, MeansState}
 use Rattle.im_controller.specs.Kept.{begun_in}
+use Rattle.im_laws.proofs.Tests.{true_false}
+use Rattle.im_run.specs.Doing.{AreAllTold}
+use Rattle.im_run.specs.Orders.{ask_of}
 use Rattle.im_run.specs.Running.{ServedOn}
+use Rattle.im_run.proofs.DoingLemmas.{none_of_all, told_weaker}
 use Rattle.im_run.proofs.RunningLemmas.{none_served}
 use Rattle.im_run.proofs.run.serve_on.Goals as goal
 
@@ -13,6 +18,7 @@ returns-in-Ok-clause-ended g c = λ honest alive.
     let k = c.close-status in
     let same = c.in-Ok.ensures.found.0 in
     let works = ap (λ (e : EngineState g.row.D.Denot). e.failed) same ∙ alive in
+    let orders = map ask_of c.args.orders.items in
     record {
       engine = s.result.engine;
       disk_is = k.ensures.disk;
@@ -22,6 +28,10 @@ returns-in-Ok-clause-ended g c = λ honest alive.
       works = k.ensures.works;
       means = k.ensures.means honest;
       did = s.result.did.items;
+      told = told_weaker c.args.engine.memory s.result.trace.items (s.result.refused ≡ None) (k.result.0 ≡ 0) orders
+          s.result.did.items (λ zero. c.reason_of-reason.ensures.none (k.ensures.done zero))
+          (subst (λ (e : EngineState g.row.D.Denot). AreAllTold e.memory s.result.trace.items (s.result.refused ≡ None)
+          orders s.result.did.items) same s.ensures.told);
       printed = k.ensures.printed;
     }
 
@@ -44,5 +54,8 @@ returns-in-Err-clause-ended g c = λ honest alive.
       works = k.ensures.works;
       means = k.ensures.means honest;
       did = c.new-none.result.items;
+      told = none_of_all c.args.engine.memory c.new-trace.result.items (k.result.0 ≡ 0)
+          (map ask_of c.args.orders.items) c.new-none.result.items c.new-none.ensures.items
+          (λ zero. true_false (sym (k.ensures.done zero)));
       printed = k.ensures.printed;
     }

@@ -1,0 +1,58 @@
+use Rattle.std.proofs.Common.{◌≡◌, ◌∙◌, ℕ, List, ap, subst, sym}
+use Rattle.im_serving.specs.declared.glances.Glanced.{Glanced}
+use Rattle.im_serving.specs.Elements.{End}
+use Rattle.im_run.specs.Doing.{NotesEnd, told_among}
+use Rattle.im_run.proofs.DoingLemmas.{end_added, end_refused}
+use Rattle.im_run.proofs.served.Notes.take.Goals as goal
+
+pub returns-in-Ok : goal.returns-in-Ok
+returns-in-Ok g c =
+    let p = c.done.inside in
+    let d : End = record {
+      deeds = record {
+        port = p.port;
+        served = p.served;
+        last = p.glances.last;
+        seen = p.glances.glance;
+        made = p.glances.made.items;
+      };
+      result = p.done;
+    } in
+    let was = c.args.self.now in
+    let a = c.add.new.self in
+    let e = c.end in
+    let now = e.new.self in
+    let named : c.args.element ≡ p.port.element =
+    c.requires ∙ sym (ap (λ (x : End). x.deeds.port.element) c.done.view_is) in
+    let lines = c.in-Ok.ensures
+    ∙ ap (λ (n : ℕ). told_among n p.served.first 0 p.served.entries.items c.as_slice.result.now) named
+    ∙ ap (λ (l : List Glanced). told_among p.port.element p.served.first 0 p.served.entries.items l)
+    c.as_slice.ensures.value in
+    subst (λ (x : End). NotesEnd x was.ports.items now.ports.items was.did.items now.did.items was.refused now.refused)
+    c.done.view_is
+    (end_added d was.ports.items a.ports.items now.ports.items was.did.items a.did.items now.did.items
+    c.in-Ok.told.items was.refused a.refused now.refused c.add.ensures.ports c.add.ensures.none c.add.ensures.added
+    lines e.ensures.did e.ensures.ports e.ensures.none e.ensures.well)
+
+pub returns-in-Err : goal.returns-in-Err
+returns-in-Err g c =
+    let p = c.done.inside in
+    let d : End = record {
+      deeds = record {
+        port = p.port;
+        served = p.served;
+        last = p.glances.last;
+        seen = p.glances.glance;
+        made = p.glances.made.items;
+      };
+      result = p.done;
+    } in
+    let was = c.args.self.now in
+    let r = c.refuse in
+    let e = c.end-in-Err in
+    let now = e.new.self in
+    subst (λ (x : End). NotesEnd x was.ports.items now.ports.items was.did.items now.did.items was.refused now.refused)
+    c.done.view_is
+    (end_refused d was.ports.items now.ports.items was.did.items now.did.items was.refused r.new.self.refused
+    now.refused r.ensures.refused (e.ensures.did ∙ r.ensures.did) (e.ensures.ports ∙ r.ensures.ports) e.ensures.none
+    e.ensures.well)

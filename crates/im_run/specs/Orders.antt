@@ -1,0 +1,188 @@
+-- What each element asks for in a script. (Own.)
+use Rattle.std.specs.Prelude.{◌≡◌, ◌≤◌, ℕ, zero, suc, ◌==◌, ◌&&◌, Bool, true, not, List, [], ◌∷◌, ◌++◌, map, length}
+use Rattle.std.specs.Prelude.{Option, IsSome, slice_get, if◌then◌else◌}
+use Rattle.std.specs.Option.{option_map_or}
+use mathlib.Core.List.{IsPrefix}
+use Rattle.im_types.specs.Contents.{Contents}
+use Rattle.im_types.specs.Window.{next_number}
+use Rattle.im_script.specs.declared.places.Place.{Place}
+use Rattle.im_script.specs.declared.script.Heard.{Heard}
+use Rattle.im_script.specs.declared.script.Heard.TheVariants.{Says, Glances}
+use Rattle.im_script.specs.Places.{address_of, op_of}
+use Rattle.im_script.specs.Script.{Draft, heard, lines_of, new_draft}
+use Rattle.im_serial.specs.declared.past.Past.{Past}
+use Rattle.im_serial.specs.Asked.{Wanted, said_by, wanted_by}
+use Rattle.im_serial.specs.Had.{first_open, met_all, news, numbers_settled}
+use Rattle.im_serving.specs.declared.intent.Intent.{Intent}
+use Rattle.im_serving.specs.declared.intent.Intent.TheVariants.{Request, Glance}
+use Rattle.im_run.specs.declared.sheet.Order.{Order}
+
+-- ---- what a script says
+
+-- what these lines say, in their order, up to the first one that isn't in the grammar
+abbrev pub lines_heard : Draft → List (List ℕ) → List Heard
+lines_heard d [] = []
+lines_heard d (line ∷ lines) = option_map_or (λ r. r.1 ∷ lines_heard r.0 lines) (heard true d line) []
+
+-- what a script says
+abbrev pub script_heard : List ℕ → List Heard
+script_heard text = lines_heard new_draft (lines_of text)
+
+-- ---- what is settled of it
+
+-- how many requests of each element aren't asked for anew: those before its first one that waits, if the script is done
+-- once, and else none
+abbrev pub settled_when : Bool → Contents → List ℕ
+settled_when once m = if once then numbers_settled m else []
+
+-- the same, as it was counted
+abbrev pub settled_by : Option Past → List ℕ
+settled_by past = option_map_or (λ p. p.many.items) past []
+
+-- how many are left of them behind a line
+abbrev pub settled_past : List ℕ → Heard → List ℕ
+settled_past had h = met_all had (wanted_by (said_by h))
+
+-- the number of an element's first request: the first one that waits, if the script is done once, and else its next
+-- one; 0 if the memory has no such element
+abbrev pub first_asked : Bool → Contents → ℕ → ℕ
+first_asked once m element = if once
+    then option_map_or first_open (slice_get m.windows element) 0
+    else option_map_or next_number (slice_get m.windows element) 0
+
+-- ---- what it asks of an element
+
+-- what a request of a part asks for, if the names stand for these bases
+abbrev pub request_asked : List ℕ → Wanted → List Intent
+request_asked bases w = option_map_or (λ op. Request op ∷ []) (op_of bases w.action) []
+
+-- the same, of this element; the blocks of the setup are no part's
+abbrev pub asked_in_part : List ℕ → ℕ → Wanted → List Intent
+asked_in_part bases element w = if not w.named && (w.element == element) then request_asked bases w else []
+
+-- the same of several requests
+abbrev pub all_asked_in_part : List ℕ → ℕ → List Wanted → List Intent
+all_asked_in_part bases element [] = []
+all_asked_in_part bases element (w ∷ wanted) = asked_in_part bases element w ++ all_asked_in_part bases element wanted
+
+-- what a glance of an element asks of this one
+abbrev pub glance_of_part : List ℕ → ℕ → ℕ → Place → List Intent
+glance_of_part bases element glancer place =
+    if glancer == element then option_map_or (λ a. Glance a ∷ []) (address_of bases place) [] else []
+
+-- what a line asks of this element: a request that isn't settled, or a glance
+abbrev pub line_asks : List ℕ → List ℕ → ℕ → Heard → List Intent
+line_asks bases had element (Says said) = all_asked_in_part bases element (news had (wanted_by said))
+line_asks bases had element (Glances glancer place) = glance_of_part bases element glancer place
+
+-- What these lines ask of this element, in their order, if the names stand for these bases, and so many requests of
+-- each element are settled.
+abbrev pub part_of : List ℕ → List ℕ → ℕ → List Heard → List Intent
+part_of bases had element [] = []
+part_of bases had element (h ∷ lines) =
+    line_asks bases had element h ++ part_of bases (settled_past had h) element lines
+
+-- ---- that each place has an address
+
+-- each of these requests has an operation
+abbrev pub HaveOps : List ℕ → List Wanted → Type 0
+HaveOps bases [] = Unit {0}
+HaveOps bases (w ∷ wanted) = IsSome (op_of bases w.action) × HaveOps bases wanted
+
+-- so has what a line asks for, if it isn't settled
+abbrev pub IsPlaced : List ℕ → List ℕ → Heard → Type 0
+IsPlaced bases had (Says said) = HaveOps bases (news had (wanted_by said))
+IsPlaced bases had (Glances glancer place) = IsSome (address_of bases place)
+
+-- the same of each of these lines
+abbrev pub ArePlaced : List ℕ → List ℕ → List Heard → Type 0
+ArePlaced bases had [] = Unit {0}
+ArePlaced bases had (h ∷ lines) = IsPlaced bases had h × ArePlaced bases (settled_past had h) lines
+
+-- ---- orders
+
+-- an order as contracts see it: what an element asks for, and the number of its first request
+pub record Ask : Type 0 where
+  pub element : ℕ
+  pub first : ℕ
+  pub intents : List Intent
+
+-- the same of the program's
+abbrev pub ask_of : Order → Ask
+ask_of o = record { element = o.element; first = o.next; intents = o.intents.items }
+
+-- the order of this element, if it asks for something
+abbrev pub ask_if : List Intent → ℕ → ℕ → List Ask
+ask_if [] element first = []
+ask_if (intent ∷ intents) element first =
+    record { element = element; first = first; intents = intent ∷ intents } ∷ []
+
+-- the orders of so many elements from this one on that ask for something
+unfoldable pub asks_from : (ℕ → List Intent) → (ℕ → ℕ) → ℕ → ℕ → List Ask
+asks_from intents first element zero = []
+asks_from intents first element (suc many) =
+    ask_if (intents element) element (first element) ++ asks_from intents first (suc element) many
+
+-- These are the orders of a script: of each element, from the least, that asks for something in a part. Each place has
+-- an address.
+pub record AreOrders (once : Bool) (m : Contents) (had bases : List ℕ) (script : List Heard)
+    (orders : List Ask) : Type 0 where
+  pub many : ℕ
+  pub all : orders ≡ asks_from (λ k. part_of bases had k script) (first_asked once m) 0 many
+  pub none : (element : ℕ) → many ≤ element → part_of bases had element script ≡ []
+  pub placed : ArePlaced bases had script
+
+-- The setup of a script led from the one memory to the other. These are its orders then, for some bases of its names.
+abbrev pub HasOrders : Bool → Contents → Contents → List ℕ → List Order → Type 0
+HasOrders once old new text orders = (bases : List ℕ)
+    × AreOrders once new (settled_when once old) bases (script_heard text) (map ask_of orders)
+
+-- ---- while it is read
+
+-- the elements of these orders are this one and those behind it, in their order
+abbrev pub AreInTurn : ℕ → List Order → Type 0
+AreInTurn element [] = Unit {0}
+AreInTurn element (o ∷ orders) = (o.element ≡ element) × AreInTurn (suc element) orders
+
+-- what is asked for by the order at this place
+abbrev pub intents_at : List Order → ℕ → List Intent
+intents_at orders at = option_map_or (λ o. o.intents.items) (slice_get orders at) []
+
+-- the orders among these that ask for something, as contracts see them
+abbrev pub asks_among : (ℕ → ℕ) → List Order → List Ask
+asks_among first [] = []
+asks_among first (o ∷ orders) = ask_if o.intents.items o.element (first o.element) ++ asks_among first orders
+
+-- these intents were added to the order of each element, and nothing else changed
+pub record HasAdded (added : ℕ → List Intent) (old new : List Order) : Type 0 where
+  pub intents : (element : ℕ) → intents_at new element ≡ intents_at old element ++ added element
+  pub places : AreInTurn 0 old → AreInTurn 0 new
+  pub count : length new ≡ length old
+
+-- A request of a part was added to its element's order, with its operation; more names change nothing of that.
+abbrev pub AddsRequest : List ℕ → Wanted → List Order → List Order → Type 0
+AddsRequest bases w old new = (more : List ℕ) → IsSome (op_of (bases ++ more) w.action)
+    × HasAdded (λ element. asked_in_part (bases ++ more) element w) old new
+
+-- the same of a glance
+abbrev pub AddsGlance : List ℕ → ℕ → Place → List Order → List Order → Type 0
+AddsGlance bases glancer place old new = (more : List ℕ) → IsSome (address_of (bases ++ more) place)
+    × HasAdded (λ element. glance_of_part (bases ++ more) element glancer place) old new
+
+-- what a line asks for was added to the orders; it may have given names
+pub record HasHeard (had : List ℕ) (h : Heard) (before bases : List ℕ) (old new : List Order)
+    (left : List ℕ) : Type 0 where
+  pub longer : IsPrefix before bases
+  pub settled : left ≡ settled_past had h
+  pub adds : (more : List ℕ) → IsPlaced (bases ++ more) had h
+      × HasAdded (λ element. line_asks (bases ++ more) had element h) old new
+
+-- From these lines it comes to those: what all ask for was added to the orders, but for what the rest asks for.
+pub record HasReadTo (had : List ℕ) (all : List Heard) (old : List Order) (left : List ℕ) (rest : List Heard)
+    (bases : List ℕ) (new : List Order) : Type 0 where
+  pub intents : (more : List ℕ) (element : ℕ)
+      → intents_at new element ++ part_of (bases ++ more) left element rest
+      ≡ intents_at old element ++ part_of (bases ++ more) had element all
+  pub placed : (more : List ℕ) → ArePlaced (bases ++ more) left rest → ArePlaced (bases ++ more) had all
+  pub places : AreInTurn 0 old → AreInTurn 0 new
+  pub count : length new ≡ length old
