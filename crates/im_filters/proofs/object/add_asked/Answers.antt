@@ -1,0 +1,12 @@
+use Rattle.std.proofs.Common.{◌++◌, ◌∙◌, ap, append_assoc, codes, string_bytes}
+use Rattle.std.proofs.lemmas.Result.{on_ok_weaker}
+use Rattle.im_filters.specs.Objects.{number_members}
+use Rattle.im_filters.proofs.object.add_asked.Goals as goal
+
+pub returns : goal.returns
+returns c =
+    let start = string_bytes c.args.out.now in
+    let rest = number_members c.args.element.now c.args.number.now in
+    on_ok_weaker c.add_number.result (λ whole.
+    whole ∙ ap (λ xs. xs ++ rest) c.in_ok-add_text.ensures ∙ append_assoc start (codes "{\"element\":") rest)
+    c.add_number.ensures
