@@ -82,7 +82,7 @@ def filled(name, **values):
 def versions():
     """Yields each place that has the version, and what it says."""
     looks = {
-        "crates/im_program/src/words.rt": r'^const VERSION: &str = "([\d.]+),',
+        "crates/im_words/src/words.rt": r'^const VERSION: &str = "([\d.]+),',
         "packages/python/pyproject.toml": r'^version = "(.*)"',
         "packages/rust/luntrebis-sys/Cargo.toml": r'^version = "(.*)"',
         "packages/rust/luntrebis/Cargo.toml": r'^version = "(.*)"',

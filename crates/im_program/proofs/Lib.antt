@@ -2,4 +2,4 @@ pub mod Crosses
 pub mod Loads
 pub mod MovedLemmas
 pub mod RunLemmas
-pub mod SpanLemmas
+pub mod ToldLemmas

@@ -1,4 +1,4 @@
-pub mod Words
 pub mod Working
 pub mod Moving
 pub mod Loading
+pub mod Told

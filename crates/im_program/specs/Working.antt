@@ -7,7 +7,9 @@ use Rattle.im_image.specs.Fresh.{new_image}
 use Rattle.im_report.specs.Look.{ShowsView}
 use Rattle.im_serial.specs.Once.{ServedOnceFrom}
 use Rattle.im_serial.specs.Serving.{ServedFrom}
+use Rattle.im_dialogue.specs.Backups.{Backup}
 use Rattle.im_dialogue.specs.Dialogue.{TalkedFrom}
+use Rattle.im_dialogue.specs.Talk.{outputs}
 use Rattle.im_run.specs.Once.{RanOnceFrom}
 use Rattle.im_run.specs.Running.{RanFrom}
 use Rattle.im_run.specs.Tracing.{TraceState}
@@ -16,9 +18,9 @@ use Rattle.im_disk.specs.declared.start.Start.{Ghosts}
 use Rattle.im_dump.specs.Dumping.{Dumps}
 use Rattle.im_program.specs.Loading.{LoadedFrom}
 use Rattle.im_program.specs.Moving.{CopiedFrom, MigratedFrom}
-use Rattle.im_program.specs.declared.words.Way.{Way}
-use Rattle.im_program.specs.declared.words.Way.TheVariants.{Free, Planned, Once}
-use Rattle.im_program.specs.Words.{Task, demonstration, format, serial, run, serve, inspect, migrate, copy, dump, load}
+use Rattle.im_words.specs.declared.words.Way.{Way}
+use Rattle.im_words.specs.declared.words.Way.TheVariants.{Free, Planned, Once}
+use Rattle.im_words.specs.Words.{Task, demonstration, format, serial, run, serve, inspect, migrate, copy, dump, load}
 
 -- a script was served on this disk, once or anew
 abbrev pub ScriptServed : {D : Type 0} → Bool → (D → Moment) → (D → List Moment) → (D → ℕ) → Moment → D
@@ -52,8 +54,8 @@ DoneOn now past failures first (serial image script once) was is status disk =
     ScriptServed once now past failures first disk was is status
 DoneOn now past failures first (run image script way trace) was is status disk =
     (calls : TraceState) × ScriptRan (is_once way) now past failures first disk was is calls status
-DoneOn now past failures first (serve image watch) was is status disk =
-    TalkedFrom watch now past first disk was is status
+DoneOn now past failures first (serve image watch backups) was is status disk =
+    (kept : List Backup) × TalkedFrom watch now past first disk (outputs was []) (outputs is kept) status
 DoneOn now past failures first (inspect image look) was is status disk =
     (status ≡ 0 → ShowsView look first.bytes was is) × ReadsOnly first (now disk) [] (past disk)
 DoneOn now past failures first (migrate old new) was is status disk = Unit {0}
@@ -69,7 +71,7 @@ IsOfTwo demonstration = ⊥
 IsOfTwo (format image cells elements slots is_new) = ⊥
 IsOfTwo (serial image script once) = ⊥
 IsOfTwo (run image script way trace) = ⊥
-IsOfTwo (serve image watch) = ⊥
+IsOfTwo (serve image watch backups) = ⊥
 IsOfTwo (inspect image look) = ⊥
 IsOfTwo (migrate old new) = Unit {0}
 IsOfTwo (copy old new asked) = Unit {0}
@@ -83,7 +85,7 @@ module _ {S T : Type 0} (start : Ghosts S) (other : Ghosts T) where
   MovedBy (format image cells elements slots is_new) was is status old new = ⊥
   MovedBy (serial image script once) was is status old new = ⊥
   MovedBy (run image script way trace) was is status old new = ⊥
-  MovedBy (serve image watch) was is status old new = ⊥
+  MovedBy (serve image watch backups) was is status old new = ⊥
   MovedBy (inspect image look) was is status old new = ⊥
   MovedBy (migrate from to) was is status old new = MigratedFrom start other was is status old new
   MovedBy (copy from to asked) was is status old new = CopiedFrom start other asked was is status old new

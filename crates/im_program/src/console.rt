@@ -3,13 +3,13 @@
 use crate::descriptors::Descriptors;
 use crate::loading::{LoadFault, LoadObserver};
 use crate::opening::call_of;
-use crate::words::{Job, Work};
 use im_disk::Failure;
 use im_files::Noting;
 use im_migration::{Follower, Misfit};
 use im_serving::{Standing, Watcher};
 use im_text::{Observer, PathFault, Progress, Reason, Waited, Warning, make_now};
 use im_types::{Entry, Refusal};
+use im_words::{Job, Work};
 use std::alloc::Global;
 use std::fmt;
 use std::fmt::{Display, Formatter};

@@ -10,10 +10,12 @@ ghost use Rattle.im_image.specs.Fresh.{new_image};
 ghost use Rattle.im_report.specs.Look.{ShowsView};
 ghost use Rattle.im_text.specs.Printing.{Begins, IsLast};
 ghost use Rattle.im_dialogue.specs.Dialogue.{NotOpened, Talked, TalkedFrom};
+ghost use Rattle.im_dialogue.specs.Talk.{outputs};
 ghost use Rattle.im_run.specs.Tracing.{TraceState};
-ghost use Rattle.im_program.specs.Words.{copy, demonstration, migrate, task_of, task_of_job};
+ghost use Rattle.im_words.specs.Words.{copy, demonstration, migrate, task_of, task_of_job};
 ghost use Rattle.im_program.specs.Working.{DoneOn, HasMoved, IsOfTwo, ScriptRan, ScriptServed, is_once};
 
+use crate::backups::Folder;
 use crate::console::{Console, Watch};
 use crate::copying::{Copying, copy_file};
 use crate::descriptors::Descriptors;
@@ -23,9 +25,8 @@ use crate::moving::{Paths, migrate_file};
 use crate::opening::{format_reason, reason_of};
 use crate::overwriting::may_be_made;
 use crate::tracing::{keep_trace, make_file_if};
-use crate::words::{DEFAULT_CELLS, DEFAULT_ELEMENTS, DEFAULT_SLOTS, Job, Way, Work};
 use im_damage::Damage;
-use im_dialogue::dialogue_on;
+use im_dialogue::{Backups, dialogue_on};
 use im_disk::{Disk, FileDisk, MemDisk, Start};
 use im_engine::Engine;
 use im_files::{
@@ -41,6 +42,7 @@ use im_serial::{serial_on, serial_once_on};
 use im_serving::{Open, Watcher};
 use im_text::{Observer, PathFault, Reason, Warning, put_refusal};
 use im_types::{Limits, MAX_CELLS, MAX_ELEMENTS, Refusal};
+use im_words::{DEFAULT_CELLS, DEFAULT_ELEMENTS, DEFAULT_SLOTS, Job, Way, Work};
 use std::alloc::Global;
 use std::fs::File;
 use std::io::{BufRead, Eprint, ErrorKind, Read, Write};
@@ -367,12 +369,13 @@ pub fn run_file<
 ///
 /// Returns `Device`, with nothing printed, no line read and the image as it was, if the image can't be opened: it isn't
 /// a regular file, another opening has its lock, or a call of the system fails. The observer is told why. If
-/// [`dialogue_on`] refuses, its status and its last line say so.
+/// [`dialogue_on`] refuses, its status and its last line say so. Then no backup is kept.
 ///
 /// No clause says that an image is ever opened, because nothing is known about the contents of a folder.
 pub fn talk_file<
     R: Files<File = File> + AllocGlobal,
     S: Start,
+    B: Backups,
     I: BufRead + Ear,
     W: Write,
     N: Observer,
@@ -380,6 +383,7 @@ pub fn talk_file<
     rt: &R,
     _held: &Descriptors,
     image: &str,
+    backups: &mut B,
     input: &mut I,
     watch: bool,
     out: &mut W,
@@ -388,13 +392,14 @@ pub fn talk_file<
 ) -> Result<(u8, FileDisk<S>), Refusal>
     ensures status { IfOk result (λ r. r.0 ≤ 1) }
     ensures talked { IfOk result (λ r. ⟦<FileDisk<S> as Disk>⟧.honest r.1 →
-        TalkedFrom watch ⟦<FileDisk<S> as Disk>⟧.now ⟦<FileDisk<S> as Disk>⟧.past
-        S.first r.1 (W.contents out.old) (W.contents out.new) r.0) }
+        TalkedFrom watch ⟦<FileDisk<S> as Disk>⟧.now ⟦<FileDisk<S> as Disk>⟧.past S.first r.1
+        (outputs (W.contents out.old) (B.kept backups.old)) (outputs (W.contents out.new) (B.kept backups.new)) r.0) }
     ensures refused { IfErr result (λ refusal. refusal ≡ Device) }
     ensures same { OnErr result (Keeps (W.contents out.old) (W.contents out.new)) }
+    ensures kept { OnErr result (B.kept backups.new ≡ B.kept backups.old) }
 {
     match open_image(rt, image, start) {
-        Ok(disk) => Ok(dialogue_on(rt.alloc(), disk, input, watch, out, observer)),
+        Ok(disk) => Ok(dialogue_on(rt.alloc(), disk, backups, input, watch, out, observer)),
         Err(fault) => Err(refusal_of(rt, image, fault, observer)),
     }
 }
@@ -551,12 +556,27 @@ fn do_job<
             Ok((status, disk)) => Ok((status, Some(disk))),
             Err(refusal) => Err(refusal),
         },
-        Job::Serve { image, watch } => match talk_file(
-            rt, held, image, input, watch, out, observer, start,
-        ) {
-            Ok((status, disk)) => Ok((status, Some(disk))),
-            Err(refusal) => Err(refusal),
-        },
+        Job::Serve {
+            image,
+            watch,
+            backups,
+        } => {
+            let mut folder = Folder::new(rt, held, backups);
+            match talk_file(
+                rt,
+                held,
+                image,
+                &mut folder,
+                input,
+                watch,
+                out,
+                observer,
+                start,
+            ) {
+                Ok((status, disk)) => Ok((status, Some(disk))),
+                Err(refusal) => Err(refusal),
+            }
+        }
         Job::Inspect { image, look } => match inspect_file(
             rt, held, image, &look, out, observer, start,
         ) {

@@ -6,8 +6,8 @@ ghost use Rattle.std.specs.Prelude.{◌≡◌, ◌≤◌};
 use im_files::Waiting;
 use im_listening::Listener;
 use im_program::{
-    Console, Descriptors, Job, Order, Prompter, Terminals, WordFault, Work, act, read_words,
-    refuse, status_for,
+    AtHand, Console, Descriptors, Job, Order, Prompter, Terminals, WordFault, Work, act_told,
+    read_words, refuse, status_for,
 };
 use im_types::Refusal;
 use std::alloc::{AllocError, Global};
@@ -55,9 +55,9 @@ fn listen<R: Threads + Wait + Copy + Drop + Send + 'static, I: Read + Drop + Sen
     listener
 }
 
-/// Does the work. Each read of standard input takes as much as there is, so that lines of a dialogue that come together
-/// are served together. In a dialogue a thread listens to standard input, and a person at a terminal sees a prompt. If
-/// standard input doesn't block, the program waits for it.
+/// Does the work, and tells its lines as the order says. Each read of standard input takes as much as there is, so that
+/// lines of a dialogue that come together are served together. In a dialogue a thread listens to standard input, and a
+/// person at a terminal sees a prompt. If standard input doesn't block, the program waits for it.
 fn work_on<
     R: Files<File = File>
         + AllocGlobal
@@ -81,16 +81,13 @@ fn work_on<
     match BufReader::new(rt.alloc(), input) {
         Ok(mut input) => {
             let mut console = Console::new(rt, held, &order.work, terminals);
-            let (status, _disk, _old) = act(
-                rt,
+            let hand = AtHand {
                 held,
-                &order.work,
-                &mut input,
-                out,
-                &mut console,
-                Waiting::new(*rt, order.wait),
-                Waiting::new(*rt, order.wait),
-            );
+                input: &mut input,
+                console: &mut console,
+            };
+            let starts = (Waiting::new(*rt, order.wait), Waiting::new(*rt, order.wait));
+            let (status, _out, _disk, _old) = act_told(rt, hand, order, out, starts);
             status_for(status, order.statuses, console.reason())
         }
         Err(_) => refuse(rt.alloc(), Refusal::NoMemory, out),

@@ -30,5 +30,6 @@ returns-in-Ok-open_image-clause-ran g c = Î» honest. rw (sym c.is_once.ensures â
   old = c.in-Ok-open_image.disk;
   begins = c.in-Ok-open_image.ensures.now;
   none = c.in-Ok-open_image.ensures.past;
+  text = c.in-Ok-script_in.script;
   run = c.run_on-ended.ensures.run honest;
 })

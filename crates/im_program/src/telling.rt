@@ -1,0 +1,143 @@
+//! Does the work, and tells its lines as the command line asks.
+ghost use Rattle.std.specs.Prelude.{◌≡◌, ◌⊎◌, ◌≤◌, [], IfSome, IfNone, if◌then◌else◌};
+ghost use Rattle.im_program.specs.Told.{DoneTold, MovedTold};
+ghost use Rattle.im_words.specs.Words.{demonstration, task_of};
+ghost use Rattle.im_program.specs.Working.{IsOfTwo};
+
+use crate::console::Console;
+use crate::descriptors::Descriptors;
+use crate::work::{act, refuse};
+use im_disk::{Disk, FileDisk, Start};
+use im_filters::{Sieve, Sieving};
+use im_listening::Ear;
+use im_run::STALLED;
+use im_types::Refusal;
+use im_words::{Order, Work};
+use std::fs::File;
+use std::io::{BufRead, Eprint, Write};
+use std::marker::Brand;
+use std::rt::Files;
+use std::sync::Wait;
+use std::thread::Threads;
+
+/// What work has at hand beside the writer.
+#[derive(Drop)]
+pub struct AtHand<'a, 'b, R, I> {
+    /// The standard descriptors.
+    pub held: &'a Descriptors,
+    /// Standard input.
+    pub input: &'a mut I,
+    /// What a person is told through.
+    pub console: &'a mut Console<'b, R>,
+}
+
+// Returns the status, by whether all lines are written.
+fn status_told(is_written: bool, status: u8) -> u8
+    ensures { result ≡ (if is_written then status else 1) }
+{
+    if is_written { status } else { 1 }
+}
+
+// Does the work, and tells its lines through a sieve that has taken nothing.
+fn act_sieved<
+    K: Sieving,
+    R: Files<File = File> + AllocGlobal + Eprint + Threads + Wait + Sync,
+    S: Start + Send,
+    T: Start,
+    I: BufRead + Ear,
+    W: Write + Drop,
+>(
+    rt: &R,
+    hand: AtHand<'_, '_, R, I>,
+    work: &Work,
+    sieve: Sieve<W, K>,
+    starts: (S, T),
+) -> (u8, W, Option<FileDisk<S>>, Option<FileDisk<T>>)
+    requires { sieve ≡ [] }
+    ensures status { (result.0 ≤ 1) ⊎ (result.0 ≡ STALLED) }
+    ensures done { DoneTold ⟦<FileDisk<S> as Disk>⟧ S.first (task_of work.now) K.telling
+        K.start (W.contents result.1) result.0 result.2 }
+    ensures moved { MovedTold S.Start T.Start (task_of work.now) K.telling
+        K.start (W.contents result.1) result.0 result.3 result.2 }
+    ensures other { IfSome result.3 (λ _. IsOfTwo (task_of work.now)) }
+    ensures none { IfNone result.2 ((task_of work.now ≡ demonstration) ⊎ (result.0 ≡ 1)) }
+{
+    let AtHand {
+        held,
+        input,
+        console,
+    } = hand;
+    let (start, other) = starts;
+    let mut out = sieve;
+    let (status, disk, old) = act(rt, held, work, input, &mut out, console, start, other);
+    let (out, written) = out.leave();
+    (status_told(written.is_ok(), status), out, disk, old)
+}
+
+// Does the work, and tells its lines through a sieve of this name.
+fn act_with<
+    K: Sieving,
+    R: Files<File = File> + AllocGlobal + Eprint + Threads + Wait + Sync,
+    S: Start + Send,
+    T: Start,
+    I: BufRead + Ear,
+    W: Write + Drop,
+>(
+    rt: &R,
+    hand: AtHand<'_, '_, R, I>,
+    order: &Order,
+    out: W,
+    starts: (S, T),
+) -> (u8, W, Option<FileDisk<S>>, Option<FileDisk<T>>)
+    requires start { W.contents out ≡ K.start }
+    requires telling { order.now.telling ≡ K.telling }
+    ensures status { (result.0 ≤ 1) ⊎ (result.0 ≡ STALLED) }
+    ensures done { DoneTold ⟦<FileDisk<S> as Disk>⟧ S.first (task_of order.now.work) K.telling
+        K.start (W.contents result.1) result.0 result.2 }
+    ensures moved { MovedTold S.Start T.Start (task_of order.now.work) K.telling
+        K.start (W.contents result.1) result.0 result.3 result.2 }
+    ensures other { IfSome result.3 (λ _. IsOfTwo (task_of order.now.work)) }
+    ensures none { IfNone result.2 ((task_of order.now.work ≡ demonstration) ⊎ (result.0 ≡ 1)) }
+{
+    let made: Result<Sieve<W, K>, W> = Sieve::new(rt.alloc(), out, order.telling);
+    match made {
+        Ok(sieve) => act_sieved(rt, hand, &order.work, sieve, starts),
+        Err(mut out) => {
+            let status = refuse(rt.alloc(), Refusal::NoMemory, &mut out);
+            (status, out, None, None)
+        }
+    }
+}
+
+/// Does the work as [`act`] does, tells its lines on the writer as the order says, and gives the writer back. Returns
+/// the status, the writer, and the disks as [`act`] does.
+///
+/// What [`act`] ensures of a writer holds of the text that its lines make, from nothing on. The writer then holds a
+/// prefix of what is told of that text, behind what it held before. Unless the status is 1 it holds all of it. A line
+/// is told once it is whole, in batches of at most 4,096 bytes; what is told plainly is written at once.
+///
+/// The status is that of [`act`], or 1 if a write or a flush of the writer failed. If there isn't enough memory to tell
+/// anything, no work is done: the status is 1, and `refused 10 NoMemory` is printed as it is.
+pub fn act_told<
+    R: Files<File = File> + AllocGlobal + Eprint + Threads + Wait + Sync,
+    S: Start + Send,
+    T: Start,
+    I: BufRead + Ear,
+    W: Write + Drop,
+>(
+    rt: &R,
+    hand: AtHand<'_, '_, R, I>,
+    order: &Order,
+    out: W,
+    starts: (S, T),
+) -> (u8, W, Option<FileDisk<S>>, Option<FileDisk<T>>)
+    ensures status { (result.0 ≤ 1) ⊎ (result.0 ≡ STALLED) }
+    ensures done { DoneTold ⟦<FileDisk<S> as Disk>⟧ S.first (task_of order.now.work) order.now.telling
+        (W.contents out) (W.contents result.1) result.0 result.2 }
+    ensures moved { MovedTold S.Start T.Start (task_of order.now.work) order.now.telling
+        (W.contents out) (W.contents result.1) result.0 result.3 result.2 }
+    ensures other { IfSome result.3 (λ _. IsOfTwo (task_of order.now.work)) }
+    ensures none { IfNone result.2 ((task_of order.now.work ≡ demonstration) ⊎ (result.0 ≡ 1)) }
+{
+    act_with::<Brand, R, S, T, I, W>(rt, hand, order, out, starts)
+}
