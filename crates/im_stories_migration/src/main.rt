@@ -10,37 +10,129 @@
 //! new file 450560 of a5 = 450560 bytes    or of this byte
 //! new write 0 00 = 00                     puts bytes into it
 //! mark = marked                           keeps both files as they are now
-//! fuse old 2 stop = set                   the next migration's calls of a disk fail after 2: stop, once, scar:BYTE
+//! fuse old 2 stop = set                   a disk's calls fail after 2 when it is used next: stop, once, scar:BYTE
 //! migrate = migrated 3
-//! calls = 13 and 315                      of the old file, and of the new one
+//! calls = 13 and 315                      of the old file, and of the new one, when each was used last
 //! old as marked = yes                     no byte of it was changed
 //! new as marked = yes
 //! new crash kept = crashed                what a crash leaves of the new file: kept, lost, or a byte
 //! new open = count 3 room 256             the result of opening it
-//! tell old = 12 lines                     its report; told 3 has a line of it
+//! tell old = 12 lines                     its report; printed 3 has a line of it
 //! new means old = yes                     both reports are the same from their fifth line on
 //! in each stop kept = 314 refused 13 NoHeader, 1 count 3
 //! in each stop of old once = 13 refused 8 Device
 //! with 4096:a5 = refused 22 NotBlank      the result of migrating copies with this byte in the new file
 //! with old 0:00 = refused 13 NoHeader     or in the old one
 //! run imem migrate a.img b.img = 0        the program's work on files; printed 0 has its line
+//! told 0 = the script can't be read       why a migration or a copy was refused
 //! keep old a.img = 327680 bytes           makes a file of the old image; load new b.img takes one for the new
 //! ```
 #![tactic(auto)]
 
-mod desk;
-mod disks;
+mod files;
 mod moves;
+mod place;
 mod programs;
 mod stops;
+mod words;
 mod writers;
 
-use crate::desk::Desk;
-use anyhow::{Result, anyhow};
+use crate::moves::{are_same, move_on, tell_length, tell_with};
+use crate::place::Place;
+use crate::programs::load;
+use crate::writers::{Paper, Told};
+use anyhow::Result;
 use im_program::Descriptors;
-use im_story::Scene;
+use im_story::{Call, Layer, Saying, Scene, tell_of};
 use std::alloc::Global;
 use std::process::ExitCode;
+
+/// Two files, and what was last printed and told.
+struct Desk<'a> {
+    /// The folder's files, and standard output.
+    rt: &'a HostRuntime,
+    /// What occupies the numbers of the standard streams.
+    held: &'a Descriptors,
+    /// The old file.
+    old: Place,
+    /// The new file.
+    new: Place,
+    /// What was last printed.
+    out: Paper,
+    /// Why the last migration or copy was refused.
+    told: Told,
+}
+
+// By one call, wherever its owner may end.
+impl Drop for Desk<'_> {
+    fn drop(self) {
+        let Desk {
+            rt: _,
+            held: _,
+            old: _,
+            new: _,
+            out: _,
+            told: _,
+        } = self;
+    }
+}
+
+impl<'a> Desk<'a> {
+    // Starts with nothing.
+    fn new(rt: &'a HostRuntime, held: &'a Descriptors) -> Desk<'a> {
+        let alloc = rt.alloc();
+        Desk {
+            rt,
+            held,
+            old: Place::new(alloc),
+            new: Place::new(alloc),
+            out: Paper::new(alloc),
+            told: Told { reason: None },
+        }
+    }
+}
+
+// Tells the line at a place of what was printed, from 0.
+fn add_line(text: &str, at: usize, said: &mut Saying) {
+    match text.lines().nth(at) {
+        Some(line) => said.text(line),
+        None => said.fail("there is no such line"),
+    }
+}
+
+// Makes a call by its first word. It is one of the new file if one of its first two words is that.
+fn tell_by_word(desk: &mut Desk, call: &Call, said: &mut Saying) {
+    match call.word(0) {
+        "with" => tell_with(&desk.old, &desk.new, call, said),
+        "in" => stops::tell(&desk.old, &desk.new, call, said),
+        "run" => programs::run(desk, call, said),
+        "save" => programs::save(desk, call, said),
+        "file" => load(desk.rt, call.word(1), &mut Place::new(call.alloc()), said),
+        _ if call.word(0) == "new" || call.word(1) == "new" => programs::tell(
+            desk.rt,
+            &mut desk.new,
+            &mut desk.out,
+            call,
+            said,
+        ),
+        _ => programs::tell(desk.rt, &mut desk.old, &mut desk.out, call, said),
+    }
+}
+
+impl<'a> Layer for Desk<'a> {
+    fn make(&mut self, call: &Call, said: &mut Saying) {
+        match call.form() {
+            "printed _" => add_line(self.out.text(), call.place(0), said),
+            "told _" => self.told.tell(said),
+            "migrate" => move_on(&mut self.old, &mut self.new, said),
+            "calls" => write!(said, "{} and {}", self.old.calls, self.new.calls),
+            "mark" => said.so(self.old.mark() && self.new.mark(), "marked"),
+            "new means old" => said.either(are_same(&mut self.old, &mut self.new), "yes", "no"),
+            "length for old" => tell_length(&mut self.old, said),
+            _ => tell_by_word(self, call, said),
+        }
+    }
+}
 
 impl<'a> Scene for Desk<'a> {
     fn begin(&mut self) {
@@ -48,30 +140,14 @@ impl<'a> Scene for Desk<'a> {
     }
 
     fn tell(&mut self, alloc: Global, words: &[&str], said: &mut String) -> Result<()> {
-        if disks::tell(self, alloc, words, said)? || moves::tell(self, alloc, words, said)? {
-            return Ok(());
-        }
-        let is_call = stops::tell(self, alloc, words, said)? || programs::tell(self, words, said)?;
-        if !is_call {
-            return Err(anyhow!("no call"));
-        }
-        Ok(())
+        tell_of(self, alloc, words, said)
     }
-}
-
-// Holds the numbers of the standard streams, if that is possible.
-fn held(rt: &HostRuntime) -> Option<Descriptors> {
-    Descriptors::hold(rt, &rt.stdin(), &rt.stdout(), &rt.stderr())
-}
-
-fn walk(rt: &HostRuntime, held: &Descriptors) -> u8 {
-    let mut desk = Desk::new(rt, held);
-    im_story::walk_files(rt, &mut desk).unwrap_or(1)
 }
 
 fn main(rt: HostRuntime) -> ExitCode {
-    match held(&rt) {
-        Some(held) => ExitCode::from(walk(&rt, &held)),
-        None => ExitCode::from(1),
-    }
+    let status = match Descriptors::hold(&rt, &rt.stdin(), &rt.stdout(), &rt.stderr()) {
+        Some(held) => im_story::walk_files(&rt, &mut Desk::new(&rt, &held)).unwrap_or(1),
+        None => 1,
+    };
+    ExitCode::from(status)
 }

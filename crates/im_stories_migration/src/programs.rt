@@ -1,16 +1,17 @@
-//! The program's work on files.
+//! The program's work on files, and the folder's files.
 
-use crate::desk::Desk;
-use crate::disks::disk_of;
-use crate::writers::{Notes, Paper};
-use anyhow::{Result, anyhow};
-use im_disk::{MemDisk, Unknown};
-use im_migration::Asked;
+use crate::moves::report;
+use crate::place::Place;
+use crate::writers::{Paper, Told};
+use crate::{Desk, files};
+use im_disk::Unknown;
 use im_program::{
     Console, Copying, Job, Paths, Terminals, Work, act_alone, copy_file, migrate_file, read_words,
     refuse,
 };
+use im_story::{Call, Saying};
 use std::fs;
+use std::io::ErrorKind;
 
 // Nobody watches, and nobody is asked.
 const NOBODY: Terminals = Terminals {
@@ -19,115 +20,119 @@ const NOBODY: Terminals = Terminals {
     errors: false,
 };
 
-// Does the work of one thread.
-fn act_by_itself(desk: &Desk, job: &Job<'_>, out: &mut Paper) -> u8 {
+// Does the work of one thread. Returns the status.
+fn act_by_itself(desk: &mut Desk, job: &Job<'_>) -> u8 {
     let mut console = Console::new(desk.rt, desk.held, &Work::Alone(*job), NOBODY);
     let mut nothing = b"".as_slice();
-    let (status, _) = act_alone(
+    let (status, _disk) = act_alone(
         desk.rt,
         desk.held,
         job,
         &mut nothing,
-        out,
+        &mut desk.out,
         &mut console,
         Unknown,
     );
     status
 }
 
-// Copies an image.
-fn copy(desk: &Desk, paths: (&str, &str), asked: Asked, out: &mut Paper, notes: &mut Notes) -> u8 {
-    let copying = Copying {
-        held: desk.held,
-        old: paths.0,
-        new: paths.1,
-        asked,
-    };
-    match copy_file(desk.rt, &copying, out, notes, (Unknown, Unknown)) {
-        Ok((status, _, _)) => status,
-        Err(refusal) => refuse(desk.rt.alloc(), refusal, out),
-    }
-}
-
-// Does the work of a command line that takes one thread. Returns the status.
-fn act(desk: &mut Desk, words: &[&str]) -> Result<u8> {
-    let mut out = Paper::new(desk.rt.alloc());
-    let mut notes = Notes::new(desk.rt.alloc());
-    let Ok(order) = read_words(desk.rt.alloc(), words) else {
-        return Err(anyhow!("bad words"));
-    };
+// Does a work. Returns the status.
+fn act(desk: &mut Desk, work: &Work<'_>, said: &mut Saying) -> u8 {
     let held = desk.held;
-    let status = match order.work {
-        Work::Alone(job) => act_by_itself(desk, &job, &mut out),
+    let done = match *work {
+        Work::Alone(job) => return act_by_itself(desk, &job),
         Work::Migrate { old, new } => {
             let paths = Paths { held, old, new };
-            match migrate_file(desk.rt, &paths, &mut out, &mut notes, (Unknown, Unknown)) {
-                Ok((status, _, _)) => status,
-                Err(refusal) => refuse(desk.rt.alloc(), refusal, &mut out),
-            }
+            migrate_file(
+                desk.rt,
+                &paths,
+                &mut desk.out,
+                &mut desk.told,
+                (Unknown, Unknown),
+            )
         }
-        Work::Copy { old, new, asked } => copy(desk, (old, new), asked, &mut out, &mut notes),
-        Work::Run { .. } => return Err(anyhow!("the words ask for more than one thread")),
+        Work::Copy { old, new, asked } => {
+            let copying = Copying {
+                held,
+                old,
+                new,
+                asked,
+            };
+            copy_file(
+                desk.rt,
+                &copying,
+                &mut desk.out,
+                &mut desk.told,
+                (Unknown, Unknown),
+            )
+        }
+        Work::Run { .. } => {
+            said.fail("the words ask for more than one thread");
+            return 1;
+        }
     };
-    desk.printed = out.into_text()?;
-    desk.notes = notes.text;
-    Ok(status)
+    match done {
+        Ok((status, _, _)) => status,
+        Err(refusal) => refuse(desk.rt.alloc(), refusal, &mut desk.out),
+    }
 }
 
-// Makes a file of these lines. Each line is the words up to a slash.
-fn save(desk: &Desk, file: &str, words: &[&str], said: &mut String) -> Result<()> {
-    let mut text = Vec::new(desk.rt.alloc());
-    for word in words {
-        let (part, end) = if *word == "/" {
-            ("", "\n")
+/// Does the work of a command line. Tells the status.
+pub fn run(desk: &mut Desk, call: &Call, said: &mut Saying) {
+    let Ok(order) = read_words(call.alloc(), call.rest(1)) else {
+        return said.fail("bad words");
+    };
+    desk.out = Paper::new(call.alloc());
+    desk.told = Told { reason: None };
+    let status = act(desk, &order.work, said);
+    write!(said, "{status}")
+}
+
+/// Makes a file of these lines. Each line is the words up to a slash.
+pub fn save(desk: &Desk, call: &Call, said: &mut Saying) {
+    let mut text = Saying::new(call.alloc());
+    for word in call.rest(2) {
+        if *word == "/" {
+            text.text("\n");
         } else {
-            (*word, " ")
-        };
-        text.extend_from_slice(part.as_bytes())?;
-        text.extend_from_slice(end.as_bytes())?;
-    }
-    fs::write(desk.rt, file, text)?;
-    Ok(said.push_str("saved")?)
-}
-
-// Makes a file of a disk.
-fn keep(desk: &Desk, disk: &MemDisk, file: &str, said: &mut String) -> Result<()> {
-    let length = disk.bytes().len();
-    fs::write(desk.rt, file, disk.bytes())?;
-    Ok(write!(said, "{length} bytes")?)
-}
-
-// Returns the bytes of a file, as a disk.
-fn load(desk: &Desk, file: &str, said: &mut String) -> Result<MemDisk> {
-    let bytes = fs::read(desk.rt, file)?;
-    let length = bytes.len();
-    write!(said, "{length} bytes")?;
-    disk_of(desk.rt.alloc(), bytes.as_slice())
-}
-
-// Tells how long a file is, if it exists.
-fn length_of(desk: &Desk, file: &str, said: &mut String) -> Result<()> {
-    if fs::metadata(desk.rt, file).is_err() {
-        return Ok(said.push_str("none")?);
-    }
-    let length = fs::read(desk.rt, file)?.len();
-    Ok(write!(said, "{length} bytes")?)
-}
-
-/// Makes a call on files. Returns whether the words are one.
-pub fn tell(desk: &mut Desk, words: &[&str], said: &mut String) -> Result<bool> {
-    match words {
-        ["run", command @ ..] => {
-            let status = act(desk, command)?;
-            write!(said, "{status}")?;
+            text.text(word);
+            text.text(" ");
         }
-        ["save", file, text @ ..] => save(desk, file, text, said)?,
-        ["keep", "old", file] => keep(desk, desk.old()?, file, said)?,
-        ["keep", "new", file] => keep(desk, desk.new_file()?, file, said)?,
-        ["load", "old", file] => desk.old = Some(load(desk, file, said)?),
-        ["load", "new", file] => desk.new = Some(load(desk, file, said)?),
-        ["file", file] => length_of(desk, file, said)?,
-        _ => return Ok(false),
     }
-    Ok(true)
+    let is_saved = fs::write(desk.rt, call.word(1), text.said().as_bytes()).is_ok();
+    said.so(is_saved && !text.is_wrong(), "saved")
+}
+
+/// Makes a file in memory of a file of the folder. Tells its length, or that it doesn't exist.
+pub fn load(rt: &HostRuntime, name: &str, place: &mut Place, said: &mut Saying) {
+    match fs::read(rt, name) {
+        Ok(bytes) => {
+            said.so(place.lay(bytes.as_slice(), bytes.len()), "");
+            write!(said, "{} bytes", bytes.len())
+        }
+        Err(error) => said.so(error.kind() == ErrorKind::NotFound, "none"),
+    }
+}
+
+// Makes a file of the folder of a file in memory. Tells its length.
+fn keep(rt: &HostRuntime, name: &str, place: &Place, said: &mut Saying) {
+    let bytes = place.bytes();
+    said.so(fs::write(rt, name, bytes).is_ok(), "");
+    write!(said, "{} bytes", bytes.len())
+}
+
+// Prints the report of a file in memory. Tells how many lines it has.
+fn print(place: &mut Place, out: &mut Paper, said: &mut Saying) {
+    *out = report(place);
+    write!(said, "{} lines", out.text().lines().count())
+}
+
+/// Makes a call of a file in memory.
+pub fn tell(rt: &HostRuntime, place: &mut Place, out: &mut Paper, call: &Call, said: &mut Saying) {
+    match call.word(0) {
+        "tell" => print(place, out, said),
+        "keep" => keep(rt, call.word(2), place, said),
+        "load" => load(rt, call.word(2), place, said),
+        _ => files::tell(place, call, said),
+    }
 }

@@ -1,41 +1,10 @@
 //! Failures of either disk at each call of a migration, and what is found of the new file then.
 
-use crate::desk::{Desk, Fuse};
-use crate::disks::{crash, disk_of, mode};
-use crate::moves::{add_moved, add_opened, fused, is_same, move_on};
-use anyhow::{Result, anyhow};
-use im_disk::{Crash, MemDisk, Mode};
-use std::alloc::Global;
-
-// Results in a row, with how often each one came.
-#[derive(Drop)]
-struct Ends {
-    ends: Vec<(String, u64)>,
-}
-
-impl Ends {
-    fn add(&mut self, end: String) -> Result<()> {
-        for (known, times) in self.ends.iter_mut() {
-            if known.as_str() == end.as_str() {
-                *times = times.saturating_add(1);
-                return Ok(());
-            }
-        }
-        Ok(self.ends.push((end, 1))?)
-    }
-
-    fn add_to(&self, said: &mut String) -> Result<()> {
-        let mut is_first = true;
-        for (end, times) in self.ends.iter() {
-            if !is_first {
-                said.push_str(", ")?;
-            }
-            write!(said, "{times} {end}")?;
-            is_first = false;
-        }
-        Ok(())
-    }
-}
+use crate::moves::{are_same, move_on};
+use crate::place::Place;
+use crate::words::{crash, mode};
+use im_disk::{Crash, Mode};
+use im_story::{Call, Saying};
 
 // Which disk fails, how, and what the crash after it leaves.
 #[derive(Clone, Copy)]
@@ -45,154 +14,109 @@ struct Way {
     crash: Option<Crash>,
 }
 
-// The new file at the start: zeros, or other bytes.
+// The last result, and how often it came in a row.
 #[derive(Drop)]
-struct Blank {
-    alloc: Global,
-    bytes: Vec<u8>,
-    is_zero: bool,
+struct Ends {
+    last: Saying,
+    times: u64,
 }
 
-impl Blank {
-    fn of(alloc: Global, disk: &MemDisk) -> Result<Blank> {
-        let bytes = disk.bytes().to_vec(alloc)?;
-        let is_zero = bytes.iter().all(|byte| *byte == 0);
-        Ok(Blank {
-            alloc,
-            bytes,
-            is_zero,
-        })
-    }
-
-    fn disk(&self) -> Result<MemDisk> {
-        if self.is_zero {
-            return Ok(MemDisk::new(self.alloc, self.bytes.len())?);
+impl Ends {
+    // Tells the result.
+    fn tell(&self, said: &mut Saying) {
+        if self.times == 0 {
+            return;
         }
-        disk_of(self.alloc, self.bytes.as_slice())
+        if !said.is_empty() {
+            said.text(", ");
+        }
+        write!(said, "{} {}", self.times, self.last.said())
+    }
+
+    // Takes in a result. Tells the one before it, if that is another one.
+    fn add(&mut self, end: Saying, said: &mut Saying) {
+        said.so(!end.is_wrong(), "");
+        if end.said() != self.last.said() {
+            self.tell(said);
+            self.times = 0;
+        }
+        self.times = self.times.saturating_add(1);
+        self.last = end;
     }
 }
 
-// A migration that may have been cut short: its result, and both files.
-#[derive(Drop)]
-struct CutShort {
-    is_whole: bool,
-    end: String,
-    old: MemDisk,
-    new: MemDisk,
-}
-
-// Migrates an image while a disk fails after the given number of calls.
-fn cut_short(
-    alloc: Global,
-    old: MemDisk,
-    blank: &Blank,
-    passes: u64,
-    way: Way,
-) -> Result<CutShort> {
-    let fuse = Some(Fuse {
-        passes,
-        mode: way.mode,
-    });
-    let (of_old, of_new) = if way.is_old {
-        (fuse, None)
+// Reads which disk fails and how, and what a crash leaves: `in each MODE [of old] [CRASH]`.
+fn way_of(call: &Call) -> Option<Way> {
+    let is_old = call.word(3) == "of";
+    let left = call.word(if is_old { 5 } else { 3 });
+    let crash = if left.is_empty() {
+        None
     } else {
-        (None, fuse)
+        Some(crash(left)?)
     };
-    let mut old = fused(old, of_old);
-    let (moved, new) = move_on(alloc, &mut old, fused(blank.disk()?, of_new));
-    let calls = if way.is_old { old.calls() } else { new.calls() };
-    let mut end = String::new(alloc);
-    add_moved(&mut end, moved)?;
-    Ok(CutShort {
-        is_whole: calls <= passes,
-        end,
-        old: old.into_inner(),
-        new: new.into_inner(),
+    Some(Way {
+        is_old,
+        mode: mode(call.word(2))?,
+        crash,
     })
 }
 
-// Returns what is found of the new file after a crash: refused, or what the old one means. Then the migration is made
-// again. The old file comes back.
-fn found(alloc: Global, trial: CutShort, way: Way) -> Result<(String, MemDisk)> {
-    let disk = match way.crash {
-        Some(crash) => trial.new.crash(crash),
-        None => trial.new,
-    };
-    let mut end = String::new(alloc);
-    let disk = add_opened(&mut end, alloc, disk)?;
-    if end.as_str().starts_with("count") && !is_same(alloc, &trial.old, &disk)? {
-        return Err(anyhow!("the new file means something else"));
+// Migrates while a disk passes this many calls. Returns whether it made no more. Else the migration has to be refused.
+fn is_whole(old: &mut Place, new: &mut Place, passes: u64, way: Way, said: &mut Saying) -> bool {
+    let mut moved = Saying::new(old.alloc);
+    let fuse = (passes, way.mode);
+    if way.is_old {
+        old.fuse = fuse;
+    } else {
+        new.fuse = fuse;
     }
-    let mut old = fused(trial.old, None);
-    let (moved, _) = move_on(alloc, &mut old, fused(disk, None));
-    end.push_str(" then ")?;
-    add_moved(&mut end, moved)?;
-    Ok((end, old.into_inner()))
+    move_on(old, new, &mut moved);
+    let calls = if way.is_old { old.calls } else { new.calls };
+    let is_whole = calls <= passes;
+    said.so(is_whole || moved.said() == "refused 8 Device", "");
+    is_whole
 }
 
-// Fails at each call, and tells how often each result came. The old file comes back.
-fn tell_each(
-    alloc: Global,
-    old: MemDisk,
-    blank: &Blank,
-    way: Way,
-    said: &mut String,
-) -> Result<MemDisk> {
-    let mut old = old;
+// Returns what is found of the new file after a crash: refused, or what the old one means. Then the migration is made
+// again.
+fn found(old: &mut Place, new: &mut Place, way: Way) -> Saying {
+    let mut end = Saying::new(old.alloc);
+    if let Some(crash) = way.crash {
+        end.so(new.crash(crash), "");
+    }
+    new.start(None, &mut end);
+    let is_so = !end.said().starts_with("count") || are_same(old, new);
+    end.so(is_so, " then ");
+    move_on(old, new, &mut end);
+    end
+}
+
+// Fails at each call, and tells how often each result came in a row. The new file begins with the bytes of `blank`.
+fn tell_each(old: &mut Place, new: &mut Place, blank: &Place, way: Way, said: &mut Saying) {
+    let bytes = blank.bytes();
+    let is_zero = bytes.iter().all(|byte| *byte == 0);
+    let start = if is_zero { b"".as_slice() } else { bytes };
     let mut ends = Ends {
-        ends: Vec::new(alloc),
+        last: Saying::new(old.alloc),
+        times: 0,
     };
     for passes in 0..10_000 {
-        let trial = cut_short(alloc, old, blank, passes, way)?;
-        if trial.is_whole {
-            ends.add_to(said)?;
-            return Ok(trial.old);
+        said.so(new.lay(start, bytes.len()), "");
+        if is_whole(old, new, passes, way, said) {
+            return ends.tell(said);
         }
-        if trial.end.as_str() != "refused 8 Device" {
-            return Err(anyhow!("a migration isn't stopped"));
-        }
-        let (end, back) = found(alloc, trial, way)?;
-        ends.add(end)?;
-        old = back;
+        ends.add(found(old, new, way), said);
     }
-    Err(anyhow!("the calls don't end"))
+    said.fail("the calls don't end")
 }
 
-// Does the same with the two files of a story. The old one must not change.
-fn tell_files(desk: &mut Desk, alloc: Global, way: Way, said: &mut String) -> Result<()> {
-    let blank = Blank::of(alloc, desk.new_file()?)?;
-    let bytes = desk.old()?.bytes().to_vec(alloc)?;
-    let Some(old) = desk.old.take() else {
-        return Err(anyhow!("there is no old file"));
+/// Makes the call `in each` with `stop`, `once` or `scar:BYTE`, of the new file or `of old`, and what a crash after it
+/// leaves. The old file must not change.
+pub fn tell(old: &Place, new: &Place, call: &Call, said: &mut Saying) {
+    let Some(way) = way_of(call) else {
+        return said.fail("that is no way to fail");
     };
-    let old = tell_each(alloc, old, &blank, way, said)?;
-    if old.bytes() != bytes.as_slice() {
-        return Err(anyhow!("the old file was changed"));
-    }
-    desk.old = Some(old);
-    Ok(())
-}
-
-/// Makes the call if the words are `in each` with `stop`, `once` or `scar:BYTE`, of the new file or `of old`, and what
-/// a crash after it leaves. Returns whether they are.
-pub fn tell(desk: &mut Desk, alloc: Global, words: &[&str], said: &mut String) -> Result<bool> {
-    let ["in", "each", how, rest @ ..] = words else {
-        return Ok(false);
-    };
-    let (is_old, rest) = match rest {
-        ["of", "old", rest @ ..] => (true, rest),
-        _ => (false, rest),
-    };
-    let crash = match rest {
-        [] => None,
-        [word] => Some(crash(word)?),
-        _ => return Err(anyhow!("too many crashes")),
-    };
-    let way = Way {
-        is_old,
-        mode: mode(how)?,
-        crash,
-    };
-    tell_files(desk, alloc, way, said)?;
-    Ok(true)
+    let (mut from, mut to) = (old.copy(), Place::new(old.alloc));
+    tell_each(&mut from, &mut to, new, way, said);
+    said.so(from.bytes() == old.bytes(), "")
 }

@@ -1,14 +1,14 @@
-//! Writers in memory, and observers that keep what they are told.
+//! A writer in memory, and an observer that keeps why work is refused.
 
-use anyhow::{Result, anyhow};
 use im_migration::Follower;
+use im_story::Saying;
 use im_text::{Observer, Progress, Reason};
 use im_types::Entry;
 use std::alloc::Global;
 use std::io;
 use std::io::Write;
 
-/// A writer that takes all that is written.
+/// What was written.
 #[derive(Drop)]
 pub struct Paper {
     text: Vec<u8>,
@@ -23,11 +23,8 @@ impl Paper {
     }
 
     /// Returns what was written.
-    pub fn into_text(self) -> Result<String> {
-        match String::from_utf8(self.text) {
-            Ok(text) => Ok(text),
-            Err(_) => Err(anyhow!("no text was written")),
-        }
+    pub fn text(&self) -> &str {
+        str::from_utf8(self.text.as_slice()).unwrap_or("what was written is no text")
     }
 }
 
@@ -42,32 +39,33 @@ impl Write for Paper {
     }
 }
 
-/// Why work was refused, a line each.
+/// An observer that keeps why work was last refused.
 #[derive(Drop)]
-pub struct Notes {
-    /// The lines. A line is missing if there was no memory for it.
-    pub text: String,
+pub struct Told {
+    /// The reason, if work was refused.
+    pub reason: Option<Reason>,
 }
 
-impl Notes {
-    /// Starts with nothing told.
-    pub fn new(alloc: Global) -> Notes {
-        Notes {
-            text: String::new(alloc),
+impl Told {
+    /// Tells the reason.
+    pub fn tell(&self, said: &mut Saying) {
+        match self.reason {
+            Some(reason) => write!(said, "{reason}"),
+            None => said.fail("nothing was told"),
         }
     }
 }
 
-impl Observer for Notes {
+impl Observer for Told {
     fn answered(&mut self, _element: u16, _number: u64, _entry: Entry) {}
 
     fn progressed(&mut self, _progress: Progress) {}
 
     fn refused(&mut self, reason: Reason) {
-        let _noted = writeln!(self.text, "{reason}");
+        self.reason = Some(reason);
     }
 }
 
-impl Follower for Notes {
+impl Follower for Told {
     fn writes(&self, _written: u64, _all: u64) {}
 }

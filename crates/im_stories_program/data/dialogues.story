@@ -174,7 +174,7 @@ printed 1 = 1.1 stored
 printed 2 = 2.1 value 5
 printed 3 = 2 confirmed 2
 printed 4 = 2.2 value 5
-printed 5 = error 6: 'mend', where E.N, collect, entry, confirm, window, cell, block, stat, room, turn, count, about, help or quit is expected
+printed 5 = error 6: 'mend', where E.N, collect, entry, confirm, window, cell, block, stat, room, turn, count, about, backup, help or quit is expected
 count = 5
 
 # A group of one fetch, whose confirmation stands behind it, and so on
@@ -407,7 +407,7 @@ format 4096 16 256 = formatted
 script help / help me / cell / cell x / cell 4294967296 / block 1 2 / stat 1 / cells 1 / = 8 lines
 talk = 0, 0 calls
 printed = 8 lines
-printed 0 = help E.N alloc i LENGTH, E.N alloc m LENGTH, E.N release A, E.N reset A, E.N fetch A, E.N store A VALUE, E.N take A, E.N put A VALUE, collect E.N, entry E.N, confirm E UPTO, window E, cell A, block A, stat, room, turn, count, about, help, quit
+printed 0 = help E.N alloc i LENGTH, E.N alloc m LENGTH, E.N release A, E.N reset A, E.N fetch A, E.N store A VALUE, E.N take A, E.N put A VALUE, collect E.N, entry E.N, confirm E UPTO, window E, cell A, block A, stat, room, turn, count, about, backup NAME, help, quit
 printed 1 = error 2: 'me', where the end of the line is expected
 printed 2 = error 3: the line ends, where an address from 0 to 4294967295 is expected
 printed 3 = error 4: 'x', where an address from 0 to 4294967295 is expected
@@ -468,7 +468,7 @@ format 4096 16 256 = formatted
 script 1.1 fetch 0 / 2.1 fetch 0 / mend / 1.2 get 0 / collect 1 / confirm 1 / window / room now / = 8 lines
 talk = 0, 5 calls
 printed = 8 lines
-printed 2 = error 3: 'mend', where E.N, collect, entry, confirm, window, cell, block, stat, room, turn, count, about, help or quit is expected
+printed 2 = error 3: 'mend', where E.N, collect, entry, confirm, window, cell, block, stat, room, turn, count, about, backup, help or quit is expected
 printed 3 = error 4: 'get', where alloc, fetch, store, take, put, release or reset is expected
 printed 4 = error 5: '1', where E.N, with an element's number E from 0 to 65535 and a request's number N, is expected
 printed 5 = error 6: the line ends, where a request's number is expected
@@ -494,8 +494,8 @@ printed 8 = error 9: '1.x', where E.N, with an element's number E from 0 to 6553
 printed 9 = error 10: 'x', where an element's number from 0 to 65535 is expected
 printed 10 = error 11: '65536', where an element's number from 0 to 65535 is expected
 printed 11 = error 12: '\xc3\xa9', where ASCII is expected
-printed 12 = error 13: the line ends, where E.N, collect, entry, confirm, window, cell, block, stat, room, turn, count, about, help or quit is expected
-printed 13 = error 14: '#', where E.N, collect, entry, confirm, window, cell, block, stat, room, turn, count, about, help or quit is expected
+printed 12 = error 13: the line ends, where E.N, collect, entry, confirm, window, cell, block, stat, room, turn, count, about, backup, help or quit is expected
+printed 13 = error 14: '#', where E.N, collect, entry, confirm, window, cell, block, stat, room, turn, count, about, backup, help or quit is expected
 
 # A line may have 4,096 bytes; a longer one is told so, and read on to its line feed
 disk 450560 = 450560 bytes
@@ -509,7 +509,7 @@ script x / 2.1 fetch 0 / = 4 lines
 talk = 0, 8 calls
 printed = 4 lines
 printed 0 = 1.1 nocell
-printed 1 = error 2: 'xxxxxxxxxxxxxxxxxxxxxxxxxxxxxxxx..', where E.N, collect, entry, confirm, window, cell, block, stat, room, turn, count, about, help or quit is expected
+printed 1 = error 2: 'xxxxxxxxxxxxxxxxxxxxxxxxxxxxxxxx..', where E.N, collect, entry, confirm, window, cell, block, stat, room, turn, count, about, backup, help or quit is expected
 printed 2 = error 3: the line is too long
 printed 3 = 2.1 nocell
 

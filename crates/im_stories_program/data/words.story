@@ -19,6 +19,10 @@ imem migrate a.img b.img --statuses = move a.img on to b.img, by statuses
 imem serial a.img - = serve - on a.img
 imem serial a.img s --once = serve s on a.img, once
 imem serial --once a.img - = serve - on a.img, once
+imem serial --quiet a.img s = serve s on a.img, quietly
+imem serial a.img s --json --once = serve s on a.img, once, as JSON
+imem run a.img s --json --planned = run s on a.img, planned, as JSON
+imem run a.img s --quiet --trace t = run s on a.img, traced to t, quietly
 imem run a.img s = run s on a.img
 imem run a.img s --planned = run s on a.img, planned
 imem run --planned a.img - = run - on a.img, planned
@@ -82,6 +86,12 @@ imem serial a.img s --planned = status 2
 says --planned = yes
 imem run a.img s --planned=yes = status 2
 says --planned = yes
+-- Lines are told in one way.
+imem serial a.img s --quiet --json = status 2
+says --quiet = yes
+imem run a.img s --json --planned --quiet = status 2
+says --json = yes
+imem serve a.img --quiet = status 2
 -- What is left of a plan is none.
 imem run a.img s --planned --once = status 2
 says --once = yes

@@ -1,52 +1,49 @@
 //! The words of a command line, and the work that they ask for.
 
 use crate::spelling::{add_text, add_word};
-use anyhow::{Result, anyhow};
+use crate::{Desk, reasons};
+use im_filters::Telling;
 use im_migration::Asked;
 use im_program::{Job, Order, Way, WordFault, Work, read_words};
-use im_report::View;
-use std::alloc::{AllocError, Global};
+use im_report::{Filter, View};
+use im_story::{Call, Saying};
 
-/// What was said about the last bad command line.
-#[derive(Drop)]
-pub struct CommandLine {
-    fault: String,
-}
-
-fn add_size(said: &mut String, size: Option<u32>, name: &str) -> Result<(), AllocError> {
-    match size {
-        Some(number) => write!(said, ", {number} {name}"),
-        None => Ok(()),
+fn add_size(said: &mut Saying, size: Option<u32>, name: &str) {
+    if let Some(number) = size {
+        write!(said, ", {number} {name}")
     }
 }
 
-fn add_sizes(said: &mut String, asked: Asked) -> Result<(), AllocError> {
-    add_size(said, asked.cells, "cells")?;
-    add_size(said, asked.elements, "elements")?;
+fn add_sizes(said: &mut Saying, asked: Asked) {
+    add_size(said, asked.cells, "cells");
+    add_size(said, asked.elements, "elements");
     add_size(said, asked.slots, "slots")
 }
 
-fn add_look(said: &mut String, image: &str, look: View) -> Result<(), AllocError> {
-    let (filter, form) = match look {
-        View::Stat => return write!(said, "count in {image}"),
-        View::StatJson => return write!(said, "count in {image}, as JSON"),
-        View::DumpJson => return write!(said, "dump {image}, as JSON"),
-        View::Report(filter) => (filter, ""),
-        View::ReportJson(filter) => (filter, ", as JSON"),
-    };
-    write!(said, "tell of {image}")?;
+fn add_filter(said: &mut Saying, filter: Filter) {
     if let Some(span) = filter.cells {
-        let (from, to) = (span.from, span.to);
-        write!(said, ", cells {from} to {to}")?;
+        write!(said, ", cells {} to {}", span.from, span.to)
     }
-    add_size(said, filter.element, "is the element")?;
-    said.push_str(if filter.waiting { ", who waits" } else { "" })?;
-    said.push_str(form)
+    add_size(said, filter.element, "is the element");
+    said.either(filter.waiting, ", who waits", "")
 }
 
-fn add_job(said: &mut String, job: &Job) -> Result<(), AllocError> {
+fn add_look(said: &mut Saying, image: &str, look: View) {
+    match look {
+        View::Stat | View::StatJson => write!(said, "count in {image}"),
+        View::DumpJson => write!(said, "dump {image}"),
+        View::Report(filter) | View::ReportJson(filter) => {
+            write!(said, "tell of {image}");
+            add_filter(said, filter)
+        }
+    }
+    let is_json = matches!(look, View::StatJson | View::DumpJson | View::ReportJson(_));
+    said.either(is_json, ", as JSON", "")
+}
+
+fn add_job(said: &mut Saying, job: &Job) {
     match *job {
-        Job::Demonstration => said.push_str("demonstration"),
+        Job::Demonstration => said.text("demonstration"),
         Job::Format {
             image,
             cells,
@@ -54,130 +51,116 @@ fn add_job(said: &mut String, job: &Job) -> Result<(), AllocError> {
             slots,
             is_new,
         } => {
-            let how = if is_new { ", where none is" } else { "" };
             write!(
                 said,
-                "make {image} of {cells} cells, {elements} elements, {slots} slots{how}"
-            )
+                "make {image} of {cells} cells, {elements} elements, {slots} slots"
+            );
+            said.either(is_new, ", where none is", "")
         }
         Job::Serial {
             image,
             script,
             once,
         } => {
-            let how = if once { ", once" } else { "" };
-            write!(said, "serve {script} on {image}{how}")
+            write!(said, "serve {script} on {image}");
+            said.either(once, ", once", "")
         }
-        Job::Serve { image, watch } => {
-            let how = if watch { "watched" } else { "unwatched" };
-            write!(said, "talk on {image}, {how}")
+        Job::Serve { image, watch, .. } => {
+            write!(said, "talk on {image}");
+            said.either(watch, ", watched", ", unwatched")
         }
         Job::Inspect { image, look } => add_look(said, image, look),
         Job::Dump { image } => write!(said, "dump {image}"),
         Job::Load { text, new, asked } => {
-            write!(said, "load {text} into {new}")?;
+            write!(said, "load {text} into {new}");
             add_sizes(said, asked)
         }
     }
 }
 
-fn add_work(said: &mut String, work: &Work) -> Result<(), AllocError> {
-    match work {
-        Work::Alone(job) => add_job(said, job),
+fn add_work(said: &mut Saying, work: &Work) {
+    match *work {
+        Work::Alone(job) => add_job(said, &job),
         Work::Run {
             image,
             script,
             way,
             trace,
         } => {
-            let how = match way {
-                Way::Free => "",
-                Way::Planned => ", planned",
-                Way::Once => ", once",
-            };
-            write!(said, "run {script} on {image}{how}")?;
-            match trace {
-                Some(path) => write!(said, ", traced to {path}"),
-                None => Ok(()),
+            write!(said, "run {script} on {image}");
+            match way {
+                Way::Free => {}
+                Way::Planned => said.text(", planned"),
+                Way::Once => said.text(", once"),
+            }
+            if let Some(path) = trace {
+                write!(said, ", traced to {path}")
             }
         }
         Work::Migrate { old, new } => write!(said, "move {old} on to {new}"),
         Work::Copy { old, new, asked } => {
-            write!(said, "copy {old} to {new}")?;
-            add_sizes(said, *asked)
+            write!(said, "copy {old} to {new}");
+            add_sizes(said, asked)
         }
     }
 }
 
-fn add_order(said: &mut String, order: &Order) -> Result<(), AllocError> {
-    add_work(said, &order.work)?;
-    said.push_str(if order.statuses { ", by statuses" } else { "" })?;
-    let wait = order.wait;
-    if wait > 0 {
-        write!(said, ", waiting {wait} s")?;
+fn add_order(said: &mut Saying, order: &Order) {
+    add_work(said, &order.work);
+    said.either(order.statuses, ", by statuses", "");
+    match order.telling {
+        Telling::Plain => {}
+        Telling::Quiet => write!(said, ", quietly"),
+        Telling::Json => write!(said, ", as JSON"),
     }
-    Ok(())
-}
-
-/// Returns the words of a command line, one a line.
-pub fn spelled(alloc: Global, words: &[&str]) -> Result<Vec<u8>> {
-    let mut text = Vec::new(alloc);
-    for word in words {
-        add_word(&mut text, word)?;
-        text.push(b'\n')?;
-    }
-    Ok(text)
-}
-
-/// Returns the words, as texts.
-pub fn texts(alloc: Global, spelled: &[u8]) -> Result<Vec<&str>> {
-    match str::from_utf8(spelled) {
-        Ok(text) => Ok(text.split_terminator('\n').collect(alloc)?),
-        Err(_) => Err(anyhow!("a word is no text")),
+    if order.wait > 0 {
+        write!(said, ", waiting {} s", order.wait)
     }
 }
 
-impl CommandLine {
-    /// Starts with nothing said.
-    pub fn new(alloc: Global) -> CommandLine {
-        CommandLine {
-            fault: String::new(alloc),
+// Reads a command line of these words. Tells its work, or the status that it ends with.
+fn read(desk: &mut Desk, words: &[&str], said: &mut Saying) {
+    match read_words(desk.rt.alloc(), words) {
+        Ok(order) => add_order(said, &order),
+        Err(WordFault::NoMemory) => said.text("no memory"),
+        Err(WordFault::Bad(error)) => {
+            desk.fault = Saying::new(desk.rt.alloc());
+            write!(desk.fault, "{error}");
+            write!(said, "status {}", error.exit_code())
         }
     }
+}
 
-    // Reads a command line. Tells its work, or the status that it ends with.
-    fn read(&mut self, alloc: Global, words: &[&str], said: &mut String) -> Result<()> {
-        let spelled = spelled(alloc, words)?;
-        let texts = texts(alloc, spelled.as_slice())?;
-        match read_words(alloc, texts.as_slice()) {
-            Ok(order) => add_order(said, &order)?,
-            Err(WordFault::NoMemory) => said.push_str("no memory")?,
-            Err(WordFault::Bad(error)) => {
-                self.fault = format!(in alloc; "{error}")?;
-                let status = error.exit_code();
-                write!(said, "status {status}")?;
-            }
-        }
-        Ok(())
+// Reads a command line, whose words are spelled as in a text.
+fn read_spelled(desk: &mut Desk, call: &Call, said: &mut Saying) {
+    let mut spelled = Vec::new(call.alloc());
+    for word in call.words() {
+        add_word(&mut spelled, word, said);
+        said.so(spelled.push(b'\n').is_ok(), "");
     }
-
-    // Tells whether these words are in what was said about a bad command line.
-    fn says(&self, alloc: Global, words: &[&str], said: &mut String) -> Result<()> {
-        let mut text = Vec::new(alloc);
-        add_text(&mut text, words)?;
-        match str::from_utf8(text.as_slice()) {
-            Ok(text) if self.fault.as_str().contains(text) => Ok(said.push_str("yes")?),
-            _ => Ok(said.push_str("no")?),
-        }
+    let text = str::from_utf8(spelled.as_slice()).unwrap_or("");
+    match text
+        .split_terminator('\n')
+        .collect::<Vec<&str>>(call.alloc())
+    {
+        Ok(words) => read(desk, words.as_slice(), said),
+        Err(_) => said.fail("no memory is left"),
     }
+}
 
-    /// Makes a call on a command line. Returns whether the words are one.
-    pub fn tell(&mut self, alloc: Global, words: &[&str], said: &mut String) -> Result<bool> {
-        match words {
-            ["imem", ..] => self.read(alloc, words, said)?,
-            ["says", text @ ..] => self.says(alloc, text, said)?,
-            _ => return Ok(false),
-        }
-        Ok(true)
+// Tells whether these words are in what was said about a bad command line.
+fn find(desk: &Desk, call: &Call, said: &mut Saying) {
+    let mut spelled = Vec::new(call.alloc());
+    add_text(&mut spelled, call.rest(1), said);
+    let text = str::from_utf8(spelled.as_slice()).unwrap_or("\n\n");
+    said.either(desk.fault.said().contains(text), "yes", "no")
+}
+
+/// Makes a call on a command line, or else one of those of reasons.
+pub fn tell(desk: &mut Desk, call: &Call, said: &mut Saying) {
+    match call.word(0) {
+        "imem" => read_spelled(desk, call, said),
+        "says" => find(desk, call, said),
+        _ => reasons::tell(desk, call, said),
     }
 }

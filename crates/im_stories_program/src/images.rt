@@ -1,179 +1,99 @@
-//! An image in memory, its bytes, and changes of them.
+//! The image in memory, its bytes, and changes of them.
 
+use crate::place::Place;
 use crate::spelling::hex;
-use anyhow::{Result, anyhow};
-use im_disk::{Disk, MemDisk};
-use im_engine::Engine;
-use im_story::{add_refusal, address, element, old_image, place};
-use im_types::Limits;
-use std::alloc::Global;
+use crate::{Desk, scripts};
+use im_story::{Call, Saying, old_image};
 
-/// An image in memory, if there is one.
-#[derive(Drop)]
-pub struct Image {
-    disk: Option<MemDisk>,
-    /// The bytes when they were marked.
-    marked: Vec<u8>,
+// Tells how many bytes the disk has.
+fn add_length(place: &Place, is_so: bool, said: &mut Saying) {
+    said.so(is_so, "");
+    said.number(place.bytes().len() as u64);
+    said.text(" bytes")
 }
 
-// Makes a disk with these bytes.
-fn disk_of(alloc: Global, bytes: &[u8]) -> Result<MemDisk> {
-    let mut disk = MemDisk::new(alloc, bytes.len())?;
-    if disk.write_at(0, bytes).is_err() {
-        return Err(anyhow!("the disk failed"));
+// Makes an image of the first version, with no command. Returns whether it is there.
+fn lay_old(place: &mut Place, call: &Call) -> bool {
+    let Some(limits) = call.limits(0) else {
+        return false;
+    };
+    match old_image(place.alloc, limits) {
+        Ok(image) => place.lay(image.as_slice()),
+        Err(_) => false,
     }
-    Ok(disk)
 }
 
-impl Image {
-    /// Starts with no image.
-    pub fn new(alloc: Global) -> Image {
-        Image {
-            disk: None,
-            marked: Vec::new(alloc),
+// Makes a new image.
+fn format(place: &mut Place, call: &Call, said: &mut Saying) {
+    let limits = call.limits(0);
+    match place.start(limits) {
+        Ok(_) => said.so(limits.is_some(), "formatted"),
+        Err(refusal) => said.refusal(refusal),
+    }
+}
+
+// Tells the count of the image's commands, as an opening finds it.
+fn count(place: &mut Place, said: &mut Saying) {
+    match place.start(None) {
+        Ok(count) => said.number(count),
+        Err(refusal) => said.refusal(refusal),
+    }
+}
+
+fn add_bytes(place: &Place, at: usize, count: usize, said: &mut Saying) {
+    let Some(bytes) = place.bytes().get(at..at.saturating_add(count)) else {
+        return said.fail("the disk is shorter");
+    };
+    for byte in bytes {
+        write!(said, " {byte:02x}");
+    }
+}
+
+// Puts bytes in their places, and tells those that stood there before.
+fn write(place: &mut Place, call: &Call, said: &mut Saying) {
+    let mut bytes = Vec::new(place.alloc);
+    for word in call.rest(2) {
+        match hex(word) {
+            Some(byte) => said.so(bytes.push(byte).is_ok(), ""),
+            None => said.fail("that is no byte"),
         }
     }
+    add_bytes(place, call.place(0), bytes.len(), said);
+    said.so(place.put(call.place(0), bytes.as_slice()), "")
+}
 
-    /// Takes the disk out.
-    pub fn take(&mut self) -> Result<MemDisk> {
-        match self.disk.take() {
-            Some(disk) => Ok(disk),
-            None => Err(anyhow!("there is no disk")),
+/// Makes a call on the image in memory, or else one of those of scripts.
+pub fn tell(desk: &mut Desk, call: &Call, said: &mut Saying) {
+    let place = &mut desk.place;
+    match call.form() {
+        "disk _" => {
+            let is_laid = place.blank(call.place(0));
+            add_length(place, is_laid, said)
         }
-    }
-
-    /// Puts a disk in.
-    pub fn set(&mut self, disk: MemDisk) {
-        self.disk = Some(disk);
-    }
-
-    /// Puts in a disk with these bytes.
-    pub fn load(&mut self, alloc: Global, bytes: &[u8]) -> Result<()> {
-        let disk = disk_of(alloc, bytes)?;
-        self.set(disk);
-        Ok(())
-    }
-
-    /// Returns the disk.
-    pub fn disk(&self) -> Result<&MemDisk> {
-        match &self.disk {
-            Some(disk) => Ok(disk),
-            None => Err(anyhow!("there is no disk")),
+        "cut _" => {
+            let is_cut = place.cut(call.place(0));
+            add_length(place, is_cut, said)
         }
-    }
-
-    fn blank(&mut self, alloc: Global, len: usize, said: &mut String) -> Result<()> {
-        let disk = MemDisk::new(alloc, len)?;
-        let len = disk.bytes().len();
-        self.set(disk);
-        Ok(write!(said, "{len} bytes")?)
-    }
-
-    fn format(&mut self, alloc: Global, limits: Limits, said: &mut String) -> Result<()> {
-        match Engine::format(alloc, self.take()?, limits) {
-            Ok(engine) => {
-                self.set(engine.close());
-                said.push_str("formatted")?;
-            }
-            Err((refusal, disk)) => {
-                self.set(disk);
-                add_refusal(said, refusal)?;
-            }
+        "mark" => {
+            let is_marked = place.mark();
+            add_length(place, is_marked, said)
         }
-        Ok(())
-    }
-
-    // Tells the count of the image's commands, as an opening finds it.
-    fn count(&mut self, alloc: Global, said: &mut String) -> Result<()> {
-        match Engine::open(alloc, self.take()?) {
-            Ok(engine) => {
-                let count = engine.count();
-                self.set(engine.close());
-                write!(said, "{count}")?;
-            }
-            Err((refusal, disk)) => {
-                self.set(disk);
-                add_refusal(said, refusal)?;
-            }
+        "old image _ _ _" => {
+            let is_laid = lay_old(place, call);
+            add_length(place, is_laid, said)
         }
-        Ok(())
+        "format _ _ _" => format(place, call, said),
+        "count" => count(place, said),
+        "bytes _ _" => add_bytes(place, call.place(0), call.place(1), said),
+        "as marked" => said.either(place.is_as_marked(), "yes", "no"),
+        _ => tell_by_word(desk, call, said),
     }
+}
 
-    fn bytes(&self, at: usize, count: usize, said: &mut String) -> Result<()> {
-        let Some(bytes) = self.disk()?.bytes().get(at..at.saturating_add(count)) else {
-            return Err(anyhow!("the disk is shorter"));
-        };
-        for byte in bytes {
-            write!(said, " {byte:02x}")?;
-        }
-        Ok(())
-    }
-
-    // Puts bytes in their places, and tells those that stood there before.
-    fn write(&mut self, alloc: Global, at: usize, words: &[&str], said: &mut String) -> Result<()> {
-        let mut bytes = Vec::new(alloc);
-        for word in words {
-            bytes.push(hex(word)?)?;
-        }
-        self.bytes(at, bytes.len(), said)?;
-        let mut disk = self.take()?;
-        let len = disk.bytes().len();
-        if at > len || bytes.len() > len - at || disk.write_at(at, bytes.as_slice()).is_err() {
-            return Err(anyhow!("the disk failed"));
-        }
-        self.set(disk);
-        Ok(())
-    }
-
-    fn cut(&mut self, alloc: Global, len: usize, said: &mut String) -> Result<()> {
-        let disk = match self.disk()?.bytes().get(..len) {
-            Some(bytes) => disk_of(alloc, bytes)?,
-            None => return Err(anyhow!("the disk is shorter")),
-        };
-        self.set(disk);
-        Ok(write!(said, "{len} bytes")?)
-    }
-
-    fn mark(&mut self, alloc: Global, said: &mut String) -> Result<()> {
-        let marked = self.disk()?.bytes().to_vec(alloc)?;
-        let len = marked.len();
-        self.marked = marked;
-        Ok(write!(said, "{len} bytes")?)
-    }
-
-    fn is_as_marked(&self, said: &mut String) -> Result<()> {
-        let is_same = self.disk()?.bytes() == self.marked.as_slice();
-        Ok(said.push_str(if is_same { "yes" } else { "no" })?)
-    }
-
-    /// Makes a call on the image's bytes. Returns whether the words are one.
-    pub fn tell(&mut self, alloc: Global, words: &[&str], said: &mut String) -> Result<bool> {
-        match words {
-            ["disk", len] => self.blank(alloc, place(len)?, said)?,
-            ["format", cells, elements, slots] => {
-                let cells = address(cells)?;
-                let Some(limits) = Limits::new(cells, element(elements)?, address(slots)?) else {
-                    return Err(anyhow!("no limits"));
-                };
-                self.format(alloc, limits, said)?
-            }
-            ["old", "image", cells, elements, slots] => {
-                let cells = address(cells)?;
-                let Some(limits) = Limits::new(cells, element(elements)?, address(slots)?) else {
-                    return Err(anyhow!("no limits"));
-                };
-                let bytes = old_image(alloc, limits)?;
-                self.load(alloc, bytes.as_slice())?;
-                write!(said, "{} bytes", bytes.len())?;
-            }
-            ["count"] => self.count(alloc, said)?,
-            ["bytes", at, count] => self.bytes(place(at)?, place(count)?, said)?,
-            ["write", at, bytes @ ..] => self.write(alloc, place(at)?, bytes, said)?,
-            ["cut", len] => self.cut(alloc, place(len)?, said)?,
-            ["mark"] => self.mark(alloc, said)?,
-            ["as", "marked"] => self.is_as_marked(said)?,
-            _ => return Ok(false),
-        }
-        Ok(true)
+// Makes a call that changes bytes, or one of those of scripts.
+fn tell_by_word(desk: &mut Desk, call: &Call, said: &mut Saying) {
+    match call.word(0) {
+        "write" => write(&mut desk.place, call, said),
+        _ => scripts::tell(desk, call, said),
     }
 }

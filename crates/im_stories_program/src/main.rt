@@ -2,48 +2,102 @@
 //! command lines, and work on files.
 #![tactic(auto)]
 
-mod again;
 mod command_lines;
 mod dialogues;
 mod files;
 mod images;
+mod place;
 mod printed;
+mod reasons;
 mod scripts;
 mod serving;
 mod spelling;
 mod writers;
 
-use anyhow::{Result, anyhow};
-use command_lines::CommandLine;
+use anyhow::Result;
 use im_program::Descriptors;
-use im_story::{Scene, walk_files};
-use images::Image;
-use printed::Printed;
-use scripts::Scripts;
+use im_script::Said;
+use im_story::{Call, Layer, Saying, Scene, tell_of, walk_files};
+use place::Place;
 use std::alloc::Global;
+use std::mem;
 use std::process::ExitCode;
+use writers::{Notes, Paper};
 
 /// What a story works with: a script, an image in memory, what was last printed, and the folder's files.
-#[derive(Drop)]
 struct Desk<'a> {
+    /// The folder's files, and standard output.
     rt: &'a HostRuntime,
+    /// What occupies the numbers of the standard streams.
     held: &'a Descriptors,
-    scripts: Scripts,
-    image: Image,
-    printed: Printed,
-    command_line: CommandLine,
+    /// The image in memory.
+    place: Place,
+    /// The text that is put together.
+    text: Vec<u8>,
+    /// The text that was last read as a script.
+    read: Vec<u8>,
+    /// What its lines say.
+    lines: Vec<Said>,
+    /// The bases of the setup's blocks.
+    bases: Vec<u32>,
+    /// Why a text or a command line was last refused.
+    fault: Saying,
+    /// What was last printed.
+    out: Paper,
+    /// What was told besides that.
+    notes: Notes,
+}
+
+// By one call, wherever its owner may end.
+impl Drop for Desk<'_> {
+    fn drop(self) {
+        let Desk {
+            rt: _,
+            held: _,
+            place: _,
+            text: _,
+            read: _,
+            lines: _,
+            bases: _,
+            fault: _,
+            out: _,
+            notes: _,
+        } = self;
+    }
 }
 
 impl<'a> Desk<'a> {
     fn new(rt: &'a HostRuntime, held: &'a Descriptors) -> Desk<'a> {
+        let alloc = rt.alloc();
         Desk {
             rt,
             held,
-            scripts: Scripts::new(rt.alloc()),
-            image: Image::new(rt.alloc()),
-            printed: Printed::new(rt.alloc()),
-            command_line: CommandLine::new(rt.alloc()),
+            place: Place::new(alloc),
+            text: Vec::new(alloc),
+            read: Vec::new(alloc),
+            lines: Vec::new(alloc),
+            bases: Vec::new(alloc),
+            fault: Saying::new(alloc),
+            out: Paper::new(alloc, usize::MAX),
+            notes: Notes::new(alloc),
         }
+    }
+
+    // Takes the text that was put together. A new one begins.
+    fn take_text(&mut self) -> Vec<u8> {
+        mem::replace(&mut self.text, Vec::new(self.rt.alloc()))
+    }
+
+    // Begins a new text of what is printed, of so many bytes at most, and of what is told besides.
+    fn print(&mut self, room: usize) {
+        self.out = Paper::new(self.rt.alloc(), room);
+        self.notes = Notes::new(self.rt.alloc());
+    }
+}
+
+impl<'a> Layer for Desk<'a> {
+    fn make(&mut self, call: &Call, said: &mut Saying) {
+        printed::tell(self, call, said)
     }
 }
 
@@ -53,19 +107,7 @@ impl<'a> Scene for Desk<'a> {
     }
 
     fn tell(&mut self, alloc: Global, words: &[&str], said: &mut String) -> Result<()> {
-        let is_told = self.scripts.tell(alloc, words, said)?
-            || self.image.tell(alloc, words, said)?
-            || self.printed.tell(alloc, words, said)?
-            || self.command_line.tell(alloc, words, said)?
-            || serving::tell(alloc, self, words, said)?
-            || again::tell(alloc, self, words, said)?
-            || dialogues::tell(alloc, self, words, said)?
-            || files::tell(self, words, said)?;
-        if is_told {
-            Ok(())
-        } else {
-            Err(anyhow!("no such call"))
-        }
+        tell_of(self, alloc, words, said)
     }
 }
 

@@ -1,131 +1,80 @@
-//! What was printed, line by line.
+//! What was printed, and what was told besides, line by line.
 
 use crate::spelling::line_ends;
-use crate::writers::Notes;
-use anyhow::{Result, anyhow};
-use im_story::{name, place};
-use std::alloc::Global;
-
-/// The text that the last work printed, and what was told besides it.
-#[derive(Drop)]
-pub struct Printed {
-    out: String,
-    notes: Notes,
-}
+use crate::{Desk, images};
+use im_story::{Call, Saying};
 
 // Returns the line at this place of a text, from 0.
 fn line_of(text: &str, at: usize) -> Option<&str> {
-    match text.split('\n').nth(at) {
-        Some(line) if at < line_ends(text.as_bytes()) => Some(line),
-        _ => None,
+    if at < line_ends(text.as_bytes()) {
+        text.split('\n').nth(at)
+    } else {
+        None
     }
 }
 
-impl Printed {
-    /// Starts with nothing printed.
-    pub fn new(alloc: Global) -> Printed {
-        Printed {
-            out: String::new(alloc),
-            notes: Notes::new(alloc),
+// Adds how many lines end in a text.
+fn add_count(text: &str, said: &mut Saying) {
+    write!(said, "{} lines", line_ends(text.as_bytes()));
+    if !text.is_empty() && !text.ends_with('\n') {
+        said.text(", and one that doesn't end")
+    }
+}
+
+// Adds a line, in quotes if it starts or ends with a space.
+fn add_line(text: &str, at: usize, said: &mut Saying) {
+    match line_of(text, at) {
+        Some(line) if line.trim().len() == line.len() => said.text(line),
+        Some(line) => write!(said, "'{line}'"),
+        None => said.fail("there is no such line"),
+    }
+}
+
+// Adds the answer that lines have in common. Their requests have one number after another.
+fn add_run(text: &str, call: &Call, said: &mut Saying) {
+    let (first, last) = (call.place(0), call.place(1));
+    let line = line_of(text, first).unwrap_or("");
+    let (who, answer) = line.split_once(' ').unwrap_or(("", ""));
+    let (element, number) = who.split_once('.').unwrap_or(("", ""));
+    let from = number.parse::<u64>().unwrap_or(0);
+    let mut upto = from;
+    for at in first..=last {
+        upto = from.saturating_add(at.saturating_sub(first) as u64);
+        let mut expected = Saying::new(call.alloc());
+        write!(expected, "{element}.{upto} {answer}");
+        said.so(line_of(text, at).unwrap_or("") == expected.said(), "");
+    }
+    write!(said, "{element}.{from} to {element}.{upto} {answer}")
+}
+
+// Adds how far the work came, as it was last told.
+fn add_progress(desk: &Desk, said: &mut Saying) {
+    match desk.notes.progress {
+        Some(progress) => {
+            let (served, room, checkpoints) = (
+                progress.served,
+                progress.room,
+                progress.checkpoints,
+            );
+            write!(
+                said,
+                "{served} served, room {room}, {checkpoints} checkpoints"
+            )
         }
+        None => said.text("none"),
     }
+}
 
-    /// Keeps what was printed and told.
-    pub fn set(&mut self, out: String, notes: Notes) {
-        self.out = out;
-        self.notes = notes;
-    }
-
-    // Returns how many lines end in the text.
-    fn count(&self) -> usize {
-        line_ends(self.out.as_str().as_bytes())
-    }
-
-    // Returns the line at this place, from 0.
-    fn line(&self, at: usize) -> Result<&str> {
-        match line_of(self.out.as_str(), at) {
-            Some(line) => Ok(line),
-            None => Err(anyhow!("no line {at} was printed")),
-        }
-    }
-
-    fn add_count(&self, said: &mut String) -> Result<()> {
-        let count = self.count();
-        write!(said, "{count} lines")?;
-        if !self.out.is_empty() && !self.out.as_str().ends_with('\n') {
-            said.push_str(", and one that doesn't end")?;
-        }
-        Ok(())
-    }
-
-    // Adds a line, in quotes if it starts or ends with a space.
-    fn add_line(&self, at: usize, said: &mut String) -> Result<()> {
-        let line = self.line(at)?;
-        if line.trim().len() == line.len() {
-            Ok(said.push_str(line)?)
-        } else {
-            Ok(write!(said, "'{line}'")?)
-        }
-    }
-
-    // Checks that a line is of this request, and has this answer.
-    fn meets(&self, alloc: Global, at: usize, who: (u16, u64), answer: &str) -> Result<()> {
-        let (element, number) = who;
-        let expected = format!(in alloc; "{element}.{number} {answer}")?;
-        let line = self.line(at)?;
-        if line == expected.as_str() {
-            Ok(())
-        } else {
-            Err(anyhow!("line {at} is {line}"))
-        }
-    }
-
-    // Adds the answer that lines have in common. Their requests have one number after another.
-    fn add_run(&self, alloc: Global, first: usize, last: usize, said: &mut String) -> Result<()> {
-        let Some((who, answer)) = self.line(first)?.split_once(' ') else {
-            return Err(anyhow!("line {first} tells of no request"));
-        };
-        let (element, from) = name(who)?;
-        let mut next = from;
-        let mut upto = None;
-        for at in first..=last {
-            self.meets(alloc, at, (element, next), answer)?;
-            upto = Some(next);
-            next = next.saturating_add(1);
-        }
-        match upto {
-            Some(upto) => Ok(write!(said, "{element}.{from} to {element}.{upto} {answer}")?),
-            None => Err(anyhow!("no line lies there")),
-        }
-    }
-
-    // Tells how many lines were told besides the output.
-    fn add_told(&self, said: &mut String) -> Result<()> {
-        let count = line_ends(self.notes.text.as_str().as_bytes());
-        Ok(write!(said, "{count} lines")?)
-    }
-
-    // Adds a line that was told besides the output.
-    fn add_note(&self, at: usize, said: &mut String) -> Result<()> {
-        match line_of(self.notes.text.as_str(), at) {
-            Some(line) => Ok(said.push_str(line)?),
-            None => Err(anyhow!("no line {at} was told")),
-        }
-    }
-
-    /// Makes a call on what was printed. Returns whether the words are one.
-    pub fn tell(&mut self, alloc: Global, words: &[&str], said: &mut String) -> Result<bool> {
-        match words {
-            ["printed"] => self.add_count(said)?,
-            ["printed", at] => self.add_line(place(at)?, said)?,
-            ["printed", first, "to", last] => {
-                self.add_run(alloc, place(first)?, place(last)?, said)?
-            }
-            ["told"] => self.add_told(said)?,
-            ["told", at] => self.add_note(place(at)?, said)?,
-            ["progress"] => self.notes.add_progress(said)?,
-            _ => return Ok(false),
-        }
-        Ok(true)
+/// Makes a call on what was printed or told, or else one of those of images.
+pub fn tell(desk: &mut Desk, call: &Call, said: &mut Saying) {
+    let (printed, told) = (desk.out.text(), desk.notes.told.said());
+    match call.form() {
+        "printed" => add_count(printed, said),
+        "printed _" => add_line(printed, call.place(0), said),
+        "printed _ to _" => add_run(printed, call, said),
+        "told" => add_count(told, said),
+        "told _" => add_line(told, call.place(0), said),
+        "progress" => add_progress(desk, said),
+        _ => images::tell(desk, call, said),
     }
 }

@@ -1,9 +1,9 @@
 //! Writers in memory, and observers that keep what they are told.
 
-use anyhow::{Result, anyhow};
+use im_story::Saying;
 use im_text::{Observer, Progress, Reason, Warning};
-use im_types::{Entry, Reply};
-use std::alloc::{AllocError, Global};
+use im_types::Entry;
+use std::alloc::Global;
 use std::io;
 use std::io::{ErrorKind, Write};
 
@@ -24,11 +24,8 @@ impl Paper {
     }
 
     /// Returns what was written.
-    pub fn into_text(self) -> Result<String> {
-        match String::from_utf8(self.text) {
-            Ok(text) => Ok(text),
-            Err(_) => Err(anyhow!("no text was written")),
-        }
+    pub fn text(&self) -> &str {
+        str::from_utf8(self.text.as_slice()).unwrap_or("what was written is no text")
     }
 }
 
@@ -51,56 +48,27 @@ impl Write for Paper {
 /// What was told besides the output, a line each.
 #[derive(Drop)]
 pub struct Notes {
-    /// The lines. A line is missing if there was no memory for it.
-    pub text: String,
-    progress: Option<Progress>,
-}
-
-fn add_value(text: &mut String, entry: Entry) -> Result<(), AllocError> {
-    match entry {
-        Entry::Answered(Reply::Value(value)) => write!(text, "value {value}"),
-        Entry::Answered(_) => text.push_str("answered"),
-        Entry::Waiting => text.push_str("waiting"),
-    }
+    /// The lines.
+    pub told: Saying,
+    /// How far the work came, as it was last told.
+    pub progress: Option<Progress>,
 }
 
 impl Notes {
     /// Starts with nothing told.
     pub fn new(alloc: Global) -> Notes {
         Notes {
-            text: String::new(alloc),
+            told: Saying::new(alloc),
             progress: None,
-        }
-    }
-
-    fn add_now(&mut self, element: u16, number: u64, entry: Entry) -> Result<(), AllocError> {
-        write!(self.text, "{element}.{number} now ")?;
-        add_value(&mut self.text, entry)?;
-        self.text.push_str("\n")
-    }
-
-    /// Adds how far the work came, as it was last told.
-    pub fn add_progress(&self, said: &mut String) -> Result<(), AllocError> {
-        match self.progress {
-            Some(progress) => {
-                let Progress {
-                    served,
-                    room,
-                    checkpoints,
-                } = progress;
-                write!(
-                    said,
-                    "{served} served, room {room}, {checkpoints} checkpoints"
-                )
-            }
-            None => said.push_str("none"),
         }
     }
 }
 
 impl Observer for Notes {
     fn answered(&mut self, element: u16, number: u64, entry: Entry) {
-        let _noted = self.add_now(element, number, entry);
+        write!(self.told, "{element}.{number} now ");
+        self.told.entry(entry);
+        self.told.text("\n")
     }
 
     fn progressed(&mut self, progress: Progress) {
@@ -108,10 +76,10 @@ impl Observer for Notes {
     }
 
     fn refused(&mut self, reason: Reason) {
-        let _noted = writeln!(self.text, "{reason}");
+        writeln!(self.told, "{reason}")
     }
 
     fn warned(&mut self, warning: Warning) {
-        let _noted = writeln!(self.text, "{warning}");
+        writeln!(self.told, "{warning}")
     }
 }
