@@ -1,17 +1,21 @@
 -- The outcome of a request that is sent again. (Own.)
-use Rattle.std.specs.Prelude.{◌≡◌, ◌⊎◌, Ok, Err}
+use Rattle.std.specs.Prelude.{◌≡◌, ◌⊎◌, List, Some, Ok, Err}
+use Rattle.std.specs.Bool.{IsFalse}
+use Rattle.std.specs.List.{list_any}
 use Rattle.im_types.specs.declared.operations.Reply.{Reply}
 use Rattle.im_types.specs.declared.operations.Entry.{Entry}
 use Rattle.im_types.specs.declared.operations.Entry.TheVariants.{Waiting, Answered}
 use Rattle.im_types.specs.declared.operations.Waiter.{Waiter}
 use Rattle.im_types.specs.declared.operations.Kept.{Kept}
 use Rattle.im_types.specs.declared.commands.Request.{Request}
+use Rattle.im_types.specs.declared.commands.Command.{Command}
 use Rattle.im_types.specs.declared.commands.Command.TheVariants.{Request as Asks}
 use Rattle.im_types.specs.declared.commands.Outcome.TheVariants.{Entry as Tells}
 use Rattle.im_types.specs.declared.refusals.Refusal.{Refusal}
 use Rattle.im_types.specs.Contents.{Contents, kept_for}
 use Rattle.im_types.specs.Step.{asker, step}
-use Rattle.im_types.specs.Agreement.{StaysOrIsAnswered}
+use Rattle.im_types.specs.Run.{accepted}
+use Rattle.im_types.specs.Agreement.{StaysOrIsAnswered, WaitingAgrees, drops}
 use Rattle.im_laws.specs.Windows.{IsForgotten}
 
 -- the same entry, or an answer to what was waiting
@@ -21,6 +25,19 @@ IsSameOrAnswer before now = (now ≡ before) ⊎ ((reply : Reply) × (before ≡
 -- what was kept for a request is still kept, or is answered, or was confirmed
 abbrev pub LastsOrIsForgotten : Contents → Waiter → Kept → Type 0
 LastsOrIsForgotten m who k = IsForgotten m.windows who ⊎ StaysOrIsAnswered k (kept_for m.windows who)
+
+-- what was kept for a request is still kept as it was, or was confirmed
+abbrev pub IsKeptOrForgotten : Contents → Waiter → Kept → Type 0
+IsKeptOrForgotten m who k = IsForgotten m.windows who ⊎ (kept_for m.windows who ≡ Some k)
+
+-- this is kept for the request, in a memory whose waiters and entries agree
+pub record IsKeptFor (m : Contents) (who : Waiter) (k : Kept) : Type 0 where
+  pub agrees : WaitingAgrees m
+  pub is : kept_for m.windows who ≡ Some k
+
+-- none of these commands is accepted and drops what is kept for the request
+abbrev pub NoneDrops : Contents → List Command → Waiter → Type 0
+NoneDrops m commands who = IsFalse (list_any (λ command. drops command who) (accepted m commands))
 
 -- the request is answered with this entry, and the memory stays as it is
 abbrev pub IsTold : Contents → Request → Entry → Type 0

@@ -271,3 +271,17 @@ lawful entry = (Some entry, Some entry)
 -- an entry for which the laws give none
 abbrev pub unsaid : Entry → Option Entry × Option Entry
 unsaid entry = (None, Some entry)
+
+-- the entries of those takes and puts, in one life: the laws give each of them
+abbrev pub entries_of_takes_and_puts : List (List (Option Entry × Option Entry))
+entries_of_takes_and_puts =
+    map lawful
+    (Answered (Value 10) ∷ Answered (Value 20) ∷ Answered Stored ∷ Answered Stored ∷ Answered Stored ∷ Answered Clash
+    ∷ Answered Clash ∷ Answered Clash ∷ []) ∷ []
+
+-- the entries of the block that is reset: those before the reset are of a life of their own
+abbrev pub entries_of_block_reset : List (List (Option Entry × Option Entry))
+entries_of_block_reset =
+    (unsaid (Answered Stored) ∷ unsaid (Answered Clash) ∷ [])
+    ∷ (lawful (Answered (Value 6)) ∷ unsaid (Answered StillWaiting) ∷ unsaid (Answered Stored)
+    ∷ unsaid (Answered NoBlock) ∷ []) ∷ []

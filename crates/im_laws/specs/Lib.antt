@@ -4,6 +4,7 @@ pub mod Cells
 pub mod Windows
 pub mod Requests
 pub mod Entries
+pub mod Waiters
 pub mod Traces
 pub mod Examples
 pub mod Groups

@@ -1,5 +1,6 @@
 -- Windows over time: bounds that never go back, and numbers that are dropped for good. (Own.)
-use Rattle.std.specs.Prelude.{◌≡◌, ◌≢◌, false, ℕ, ◌+◌, ◌<◌, ◌≤◌, List, Result, Ok, Some, slice_get}
+use Rattle.std.specs.Prelude.{◌≡◌, ◌≢◌, true, false, ℕ, ◌+◌, ◌<◌, ◌≤◌, List, Result, Ok, None, Some, slice_get}
+use Rattle.std.specs.Prelude.{if◌then◌else◌}
 use Rattle.im_types.specs.declared.TheConstants.{WINDOW, LAST}
 use Rattle.im_types.specs.declared.operations.Waiter.{Waiter}
 use Rattle.im_types.specs.declared.operations.Kept.{Kept}
@@ -9,6 +10,7 @@ use Rattle.im_types.specs.declared.refusals.Refusal.{Refusal}
 use Rattle.im_types.specs.Contents.{Window, Contents, kept_for}
 use Rattle.im_types.specs.Window.{is_waiting, bounds}
 use Rattle.im_types.specs.Step.{step}
+use Rattle.im_types.specs.Agreement.{drops}
 
 -- the number was confirmed: it lies below the base of its element's window
 pub record IsForgotten (windows : List Window) (who : Waiter) : Type 0 where
@@ -60,3 +62,21 @@ pub record IsConfirmable (windows : List Window) (element upto : ℕ) : Type 0 w
   pub answered : (number : ℕ) (k : Kept) → number < upto
       → kept_for windows (record { element = element; number = number }) ≡ Some k
       → is_waiting k ≡ false
+
+-- this number isn't past the next one of the element's window, and an entry below it waits
+pub record WaitsBelow (windows : List Window) (element upto : ℕ) : Type 0 where
+  pub base : ℕ
+  pub next : ℕ
+  pub are : bounds windows element ≡ Ok (base, next)
+  pub reached : upto ≤ next
+  pub number : ℕ
+  pub kept : Kept
+  pub below : number < upto
+  pub is : kept_for windows (record { element = element; number = number }) ≡ Some kept
+  pub waits : is_waiting kept ≡ true
+
+-- the confirmation drops the entries below its number, and leaves all others
+abbrev pub DropsEntries : Contents → ℕ → ℕ → Type 0
+DropsEntries m element upto =
+    (who : Waiter) → kept_for (step m (Confirm element upto)).contents.windows who
+    ≡ (if drops (Confirm element upto) who then None else kept_for m.windows who)

@@ -1,18 +1,17 @@
 //! Blocks.
-ghost use Rattle.std.specs.Prelude.{◌≡◌, ℕ, ◌+◌, ◌<◌, ◌≤◌, [], List, Option};
+ghost use Rattle.std.specs.Prelude.{◌≡◌, ℕ, [], List, Option};
 ghost use Rattle.std.specs.Bool.{IsFalse};
 ghost use Rattle.im_types.specs.declared.operations.Op.TheVariants.{Alloc, Release, Reset};
 ghost use Rattle.im_types.specs.declared.operations.Kind.{Kind};
 ghost use Rattle.im_types.specs.declared.operations.Reply.TheVariants.{Base, Cleared, NoSpace, Released};
 ghost use Rattle.im_types.specs.declared.operations.Entry.TheVariants.{Answered};
-ghost use Rattle.im_types.specs.declared.operations.Block.{Block};
 ghost use Rattle.im_types.specs.declared.commands.Request.{Request};
 ghost use Rattle.im_types.specs.declared.commands.Command.{Command};
-ghost use Rattle.im_types.specs.Contents.{Held, Contents, held_at, waiters_at, block_at, HasBlocks};
+ghost use Rattle.im_types.specs.Contents.{Held, Contents, held_at, waiters_at, HasBlocks};
 ghost use Rattle.im_types.specs.Place.{is_free, IsLeastFree};
 ghost use Rattle.im_types.specs.Step.{step};
 ghost use Rattle.im_types.specs.Run.{after};
-ghost use Rattle.im_laws.specs.Blocks.{LiesIn};
+ghost use Rattle.im_laws.specs.Blocks.{BlocksAreApart, HasEmptyBlock, EachCellOf};
 ghost use Rattle.im_laws.specs.Cells.{empty_cell};
 ghost use Rattle.im_laws.specs.Requests.{after_request, IsServed};
 
@@ -26,10 +25,7 @@ pub fn blocks_stay_whole()
 
 /// Two blocks that share an address are one block.
 pub fn blocks_are_apart()
-    ensures { (cells : List (Option Held)) → HasBlocks cells
-        → (a b shared : ℕ) (first second : Block) → block_at cells a ≡ Some first
-        → block_at cells b ≡ Some second → LiesIn shared first → LiesIn shared second
-        → first ≡ second }
+    ensures { (cells : List (Option Held)) → HasBlocks cells → BlocksAreApart cells }
 {}
 
 /// A new request that is answered with a base has the least free base. From there on its block's cells follow, all
@@ -37,32 +33,29 @@ pub fn blocks_are_apart()
 pub fn allocation_takes_the_least_place()
     ensures least { (m : Contents) (r : Request) (kind : Kind) (n base : ℕ)
         → IsServed m r (Alloc kind n) (Answered (Base base)) → IsLeastFree m.cells n base }
-    ensures made { (m : Contents) (r : Request) (kind : Kind) (n base a : ℕ)
-        → IsServed m r (Alloc kind n) (Answered (Base base)) → base ≤ a → a < base + n
-        → held_at (after_request m r).cells a
-        ≡ Some (empty_cell (record { base = base; length = n; kind = kind })) }
+    ensures made { (m : Contents) (r : Request) (kind : Kind) (n base : ℕ)
+        → IsServed m r (Alloc kind n) (Answered (Base base))
+        → HasEmptyBlock (after_request m r).cells (record { base = base; length = n; kind = kind }) }
     ensures no_space { (m : Contents) (r : Request) (kind : Kind) (n base : ℕ)
         → IsServed m r (Alloc kind n) (Answered NoSpace) → IsFalse (is_free m.cells base n) }
 {}
 
 /// A new release that succeeds frees each cell of the block with that base. No request waited for any of them.
 pub fn release_frees_the_block()
-    ensures freed { (m : Contents) (r : Request) (a b : ℕ) (block : Block)
+    ensures freed { (m : Contents) (r : Request) (a : ℕ)
         → HasBlocks m.cells → IsServed m r (Release a) (Answered Released)
-        → block_at m.cells b ≡ Some block → block.base ≡ a
-        → held_at (after_request m r).cells b ≡ None }
-    ensures nobody { (m : Contents) (r : Request) (a b : ℕ) (block : Block)
+        → EachCellOf m.cells a (λ b block. held_at (after_request m r).cells b ≡ None) }
+    ensures nobody { (m : Contents) (r : Request) (a : ℕ)
         → HasBlocks m.cells → IsServed m r (Release a) (Answered Released)
-        → block_at m.cells b ≡ Some block → block.base ≡ a → waiters_at m.cells b ≡ [] }
+        → EachCellOf m.cells a (λ b block. waiters_at m.cells b ≡ []) }
 {}
 
 /// A new reset that succeeds empties each cell of the block with that base. No request waited for any of them.
 pub fn reset_empties_the_block()
-    ensures emptied { (m : Contents) (r : Request) (a b : ℕ) (block : Block)
+    ensures emptied { (m : Contents) (r : Request) (a : ℕ)
         → HasBlocks m.cells → IsServed m r (Reset a) (Answered Cleared)
-        → block_at m.cells b ≡ Some block → block.base ≡ a
-        → held_at (after_request m r).cells b ≡ Some (empty_cell block) }
-    ensures nobody { (m : Contents) (r : Request) (a b : ℕ) (block : Block)
+        → EachCellOf m.cells a (λ b block. held_at (after_request m r).cells b ≡ Some (empty_cell block)) }
+    ensures nobody { (m : Contents) (r : Request) (a : ℕ)
         → HasBlocks m.cells → IsServed m r (Reset a) (Answered Cleared)
-        → block_at m.cells b ≡ Some block → block.base ≡ a → waiters_at m.cells b ≡ [] }
+        → EachCellOf m.cells a (λ b block. waiters_at m.cells b ≡ []) }
 {}

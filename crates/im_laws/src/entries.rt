@@ -1,7 +1,6 @@
 //! The entries that are kept for requests.
-ghost use Rattle.std.specs.Prelude.{◌≡◌, ◌⊎◌, List, IsTrue};
+ghost use Rattle.std.specs.Prelude.{◌≡◌, List, IsTrue};
 ghost use Rattle.std.specs.Bool.{IsFalse};
-ghost use Rattle.std.specs.List.{list_any};
 ghost use Rattle.im_types.specs.declared.operations.Entry.{Entry};
 ghost use Rattle.im_types.specs.declared.operations.Waiter.{Waiter};
 ghost use Rattle.im_types.specs.declared.operations.Kept.{Kept};
@@ -11,11 +10,11 @@ ghost use Rattle.im_types.specs.declared.commands.Command.TheVariants.{Request a
 ghost use Rattle.im_types.specs.Contents.{Contents, kept_for};
 ghost use Rattle.im_types.specs.Window.{is_waiting, ask};
 ghost use Rattle.im_types.specs.Step.{asker, step, is_accepted};
-ghost use Rattle.im_types.specs.Run.{after, accepted};
-ghost use Rattle.im_types.specs.Agreement.{StaysOrIsAnswered, KeepsEntries, drops, WaitingAgrees};
-ghost use Rattle.im_laws.specs.Windows.{IsForgotten};
+ghost use Rattle.im_types.specs.Run.{after};
+ghost use Rattle.im_types.specs.Agreement.{StaysOrIsAnswered, KeepsEntries, WaitingAgrees};
 ghost use Rattle.im_laws.specs.Requests.{after_request, IsAnswered};
-ghost use Rattle.im_laws.specs.Entries.{LastsOrIsForgotten, IsToldAgainOrForgotten};
+ghost use Rattle.im_laws.specs.Entries.{IsKeptFor, NoneDrops, LastsOrIsForgotten, IsKeptOrForgotten};
+ghost use Rattle.im_laws.specs.Entries.{IsToldAgainOrForgotten};
 
 /// The entry of a request stays kept until it is confirmed. Only a waiting entry may change, to an answer. An answered
 /// entry never changes.
@@ -23,16 +22,12 @@ pub fn entry_lasts()
     ensures step { (m : Contents) (command : Command) → WaitingAgrees m
         → KeepsEntries m command (step m command).contents }
     ensures run { (m : Contents) (commands : List Command) (who : Waiter) (k : Kept)
-        → WaitingAgrees m → kept_for m.windows who ≡ Some k
-        → LastsOrIsForgotten (after m commands) who k }
+        → IsKeptFor m who k → LastsOrIsForgotten (after m commands) who k }
     ensures unconfirmed { (m : Contents) (commands : List Command) (who : Waiter) (k : Kept)
-        → WaitingAgrees m → kept_for m.windows who ≡ Some k
-        → IsFalse (list_any (λ command. drops command who) (accepted m commands))
+        → IsKeptFor m who k → NoneDrops m commands who
         → StaysOrIsAnswered k (kept_for (after m commands).windows who) }
     ensures answered { (m : Contents) (commands : List Command) (who : Waiter) (k : Kept)
-        → WaitingAgrees m → kept_for m.windows who ≡ Some k → IsFalse (is_waiting k)
-        → IsForgotten (after m commands).windows who
-        ⊎ (kept_for (after m commands).windows who ≡ Some k) }
+        → IsKeptFor m who k → IsFalse (is_waiting k) → IsKeptOrForgotten (after m commands) who k }
 {}
 
 /// Right after a request is answered, its kept entry is the entry that it was answered with.

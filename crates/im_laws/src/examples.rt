@@ -1,7 +1,7 @@
 //! Worked traces. The definitions compute each answer.
 ghost use Rattle.std.specs.Prelude.{◌≡◌, [], ◌∷◌, length, take};
 ghost use Rattle.im_types.specs.declared.operations.Kind.TheVariants.{I, M};
-ghost use Rattle.im_types.specs.declared.operations.Reply.TheVariants.{Value, Stored, Clash, NoBlock, StillWaiting};
+ghost use Rattle.im_types.specs.declared.operations.Reply.TheVariants.{Value, Stored, Clash};
 ghost use Rattle.im_types.specs.declared.operations.Entry.TheVariants.{Waiting, Answered};
 ghost use Rattle.im_types.specs.Contents.{Empty, Full, Clashed, held_at, waiters_at};
 ghost use Rattle.im_types.specs.Run.{accepted};
@@ -11,7 +11,7 @@ ghost use Rattle.im_laws.specs.Examples.{sixteen_cells, one_cell, waiter, three_
 ghost use Rattle.im_laws.specs.Examples.{three_takers, second_put, edges, least_hole, waiting_block, sent_again};
 ghost use Rattle.im_laws.specs.Examples.{full_window, least_memory, fetches, takes_and_puts, two_lives, block_reset};
 ghost use Rattle.im_laws.specs.Examples.{in_lives};
-ghost use Rattle.im_laws.specs.Examples.{lawful, unsaid};
+ghost use Rattle.im_laws.specs.Examples.{lawful, unsaid, entries_of_takes_and_puts, entries_of_block_reset};
 
 /// Three readers wait in the order of their arrival, and one store answers all of them.
 pub fn readers_wait_for_one_store()
@@ -91,10 +91,7 @@ pub fn fetches_have_the_first_value()
 /// The matching law, worked. Each take has the value of its put, until a put comes that finds the cell full.
 pub fn takes_match_puts()
     ensures legal { IsLegal sixteen_cells takes_and_puts }
-    ensures law { in_lives sixteen_cells (commands_of takes_and_puts) 0
-        ≡ (lawful (Answered (Value 10)) ∷ lawful (Answered (Value 20)) ∷ lawful (Answered Stored)
-        ∷ lawful (Answered Stored) ∷ lawful (Answered Stored) ∷ lawful (Answered Clash)
-        ∷ lawful (Answered Clash) ∷ lawful (Answered Clash) ∷ []) ∷ [] }
+    ensures law { in_lives sixteen_cells (commands_of takes_and_puts) 0 ≡ entries_of_takes_and_puts }
 {}
 
 /// Two blocks that had one address in turn have a life each. An entry that was dropped counts as it was last.
@@ -109,8 +106,5 @@ pub fn lives_are_apart()
 /// its own life. A block that a request waits for isn't reset, and an address inside a block resets nothing.
 pub fn a_reset_begins_a_life()
     ensures legal { IsLegal sixteen_cells block_reset }
-    ensures law { in_lives sixteen_cells (commands_of block_reset) 0
-        ≡ (unsaid (Answered Stored) ∷ unsaid (Answered Clash) ∷ [])
-        ∷ (lawful (Answered (Value 6)) ∷ unsaid (Answered StillWaiting) ∷ unsaid (Answered Stored)
-        ∷ unsaid (Answered NoBlock) ∷ []) ∷ [] }
+    ensures law { in_lives sixteen_cells (commands_of block_reset) 0 ≡ entries_of_block_reset }
 {}

@@ -2,14 +2,14 @@
 ghost use Rattle.std.specs.Prelude.{◌≡◌, ℕ, ◌++◌, ◌∷◌, [], List};
 ghost use Rattle.im_types.specs.declared.operations.Op.{Op};
 ghost use Rattle.im_types.specs.declared.operations.Op.TheVariants.{Fetch, Store, Take, Put};
-ghost use Rattle.im_types.specs.declared.operations.Reply.TheVariants.{Value};
-ghost use Rattle.im_types.specs.declared.operations.Entry.TheVariants.{Waiting, Answered};
+ghost use Rattle.im_types.specs.declared.operations.Entry.TheVariants.{Waiting};
 ghost use Rattle.im_types.specs.declared.operations.Waiter.{Waiter};
 ghost use Rattle.im_types.specs.declared.commands.Request.{Request};
-ghost use Rattle.im_types.specs.Contents.{Contents, waiters_at, kept_for};
+ghost use Rattle.im_types.specs.Contents.{Contents, waiters_at};
 ghost use Rattle.im_types.specs.Step.{asker};
 ghost use Rattle.im_types.specs.Agreement.{address_of, WaitingAgrees};
 ghost use Rattle.im_laws.specs.Requests.{after_request, IsNew, IsServed};
+ghost use Rattle.im_laws.specs.Waiters.{WaitsWith, HasValue, TakersWait};
 
 /// A new request that is told to wait stands behind all requests that wait at its cell.
 pub fn later_request_waits_behind()
@@ -22,22 +22,15 @@ pub fn later_request_waits_behind()
 pub fn store_answers_every_reader()
     ensures { (m : Contents) (r : Request) (a v : ℕ) (reader : Waiter)
         → WaitingAgrees m → IsNew m r (Store a v)
-        → kept_for m.windows reader ≡ Some (record { op = Fetch a; entry = Waiting })
-        → kept_for (after_request m r).windows reader
-        ≡ Some (record { op = Fetch a; entry = Answered (Value v) }) }
+        → WaitsWith m reader (Fetch a) → HasValue (after_request m r) reader (Fetch a) v }
 {}
 
 /// A new put answers the first take that waits for its cell, with the put's value. The others wait on in their order.
 pub fn put_answers_the_first_taker()
     ensures answered { (m : Contents) (r : Request) (a v : ℕ) (first : Waiter)
         (others : List Waiter) → WaitingAgrees m → IsNew m r (Put a v)
-        → waiters_at m.cells a ≡ first ∷ others
-        → kept_for m.windows first ≡ Some (record { op = Take a; entry = Waiting })
-        → kept_for (after_request m r).windows first
-        ≡ Some (record { op = Take a; entry = Answered (Value v) }) }
+        → TakersWait m a first others → HasValue (after_request m r) first (Take a) v }
     ensures others { (m : Contents) (r : Request) (a v : ℕ) (first : Waiter)
         (rest : List Waiter) → WaitingAgrees m → IsNew m r (Put a v)
-        → waiters_at m.cells a ≡ first ∷ rest
-        → kept_for m.windows first ≡ Some (record { op = Take a; entry = Waiting })
-        → waiters_at (after_request m r).cells a ≡ rest }
+        → TakersWait m a first rest → waiters_at (after_request m r).cells a ≡ rest }
 {}

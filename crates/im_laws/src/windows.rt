@@ -1,5 +1,5 @@
 //! Windows of request numbers.
-ghost use Rattle.std.specs.Prelude.{◌≡◌, ◌↔◌, ◌⊎◌, ℕ, ◌+◌, ◌<◌, ◌≤◌, List, IsTrue, IsErr, if◌then◌else◌};
+ghost use Rattle.std.specs.Prelude.{◌≡◌, ◌↔◌, ◌⊎◌, ℕ, ◌+◌, ◌<◌, ◌≤◌, List, IsTrue, IsErr};
 ghost use Rattle.im_types.specs.declared.operations.Waiter.{Waiter};
 ghost use Rattle.im_types.specs.declared.operations.Kept.{Kept};
 ghost use Rattle.im_types.specs.declared.commands.Request.{Request};
@@ -10,12 +10,11 @@ ghost use Rattle.im_types.specs.declared.refusals.Refusal.TheVariants.{Gap, Forg
 ghost use Rattle.im_types.specs.declared.refusals.Refusal.TheVariants.{NotAnswered};
 ghost use Rattle.im_types.specs.declared.TheConstants.{WINDOW, LAST};
 ghost use Rattle.im_types.specs.Contents.{Window, Contents, kept_for};
-ghost use Rattle.im_types.specs.Window.{is_waiting, ask, bounds};
+ghost use Rattle.im_types.specs.Window.{ask, bounds};
 ghost use Rattle.im_types.specs.Step.{asker, step, is_accepted};
 ghost use Rattle.im_types.specs.Run.{after};
-ghost use Rattle.im_types.specs.Agreement.{drops};
 ghost use Rattle.im_laws.specs.Windows.{IsForgotten, AreNoLess, TakesNextNumber, MovesBase, IsNextRequest};
-ghost use Rattle.im_laws.specs.Windows.{IsConfirmable};
+ghost use Rattle.im_laws.specs.Windows.{IsConfirmable, DropsEntries, WaitsBelow};
 ghost use Rattle.im_laws.specs.Entries.{IsRefused};
 
 /// An accepted request takes its element's next number, and moves no other bound of a window.
@@ -60,10 +59,8 @@ pub fn confirmations_drop_what_is_answered()
     ensures confirmed { (m : Contents) (element upto : ℕ)
         → ((step m (Confirm element upto)).answer ≡ Ok Confirmed)
         ↔ IsConfirmable m.windows element upto }
-    ensures dropped { (m : Contents) (element upto : ℕ) (who : Waiter)
-        → (step m (Confirm element upto)).answer ≡ Ok Confirmed
-        → kept_for (step m (Confirm element upto)).contents.windows who
-        ≡ (if drops (Confirm element upto) who then None else kept_for m.windows who) }
+    ensures dropped { (m : Contents) (element upto : ℕ)
+        → (step m (Confirm element upto)).answer ≡ Ok Confirmed → DropsEntries m element upto }
     ensures cells { (m : Contents) (element upto : ℕ)
         → (step m (Confirm element upto)).contents.cells ≡ m.cells }
     ensures no_element { (m : Contents) (element upto : ℕ) → IsErr (bounds m.windows element)
@@ -71,10 +68,8 @@ pub fn confirmations_drop_what_is_answered()
     ensures gap { (m : Contents) (element upto base next : ℕ)
         → bounds m.windows element ≡ Ok (base, next) → next < upto
         → (step m (Confirm element upto)).answer ≡ Err Gap }
-    ensures waits { (m : Contents) (element upto base next number : ℕ) (k : Kept)
-        → bounds m.windows element ≡ Ok (base, next) → upto ≤ next → number < upto
-        → kept_for m.windows (record { element = element; number = number }) ≡ Some k
-        → IsTrue (is_waiting k) → (step m (Confirm element upto)).answer ≡ Err NotAnswered }
+    ensures waits { (m : Contents) (element upto : ℕ) → WaitsBelow m.windows element upto
+        → (step m (Confirm element upto)).answer ≡ Err NotAnswered }
 {}
 
 /// An entry is kept for exactly the numbers within the window's bounds, and a question for it is answered with that

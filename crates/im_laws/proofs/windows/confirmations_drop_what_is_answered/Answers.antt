@@ -6,7 +6,7 @@ pub returns-clause-confirmed : goal.returns-clause-confirmed
 returns-clause-confirmed c = λ m element upto. (confirmed-confirmable m element upto, step-confirmed m element upto)
 
 pub returns-clause-dropped : goal.returns-clause-dropped
-returns-clause-dropped c = kept_for-confirmed
+returns-clause-dropped c = λ m element upto confirmed who. kept_for-confirmed m element upto who confirmed
 
 pub returns-clause-cells : goal.returns-clause-cells
 returns-clause-cells c = confirm-cells
@@ -18,4 +18,5 @@ pub returns-clause-gap : goal.returns-clause-gap
 returns-clause-gap c = confirm-gap
 
 pub returns-clause-waits : goal.returns-clause-waits
-returns-clause-waits c = confirm-waits
+returns-clause-waits c = λ m element upto w.
+    confirm-waits m element upto w.base w.next w.number w.kept w.are w.reached w.below w.is w.waits
