@@ -3,7 +3,7 @@
 //! questions and confirmations between them.
 #![tactic(auto)]
 
-ghost use Rattle.std.specs.Prelude.{◌≡◌, ◌↔◌, ◌++◌, ◌∷◌, [], List, None, Some, Ok};
+ghost use Rattle.std.specs.Prelude.{◌≡◌, ◌↔◌, ◌++◌, ◌∷◌, [], List, None, Some};
 ghost use Rattle.std.specs.List.{AllByRecursion};
 ghost use Rattle.im_types.specs.declared.operations.Reply.TheVariants.{Value, Stored, NoCell};
 ghost use Rattle.im_types.specs.declared.operations.Entry.{Entry};
@@ -14,13 +14,11 @@ ghost use Rattle.im_types.specs.declared.commands.Outcome.TheVariants.{Entry as 
 ghost use Rattle.im_types.specs.declared.commands.Call.TheVariants.{Command as Commands};
 ghost use Rattle.im_types.specs.declared.commands.Line.{Line};
 ghost use Rattle.im_types.specs.Contents.{Contents};
-ghost use Rattle.im_types.specs.Window.{ask};
-ghost use Rattle.im_types.specs.Step.{asker};
 ghost use Rattle.im_types.specs.Trace.{IsLegal, end_of};
 ghost use Rattle.im_types.specs.Plan.{result_of};
 ghost use Rattle.im_plans.specs.Example.{two_cells, a_plan, results_of};
-ghost use Rattle.im_plans.specs.Runs.{Starts, IsInPlan, IsPlannedCall, IsPlannedRun, IsResultOrWaits, TellsResults};
-ghost use Rattle.im_plans.specs.Runs.{HasServed, entry_for};
+ghost use Rattle.im_plans.specs.Runs.{Starts, IsPlannedCall, IsPlannedRun, EndsWith, IsResultOrWaits, TellsResults};
+ghost use Rattle.im_plans.specs.Runs.{HasServed, end_entry};
 
 /// Each answer to a planned request in a legal planned run is the request's result by the plan, which names no order.
 /// This holds for the answer at once, the answer when it is sent again, and the answer when its entry is collected. It
@@ -32,16 +30,14 @@ pub fn planned_answers_are_results()
         → Starts m plan → IsLegal m (trace ++ line ∷ []) → IsPlannedRun plan (trace ++ line ∷ [])
         → TellsResults m plan line }
     ensures kept { (m : Contents) (plan : List Request) (trace : List Line) (r : Request)
-        (entry : Entry) → Starts m plan → IsPlannedRun plan trace → IsInPlan plan r
-        → ask (end_of m trace).windows (asker r) ≡ Ok entry
+        (entry : Entry) → EndsWith m plan trace r entry
         → IsResultOrWaits (result_of m.cells plan r.op) entry }
 {}
 
 /// A fetch of an I cell that the plan doesn't store to stays waiting.
 pub fn fetch_with_no_store_waits()
     ensures { (m : Contents) (plan : List Request) (trace : List Line) (r : Request)
-        (entry : Entry) → Starts m plan → IsPlannedRun plan trace → IsInPlan plan r
-        → result_of m.cells plan r.op ≡ None → ask (end_of m trace).windows (asker r) ≡ Ok entry
+        (entry : Entry) → EndsWith m plan trace r entry → result_of m.cells plan r.op ≡ None
         → entry ≡ Waiting }
 {}
 
@@ -49,10 +45,8 @@ pub fn fetch_with_no_store_waits()
 /// its requests. It is the request's result, or Waiting if there is no result.
 pub fn served_plan_has_one_end()
     ensures { (m : Contents) (plan : List Request) (trace : List Line) (r : Request)
-        (entry : Entry) → Starts m plan → IsPlannedRun plan trace
-        → HasServed (end_of m trace).windows plan → IsInPlan plan r
-        → ask (end_of m trace).windows (asker r) ≡ Ok entry
-        → entry ≡ entry_for (result_of m.cells plan r.op) }
+        (entry : Entry) → EndsWith m plan trace r entry → HasServed (end_of m trace).windows plan
+        → entry ≡ end_entry m plan r }
 {}
 
 /// A planned run with one more line is planned if and only if that line is.
