@@ -94,6 +94,10 @@ longer_tail count commands t = record {
   room = room_after count (length commands) t.room;
 }
 
+-- the journal's run may begin anew at this sequence number: no group goes on behind the commands before it
+abbrev pub MayBeginAt : JournalState → ℕ → List ℕ → Type 0
+MayBeginAt j first file = IsBoundary j.ring j.first (first - j.first) file
+
 -- a run may begin anew in the second file wherever it may in the first
 abbrev pub KeepsBoundaries : Ring → ℕ → List ℕ → List ℕ → Type 0
 KeepsBoundaries ring first c d = (k : ℕ) → IsBoundary ring first k c → IsBoundary ring first k d

@@ -2,11 +2,11 @@
 //! commands before the run become room again.
 ghost use Rattle.std.specs.Prelude.{◌≡◌, ◌⊎◌, ◌+◌, ◌*◌, ◌-◌, ◌≤◌, ◌<◌, List, [], ◌∷◌, ℕ, length, drop, min, Some, None};
 ghost use Rattle.std.specs.Prelude.{◌&&◌, nat_le, OnOk, IfOk, IfErr, MatchResult};
-ghost use Rattle.im_types.specs.Journal.{IsBoundary, tail};
+ghost use Rattle.im_types.specs.Journal.{tail};
 ghost use Rattle.im_disk.specs.Runs.{RunsOrRefuses, ReadsOrRefuses};
 ghost use Rattle.im_disk.specs.Since.{Calls};
 ghost use Rattle.im_journal.specs.Holding.{ring_in, ring_under, IsJournal, Holds, AllHold, AreClosed, IsTail};
-ghost use Rattle.im_journal.specs.Holding.{room_after, longer, rest_behind, MayAppend, Adds, IsFullBy};
+ghost use Rattle.im_journal.specs.Holding.{room_after, longer, MayBeginAt, rest_behind, MayAppend, Adds, IsFullBy};
 ghost use Rattle.im_journal.specs.Holding.{to_sweep, MaySweep, IsSwept, IsSweptBy, Sweeps};
 
 use crate::bytes::read_bytes;
@@ -176,11 +176,9 @@ impl Journal {
         requires later { self.old.first ≤ first }
         requires counted { first ≤ self.old.count }
         ensures state { self.new ≡ record self.old { first = first } }
-        ensures holds { (file : List ℕ) → Holds self.old file
-            → IsBoundary self.old.ring self.old.first (first - self.old.first) file → Holds self.new file }
+        ensures holds { (file : List ℕ) → Holds self.old file → MayBeginAt self.old first file → Holds self.new file }
         // The commands that are left of the run.
-        ensures tail { (file : List ℕ) → (held : Holds self.old file)
-            → IsBoundary self.old.ring self.old.first (first - self.old.first) file
+        ensures tail { (file : List ℕ) → (held : Holds self.old file) → MayBeginAt self.old first file
             → tail self.old.ring first file ≡ Some (rest_behind (first - self.old.first) held) }
     {
         self.first = first;
