@@ -1,12 +1,13 @@
 -- The parts of an image: which header is in force, what its pages show, what its journal has. (Own.)
-use Rattle.std.specs.Prelude.{◌≡◌, ◌⊎◌, ℕ, ◌+◌, ◌-◌, ◌<◌, ◌≤◌, List, length, true, false, Some, slice_range}
+use Rattle.std.specs.Prelude.{◌≡◌, ◌⊎◌, ℕ, ◌+◌, ◌*◌, ◌-◌, ◌<◌, ◌≤◌, List, length, drop, true, false, Some}
+use Rattle.std.specs.Prelude.{slice_range}
 use Rattle.im_types.specs.declared.commands.Command.{Command}
 use Rattle.im_types.specs.Contents.{Contents}
-use Rattle.im_types.specs.Layout.{Layout, image_length, area_of, ring_of}
+use Rattle.im_types.specs.Layout.{Layout, image_length, area_at, area_bytes, area_of, ring_of}
 use Rattle.im_types.specs.Header.{Header, header_in, header_place, header_body, is_open_header, is_header}
 use Rattle.im_types.specs.Header.{generation_in, spells_header}
 use Rattle.im_formats.specs.Fitting.{FitsHeader}
-use Rattle.im_types.specs.Journal.{tail}
+use Rattle.im_types.specs.Journal.{IsBoundary, tail}
 use Rattle.im_types.specs.Pages.{Shows}
 use Rattle.im_types.specs.Meaning.{Reached, accept_in}
 
@@ -34,6 +35,22 @@ pub record IsImage (l : Layout) (h : Header) (shown : Contents) (commands : List
   pub shows : Shows l h.sizes (area_of l h.sizes h.area file) shown
   pub journal : tail (ring_of l h.sizes) h.count file ≡ Some (record { commands = commands; room = room })
 
+-- whatever image of this header the first file is, the second one is too
+abbrev pub KeepsImage : Layout → Header → List ℕ → List ℕ → Type 0
+KeepsImage l h c d =
+    (shown : Contents) (commands : List Command) (room : ℕ) → IsImage l h shown commands room c
+    → IsImage l h shown commands room d
+
+-- n bytes at this offset lie in the area that isn't in force
+pub record LieInOtherArea (l : Layout) (h : Header) (at n : ℕ) : Type 0 where
+  pub from : area_at l h.sizes (other h) ≤ at
+  pub to : at + n ≤ area_at l h.sizes (other h) + area_bytes l h.sizes
+
+-- n bytes at this offset lie in the other header, behind its gate
+pub record LieBehindOtherGate (h : Header) (at n : ℕ) : Type 0 where
+  pub from : 4096 * other h + 1 ≤ at
+  pub to : at + n ≤ 4096 * other h + 64
+
 -- a header that may follow this one: of the other area, of a later generation, and within its bounds
 pub record Follows (l : Layout) (h next : Header) : Type 0 where
   pub area : next.area ≡ other h
@@ -56,3 +73,26 @@ pub record IsRead (l : Layout) (file : List ℕ) (reached : Reached) : Type 0 wh
   pub image : IsImage l header shown commands reached.room file
   pub accepts : accept_in l shown commands ≡ Some reached.contents
   pub count : reached.count ≡ header.count + length commands
+
+-- The file is an image, and the next header is prepared in it. That header's area holds k more of the journal's
+-- commands, and no group goes on behind them.
+pub record Turnover (l : Layout) (h next : Header) (file : List ℕ) : Type 0 where
+  pub shown : Contents
+  pub after : Contents
+  pub commands : List Command
+  pub room : ℕ
+  pub k : ℕ
+  pub image : IsImage l h shown commands room file
+  pub some : 0 < h.sizes.slots
+  pub follows : Follows l h next
+  pub prepared : IsPrepared l h next after file
+  pub count : next.count ≡ h.count + k
+  pub boundary : IsBoundary (ring_of l h.sizes) h.count k file
+
+-- the header in force stays, and so does its image
+abbrev pub StaysInForce : (l : Layout) (h next : Header) (c : List ℕ) → Turnover l h next c → List ℕ → Type 0
+StaysInForce l h next c t d = IsImage l h t.shown t.commands t.room d
+
+-- the next header is in force, and the commands that its area holds are no longer in the journal
+abbrev pub IsTurned : (l : Layout) (h next : Header) (c : List ℕ) → Turnover l h next c → List ℕ → Type 0
+IsTurned l h next c t d = IsImage l next t.after (drop t.k t.commands) t.room d

@@ -1,7 +1,7 @@
 -- A journal after writes to the gates of stale slots. (Own.)
-use Rattle.std.specs.Prelude.{◌≡◌, ℕ, ◌+◌, ◌-◌, ◌<◌, ◌≤◌, List, false}
+use Rattle.std.specs.Prelude.{◌≡◌, ℕ, ◌+◌, ◌-◌, ◌<◌, ◌≤◌, List, length, false, Some}
 use Rattle.im_types.specs.Slot.{is_open, sequence_of}
-use Rattle.im_types.specs.Journal.{Ring, slot}
+use Rattle.im_types.specs.Journal.{Ring, slot, Tail, tail}
 
 -- A run of n slots is the same in both files. In the second one, the gates of the known room behind it are closed, and
 -- each slot behind those is of a command before the run.
@@ -10,3 +10,14 @@ pub record HasStaleRest (r : Ring) (first n known : ℕ) (c d : List ℕ) : Type
   pub inside : known ≤ r.slots - n
   pub shut : (j : ℕ) → j < known → is_open (slot r (first + n + j) d) ≡ false
   pub stale : (j : ℕ) → known ≤ j → j < r.slots - n → sequence_of (slot r (first + n + j) d) < first
+
+-- the first file has this tail, and behind its run the second one has the known room and stale slots alone
+pub record IsTailSwept (r : Ring) (first known : ℕ) (t : Tail) (c d : List ℕ) : Type 0 where
+  pub reads : tail r first c ≡ Some t
+  pub rest : HasStaleRest r first (length t.commands) known c d
+
+-- each slot behind the tail's room is of a command before the run
+abbrev pub IsStaleBehind : Ring → ℕ → Tail → List ℕ → Type 0
+IsStaleBehind r first t file =
+    (k : ℕ) → t.room ≤ k → k < r.slots - length t.commands
+    → sequence_of (slot r (first + length t.commands + k) file) < first

@@ -3,4 +3,6 @@ use Rattle.im_meaning.proofs.Writes.{write_behind_closed_gate}
 use Rattle.im_meaning.proofs.closed_headers_are_not_read.Goals as goal
 
 pub returns : goal.returns
-returns c = λ l h shown commands room file next at n it but some from to closed. write_behind_closed_gate l h shown commands room file next at n it but some (omega (arith, from)) to from closed
+returns c = λ l h file next at n but some lie closed shown commands room it.
+    write_behind_closed_gate l h shown commands room file next at n it but some (omega (arith, lie.from)) lie.to
+    lie.from closed

@@ -4,4 +4,6 @@ use Rattle.im_meaning.proofs.Writes.{write_lower_gate}
 use Rattle.im_meaning.proofs.lower_gates_may_be_anything.Goals as goal
 
 pub returns : goal.returns
-returns c = λ l h shown commands room file next it but some lower. write_lower_gate l h shown commands room file next (4096 * other h) 1 it but some (omega arith) (omega arith) (omega arith) lower
+returns c = λ l h file next but some lower shown commands room it.
+    write_lower_gate l h shown commands room file next (4096 * other h) 1 it but some
+    (omega arith) (omega arith) (omega arith) lower

@@ -2,4 +2,4 @@ use Rattle.im_journal.proofs.Sweeps.{behind_of}
 use Rattle.im_meaning.proofs.slots_behind_the_room_are_stale.Goals as goal
 
 pub returns : goal.returns
-returns c = λ r first file commands room e low k from to. behind_of r first file commands room e low k from to
+returns c = λ r first file t e low k from to. behind_of r first file t.commands t.room e low k from to

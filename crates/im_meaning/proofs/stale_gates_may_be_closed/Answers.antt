@@ -2,10 +2,14 @@ use Rattle.im_journal.proofs.Sweeps.{tail_swept, boundaries_swept, no_less}
 use Rattle.im_meaning.proofs.stale_gates_may_be_closed.Goals as goal
 
 pub returns-clause-tail : goal.returns-clause-tail
-returns-clause-tail c = λ r first file written commands room known e it. tail_swept r first file written commands room e known it.same it.inside it.shut it.stale
+returns-clause-tail c = λ r first known t file written it.
+    tail_swept r first file written t.commands t.room it.reads known it.rest.same it.rest.inside it.rest.shut it.rest.stale
 
 pub returns-clause-room : goal.returns-clause-room
-returns-clause-room c = λ r first file written commands room known e it. no_less r first file written commands room e known it.same it.inside it.shut it.stale
+returns-clause-room c = λ r first known t file written it.
+    no_less r first file written t.commands t.room it.reads known it.rest.same it.rest.inside it.rest.shut it.rest.stale
 
 pub returns-clause-boundaries : goal.returns-clause-boundaries
-returns-clause-boundaries c = λ r first file written commands room known e it. boundaries_swept r first file written commands room e known it.same it.inside it.shut it.stale
+returns-clause-boundaries c = λ r first known t file written it.
+    boundaries_swept r first file written t.commands t.room it.reads known it.rest.same it.rest.inside it.rest.shut
+    it.rest.stale
