@@ -1,15 +1,15 @@
 -- Records in a row, without what is behind them. (Own.)
-use Rattle.std.specs.Prelude.{◌≡◌, ℕ, ◌+◌, ◌<◌, List, length, take, drop, slice_index_or}
+use Rattle.std.specs.Prelude.{◌≡◌, ℕ, ◌+◌, ◌*◌, ◌<◌, List, length, take, drop, slice_index_or}
 use Rattle.im_types.specs.declared.TheConstants.{NONE}
 use Rattle.im_types.specs.Contents.{Window, new_window}
 use Rattle.im_types.specs.Layout.{Layout, Sizes, node_count, cell_record_bytes, node_record_bytes}
-use Rattle.im_types.specs.Layout.{session_record_bytes, record_at}
+use Rattle.im_types.specs.Layout.{session_record_bytes, cell_part, record_at}
 use Rattle.im_types.specs.declared.records.CellRecord.{CellRecord}
 use Rattle.im_types.specs.declared.records.CellRecord.TheVariants.{Free as FreeCell}
 use Rattle.im_types.specs.declared.records.NodeRecord.{NodeRecord}
 use Rattle.im_types.specs.declared.records.NodeRecord.TheVariants.{Free as FreeNode}
 use Rattle.im_types.specs.Records.{cell_bytes, node_bytes, session_bytes, FitsCell, FitsNode, FitsWindow}
-use Rattle.im_types.specs.Pages.{IsRow}
+use Rattle.im_types.specs.Pages.{Records, IsRow, SpellsArea}
 
 -- bytes spell a record that is within its bounds
 pub record Spells {X : Type 0} (spelled : X → List ℕ) (Fits : X → Type 0) (bytes : List ℕ) (x : X) : Type 0 where
@@ -79,3 +79,30 @@ AreFirstCells l s area row = BeginWithCells (length row) s.cells (node_count l s
 abbrev pub CarriesOn : Layout → Sizes → ℕ → List ℕ → List CellRecord → List CellRecord → Type 0
 CarriesOn l s at piece old new =
     (area : List ℕ) → StandsAt at piece area → AreFirstCells l s area old → AreFirstCells l s area new
+
+-- a row is all cells of an area
+abbrev pub AreAllCells : Layout → Sizes → List ℕ → List CellRecord → Type 0
+AreAllCells l s area row = AreCells s.cells (node_count l s) (cell_part s area) row
+
+-- If the first cells of an area are `row`, and this last part of its cells is behind them, all its cells are `all`.
+abbrev pub CompleteCells : Layout → Sizes → List ℕ → List CellRecord → List CellRecord → Type 0
+CompleteCells l s part row all =
+    (area : List ℕ) → StandsAt (cell_record_bytes * length row) part area → AreFirstCells l s area row
+    → AreAllCells l s area all
+
+-- If this last part of an area's cells is behind as many of them, no row is all its cells.
+abbrev pub NoneCompletes : Layout → Sizes → List ℕ → List CellRecord → Type 0
+NoneCompletes l s part cells =
+    (area : List ℕ) (all : List CellRecord) → StandsAt (cell_record_bytes * length cells) part area
+    → AreAllCells l s area all → ⊥
+
+-- each area with these first cells, and these bytes behind them, spells the records
+abbrev pub SpellsBehind : Layout → Sizes → List CellRecord → List ℕ → Records → Type 0
+SpellsBehind l s cells rest r =
+    (area : List ℕ) → rest ≡ drop (cell_record_bytes * length cells) area → AreFirstCells l s area cells
+    → SpellsArea l s area r
+
+-- no area with these bytes behind as many cells spells records
+abbrev pub NoneSpells : Layout → Sizes → List CellRecord → List ℕ → Type 0
+NoneSpells l s cells rest =
+    (area : List ℕ) (r : Records) → rest ≡ drop (cell_record_bytes * length cells) area → SpellsArea l s area r → ⊥

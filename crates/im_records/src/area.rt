@@ -1,12 +1,12 @@
 //! The records of a whole area.
-ghost use Rattle.std.specs.Prelude.{◌≡◌, ◌⊎◌, ◌+◌, ◌*◌, ◌/◌, ◌≤◌, ℕ, List, length, drop, IfOk, OnOk, IfErr, IsErrOf};
+ghost use Rattle.std.specs.Prelude.{◌≡◌, ◌⊎◌, ◌+◌, ◌*◌, ◌/◌, ◌≤◌, ℕ, List, length, IfOk, OnOk, IfErr, IsErrOf};
 ghost use Rattle.im_types.specs.Contents.{Window};
 ghost use Rattle.im_types.specs.Layout as layout;
 ghost use Rattle.im_types.specs.Layout.{layout_of, sizes_of};
-ghost use Rattle.im_types.specs.declared.records.CellRecord.{CellRecord as CellRecordSpec};
 ghost use Rattle.im_types.specs.declared.records.NodeRecord.{NodeRecord as NodeRecordSpec};
 ghost use Rattle.im_types.specs.Pages.{Records, SpellsArea};
-ghost use Rattle.im_records.specs.Rows.{StandsAt, AreFirstCells, AreCells, AreNodes, AreSessions, CarriesOn};
+ghost use Rattle.im_records.specs.Rows.{StandsAt, AreNodes, AreSessions, CarriesOn, CompleteCells, NoneCompletes};
+ghost use Rattle.im_records.specs.Rows.{SpellsBehind, NoneSpells};
 
 use crate::rows::{push_cells, read_nodes, rest_of_cells};
 use crate::session::read_sessions;
@@ -100,14 +100,8 @@ fn cells_of(
     requires few { length cells ≤ limits.cells }
     requires part { CELL_RECORD * length cells + length part.now
         ≡ layout.page_bytes * layout.cell_pages (sizes_of limits) }
-    ensures found { IfOk result (λ row. (area : List ℕ) → StandsAt (CELL_RECORD * length cells) part.now area
-        → AreFirstCells (layout_of version) (sizes_of limits) area cells
-        → AreCells limits.cells (layout.node_count (layout_of version) (sizes_of limits))
-        (layout.cell_part (sizes_of limits) area) row) }
-    ensures bad { IsErrOf result Refusal.BadPage → (area : List ℕ) (row : List CellRecordSpec)
-        → StandsAt (CELL_RECORD * length cells) part.now area
-        → AreCells limits.cells (layout.node_count (layout_of version) (sizes_of limits))
-        (layout.cell_part (sizes_of limits) area) row → ⊥ }
+    ensures found { IfOk result (λ row. CompleteCells (layout_of version) (sizes_of limits) part.now cells row) }
+    ensures bad { IsErrOf result Refusal.BadPage → NoneCompletes (layout_of version) (sizes_of limits) part.now cells }
     ensures only { IfErr result (λ e. (e ≡ Refusal.BadPage) ⊎ (e ≡ Refusal.NoMemory)) }
 {
     rest_of_cells(cells, limits.cells, version.node_count(limits) as u32, part)
@@ -161,13 +155,9 @@ pub fn read_rest_of_area(
     requires few { length cells ≤ limits.cells }
     requires length { CELL_RECORD * length cells + length rest.now
         ≡ layout.area_bytes (layout_of version) (sizes_of limits) }
-    ensures found { IfOk result (λ r. (area : List ℕ) → rest.now ≡ drop (CELL_RECORD * length cells) area
-        → AreFirstCells (layout_of version) (sizes_of limits) area cells
-        → SpellsArea (layout_of version) (sizes_of limits) area r) }
+    ensures found { IfOk result (λ r. SpellsBehind (layout_of version) (sizes_of limits) cells rest.now r) }
     ensures count { IfOk result (λ r. length r.nodes ≡ layout.node_count (layout_of version) (sizes_of limits)) }
-    ensures bad { IsErrOf result Refusal.BadPage → (area : List ℕ) (r : Records)
-        → rest.now ≡ drop (CELL_RECORD * length cells) area
-        → SpellsArea (layout_of version) (sizes_of limits) area r → ⊥ }
+    ensures bad { IsErrOf result Refusal.BadPage → NoneSpells (layout_of version) (sizes_of limits) cells rest.now }
     ensures only { IfErr result (λ e. (e ≡ Refusal.BadPage) ⊎ (e ≡ Refusal.NoMemory)) }
 {
     let at = cell_bytes(limits) - CELL_RECORD * cells.len();
