@@ -9,6 +9,7 @@ use Rattle.im_types.specs.declared.operations.Kept.{Kept}
 use Rattle.im_types.specs.declared.commands.Request.{Request}
 use Rattle.im_types.specs.declared.commands.Line.{Line}
 use Rattle.im_types.specs.Contents.{CellState, Empty, Full, Held, Window, Contents, held_at, kept_for}
+use Rattle.im_types.specs.Contents.{full_value, full_in}
 use Rattle.im_types.specs.Step.{asker}
 use Rattle.im_types.specs.Trace.{IsLegal, end_of}
 use Rattle.im_types.specs.Agreement.{address_of, WaitingAgrees}
@@ -60,6 +61,18 @@ abbrev pub AreLegal : Contents → List (List Line) → Type 0
 AreLegal m [] = Unit {0}
 AreLegal m (trace ∷ runs) = IsLegal m trace × AreLegal (end_of m trace) runs
 
--- each request of these traces is one of the plan's
-abbrev pub ArePlannedRuns : List Request → List (List Line) → Type 0
-ArePlannedRuns plan runs = AllByRecursion (IsPlannedRun plan) runs
+-- traces of planned calls, the first from a memory in which the plan is under way, and each from where the one before
+-- stopped
+pub record AreRunsOf (plan : List Request) (m : Contents) (runs : List (List Line)) : Type 0 where
+  pub goes_on : GoesOn m plan
+  pub planned : AllByRecursion (IsPlannedRun plan) runs
+
+-- none of the plan was served yet
+abbrev pub IsUnserved : List Window → List Request → Type 0
+IsUnserved windows plan = (r : Request) → IsInPlan plan r → IsTaken windows (asker r) → ⊥
+
+-- the value of a full I cell in the end: that of the plan's store to it, or, without one, what it was before
+abbrev pub value_in_end : Option Held → Option ℕ → Option ℕ
+value_in_end held None = full_in held
+value_in_end None (Some v) = None
+value_in_end (Some held) (Some v) = full_value held.block.kind (Full v)
