@@ -1,5 +1,5 @@
 -- The laws of planned runs from a memory in which the plan is under way, over any number of stops.
-use Rattle.std.proofs.Common.{◌≡◌, ℕ, List, [], ◌∷◌, ◌++◌, None, Ok, refl, sym, ap, ◌∙◌, subst}
+use Rattle.std.proofs.Common.{◌≡◌, List, [], ◌∷◌, ◌++◌, None, Ok, refl, sym, ap, ◌∙◌, subst}
 use Rattle.std.specs.List.{AllByRecursion}
 use Rattle.std.proofs.lemmas.Option.{none-some}
 use Rattle.im_types.specs.declared.operations.Op.{Op}
@@ -14,7 +14,7 @@ use Rattle.im_types.specs.Trace.{IsLegal, end_of}
 use Rattle.im_types.specs.Plan.{result_of}
 use Rattle.im_plans.specs.Runs.{Starts, IsInPlan, IsPlannedRun, IsResultOrWaits, TellsResults, HasServed, entry_for}
 use Rattle.im_plans.specs.UnderWay.{GoesOn, end_of_runs, AreLegal, AreRunsOf}
-use Rattle.im_plans.proofs.PlannedRuns.{end-under_plan, asked-result, run-tells, served-result}
+use Rattle.im_plans.proofs.PlannedRuns.{asked-result, run-tells, served-result}
 use Rattle.im_plans.proofs.UnderWayLemmas.{goes-under, goes-on, result-stays, fits-under_way}
 
 -- ---- one run
@@ -59,7 +59,7 @@ all-map P Q f [] all = tt
 all-map P Q f (x ∷ xs) all = (f x all.0, all-map P Q f xs all.1)
 
 -- the runs behind the first one
-next-runs : (m : Contents) (plan : List Request) (trace : List Line) (runs : List (List Line))
+pub next-runs : (m : Contents) (plan : List Request) (trace : List Line) (runs : List (List Line))
     → AreRunsOf plan m (trace ∷ runs) → AreRunsOf plan (end_of m trace) runs
 next-runs m plan trace runs are = record {
   goes_on = goes-on m plan trace are.goes_on are.planned.0;

@@ -1,10 +1,9 @@
 -- A plan that is under way: from its beginning, and all through its runs.
 use Rattle.std.proofs.Common.{◌≡◌, ◌⊎◌, inl, inr, ℕ, ◌<◌, ◌≤◌, List, [], ◌∷◌, Some, None, true, refl, sym, ap, ◌∙◌, subst}
 use Rattle.std.proofs.Common.{arith}
-use Rattle.std.specs.Prelude.{Option, slice_get, is_some, option_map}
+use Rattle.std.specs.Prelude.{Option, ◌↔◌, slice_get, is_some}
 use Rattle.std.specs.List.{AllByRecursion}
 use Rattle.std.proofs.lemmas.Option.{same_Some}
-use Rattle.im_types.specs.declared.TheConstants.{LAST}
 use Rattle.im_types.specs.declared.operations.Op.{Op}
 use Rattle.im_types.specs.declared.operations.Op.TheVariants.{Alloc, Release, Reset, Fetch, Store, Take, Put}
 use Rattle.im_types.specs.declared.operations.Kind.{Kind}
@@ -13,23 +12,22 @@ use Rattle.im_types.specs.declared.operations.Entry.TheVariants.{Waiting}
 use Rattle.im_types.specs.declared.operations.Waiter.{Waiter}
 use Rattle.im_types.specs.declared.operations.Kept.{Kept}
 use Rattle.im_types.specs.declared.commands.Request.{Request}
-use Rattle.im_types.specs.declared.commands.Command.{Command}
 use Rattle.im_types.specs.declared.commands.Call.{Call}
 use Rattle.im_types.specs.declared.commands.Call.TheVariants.{Command as Commands, Collect}
 use Rattle.im_types.specs.declared.commands.Line.{Line}
 use Rattle.im_types.specs.Contents.{CellState, Empty, Full, Held, Window, Contents, held_at, waiters_of, waiters_in}
-use Rattle.im_types.specs.Contents.{waiters_at, kept_for, block_at}
-use Rattle.im_types.specs.Window.{next_number, bounds_of, bounds, is_waiting_entry}
+use Rattle.im_types.specs.Contents.{block_at}
+use Rattle.im_types.specs.Window.{next_number, bounds_of}
 use Rattle.im_types.specs.Step.{asker, step}
 use Rattle.im_types.specs.Trace.{contents_after, end_of}
 use Rattle.im_types.specs.Agreement.{times, awaiting, address_of, WaitingAgrees}
-use Rattle.im_types.specs.Plan.{planned_value, fetched, result_of, IsPlan, FitsPlan}
-use Rattle.im_laws.proofs.Tests.{below_or_from, some_none}
+use Rattle.im_types.specs.Plan.{planned_value, fetched, result_of, FitsPlan}
+use Rattle.im_laws.proofs.Tests.{below_or_from}
 use Rattle.im_laws.proofs.ForgetLemmas.{after-no_less}
 use Rattle.im_laws.proofs.MemoryLemmas.{bounds-window}
 use Rattle.im_laws.proofs.WaiterLemmas.{waiting-WaitsAt, listed-WaitsAt, WaitsAt-listed}
-use Rattle.im_plans.specs.Runs.{IsInPlan, IsPlannedRun, IsResultOrWaits, IsTaken, Starts}
-use Rattle.im_plans.specs.UnderWay.{fetch_by, IsUnstored, IsCellOf, ToStore, StoredBy, IsUnderWay, GoesOn}
+use Rattle.im_plans.specs.Runs.{IsInPlan, IsPlannedRun, IsResultOrWaits, IsTaken}
+use Rattle.im_plans.specs.UnderWay.{fetch_by, IsCellOf, ToStore, StoredBy, IsUnderWay, IsUnserved, GoesOn}
 use Rattle.im_plans.proofs.PlanLemmas.{in_block-same}
 use Rattle.im_plans.proofs.Taken.{kept-taken}
 use Rattle.im_plans.proofs.Invariant.{CellIs, Unstored, StoredBy as WasStored, IsUnderPlan}
@@ -94,12 +92,14 @@ goes-under m plan g = record {
     by_cell a state (StoredBy r v in_plan op t full) = WasStored r v in_plan op t full
 
 pub goes-alone : (m : Contents) (plan : List Request) → GoesOn m plan → AreAlone plan m
-goes-alone m plan g = record { fetches = λ r in_plan who is.
-    let w = waiting-WaitsAt m g.agrees who (waiting_at (address_of r.op)) is refl in
-    let kind = kind-of_fetch w.held.block.kind (address_of r.op)
-    (ap (λ (k : Kept). k.op) (same_Some _ _ (sym w.waits ∙ is))) in
-    let some = subst (λ o. 1 ≤ times who (waiters_in o)) w.there (WaitsAt-listed m g.agrees who (address_of r.op) w) in
-    by_cell (address_of r.op) who w.held.state (g.under_way.cell r w.held in_plan w.there kind) some }
+goes-alone m plan g = record {
+  fetches = λ r in_plan who is.
+      let w = waiting-WaitsAt m g.agrees who (waiting_at (address_of r.op)) is refl in
+      let kind = kind-of_fetch w.held.block.kind (address_of r.op)
+      (ap (λ (k : Kept). k.op) (same_Some _ _ (sym w.waits ∙ is))) in
+      let some = subst (λ o. 1 ≤ times who (waiters_in o)) w.there (WaitsAt-listed m g.agrees who (address_of r.op) w) in
+      by_cell (address_of r.op) who w.held.state (g.under_way.cell r w.held in_plan w.there kind) some;
+}
   where
     by_state : (a : ℕ) (who : Waiter) (waiters : List Waiter)
         → AllByRecursion (λ who. IsInPlan plan (fetch_by a who)) waiters → 1 ≤ times who (waiters_of (Empty waiters))
@@ -215,3 +215,10 @@ under_way-fits m plan agrees u none = record {
         → IsCellOf plan m.windows a state → state ≡ Empty []
     by_cell a held at state s (ToStore waiters e all unstored) = e ∙ by_list a held at waiters (s ∙ e) all
     by_cell a held at state s (StoredBy r v in_plan op t full) = absurd (none r in_plan t)
+
+pub fits-begins : (m : Contents) (plan : List Request) → WaitingAgrees m
+    → FitsPlan m plan ↔ (IsUnderWay m plan × IsUnserved m.windows plan)
+fits-begins m plan agrees = (
+  λ fits. (fits-under_way m plan fits, fits-untaken m plan fits),
+  λ h. under_way-fits m plan agrees h.0 h.1,
+)

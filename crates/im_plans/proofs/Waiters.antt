@@ -1,5 +1,5 @@
 -- Only fetches of the plan wait for a cell that the plan names, all through a planned run.
-use Rattle.std.proofs.Common.{◌≡◌, ◌⊎◌, inl, inr, ⊎_elim, ℕ, suc, ◌+◌, ◌<◌, ◌≤◌, List, [], ◌∷◌, Some, None, Ok, Err}
+use Rattle.std.proofs.Common.{◌≡◌, ◌⊎◌, inl, inr, ⊎_elim, ℕ, suc, ◌+◌, ◌≤◌, List, [], ◌∷◌, Some, None, Ok, Err}
 use Rattle.std.proofs.Common.{Bool, true, false, cond, refl, sym, ap, ◌∙◌, subst, arith}
 use Rattle.std.specs.Prelude.{Option, Result, slice_get}
 use Rattle.std.specs.List.{AllByRecursion}
@@ -7,13 +7,12 @@ use Rattle.std.proofs.lemmas.Bool.{cases_eq}
 use Rattle.std.proofs.lemmas.Option.{none-some, same_Some}
 use Rattle.im_types.specs.declared.operations.Op.{Op}
 use Rattle.im_types.specs.declared.operations.Op.TheVariants.{Fetch}
-use Rattle.im_types.specs.declared.operations.Entry.TheVariants.{Waiting, Answered}
+use Rattle.im_types.specs.declared.operations.Entry.TheVariants.{Waiting}
 use Rattle.im_types.specs.declared.operations.Waiter.{Waiter}
 use Rattle.im_types.specs.declared.operations.Kept.{Kept}
 use Rattle.im_types.specs.declared.commands.Request.{Request}
 use Rattle.im_types.specs.declared.commands.Command.{Command}
 use Rattle.im_types.specs.declared.commands.Command.TheVariants.{Request as Asks, Confirm}
-use Rattle.im_types.specs.declared.commands.Outcome.TheVariants.{Confirmed}
 use Rattle.im_types.specs.declared.commands.Call.{Call}
 use Rattle.im_types.specs.declared.commands.Call.TheVariants.{Command as Commands, Collect}
 use Rattle.im_types.specs.declared.commands.Line.{Line}
@@ -150,8 +149,10 @@ call-agrees m (Collect element number) agrees = agrees
 module _ (plan : List Request) where
   request-alone : (m : Contents) (q : Request) → WaitingAgrees m → IsInPlan plan q → is_accepted m (Asks q) ≡ true
       → AreAlone plan m → AreAlone plan (step m (Asks q)).contents
-  request-alone m q agrees q_in e alone = record { fetches = λ r r_in who is. by_asker r r_in who is
-      (true_or_false (same_waiter who (asker q))) }
+  request-alone m q agrees q_in e alone = record {
+    fetches = λ r r_in who is. by_asker r r_in who is
+        (true_or_false (same_waiter who (asker q)));
+  }
     where
       own : kept_for (step m (Asks q)).contents.windows (asker q)
           ≡ Some (record { op = q.op; entry = (act m.cells (asker q) q.op).entry })
@@ -184,7 +185,8 @@ module _ (plan : List Request) where
           → AreAlone plan (step m command).contents
       by_command (Asks r) in_plan e = request-alone m r agrees in_plan e alone
       by_command (Confirm element upto) planned e = record {
-        fetches = λ r r_in who is. alone.fetches r r_in who (confirm-kept m element upto who _ is) }
+        fetches = λ r r_in who is. alone.fetches r r_in who (confirm-kept m element upto who _ is);
+      }
 
   call-alone : (m : Contents) (call : Call) → IsPlannedCall plan call → WaitingAgrees m → AreAlone plan m
       → AreAlone plan (contents_after m call)

@@ -72,7 +72,7 @@ abbrev pub IsUnserved : List Window → List Request → Type 0
 IsUnserved windows plan = (r : Request) → IsInPlan plan r → IsTaken windows (asker r) → ⊥
 
 -- the value of a full I cell in the end: that of the plan's store to it, or, without one, what it was before
-abbrev pub value_in_end : Option Held → Option ℕ → Option ℕ
-value_in_end held None = full_in held
-value_in_end None (Some v) = None
-value_in_end (Some held) (Some v) = full_value held.block.kind (Full v)
+abbrev pub value_in_end : Option ℕ → Option Held → Option ℕ
+value_in_end None held = full_in held
+value_in_end (Some v) None = None
+value_in_end (Some v) (Some held) = full_value held.block.kind (Full v)
