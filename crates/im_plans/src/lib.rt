@@ -3,6 +3,8 @@
 //! questions and confirmations between them.
 #![tactic(auto)]
 
+mod under_way;
+
 ghost use Rattle.std.specs.Prelude.{◌≡◌, ◌↔◌, ◌++◌, ◌∷◌, [], List, None, Some};
 ghost use Rattle.std.specs.List.{AllByRecursion};
 ghost use Rattle.im_types.specs.declared.operations.Reply.TheVariants.{Value, Stored, NoCell};
@@ -19,6 +21,8 @@ ghost use Rattle.im_types.specs.Plan.{result_of};
 ghost use Rattle.im_plans.specs.Example.{two_cells, a_plan, results_of};
 ghost use Rattle.im_plans.specs.Runs.{Starts, IsPlannedCall, IsPlannedRun, EndsWith, IsResultOrWaits, TellsResults};
 ghost use Rattle.im_plans.specs.Runs.{HasServed, end_entry};
+
+pub use under_way::{plan_stays_under_way, stopped_plan_has_one_end, stopped_runs_tell_results};
 
 /// Each answer to a planned request in a legal planned run is the request's result by the plan, which names no order.
 /// This holds for the answer at once, the answer when it is sent again, and the answer when its entry is collected. It

@@ -1,0 +1,12 @@
+use Rattle.im_plans.proofs.UnderWayLemmas.{fits-begins}
+use Rattle.im_plans.proofs.UnderWayLaws.{runs-go_on, runs-result}
+use Rattle.im_plans.proofs.under_way.plan_stays_under_way.Goals as goal
+
+pub returns-clause-begins : goal.returns-clause-begins
+returns-clause-begins c = fits-begins
+
+pub returns-clause-stays : goal.returns-clause-stays
+returns-clause-stays c = runs-go_on
+
+pub returns-clause-results : goal.returns-clause-results
+returns-clause-results c = runs-result

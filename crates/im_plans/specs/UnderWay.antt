@@ -1,0 +1,78 @@
+-- Memories in which a part of a plan is done. (Own.)
+use Rattle.std.specs.Prelude.{◌≡◌, ◌≤◌, ℕ, List, [], ◌∷◌, true, Option, None, Some, slice_get, is_some}
+use Rattle.std.specs.List.{AllByRecursion}
+use Rattle.im_types.specs.declared.TheConstants.{LAST}
+use Rattle.im_types.specs.declared.operations.Op.TheVariants.{Fetch, Store}
+use Rattle.im_types.specs.declared.operations.Kind.TheVariants.{I}
+use Rattle.im_types.specs.declared.operations.Waiter.{Waiter}
+use Rattle.im_types.specs.declared.operations.Kept.{Kept}
+use Rattle.im_types.specs.declared.commands.Request.{Request}
+use Rattle.im_types.specs.declared.commands.Line.{Line}
+use Rattle.im_types.specs.Contents.{CellState, Empty, Full, Held, Window, Contents, held_at, kept_for}
+use Rattle.im_types.specs.Contents.{full_value, full_in}
+use Rattle.im_types.specs.Step.{asker}
+use Rattle.im_types.specs.Trace.{IsLegal, end_of}
+use Rattle.im_types.specs.Agreement.{address_of, WaitingAgrees}
+use Rattle.im_types.specs.Plan.{result_of, IsPlan}
+use Rattle.im_plans.specs.Runs.{IsInPlan, IsPlannedRun, IsResultOrWaits, IsTaken}
+
+-- a fetch of this address, under this number
+abbrev pub fetch_by : ℕ → Waiter → Request
+fetch_by a who = record { element = who.element; number = who.number; op = Fetch a }
+
+-- the plan's store to the address, if it has one, wasn't served yet
+abbrev pub IsUnstored : List Request → List Window → ℕ → Type 0
+IsUnstored plan windows a =
+    (r : Request) (v : ℕ) → IsInPlan plan r → r.op ≡ Store a v → IsTaken windows (asker r) → ⊥
+
+-- An I cell that the plan names. It is empty until the plan's store to it was served, and only fetches of the plan wait
+-- for it. From then on it is full, with the value of that store.
+pub data IsCellOf (plan : List Request) (windows : List Window) (a : ℕ) (state : CellState) : Type 0 where
+  ToStore : (waiters : List Waiter) → state ≡ Empty waiters
+      → AllByRecursion (λ who. IsInPlan plan (fetch_by a who)) waiters → IsUnstored plan windows a
+      → IsCellOf plan windows a state
+  StoredBy : (r : Request) (v : ℕ) → IsInPlan plan r → r.op ≡ Store a v → IsTaken windows (asker r) → state ≡ Full v
+      → IsCellOf plan windows a state
+
+-- A part of the plan is done in the memory, or nothing, or all. What is kept under a number of the plan is its
+-- operation, with its result, if it is answered. Of a number below the base of its window nothing is kept.
+pub record IsUnderWay (m : Contents) (plan : List Request) : Type 0 where
+  pub element : (r : Request) → IsInPlan plan r → is_some (slice_get m.windows r.element) ≡ true
+  pub number : (r : Request) → IsInPlan plan r → r.number ≤ LAST
+  pub op : (r : Request) (k : Kept) → IsInPlan plan r → kept_for m.windows (asker r) ≡ Some k → k.op ≡ r.op
+  pub result : (r : Request) (k : Kept) → IsInPlan plan r → kept_for m.windows (asker r) ≡ Some k
+      → IsResultOrWaits (result_of m.cells plan r.op) k.entry
+  pub cell : (r : Request) (held : Held) → IsInPlan plan r → held_at m.cells (address_of r.op) ≡ Some held
+      → held.block.kind ≡ I → IsCellOf plan m.windows (address_of r.op) held.state
+
+-- a memory, and a plan that is under way there
+pub record GoesOn (m : Contents) (plan : List Request) : Type 0 where
+  pub agrees : WaitingAgrees m
+  pub is_plan : IsPlan plan
+  pub under_way : IsUnderWay m plan
+
+-- the memory after several traces, each of which begins where the one before stopped
+abbrev pub end_of_runs : Contents → List (List Line) → Contents
+end_of_runs m [] = m
+end_of_runs m (trace ∷ runs) = end_of_runs (end_of m trace) runs
+
+-- each of them is legal from there
+abbrev pub AreLegal : Contents → List (List Line) → Type 0
+AreLegal m [] = Unit {0}
+AreLegal m (trace ∷ runs) = IsLegal m trace × AreLegal (end_of m trace) runs
+
+-- traces of planned calls, the first from a memory in which the plan is under way, and each from where the one before
+-- stopped
+pub record AreRunsOf (plan : List Request) (m : Contents) (runs : List (List Line)) : Type 0 where
+  pub goes_on : GoesOn m plan
+  pub planned : AllByRecursion (IsPlannedRun plan) runs
+
+-- none of the plan was served yet
+abbrev pub IsUnserved : List Window → List Request → Type 0
+IsUnserved windows plan = (r : Request) → IsInPlan plan r → IsTaken windows (asker r) → ⊥
+
+-- the value of a full I cell in the end: that of the plan's store to it, or, without one, what it was before
+abbrev pub value_in_end : Option ℕ → Option Held → Option ℕ
+value_in_end None held = full_in held
+value_in_end (Some v) None = None
+value_in_end (Some v) (Some held) = full_value held.block.kind (Full v)
