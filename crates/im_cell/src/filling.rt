@@ -95,19 +95,31 @@ pub(crate) fn fill_shown(units: &mut [Unit], cells: &mut Cells, base: usize, end
     fill_uncut(units, cells, base, end, unit);
 }
 
-// Gives each cell of a unit its own record, unless it has one.
-#[inline(always)]
-fn give_records(units: &mut [Unit], cells: &mut Cells, at: usize)
-    requires inside { at < length units.old }
+// Gives each cell of a unit its own record. It takes a cell of it: so LLVM finds the unit's place once for a look and
+// for a write behind it.
+#[inline(never)]
+fn write_out_around(units: &mut [Unit], cells: &mut Cells, at: usize)
+    requires inside { at / UNIT < length units.old }
     requires few { length units.old < 2 ^ 32 }
-    ensures own { unit_at units.new at ≡ Unit.Each }
+    ensures own { unit_at units.new (at / UNIT) ≡ Unit.Each }
     ensures same { shown units.new cells.new ≡ shown units.old cells.old }
 {
-    let unit = unit_of(units, at);
+    write_out(units, cells, at / UNIT);
+}
+
+// Gives each cell of the unit of a cell its own record, unless it has one.
+#[inline(always)]
+fn give_records(units: &mut [Unit], cells: &mut Cells, at: usize)
+    requires inside { at / UNIT < length units.old }
+    requires few { length units.old < 2 ^ 32 }
+    ensures own { unit_at units.new (at / UNIT) ≡ Unit.Each }
+    ensures same { shown units.new cells.new ≡ shown units.old cells.old }
+{
+    let unit = unit_of(units, at / UNIT);
     if unit.is_own() {
         return;
     }
-    write_out(units, cells, at);
+    write_out_around(units, cells, at);
 }
 
 /// Returns the slot of a cell. The cell has its own record afterwards.
@@ -119,7 +131,7 @@ pub(crate) fn own_slot(units: &mut [Unit], cells: &mut Cells, at: usize) -> Opti
     ensures slot { result ≡ slot_at (shown units.old cells.old) at }
     ensures same { shown units.new cells.new ≡ shown units.old cells.old }
 {
-    give_records(units, cells, at / UNIT);
+    give_records(units, cells, at);
     cells.slot(at)
 }
 

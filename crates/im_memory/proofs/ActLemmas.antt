@@ -27,13 +27,9 @@ use Rattle.im_types.specs.declared.cells.Cell.TheVariants.{Empty}
 use Rattle.im_laws.specs.Blocks.{IsRefused}
 use Rattle.im_memory.specs.declared.acts.Resumed.TheVariants.{Nobody}
 use Rattle.im_memory.specs.declared.acts.Acted.{Acted}
-use Rattle.im_memory.specs.Resuming.{HasActed}
+use Rattle.im_memory.specs.Resuming.{telling, HasActed}
 use Rattle.im_memory.proofs.CellsLemmas.{place-cells, cells-fill, cells-emptied, any_waiting-cells, with_base-cells}
 use Rattle.im_memory.proofs.CellsLemmas.{free-list}
-
--- what is told at once, to the asker alone
-abbrev pub telling : Reply → Acted
-telling reply = record { entry = Answered reply; resumed = Nobody }
 
 not_true : (b : Bool) → not b ≡ true → b ≡ false
 not_true true e = absurd (cc)

@@ -4,7 +4,7 @@ use Rattle.std.specs.Prelude.{◌≡◌, ◌<◌, List, [], ◌∷◌, length, O
 use Rattle.im_types.specs.declared.operations.Waiter.{Waiter}
 use Rattle.im_types.specs.declared.operations.Reply.{Reply}
 use Rattle.im_types.specs.declared.operations.Reply.TheVariants.{Value}
-use Rattle.im_types.specs.declared.operations.Entry.TheVariants.{Waiting}
+use Rattle.im_types.specs.declared.operations.Entry.TheVariants.{Waiting, Answered}
 use Rattle.im_types.specs.Contents.{Window}
 use Rattle.im_types.specs.Window.{ask, answer}
 use Rattle.im_types.specs.Act.{Acted as ActedCells}
@@ -16,6 +16,10 @@ use Rattle.im_istore.specs.Access.{replies_to}
 use Rattle.im_memory.specs.declared.acts.Resumed.{Resumed}
 use Rattle.im_memory.specs.declared.acts.Resumed.TheVariants.{Nobody, Taker, Readers}
 use Rattle.im_memory.specs.declared.acts.Acted.{Acted}
+
+-- the effect of an operation that is answered at once, and answers no waiting request
+abbrev pub telling : Reply → Acted
+telling reply = record { entry = Answered reply; resumed = Nobody }
 
 -- the replies to the resumed requests; readers still stand on the list of their cell
 abbrev pub replies_of : Resumed → Shown → List (Waiter × Reply)

@@ -12,7 +12,7 @@ ghost use Rattle.im_istore.specs.Joined.{cells_of};
 ghost use Rattle.im_istore.specs.Agreement.{Agree, AgreeBut};
 ghost use Rattle.im_istore.specs.Access.{replies_to};
 ghost use Rattle.im_memory.specs.Changing.{places_in, ChangesAt, AreAmong, IsDrained, LeavesOthers};
-ghost use Rattle.im_memory.specs.Resuming.{replies_of, AreListed, AgreeFor, AreAwaited, HasActed};
+ghost use Rattle.im_memory.specs.Resuming.{telling, replies_of, AreListed, AgreeFor, AreAwaited, HasActed};
 
 use im_arena::Arena;
 use im_cell::CellTable;
@@ -88,21 +88,21 @@ fn put(table: &mut CellTable, arena: &mut Arena, a: u32, value: u64) -> Acted
     }
 }
 
-// Makes a block.
+// Makes a block. As `release` and `reset` it returns the reply alone: what it writes through memory isn't the effect, so
+// that of an access stays in registers.
 #[inline(never)]
-fn allocate(table: &mut CellTable, arena: &Arena, kind: Kind, n: u32) -> Acted
+fn allocate(table: &mut CellTable, arena: &Arena, kind: Kind, n: u32) -> Reply
     requires { Agree table.old arena.now }
-    ensures acted { HasActed table.new arena.now result (allocate (cells_of table.old arena.now) kind n) }
+    ensures acted { HasActed table.new arena.now (telling result) (allocate (cells_of table.old arena.now) kind n) }
     ensures changes { let places = places_in table.old arena.now (Op.Alloc kind n) in
         ChangesAt places table.old arena.now table.new arena.now }
-    ensures nobody { result.resumed ≡ Resumed.Nobody }
 {
     if n == 0 {
-        return told(Entry::Answered(Reply::BadLength));
+        return Reply::BadLength;
     }
     match table.place(kind, n) {
-        Some(base) => told(Entry::Answered(Reply::Base(base))),
-        None => told(Entry::Answered(Reply::NoSpace)),
+        Some(base) => Reply::Base(base),
+        None => Reply::NoSpace,
     }
 }
 
@@ -120,35 +120,33 @@ fn reason(table: &CellTable, arena: &Arena, a: u32) -> Reply
 
 // Frees the block with this base, unless a request waits for one of its cells.
 #[inline(never)]
-fn release(table: &mut CellTable, arena: &Arena, a: u32) -> Acted
+fn release(table: &mut CellTable, arena: &Arena, a: u32) -> Reply
     requires { Agree table.old arena.now }
-    ensures acted { let cells = cells_of table.old arena.now in HasActed table.new arena.now result
+    ensures acted { let cells = cells_of table.old arena.now in HasActed table.new arena.now (telling result)
         (release_block cells a (block_with_base a (held_at cells a))) }
     ensures changes { let places = places_in table.old arena.now (Op.Release a) in
         ChangesAt places table.old arena.now table.new arena.now }
-    ensures nobody { result.resumed ≡ Resumed.Nobody }
 {
     if table.release(a) {
-        told(Entry::Answered(Reply::Released))
+        Reply::Released
     } else {
-        told(Entry::Answered(reason(table, arena, a)))
+        reason(table, arena, a)
     }
 }
 
 // Empties the cells of the block with this base, unless a request waits for one of them.
 #[inline(never)]
-fn reset(table: &mut CellTable, arena: &Arena, a: u32) -> Acted
+fn reset(table: &mut CellTable, arena: &Arena, a: u32) -> Reply
     requires { Agree table.old arena.now }
-    ensures acted { let cells = cells_of table.old arena.now in HasActed table.new arena.now result
+    ensures acted { let cells = cells_of table.old arena.now in HasActed table.new arena.now (telling result)
         (reset_block cells a (block_with_base a (held_at cells a))) }
     ensures changes { let places = places_in table.old arena.now (Op.Reset a) in
         ChangesAt places table.old arena.now table.new arena.now }
-    ensures nobody { result.resumed ≡ Resumed.Nobody }
 {
     if table.reset(a) {
-        told(Entry::Answered(Reply::Cleared))
+        Reply::Cleared
     } else {
-        told(Entry::Answered(reason(table, arena, a)))
+        reason(table, arena, a)
     }
 }
 
@@ -165,9 +163,9 @@ pub fn act(table: &mut CellTable, arena: &mut Arena, who: Waiter, op: Op) -> Act
     ensures among { AreAmong (places_in table.old arena.old op) result.resumed arena.new }
 {
     match op {
-        Op::Alloc(kind, n) => allocate(table, arena, kind, n),
-        Op::Release(a) => release(table, arena, a),
-        Op::Reset(a) => reset(table, arena, a),
+        Op::Alloc(kind, n) => told(Entry::Answered(allocate(table, arena, kind, n))),
+        Op::Release(a) => told(Entry::Answered(release(table, arena, a))),
+        Op::Reset(a) => told(Entry::Answered(reset(table, arena, a))),
         Op::Fetch(a) => told(fetch(table, arena, a, who)),
         Op::Store(a, value) => store(table, arena, a, value),
         Op::Take(a) => told(take(table, arena, a, who)),

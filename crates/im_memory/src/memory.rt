@@ -88,8 +88,9 @@ fn serve(
         element: request.element,
         number: request.number,
     };
-    let acted = act(table, arena, who, request.op);
-    sessions.note(request, acted.entry);
+    let asked = *request;
+    let acted = act(table, arena, who, asked.op);
+    sessions.note(&asked, acted.entry);
     resume(sessions, arena, acted.resumed);
     acted.entry
 }

@@ -5,7 +5,7 @@ use Rattle.im_memory.proofs.acts.allocate.Goals as goal
 
 pub returns-in-Some-clause-acted : goal.returns-in-Some-clause-acted
 returns-in-Some-clause-acted c =
-    rw (c.told-in-Some.ensures, c.in-Some.ensures.made)
+    rw c.in-Some.ensures.made
     (placed-HasActed c.args.table.now c.args.arena.now c.requires c.args.kind c.args.n c.in-Some.base
     (λ none. omega arith) c.in-Some.ensures.place c.in-Some.ensures.least)
 
@@ -16,6 +16,6 @@ returns-in-Some-clause-changes c =
 
 pub returns-in-None-clause-acted : goal.returns-in-None-clause-acted
 returns-in-None-clause-acted c =
-    rw (c.told-in-None.ensures, c.in-None.ensures.same)
+    rw c.in-None.ensures.same
     (unplaced-HasActed c.args.table.now c.args.arena.now c.requires c.args.kind c.args.n
     (λ none. omega arith) c.in-None.ensures.place)

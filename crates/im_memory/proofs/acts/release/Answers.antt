@@ -4,7 +4,7 @@ use Rattle.im_memory.proofs.acts.release.Goals as goal
 
 pub returns-then-release-clause-acted : goal.returns-then-release-clause-acted
 returns-then-release-clause-acted c =
-    rw (c.told.ensures, c.if-release.ensures.released)
+    rw c.if-release.ensures.released
     (released-HasActed c.args.table.now c.args.arena.now c.requires c.args.a c.if-release.ensures.done)
 
 pub returns-then-release-clause-changes : goal.returns-then-release-clause-changes

@@ -4,7 +4,7 @@ use Rattle.im_memory.proofs.acts.reset.Goals as goal
 
 pub returns-then-reset-clause-acted : goal.returns-then-reset-clause-acted
 returns-then-reset-clause-acted c =
-    rw (c.told.ensures, c.if-reset.ensures.emptied)
+    rw c.if-reset.ensures.emptied
     (reset-HasActed c.args.table.now c.args.arena.now c.requires c.args.a c.if-reset.ensures.done)
 
 pub returns-then-reset-clause-changes : goal.returns-then-reset-clause-changes
