@@ -88,7 +88,7 @@ fn put(table: &mut CellTable, arena: &mut Arena, a: u32, value: u64) -> Acted
     }
 }
 
-// Makes a block. As `release` and `reset` it returns the reply alone: what it writes through memory isn't the effect, so
+// Makes a block. As `release` and `reset` do, it returns the reply alone. So no `Acted` is written through memory, and
 // that of an access stays in registers.
 #[inline(never)]
 fn allocate(table: &mut CellTable, arena: &Arena, kind: Kind, n: u32) -> Reply

@@ -88,6 +88,7 @@ fn serve(
         element: request.element,
         number: request.number,
     };
+    // A copy, which the changes to the memory leave: it is read once.
     let asked = *request;
     let acted = act(table, arena, who, asked.op);
     sessions.note(&asked, acted.entry);
