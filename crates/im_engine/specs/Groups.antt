@@ -1,6 +1,6 @@
 -- A group of requests that an engine serves together. (Own.)
 use Rattle.std.specs.Prelude.{◌≡◌, ◌⊎◌, ℕ, ◌+◌, ◌-◌, ◌<◌, ◌≤◌, ◌==◌, Bool, true, false, ◌&&◌, nat_lt, List, []}
-use Rattle.std.specs.Prelude.{◌∷◌, length, map, Result, Ok, if◌then◌else◌}
+use Rattle.std.specs.Prelude.{◌∷◌, length, map, Some, Result, Ok, if◌then◌else◌}
 use Rattle.im_types.specs.declared.TheConstants.{LAST, MAX_GROUP}
 use Rattle.im_types.specs.declared.commands.Request.{Request}
 use Rattle.im_types.specs.declared.commands.Command.{Command}
@@ -11,13 +11,15 @@ use Rattle.im_types.specs.declared.refusals.Refusal.{Refusal}
 use Rattle.im_types.specs.declared.refusals.Refusal.TheVariants.{Device, Failed}
 use Rattle.im_types.specs.Contents.{Contents}
 use Rattle.im_types.specs.Step.{is_accepted}
-use Rattle.im_types.specs.Meaning.{Reached}
+use Rattle.im_types.specs.Meaning.{Reached, accept_each}
 use Rattle.im_types.specs.Groups.{as_served, is_put, answers_of, reached_by_one, reached_by_all, puts_of}
+use Rattle.im_disk.specs.declared.disk.Disk.{Ghosts}
 use Rattle.im_disk.specs.Moment.{Moment, Rises}
-use Rattle.im_disk.specs.Since.{Calls, CallsAtMost, CallsBy}
-use Rattle.im_journal.specs.Holding.{JournalState, IsJournal}
+use Rattle.im_disk.specs.Since.{LeavesOnly, Calls, CallsAtMost, CallsBy}
+use Rattle.im_journal.specs.Holding.{JournalState, IsJournal, longer}
 use Rattle.im_memory.specs.Covering.{most_pages}
-use Rattle.im_checkpoint.specs.Step.{PagedCheckpoint, changed_in}
+use Rattle.im_checkpoint.specs.Step.{CheckpointState, PagedCheckpoint, changed_in}
+use Rattle.im_checkpoint.specs.Keeping.{Paged, IsKept, MeansWith}
 use Rattle.im_checkpoint.specs.Turns.{AddsAtMost}
 use Rattle.im_engine.specs.State.{EngineState, MeansState}
 
@@ -83,6 +85,22 @@ pub record GroupPut {D : Type 0} (past : D → List Moment) (honest : Type 0) (o
     (result : Result (Unit {0}) Refusal) : Type 0 where
   pub made : honest → CallsBy past old new (calls_for_group (length commands)) result
   pub none : commands ≡ [] → (result ≡ Ok tt) × (new ≡ old)
+
+module _ {D : Type 0} (disk : Ghosts D) (j : JournalState) (commands : List Command) (old new : D) where
+  -- If the journal and the pages keep a memory on the disk that accepts these commands, each file left means the memory
+  -- before all of them or after all of them.
+  abbrev pub LeavesAllOrNone : Type 0
+  LeavesAllOrNone =
+      (c : CheckpointState) (x : Paged) (m after : Contents) → accept_each m commands ≡ Some after
+      → IsKept c x m j (disk.now old)
+      → LeavesOnly disk.now disk.past old new
+      (λ file. MeansWith m j file ⊎ MeansWith after (longer (length commands) j) file)
+
+  -- they then keep the memory after the commands, with the next journal
+  abbrev pub KeepsAfter : JournalState → Type 0
+  KeepsAfter next =
+      (c : CheckpointState) (x : Paged) (m after : Contents) → accept_each m commands ≡ Some after
+      → IsKept c x m j (disk.now old) → IsKept c x after next (disk.now new)
 
 -- no more calls than these, and exactly these if the engine hasn't failed
 pub record GroupCalls {D : Type 0} (past : D → List Moment) (old new : D) (failed : Bool) (many : ℕ) : Type 0 where

@@ -1,4 +1,6 @@
 pub mod State
+pub mod Formatting
+pub mod Leaving
 pub mod Run
 pub mod Groups
 pub mod Commands

@@ -227,6 +227,11 @@ MeansBeginningOf s events answers file =
 abbrev pub MeansWithOrWithout : {D : Type 0} → EngineState D → List Command → List Command → List ℕ → Type 0
 MeansWithOrWithout s commands doubt file = MeansAll s commands file ⊎ MeansAll s (commands ++ doubt) file
 
+-- the file means what the engine is after all that these answers acknowledge, with or without what they leave in doubt
+abbrev pub MeansAcknowledged : {D : Type 0} → EngineState D → List Event → List Answer → List ℕ → Type 0
+MeansAcknowledged s events answers file =
+    MeansWithOrWithout s (acknowledged s.memory events answers) (in_doubt s.memory s.count events answers) file
+
 -- the file means what the engine is after this many of these commands
 abbrev pub MeansAfter : {D : Type 0} → EngineState D → List Command → ℕ → List ℕ → Type 0
 MeansAfter s commands many file = Means (after s.memory (take many commands)) (s.count + many) 0 file

@@ -7,11 +7,13 @@ use Rattle.im_types.specs.Contents.{Contents, empty_contents}
 use Rattle.im_types.specs.Step.{step}
 use Rattle.im_types.specs.Layout.{layout_in_use, ring_of, area_pages, sizes_of}
 use Rattle.im_types.specs.Header.{Header, header_of}
-use Rattle.im_types.specs.Meaning.{Means, Opens, Reads}
+use Rattle.im_types.specs.Meaning.{Reached, Means, Opens, Reads}
+use Rattle.im_disk.specs.Moment.{Moment}
 use Rattle.im_journal.specs.Holding.{JournalState, room_after}
 use Rattle.im_memory.specs.State.{MemoryState, empty_records}
 use Rattle.im_image.specs.Fresh.{new_header}
 use Rattle.im_checkpoint.specs.Step.{Step, NoCheckpoint, CheckpointState, PagedCheckpoint, Changed, changed_in}
+use Rattle.im_checkpoint.specs.Keeping.{Paged, IsKept}
 
 -- an engine: its disk, the header in force, the progress of the next one, the pages that changed, the memory, the count
 -- of all commands, the room for more, and whether the disk has failed it
@@ -84,8 +86,17 @@ IsNewImage limits s = (s.memory ≡ empty_contents limits.cells limits.elements)
 abbrev pub IsFirstFault : Refusal → List ℕ → Type 0
 IsFirstFault fault file = Opens file (Err fault)
 
+-- reading the file gives this header, and reaches this state
+abbrev pub Finds : Header → Reached → List ℕ → Type 0
+Finds h reached file = (h ≡ header_of file) × Reads layout_in_use file (Ok reached)
+
 -- reading the file gives the engine's header, memory and count, and exactly its room
 abbrev pub IsFound : {D : Type 0} → EngineState D → List ℕ → Type 0
-IsFound s file =
-    (s.header ≡ header_of file)
-    × Reads layout_in_use file (Ok (record { contents = s.memory; count = s.count; room = s.room }))
+IsFound s file = Finds s.header (record { contents = s.memory; count = s.count; room = s.room }) file
+
+-- With no checkpoint under way, the disk keeps this memory with this journal at this moment, whatever is known of
+-- pages, if all of them count as changed.
+abbrev pub IsKeptIdle : Header → Contents → JournalState → Moment → Type 0
+IsKeptIdle h m j now =
+    (x : Paged) → x.recent ≡ replicate (area_pages layout_in_use h.sizes) true
+    → IsKept (record { header = h; step = NoCheckpoint }) x m j now

@@ -5,7 +5,7 @@ ghost use Rattle.std.specs.Prelude.{OnOk, OnErr, IfOk, IfErr, IsErrOf};
 ghost use Rattle.im_types.specs.Window.{ask, bounds};
 ghost use Rattle.im_types.specs.Step.{step, is_accepted};
 ghost use Rattle.im_disk.specs.Moment.{Faults};
-ghost use Rattle.im_disk.specs.Since.{LeavesWithin, LeavesNow, LeavesOnly, CallsAtMost, CallsBy};
+ghost use Rattle.im_disk.specs.Since.{LeavesNow, CallsAtMost, CallsBy};
 ghost use Rattle.im_checkpoint.specs.Keeping.{Fits, IsKept, paged};
 ghost use Rattle.im_checkpoint.specs.Step.{IsUnderWay, turns_left};
 ghost use Rattle.im_checkpoint.specs.Turns.{most_calls, calls_to_sweep};
@@ -15,6 +15,7 @@ ghost use Rattle.im_engine.specs.Groups.{GroupAnswered, GroupCalls, GroupFaults,
 ghost use Rattle.im_engine.specs.Groups.{group_put, calls_for_group};
 ghost use Rattle.im_engine.specs.Run.{Answered, TurnAnswered, SweepAnswered, calls_for};
 ghost use Rattle.im_engine.specs.State.{engine_of, MeansState, MeansEither, with_command, journal_in};
+ghost use Rattle.im_engine.specs.Leaving.{LeavesSince, LeavesAfter, LeavesState, LeavesThroughout};
 
 use crate::emptying::Empties;
 use crate::groups::{act_all, commands_of, places_in, put_on, refuse_all};
@@ -94,12 +95,9 @@ impl<D: Disk> Engine<D> {
         ensures faults { Faults (λ e. Unit {0}) result (D.failures self.old.disk) (D.failures self.new.disk) }
 
         // Each file that a crash may leave, from the start on, and now.
-        ensures leaves { D.honest self.new.disk → self.old.failed ≡ false
-            → LeavesWithin D.now D.past self.old.disk self.new.disk (MeansEither self.old command.now) }
-        ensures doubt { D.honest self.new.disk → self.old.failed ≡ false
-            → LeavesNow (D.now self.new.disk) (MeansEither self.old command.now) }
-        ensures means { D.honest self.new.disk → self.new.failed ≡ false
-            → LeavesNow (D.now self.new.disk) (MeansState self.new) }
+        ensures leaves { LeavesSince D.Disk self.old self.new (MeansEither self.old command.now) }
+        ensures doubt { LeavesAfter D.Disk self.old self.new (MeansEither self.old command.now) }
+        ensures means { LeavesState D.Disk self.new }
         ensures honest { D.honest self.new.disk → D.honest self.old.disk }
     {
         if self.failed {
@@ -119,10 +117,8 @@ impl<D: Disk> Engine<D> {
         ensures answered { Answered self.old command.now result self.new }
         ensures calls { D.honest self.new.disk → CallsBy D.past self.old.disk self.new.disk 4 result }
         ensures faults { Faults (λ e. Unit {0}) result (D.failures self.old.disk) (D.failures self.new.disk) }
-        ensures leaves { D.honest self.new.disk
-            → LeavesOnly D.now D.past self.old.disk self.new.disk (MeansEither self.old command.now) }
-        ensures means { D.honest self.new.disk → self.new.failed ≡ false
-            → LeavesNow (D.now self.new.disk) (MeansState self.new) }
+        ensures leaves { LeavesThroughout D.Disk self.old self.new (MeansEither self.old command.now) }
+        ensures means { LeavesState D.Disk self.new }
         ensures honest { D.honest self.new.disk → D.honest self.old.disk }
     {
         if self.journal.room() == 0 {
@@ -161,12 +157,9 @@ impl<D: Disk> Engine<D> {
             (D.failures self.old.disk) (D.failures self.new.disk) }
 
         // Each file that a crash may leave, from the start on, and now.
-        ensures leaves { D.honest self.new.disk → self.old.failed ≡ false
-            → LeavesWithin D.now D.past self.old.disk self.new.disk (MeansGroup self.old members.now.items) }
-        ensures doubt { D.honest self.new.disk → self.old.failed ≡ false
-            → LeavesNow (D.now self.new.disk) (MeansGroup self.old members.now.items) }
-        ensures means { D.honest self.new.disk → self.new.failed ≡ false
-            → LeavesNow (D.now self.new.disk) (MeansState self.new) }
+        ensures leaves { LeavesSince D.Disk self.old self.new (MeansGroup self.old members.now.items) }
+        ensures doubt { LeavesAfter D.Disk self.old self.new (MeansGroup self.old members.now.items) }
+        ensures means { LeavesState D.Disk self.new }
         ensures honest { D.honest self.new.disk → D.honest self.old.disk }
     {
         let _count = self.journal.count(); // So that it is known that it isn't past the last one.
@@ -284,12 +277,9 @@ impl<D: Disk> Engine<D> {
             → CallsAtMost D.past self.old.disk self.new.disk (most_calls result) }
         ensures faults { Faults (λ e. Unit {0}) result (D.failures self.old.disk) (D.failures self.new.disk) }
         // Each file that a crash may leave, from the start on, and now.
-        ensures leaves { D.honest self.new.disk → self.old.failed ≡ false
-            → LeavesWithin D.now D.past self.old.disk self.new.disk (MeansState self.old) }
-        ensures now { D.honest self.new.disk → self.old.failed ≡ false
-            → LeavesNow (D.now self.new.disk) (MeansState self.old) }
-        ensures means { D.honest self.new.disk → self.new.failed ≡ false
-            → LeavesNow (D.now self.new.disk) (MeansState self.new) }
+        ensures leaves { LeavesSince D.Disk self.old self.new (MeansState self.old) }
+        ensures now { LeavesAfter D.Disk self.old self.new (MeansState self.old) }
+        ensures means { LeavesState D.Disk self.new }
         ensures honest { D.honest self.new.disk → D.honest self.old.disk }
     {
         if self.failed {
@@ -322,12 +312,9 @@ impl<D: Disk> Engine<D> {
             (calls_to_sweep self.old.step (journal_in self.old) most) result }
         ensures faults { Faults (λ e. Unit {0}) result (D.failures self.old.disk) (D.failures self.new.disk) }
         // Each file that a crash may leave, from the start on, and now.
-        ensures leaves { D.honest self.new.disk → self.old.failed ≡ false
-            → LeavesWithin D.now D.past self.old.disk self.new.disk (MeansState self.old) }
-        ensures now { D.honest self.new.disk → self.old.failed ≡ false
-            → LeavesNow (D.now self.new.disk) (MeansState self.old) }
-        ensures means { D.honest self.new.disk → self.new.failed ≡ false
-            → LeavesNow (D.now self.new.disk) (MeansState self.new) }
+        ensures leaves { LeavesSince D.Disk self.old self.new (MeansState self.old) }
+        ensures now { LeavesAfter D.Disk self.old self.new (MeansState self.old) }
+        ensures means { LeavesState D.Disk self.new }
         ensures honest { D.honest self.new.disk → D.honest self.old.disk }
     {
         if self.failed {
@@ -390,8 +377,7 @@ impl<D: Disk> Engine<D> {
     /// `Failed`. While none has, each file that a crash may leave means the memory and the count.
     pub fn failed(&self) -> bool
         ensures failed { result ≡ self.now.failed }
-        ensures means { D.honest self.now.disk → self.now.failed ≡ false
-            → LeavesNow (D.now self.now.disk) (MeansState self.now) }
+        ensures means { LeavesState D.Disk self.now }
     {
         self.failed // Nothing sets it back.
     }

@@ -1,8 +1,7 @@
 //! Makes an image of a file.
-ghost use Rattle.std.specs.Prelude.{◌≡◌, ◌≢◌, false, true, ◌⊎◌, [], ◌∷◌, ◌<◌, length, drop};
+ghost use Rattle.std.specs.Prelude.{◌≡◌, false, true, ◌⊎◌, [], ◌∷◌, ◌<◌, length, drop};
 ghost use Rattle.std.specs.Prelude.{IfOk, IfErr, OnOk, IsErrOf, MatchResult};
 ghost use Rattle.im_types.specs.declared.refusals.Refusal.TheVariants.{WrongLength, NoMemory, Device};
-ghost use Rattle.im_types.specs.Layout.{layout_in_use, image_length};
 ghost use Rattle.im_types.specs.Header.{Header as Seen};
 ghost use Rattle.im_disk.specs.Moment.{Counts, Fault, Faults};
 ghost use Rattle.im_disk.specs.Since.{LeavesNow};
@@ -11,6 +10,7 @@ ghost use Rattle.im_image.specs.Headers.{seen};
 ghost use Rattle.im_image.specs.Fresh.{new_header, new_image};
 ghost use Rattle.im_checkpoint.specs.Turns.{IsIdle};
 ghost use Rattle.im_engine.specs.State.{IsEmptyMemory, IsNewImage, MeansState};
+ghost use Rattle.im_engine.specs.Formatting.{HasLength, HasLengthUntouched, HasOtherLength};
 
 use crate::engine::Engine;
 use im_checkpoint::Checkpoint;
@@ -59,13 +59,9 @@ fn lay_down<D: Disk>(
     ensures written { OnOk result (D.honest disk.new → (D.now disk.new).bytes ≡ new_image 0xA5 (sizes_of limits)) }
     ensures calm { OnOk result (D.honest disk.new → (D.now disk.new).ranges ≡ []) }
     ensures wrong { IsErrOf result Refusal.WrongLength → D.honest disk.new
-        → (length (D.now disk.old).bytes ≢ image_length layout_in_use (sizes_of limits))
-        × (D.now disk.new ≡ D.now disk.old) × (D.past disk.new ≡ D.past disk.old) }
-    ensures right { MatchResult result
-        (λ r. D.honest disk.new → length (D.now disk.old).bytes ≡ image_length layout_in_use (sizes_of limits))
-        (λ e. e ≡ NoMemory → D.honest disk.new
-        → (length (D.now disk.old).bytes ≡ image_length layout_in_use (sizes_of limits))
-        × (D.now disk.new ≡ D.now disk.old) × (D.past disk.new ≡ D.past disk.old)) }
+        → HasOtherLength D.Disk limits disk.old disk.new }
+    ensures right { MatchResult result (λ r. D.honest disk.new → HasLength D.Disk limits disk.old)
+        (λ e. e ≡ NoMemory → D.honest disk.new → HasLengthUntouched D.Disk limits disk.old disk.new) }
     ensures faults { Faults (λ e. (e ≡ WrongLength) ⊎ (e ≡ NoMemory) ⊎ (e ≡ Device)) result
         (D.failures disk.old) (D.failures disk.new) }
     ensures honest { D.honest disk.new → D.honest disk.old }
@@ -108,13 +104,9 @@ impl<D: Disk> Engine<D> {
         ensures means { IfOk result (λ e. D.honest e.disk → LeavesNow (D.now e.disk) (MeansState e)) }
         ensures works { IfOk result (λ e. e.failed ≡ false) }
         ensures wrong { IfErr result (λ e. e.0 ≡ WrongLength → D.honest e.1
-            → (length (D.now disk).bytes ≢ image_length layout_in_use (sizes_of limits))
-            × (D.now e.1 ≡ D.now disk) × (D.past e.1 ≡ D.past disk)) }
-        ensures right { MatchResult result
-            (λ e. D.honest e.disk → length (D.now disk).bytes ≡ image_length layout_in_use (sizes_of limits))
-            (λ e. e.0 ≡ NoMemory → D.honest e.1
-            → (length (D.now disk).bytes ≡ image_length layout_in_use (sizes_of limits))
-            × (D.now e.1 ≡ D.now disk) × (D.past e.1 ≡ D.past disk)) }
+            → HasOtherLength D.Disk limits disk e.1) }
+        ensures right { MatchResult result (λ e. D.honest e.disk → HasLength D.Disk limits disk)
+            (λ e. e.0 ≡ NoMemory → D.honest e.1 → HasLengthUntouched D.Disk limits disk e.1) }
         ensures faults { MatchResult result (λ e. D.failures e.disk ≡ D.failures disk)
             (λ e. Fault (λ r. (r ≡ WrongLength) ⊎ (r ≡ NoMemory) ⊎ (r ≡ Device))
             (D.failures disk) (D.failures e.1) e.0) }

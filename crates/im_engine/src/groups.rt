@@ -5,19 +5,16 @@ ghost use Rattle.std.specs.Prelude.{MatchResult};
 ghost use Rattle.im_types.specs.declared.commands.Command.TheVariants.{Request as Asks};
 ghost use Rattle.im_types.specs.Contents.{Contents};
 ghost use Rattle.im_types.specs.Step.{step};
-ghost use Rattle.im_types.specs.Meaning.{accept_each};
 ghost use Rattle.im_types.specs.Groups.{AreOthers, AreApart, as_served};
 ghost use Rattle.im_disk.specs.Moment.{Moment, Faults};
-ghost use Rattle.im_disk.specs.Since.{LeavesOnly};
 ghost use Rattle.im_journal.specs.Holding.{JournalState, IsJournal, AllHold, longer};
 ghost use Rattle.im_image.specs.Reading.{HasSizes};
 ghost use Rattle.im_memory.specs.Covering.{most_pages};
-ghost use Rattle.im_checkpoint.specs.Step.{CheckpointState};
-ghost use Rattle.im_checkpoint.specs.Keeping.{Paged, paged, MeansWith, IsKept};
+ghost use Rattle.im_checkpoint.specs.Keeping.{paged, IsKept};
 ghost use Rattle.im_groups.specs.Commands.{places, answer_with, contents_with, places_behind, answers_with};
 ghost use Rattle.im_groups.specs.Commands.{contents_after};
 ghost use Rattle.im_groups.specs.Commands.{most_pages_at, most_pages_with};
-ghost use Rattle.im_engine.specs.Groups.{FitsGroup, GroupPut, StaysBut};
+ghost use Rattle.im_engine.specs.Groups.{FitsGroup, GroupPut, LeavesAllOrNone, KeepsAfter, StaysBut};
 ghost use Rattle.im_engine.specs.Commands.{each_refused};
 
 use arrayvec::ArrayVec;
@@ -92,13 +89,9 @@ pub(crate) fn put_on<D: Disk>(
 ) -> Result<(), Refusal>
     requires fits { FitsGroup journal.old commands.now }
     requires holds { D.honest disk.old → AllHold journal.old (D.now disk.old) }
-    ensures leaves { D.honest disk.new → (c : CheckpointState) (x : Paged) (m after : Contents)
-        → accept_each m commands.now ≡ Some after → IsKept c x m journal.old (D.now disk.old)
-        → LeavesOnly D.now D.past disk.old disk.new (λ file. MeansWith m journal.old file
-        ⊎ MeansWith after (longer (length commands.now) journal.old) file) }
-    ensures kept { OnOk result (D.honest disk.new → (c : CheckpointState) (x : Paged) (m after : Contents)
-        → accept_each m commands.now ≡ Some after → IsKept c x m journal.old (D.now disk.old)
-        → IsKept c x after journal.new (D.now disk.new)) }
+    ensures leaves { D.honest disk.new → LeavesAllOrNone D.Disk journal.old commands.now disk.old disk.new }
+    ensures kept { OnOk result (D.honest disk.new
+        → KeepsAfter D.Disk journal.old commands.now disk.old disk.new journal.new) }
     ensures state { MatchResult result (λ _. journal.new ≡ longer (length commands.now) journal.old)
         (λ _. journal.new ≡ journal.old) }
     ensures calls { GroupPut D.past (D.honest disk.new) disk.old disk.new commands.now result }

@@ -1,15 +1,13 @@
 //! Opens an image.
-ghost use Rattle.std.specs.Prelude.{◌≡◌, ◌⊎◌, ◌≤◌, false, true, replicate, length, Ok, IfOk, IfErr, MatchResult};
+ghost use Rattle.std.specs.Prelude.{◌≡◌, ◌⊎◌, ◌≤◌, false, length, IfOk, IfErr, MatchResult};
 ghost use Rattle.im_types.specs.declared.refusals.Refusal.TheVariants.{NoMemory, Device};
-ghost use Rattle.im_disk.specs.Moment.{Left, Fault, Faults};
-ghost use Rattle.im_disk.specs.Since.{LeavesWithin, LeavesNow};
-ghost use Rattle.im_types.specs.Layout.{layout_in_use, area_pages};
-ghost use Rattle.im_types.specs.Header.{header_of};
-ghost use Rattle.im_types.specs.Meaning.{Reads};
+ghost use Rattle.im_disk.specs.Moment.{Fault, Faults};
+ghost use Rattle.im_disk.specs.Since.{LeavesNow};
 ghost use Rattle.im_image.specs.Headers.{seen, MayRefuseOpening};
 ghost use Rattle.im_checkpoint.specs.Step.{NoCheckpoint};
-ghost use Rattle.im_checkpoint.specs.Keeping.{Paged, Fits, IsKept};
-ghost use Rattle.im_engine.specs.State.{MeansState, IsFirstFault, IsFound, pages_at_first};
+ghost use Rattle.im_checkpoint.specs.Keeping.{Fits};
+ghost use Rattle.im_engine.specs.State.{MeansState, IsFirstFault, Finds, IsFound, IsKeptIdle, pages_at_first};
+ghost use Rattle.im_engine.specs.Leaving.{LeavesAsBefore};
 
 use crate::engine::Engine;
 use im_checkpoint::Checkpoint;
@@ -24,14 +22,11 @@ fn read_synced<D: Disk>(alloc: Global, disk: &mut D) -> Result<Image, Refusal>
     ensures fits { IfOk result (λ i.
         Fits (record { header = seen i.header; step = NoCheckpoint }) i.memory.contents i.journal) }
     // It holds whatever is known of pages, if all of them count as changed.
-    ensures kept { IfOk result (λ i. D.honest disk.new → (x : Paged)
-        → x.recent ≡ replicate (area_pages layout_in_use (seen i.header).sizes) true
-        → IsKept (record { header = seen i.header; step = NoCheckpoint }) x i.memory.contents i.journal
-        (D.now disk.new)) }
-    ensures found { IfOk result (λ i. D.honest disk.new → LeavesNow (D.now disk.new)
-        (λ file. (seen i.header ≡ header_of file) × Reads layout_in_use file
-        (Ok (record { contents = i.memory.contents; count = i.journal.count; room = i.journal.room })))) }
-    ensures leaves { D.honest disk.new → LeavesWithin D.now D.past disk.old disk.new (Left (D.now disk.old)) }
+    ensures kept { IfOk result (λ i. D.honest disk.new
+        → IsKeptIdle (seen i.header) i.memory.contents i.journal (D.now disk.new)) }
+    ensures found { IfOk result (λ i. D.honest disk.new → LeavesNow (D.now disk.new) (Finds (seen i.header)
+        (record { contents = i.memory.contents; count = i.journal.count; room = i.journal.room }))) }
+    ensures leaves { LeavesAsBefore D.Disk disk.old disk.new }
     ensures fault { IfErr result (λ e. (e ≡ NoMemory) ⊎ (e ≡ Device)
         ⊎ (D.honest disk.new → LeavesNow (D.now disk.new) (IsFirstFault e))) }
     ensures faults { Faults MayRefuseOpening result (D.failures disk.old) (D.failures disk.new) }
@@ -64,9 +59,8 @@ impl<D: Disk> Engine<D> {
         // reading the file finds.
         ensures idle { IfOk result (λ e. (e.step ≡ NoCheckpoint) × (e.pages ≡ pages_at_first e.header false)) }
         ensures found { IfOk result (λ e. D.honest e.disk → LeavesNow (D.now e.disk) (IsFound e)) }
-        ensures leaves { MatchResult result
-            (λ e. D.honest e.disk → LeavesWithin D.now D.past disk e.disk (Left (D.now disk)))
-            (λ e. D.honest e.1 → LeavesWithin D.now D.past disk e.1 (Left (D.now disk))) }
+        ensures leaves { MatchResult result (λ e. LeavesAsBefore D.Disk disk e.disk)
+            (λ e. LeavesAsBefore D.Disk disk e.1) }
         ensures fault { IfErr result (λ e. (e.0 ≡ NoMemory) ⊎ (e.0 ≡ Device)
             ⊎ (D.honest e.1 → LeavesNow (D.now e.1) (IsFirstFault e.0))) }
         ensures faults { MatchResult result (λ e. D.failures e.disk ≡ D.failures disk)

@@ -1,10 +1,9 @@
 //! Runs commands, groups, turns and sweeps one after another.
 ghost use Rattle.std.specs.Prelude.{◌≡◌, ◌+◌, ◌≤◌, length, true, false, IfOk, IfErr, OnErr};
 ghost use Rattle.im_types.specs.declared.refusals.Refusal.TheVariants.{NoMemory};
-ghost use Rattle.im_disk.specs.Since.{LeavesWithin, LeavesNow};
-ghost use Rattle.im_engine.specs.Run.{EventAnswered, AnsweredInTurn, acknowledged, in_doubt, HasRun};
-ghost use Rattle.im_engine.specs.Run.{HasCause, HaveCauses, MeansBy, MeansBeginningOf, MeansWithOrWithout};
-ghost use Rattle.im_engine.specs.State.{MeansState};
+ghost use Rattle.im_engine.specs.Run.{EventAnswered, AnsweredInTurn, acknowledged, HasRun};
+ghost use Rattle.im_engine.specs.Run.{HasCause, HaveCauses, MeansBy, MeansBeginningOf, MeansAcknowledged};
+ghost use Rattle.im_engine.specs.Leaving.{LeavesSince, LeavesAfter, LeavesState};
 ghost use Rattle.im_engine.specs.declared.run.Event.TheVariants.{Group as Together};
 
 use crate::apart::Group;
@@ -47,12 +46,9 @@ impl<D: Disk> Engine<D> {
     fn take_group(&mut self, group: &Group) -> Answer
         ensures answered { EventAnswered self.old (Together group.now) result self.new }
         ensures faults { HasCause result (D.failures self.old.disk) (D.failures self.new.disk) }
-        ensures leaves { D.honest self.new.disk → self.old.failed ≡ false
-            → LeavesWithin D.now D.past self.old.disk self.new.disk (MeansBy self.old (Together group.now)) }
-        ensures doubt { D.honest self.new.disk → self.old.failed ≡ false
-            → LeavesNow (D.now self.new.disk) (MeansBy self.old (Together group.now)) }
-        ensures means { D.honest self.new.disk → self.new.failed ≡ false
-            → LeavesNow (D.now self.new.disk) (MeansState self.new) }
+        ensures leaves { LeavesSince D.Disk self.old self.new (MeansBy self.old (Together group.now)) }
+        ensures doubt { LeavesAfter D.Disk self.old self.new (MeansBy self.old (Together group.now)) }
+        ensures means { LeavesState D.Disk self.new }
         ensures honest { D.honest self.new.disk → D.honest self.old.disk }
     {
         let room = self.room();
@@ -66,12 +62,9 @@ impl<D: Disk> Engine<D> {
     fn take(&mut self, event: &Event) -> Answer
         ensures answered { EventAnswered self.old event.now result self.new }
         ensures faults { HasCause result (D.failures self.old.disk) (D.failures self.new.disk) }
-        ensures leaves { D.honest self.new.disk → self.old.failed ≡ false
-            → LeavesWithin D.now D.past self.old.disk self.new.disk (MeansBy self.old event.now) }
-        ensures doubt { D.honest self.new.disk → self.old.failed ≡ false
-            → LeavesNow (D.now self.new.disk) (MeansBy self.old event.now) }
-        ensures means { D.honest self.new.disk → self.new.failed ≡ false
-            → LeavesNow (D.now self.new.disk) (MeansState self.new) }
+        ensures leaves { LeavesSince D.Disk self.old self.new (MeansBy self.old event.now) }
+        ensures doubt { LeavesAfter D.Disk self.old self.new (MeansBy self.old event.now) }
+        ensures means { LeavesState D.Disk self.new }
         ensures honest { D.honest self.new.disk → D.honest self.old.disk }
     {
         match event {
@@ -90,13 +83,10 @@ impl<D: Disk> Engine<D> {
     /// done.
     pub fn run(&mut self, alloc: Global, events: &[Event]) -> Result<Vec<Answer>, Refusal>
         ensures answers { IfOk result (λ v. AnsweredInTurn self.old events.now v.items self.new) }
-        ensures leaves { IfOk result (λ v. D.honest self.new.disk → self.old.failed ≡ false
-            → LeavesWithin D.now D.past self.old.disk self.new.disk
-            (MeansBeginningOf self.old events.now v.items)) }
-        ensures now { IfOk result (λ v. D.honest self.new.disk → self.old.failed ≡ false
-            → LeavesNow (D.now self.new.disk) (MeansWithOrWithout self.old
-            (acknowledged self.old.memory events.now v.items)
-            (in_doubt self.old.memory self.old.count events.now v.items))) }
+        ensures leaves { IfOk result (λ v.
+            LeavesSince D.Disk self.old self.new (MeansBeginningOf self.old events.now v.items)) }
+        ensures now { IfOk result (λ v.
+            LeavesAfter D.Disk self.old self.new (MeansAcknowledged self.old events.now v.items)) }
         // `Device` exactly where a call of the disk failed.
         ensures faults { IfOk result (λ v. HaveCauses v.items (D.failures self.old.disk) (D.failures self.new.disk)) }
         // Where it hasn't failed, the memory and the count are those after all of them.

@@ -3,7 +3,8 @@ use Rattle.std.specs.Prelude.{◌≡◌, ℕ, ◌+◌, ◌*◌, ◌<◌, List, l
 use Rattle.im_types.specs.declared.TheConstants.{NONE}
 use Rattle.im_types.specs.Contents.{new_window}
 use Rattle.im_types.specs.Layout.{Sizes, layout_in_use, cell_record_bytes, node_record_bytes, session_record_bytes}
-use Rattle.im_types.specs.Layout.{on_a_page, cell_pages, node_pages, session_pages, area_pages, node_count}
+use Rattle.im_types.specs.Layout.{on_a_page, cell_pages, node_pages, session_pages, area_pages, node_count, page_bytes}
+use Rattle.im_types.specs.Layout.{area_bytes, record_at}
 use Rattle.im_types.specs.declared.records.CellRecord.TheVariants.{Free as FreeCell}
 use Rattle.im_types.specs.declared.records.NodeRecord.TheVariants.{Free as FreeNode}
 use Rattle.im_types.specs.Records.{cell_bytes, node_bytes, session_bytes, FitsCell, FitsNode, FitsWindow}
@@ -44,6 +45,11 @@ pub record IsAreaPage (s : Sizes) (r : Records) (i : ℕ) (page : List ℕ) : Ty
 -- these are the pages of an area
 abbrev pub AreAreaPages : Sizes → Records → (ℕ → List ℕ) → Type 0
 AreAreaPages s r page = (i : ℕ) → i < area_pages layout_in_use s → IsAreaPage s r i (page i)
+
+-- the area has these pages and nothing else
+pub record HasAreaPages (s : Sizes) (r : Records) (area : List ℕ) : Type 0 where
+  pub size : length area ≡ area_bytes layout_in_use s
+  pub pages : AreAreaPages s r (record_at page_bytes area)
 
 -- the numbers of records of each kind are those of these sizes
 pub record AreCounted (s : Sizes) (r : Records) : Type 0 where

@@ -11,7 +11,7 @@ ghost use Rattle.im_types.specs.declared.records.NodeRecord.TheVariants.{Free as
 ghost use Rattle.im_records.specs.Paging.{joined, bytes_or_zeros};
 ghost use Rattle.im_records.specs.Placed.{placed};
 ghost use Rattle.im_image.specs.Encoding.{AreCounted, AreAreaPages, SpellsCells, SpellsNodes, SpellsSessions};
-ghost use Rattle.im_image.specs.Encoding.{IsAreaPage, SameOn};
+ghost use Rattle.im_image.specs.Encoding.{HasAreaPages, IsAreaPage, SameOn};
 ghost use Rattle.im_pages.specs.Places.{AgreeOnPage};
 
 use im_memory::{Memory, MemoryRecords};
@@ -197,8 +197,7 @@ pub fn pages_show_the_memory()
 /// An area shows a memory if its pages have the memory's records.
 pub fn areas_show_the_memory()
     ensures { (s : Sizes) (r : Records) (m : Contents) (area : List ℕ) → AreCounted s r → ShowsRecords s r m
-        → length area ≡ layout.area_bytes layout_in_use s
-        → AreAreaPages s r (record_at page_bytes area) → Shows layout_in_use s area m }
+        → HasAreaPages s r area → Shows layout_in_use s area m }
 {}
 
 /// A page has the same bytes as before if none of its records changed.

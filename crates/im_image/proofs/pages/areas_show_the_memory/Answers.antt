@@ -3,4 +3,4 @@ use Rattle.im_image.proofs.Encoding.{area-shows}
 use Rattle.im_image.proofs.pages.areas_show_the_memory.Goals as goal
 
 pub returns : goal.returns
-returns c = λ s r m area count shows long pages. area-shows s r m area count shows (omega (arith, long)) pages
+returns c = λ s r m area count shows has. area-shows s r m area count shows (omega (arith, has.size)) has.pages
