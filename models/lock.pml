@@ -273,7 +273,7 @@ inline serve_member(m) {
    of im_controller::serve_asked 9d0732c5dba0
    of im_queue::Inbox::next_group e08c6e94a090
    of im_queue::Inbox::gather a3fa78f93397
-   of im_trace::Log::claim 66c75ff3e422 */
+   of im_trace::Log::claim efb56824253b */
 inline hold(e) {
   if :: unclaimed[e] != Nothing -> skip
      :: else ->
@@ -308,7 +308,7 @@ inline submit(e, op) {
      :: else -> break od
 }
 /* of im_controller::Port::help 0e90bbc25526
-   of im_controller::lend_turn ed4fb0a68abb
+   of im_controller::lend_turn f3e3e6a7cab4
    of im_controller::told_turn ef17c1018823
    of im_serving::help 4b93685dd560: got is Go where it is worth to ask again. */
 inline help(e) {

@@ -9,5 +9,7 @@ pub mod Lends
 pub mod Waits
 pub mod Groups
 pub mod Kept
+pub mod Ends
+pub mod Runs
 pub mod Planned
 pub mod Admitted

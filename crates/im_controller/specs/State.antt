@@ -1,5 +1,5 @@
 -- What lies under the lock, as contracts see it. (Own.)
-use Rattle.std.specs.Prelude.{ℕ, List, Option}
+use Rattle.std.specs.Prelude.{◌≡◌, ℕ, Bool, true, false, List, Option, None, Some}
 use Rattle.im_types.specs.declared.commands.Request.{Request}
 use Rattle.im_types.specs.declared.commands.Line.{Line}
 use Rattle.im_types.specs.declared.changes.Change.{Change}
@@ -26,6 +26,24 @@ pub record OpeningState (D : Type 0) : Type 0 where
   pub marked_name : ℕ
   pub book : BookNames
   pub plan : Option (List Request)
+
+-- how many lines a trace may have: those for which room was asked, or as many as a `usize` counts
+abbrev pub most_lines : Option ℕ → ℕ
+most_lines (Some room) = room
+most_lines None = 18446744073709551615
+
+-- whether its lines are recorded at run time
+abbrev pub is_recorded : Option ℕ → Bool
+is_recorded (Some room) = true
+is_recorded None = false
+
+-- an engine with room for a trace of so many lines, or for one that isn't recorded, and with a plan or without
+pub record Begins {D : Type 0} (room : Option ℕ) (plan : Option (List Request)) (e : EngineState D)
+    (o : OpeningState D) : Type 0 where
+  pub engine : o.engine ≡ e
+  pub limit : o.limit ≡ most_lines room
+  pub recorded : o.book.recorded ≡ is_recorded room
+  pub plan_is : o.plan ≡ plan
 
 -- a port: its element, how many lines it was told, and how much of the trace it has seen
 pub record PortState : Type 0 where

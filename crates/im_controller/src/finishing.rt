@@ -1,8 +1,9 @@
 //! The end of a controller.
-ghost use Rattle.std.specs.Prelude.{◌≡◌, ◌↔◌, ◌≤◌, ◌+◌, false, IsTrue, length, sum_by, count_by};
+ghost use Rattle.std.specs.Prelude.{◌≡◌, ◌≤◌, ◌+◌, false, length, sum_by};
 ghost use Rattle.std.specs.List.{AllByRecursion};
 ghost use mathlib.Core.List.{IsPrefix};
 ghost use Rattle.im_types.specs.Trace.{IsLegal, end_of};
+ghost use Rattle.im_controller.specs.Ends.{HaveCome};
 ghost use Rattle.im_controller.specs.Kept.{HasKept, accepted_in};
 ghost use Rattle.im_controller.specs.Planned.{EndsBy};
 
@@ -11,7 +12,7 @@ use crate::ports::Port;
 use crate::shared::Shared;
 use im_disk::Disk;
 use im_engine::Engine;
-use im_trace::{Ended, Name, Traced};
+use im_trace::{Ended, Name, Recording};
 use std::sync::Wait;
 
 /// What is left of a controller after its end.
@@ -20,7 +21,7 @@ pub struct Finished<D: Disk> {
     /// The engine.
     pub engine: Engine<D>,
     /// Each call that had an outcome or a refusal of numbers, with that answer, in the order of the lock.
-    pub trace: Vec<Traced>,
+    pub trace: Recording,
     /// Whether as many ports came back as were given out.
     pub came: bool,
     /// How many ports weren't given out.
@@ -30,9 +31,10 @@ pub struct Finished<D: Disk> {
 }
 
 /// Ends a controller, given the ports that were given out, and waits for its readers. From then on each glance is told
-/// `PaneGone`. The trace is legal from the memory that was opened, and it ends in the engine's memory. If all ports
-/// came back and no line waits, the trace has each line as often as a port was given that answer to that call. This
-/// holds for whatever K marks. What each port has seen is a prefix of the trace, and so is each of its receipts.
+/// `PaneGone`. The trace is legal from the memory that was opened, and it ends in the engine's memory, whether it was
+/// recorded or not. If all ports came back and no line waits, the trace has each line as often as a port was given that
+/// answer to that call. This holds for whatever K marks. What each port has seen is a prefix of the trace, and so is
+/// each of its receipts.
 ///
 /// All ports came back exactly if as many came back as the controller has, but for those that it says weren't given
 /// out. Where they came, no line waits exactly if the ports were told as many lines as the trace has.
@@ -50,18 +52,12 @@ pub fn finish<D: Disk, K: Name, R: Wait>(
 ) -> Finished<D>
     ensures legal { IsLegal K.memory result.trace.items }
     ensures end { end_of K.memory result.trace.items ≡ result.engine.memory }
+    ensures recorded { result.trace.recorded ≡ K.book.recorded }
     ensures planned { EndsBy K.memory K.plan result.engine.memory }
     ensures kept { D.honest result.engine.disk → K.begun.failed ≡ false
         → HasKept D.now D.past D.failures K.begun K.memory (accepted_in K.memory result.trace.items) result.engine }
     ensures honest { D.honest result.engine.disk → K.honest }
-    ensures whole { length ports.items ≡ K.ports → IsTrue result.came }
-    ensures lines { IsTrue result.came → IsTrue result.claimed
-        → length result.trace.items ≡ sum_by (λ p. p.told.lines) ports.items }
-    ensures marked { IsTrue result.came → IsTrue result.claimed
-        → count_by K.marks result.trace.items ≡ sum_by (λ p. p.told.marked) ports.items }
-    ensures came { IsTrue result.came ↔ (length ports.items + result.left ≡ K.ports) }
-    ensures claimed { IsTrue result.came
-        → (length result.trace.items ≡ sum_by (λ p. p.told.lines) ports.items → IsTrue result.claimed) }
+    ensures came { HaveCome K.marks result.trace.items K.ports ports.items result.left result.came result.claimed }
     // Each port has seen a prefix of the trace: so have all receipts that it was told.
     ensures seen { AllByRecursion (λ p. IsPrefix p.history result.trace.items) ports.items }
 {

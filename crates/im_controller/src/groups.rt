@@ -1,14 +1,12 @@
 //! Groups of commands that the engine is lent to. Their answers wait for their ports.
 ghost use Rattle.std.specs.Prelude.{◌≡◌, ◌<◌, ◌≤◌, ◌+◌, ◌-◌, ◌++◌, [], ◌∷◌, false, length, map, IfSome, if◌then◌else◌};
 ghost use Rattle.im_types.specs.Trace.{end_of};
-ghost use Rattle.im_disk.specs.Since.{LeavesWithin, LeavesNow, CallsAtMost};
-ghost use Rattle.im_engine.specs.State.{MeansState};
-ghost use Rattle.im_engine.specs.Groups.{calls_for_group, GroupFaults};
-ghost use Rattle.im_engine.specs.Commands.{commands_put, each_refused, CommandsAnswered, MeansCommands, ServesCommands};
+ghost use Rattle.im_engine.specs.Commands.{each_refused, CommandsAnswered, ServesCommands};
 ghost use Rattle.im_controller.specs.Groups.{answer_in, with_all_unclaimed, AreAnswersTo, memory_after_all, lines_left};
 ghost use Rattle.im_queue.specs.Members.{AreOneOfEach, AreFreeFor, AreSureBehind, IsCut};
 ghost use Rattle.im_controller.specs.Groups.{MembersAnswered, LendsGroup, Holds};
 ghost use Rattle.im_controller.specs.Groups.{those, spread, next_answer, answers_left};
+ghost use Rattle.im_controller.specs.Runs.{LendsRuns};
 ghost use Rattle.im_trace.specs.Log.{SeesAnswer};
 ghost use Rattle.im_controller.specs.Planned.{AreOnPlan, StartsBy, TellsOf};
 ghost use Rattle.im_controller.specs.Admitted.{is_asked, is_picked, picked, admitted, with_refused_off};
@@ -37,8 +35,8 @@ fn answer_in(served: Served) -> Result<Outcome, Refusal>
     }
 }
 
-// Keeps the answers of the members for their ports, in order.
-fn keep_all<K: Name>(log: &mut Log<K>, members: &[Command], served: &[Served])
+// Keeps the answers of the members for their ports, in order. With the first one a group may begin.
+fn keep_all<K: Name>(log: &mut Log<K>, members: &[Command], served: &[Served], begins: bool)
     requires whole { length served.now ≡ length members.now }
     requires are_so { AreAnswersTo (end_of K.memory log.old.trace) members.now (map answer_in served.now) }
     requires apart { AreOneOfEach members.now }
@@ -49,7 +47,7 @@ fn keep_all<K: Name>(log: &mut Log<K>, members: &[Command], served: &[Served])
         ≡ memory_after_all (end_of K.memory log.old.trace) members.now (map answer_in served.now) }
 {
     for i in 0..members.len() {
-        log.keep(&members[i], answer_in(served[i]));
+        log.keep(&members[i], answer_in(served[i]), begins && i == 0);
     }
 }
 
@@ -90,17 +88,7 @@ fn serve_members<D: Disk>(
     requires sure { AreSureBehind engine.old.memory members.now.items }
     requires empty { served.old.items ≡ [] }
     ensures answered { MembersAnswered engine.old room members.now.items served.new.items engine.new }
-    ensures few { D.honest engine.new.disk → CallsAtMost D.past engine.old.disk engine.new.disk
-        (calls_for_group (length (commands_put engine.old members.now.items))) }
-    ensures faults { GroupFaults engine.old.failed engine.new.failed (D.failures engine.old.disk)
-        (D.failures engine.new.disk) }
-    ensures leaves { D.honest engine.new.disk → engine.old.failed ≡ false
-        → LeavesWithin D.now D.past engine.old.disk engine.new.disk (MeansCommands engine.old members.now.items) }
-    ensures doubt { D.honest engine.new.disk → engine.old.failed ≡ false
-        → LeavesNow (D.now engine.new.disk) (MeansCommands engine.old members.now.items) }
-    ensures means { D.honest engine.new.disk → engine.new.failed ≡ false
-        → LeavesNow (D.now engine.new.disk) (MeansState engine.new) }
-    ensures honest { D.honest engine.new.disk → D.honest engine.old.disk }
+    ensures runs { LendsRuns D.Disk engine.old engine.new members.now.items }
 {
     if !engine.failed() && room == 0 {
         return refuse_alike(Refusal::TraceFull, members.as_slice(), served);
@@ -163,26 +151,14 @@ fn lend_members<D: Disk, K: Name, R: Wait>(
     requires planned { shared.old.engine.failed ≡ false → length shared.old.log.trace < shared.old.log.limit
         → AreOnPlan K.plan members.now.items }
     ensures lends { LendsGroup shared.old members.now.items result.items shared.new }
-    // What the disk is left with is as after the engine's own call.
-    ensures few { D.honest shared.new.engine.disk → CallsAtMost D.past shared.old.engine.disk shared.new.engine.disk
-        (calls_for_group (length (commands_put shared.old.engine (those result.items members.now.items)))) }
-    ensures faults { GroupFaults shared.old.engine.failed shared.new.engine.failed
-        (D.failures shared.old.engine.disk) (D.failures shared.new.engine.disk) }
-    ensures leaves { D.honest shared.new.engine.disk → shared.old.engine.failed ≡ false
-        → LeavesWithin D.now D.past shared.old.engine.disk shared.new.engine.disk
-        (MeansCommands shared.old.engine (those result.items members.now.items)) }
-    ensures doubt { D.honest shared.new.engine.disk → shared.old.engine.failed ≡ false
-        → LeavesNow (D.now shared.new.engine.disk)
-        (MeansCommands shared.old.engine (those result.items members.now.items)) }
-    ensures means { D.honest shared.new.engine.disk → shared.new.engine.failed ≡ false
-        → LeavesNow (D.now shared.new.engine.disk) (MeansState shared.new.engine) }
-    ensures honest { D.honest shared.new.engine.disk → D.honest shared.old.engine.disk }
+    ensures runs { LendsRuns D.Disk shared.old.engine shared.new.engine (those result.items members.now.items) }
 {
     let mut roomy = ArrayVec::new();
     let mut lent = ArrayVec::new();
     let mut served = ArrayVec::new();
     let mut answers = ArrayVec::new();
     let room = shared.log.room();
+    let count = shared.engine.count();
     let places = places_with(&shared.engine, room);
     let memory = shared.engine.memory();
     let _cells = memory.cells(); // So that it is known that its lists of waiters agree with what waits.
@@ -197,7 +173,8 @@ fn lend_members<D: Disk, K: Name, R: Wait>(
     serve_members(&mut shared.engine, room, &lent, &mut served);
     let _told = show_put(rt, &mut shared.pane, shared.engine.failed(), true);
     spread(roomy.as_slice(), served.as_slice(), &mut answers);
-    keep_all(&mut shared.log, members.as_slice(), answers.as_slice());
+    let put = count < shared.engine.count(); // Then it shares the syncs of a group.
+    keep_all(&mut shared.log, members.as_slice(), answers.as_slice(), put);
     roomy
 }
 
@@ -274,7 +251,7 @@ fn admit<D: Disk, K: Name>(
     pick(&shared.plan, asked, true, members, lent);
     pick(&shared.plan, asked, false, members, &mut off);
     refuse_alike(Refusal::OffPlan, off.as_slice(), &mut refused);
-    keep_all(&mut shared.log, off.as_slice(), refused.as_slice());
+    keep_all(&mut shared.log, off.as_slice(), refused.as_slice(), false);
 }
 
 // Lends the engine to the commands of a group. Each gets what `lend` would answer, one after another.
@@ -305,20 +282,8 @@ pub(crate) fn lend_group<D: Disk, K: Name, R: Wait>(
     ensures lends { LendsGroup (with_refused_off K.plan shared.old members.now.items)
         (admitted K.plan shared.old members.now.items) result.items shared.new }
     // What the disk is left with is as after the engine's own call.
-    ensures few { D.honest shared.new.engine.disk → CallsAtMost D.past shared.old.engine.disk shared.new.engine.disk
-        (calls_for_group (length (commands_put shared.old.engine
-        (those result.items (admitted K.plan shared.old members.now.items))))) }
-    ensures faults { GroupFaults shared.old.engine.failed shared.new.engine.failed
-        (D.failures shared.old.engine.disk) (D.failures shared.new.engine.disk) }
-    ensures leaves { D.honest shared.new.engine.disk → shared.old.engine.failed ≡ false
-        → LeavesWithin D.now D.past shared.old.engine.disk shared.new.engine.disk
-        (MeansCommands shared.old.engine (those result.items (admitted K.plan shared.old members.now.items))) }
-    ensures doubt { D.honest shared.new.engine.disk → shared.old.engine.failed ≡ false
-        → LeavesNow (D.now shared.new.engine.disk)
-        (MeansCommands shared.old.engine (those result.items (admitted K.plan shared.old members.now.items))) }
-    ensures means { D.honest shared.new.engine.disk → shared.new.engine.failed ≡ false
-        → LeavesNow (D.now shared.new.engine.disk) (MeansState shared.new.engine) }
-    ensures honest { D.honest shared.new.engine.disk → D.honest shared.old.engine.disk }
+    ensures runs { LendsRuns D.Disk shared.old.engine shared.new.engine
+        (those result.items (admitted K.plan shared.old members.now.items)) }
 {
     let mut lent = ArrayVec::new();
     admit(shared, members.as_slice(), &mut lent);

@@ -15,13 +15,17 @@ mod panes; // Changes, put ahead and shown.
 mod plans; // Whether a plan has a command.
 mod ports; // The way of one element to the lock.
 mod shared; // What lies under the lock.
+mod starts; // With a trace that is recorded, and with one that isn't.
 mod tellers; // Who is told how things stand.
 
 pub use controller::Controller;
 pub use finishing::{Finished, finish};
 pub use im_queue::{Ask, Server, stuck_is_each};
-pub use im_trace::{Found, Lines, Marked, Name, Prefix, Receipt, Shown, Tally, Traced};
-pub use opening::{Opening, start, start_planned};
+pub use im_trace::{
+    Found, Lines, Marked, Name, Prefix, Receipt, Recording, Shown, Since, Tally, Traced,
+};
+pub use opening::Opening;
 pub use ports::Port;
 pub use shared::{Shared, begin_wait, lend, lend_turn, look};
+pub use starts::{start, start_planned, start_planned_unrecorded, start_unrecorded};
 pub use tellers::{Silent, Standing, Teller};

@@ -5,6 +5,7 @@ ghost use Rattle.im_types.specs.Plan.{FitsPlan};
 ghost use Rattle.im_plans.specs.Runs.{Starts};
 ghost use Rattle.im_types.specs.Changes.{opening};
 ghost use Rattle.im_controller.specs.Kept.{begun_in};
+ghost use Rattle.im_controller.specs.State.{Begins, is_recorded, most_lines};
 ghost use Rattle.im_queue.specs.Servers.{is_unmade};
 
 use crate::controller::Controller;
@@ -48,7 +49,7 @@ impl<D: Disk> Model for Opening<D> {
       ports = o.parts.log.ports;
       lines_name = o.parts.log.lines_name;
       marked_name = o.parts.log.marked_name;
-      book = record { shown = o.pane.book; lines = o.parts.log.book };
+      book = record { shown = o.pane.book; lines = o.parts.log.book; recorded = o.parts.log.recorded };
       plan = o.plan;
     } };
 
@@ -68,13 +69,26 @@ struct Parts {
     watched: Vec<bool>,
 }
 
+// Makes room for a log: one that records the given number of lines, or one that records none.
+fn new_log(alloc: Global, room: Option<usize>, elements: u16) -> Result<NewLog, AllocError>
+    ensures limit { IfOk result (λ n. n.limit ≡ most_lines room) }
+    ensures recorded { IfOk result (λ n. n.recorded ≡ is_recorded room) }
+    ensures ports { IfOk result (λ n. n.ports ≡ elements) }
+{
+    match room {
+        Some(trace_room) => NewLog::new(alloc, trace_room, elements),
+        None => NewLog::unrecorded(alloc, elements),
+    }
+}
+
 // Makes room for the given numbers of lines and of elements.
-fn make_parts(alloc: Global, trace_room: usize, elements: u16) -> Result<Parts, AllocError>
-    ensures numbers { IfOk result (λ p. (p.log.limit ≡ trace_room) × (p.log.ports ≡ elements)) }
+fn make_parts(alloc: Global, room: Option<usize>, elements: u16) -> Result<Parts, AllocError>
+    ensures limit { IfOk result (λ p. (p.log.limit ≡ most_lines room) × (p.log.recorded ≡ is_recorded room)) }
+    ensures ports { IfOk result (λ p. p.log.ports ≡ elements) }
     ensures unmade { IfOk result (λ p. p.log.ports ≡ count_by is_unmade p.servers) }
 {
     Ok(Parts {
-        log: NewLog::new(alloc, trace_room, elements)?,
+        log: new_log(alloc, room, elements)?,
         servers: Servers::new(alloc, elements)?,
         inbox: Inbox::new(alloc, elements)?,
         turns: Turns::new(alloc, elements as usize + 1)?,
@@ -106,20 +120,18 @@ fn make_pane<R: Wait>(rt: &R, alloc: Global, memory: &Memory) -> Result<Unnamed,
     }
 }
 
-/// Makes room for a trace of `trace_room` lines, 48 bytes each, for the server, the request and the answer of each
-/// element, and for the ledgers that count the lines. It shows the full cells on a pane with a reader for each element.
-/// Returns `NoMemory`, with the engine as it was, if `alloc` refuses the memory.
-pub fn start<D: Disk + Drop, R: Wait>(
+// Makes room for a trace of so many lines, or for one that isn't recorded, and for all else that takes memory.
+pub(crate) fn begin<D: Disk + Drop, R: Wait>(
     rt: &R,
     alloc: Global,
     engine: Engine<D>,
-    trace_room: usize,
+    room: Option<usize>,
 ) -> Result<Opening<D>, (Refusal, Engine<D>)>
-    ensures found { IfOk result (λ o. (o.engine ≡ engine) × (o.limit ≡ trace_room) × (o.plan ≡ None)) }
+    ensures found { IfOk result (λ o. Begins room None engine o) }
     ensures ports { IfOk result (λ o. o.ports ≡ length engine.memory.windows) }
     ensures refused { IfErr result (λ e. (e.0 ≡ NoMemory) × (e.1 ≡ engine)) }
 {
-    match make_parts(alloc, trace_room, engine.memory().elements()) {
+    match make_parts(alloc, room, engine.memory().elements()) {
         Ok(parts) => match make_pane(rt, alloc, engine.memory()) {
             Ok(pane) => Ok(Opening {
                 engine,
@@ -143,19 +155,15 @@ fn may_start(plan: &Plan, memory: &Memory) -> bool
     fits(plan, memory)
 }
 
-/// Does what [`start`] does, under a plan. From then on a request is refused with `OffPlan` if the plan doesn't have it
-/// with its operation under its number.
-///
-/// Returns `BadPlan` exactly if the plan doesn't fit the engine's memory, and else `NoMemory` as [`start`] does. The
-/// engine is then as it was, and the plan is dropped.
-pub fn start_planned<D: Disk + Drop, R: Wait>(
+// Does what `begin` does, under a plan.
+pub(crate) fn begin_planned<D: Disk + Drop, R: Wait>(
     rt: &R,
     alloc: Global,
     engine: Engine<D>,
     plan: Plan,
-    trace_room: usize,
+    room: Option<usize>,
 ) -> Result<Opening<D>, (Refusal, Engine<D>)>
-    ensures found { IfOk result (λ o. (o.engine ≡ engine) × (o.limit ≡ trace_room) × (o.plan ≡ Some plan)) }
+    ensures found { IfOk result (λ o. Begins room (Some plan) engine o) }
     ensures ports { IfOk result (λ o. o.ports ≡ length engine.memory.windows) }
     ensures fits { OnOk result (FitsPlan engine.memory plan) }
     ensures bad { IfErr result (λ e. e.0 ≡ BadPlan → FitsPlan engine.memory plan → ⊥) }
@@ -164,7 +172,7 @@ pub fn start_planned<D: Disk + Drop, R: Wait>(
     if !may_start(&plan, engine.memory()) {
         return Err((Refusal::BadPlan, engine));
     }
-    match start(rt, alloc, engine, trace_room) {
+    match begin(rt, alloc, engine, room) {
         Ok(opening) => Ok(opening.under(plan)),
         Err(refused) => Err(refused),
     }

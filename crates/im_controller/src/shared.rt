@@ -7,7 +7,7 @@ ghost use Rattle.im_types.specs.declared.commands.Call.TheVariants.{Collect};
 ghost use Rattle.im_types.specs.declared.commands.Outcome.TheVariants.{Entry as Tells};
 ghost use Rattle.im_types.specs.declared.refusals.Refusal.TheVariants.{NoElement, JournalFull};
 ghost use Rattle.im_disk.specs.Moment.{Faults};
-ghost use Rattle.im_disk.specs.Since.{LeavesWithin, LeavesNow, CallsAtMost, CallsBy};
+ghost use Rattle.im_disk.specs.Since.{LeavesOnly, LeavesNow, CallsAtMost, CallsBy};
 ghost use Rattle.im_engine.specs.Run.{calls_for};
 ghost use Rattle.im_engine.specs.State.{MeansState, MeansEither};
 ghost use Rattle.im_trace.specs.Lines.{EndsIn, line_of};
@@ -109,17 +109,12 @@ pub fn lend<D: Disk, K: Name, R: Wait>(
     ensures lends { Lends K.marks K.plan shared.old tally.old command.now result shared.new tally.new }
     ensures planned { TellsOf K.memory K.plan result }
     ensures legal { IfOk result (λ r. IsLegal K.memory r.history) }
-    // What the disk is left with is as after the engine's own call.
-    ensures calls { D.honest shared.new.engine.disk
-        → CallsBy D.past shared.old.engine.disk shared.new.engine.disk
+    ensures calls { D.honest shared.new.engine.disk → CallsBy D.past shared.old.engine.disk shared.new.engine.disk
         (calls_for shared.old.engine.memory command.now) result }
     ensures faults { Faults (λ e. Unit {0}) result (D.failures shared.old.engine.disk)
         (D.failures shared.new.engine.disk) }
-    ensures leaves { D.honest shared.new.engine.disk → shared.old.engine.failed ≡ false
-        → LeavesWithin D.now D.past shared.old.engine.disk shared.new.engine.disk
-        (MeansEither shared.old.engine command.now) }
-    ensures doubt { D.honest shared.new.engine.disk → shared.old.engine.failed ≡ false
-        → LeavesNow (D.now shared.new.engine.disk) (MeansEither shared.old.engine command.now) }
+    ensures leaves { D.honest shared.new.engine.disk → shared.old.engine.failed ≡ false → LeavesOnly D.now D.past
+        shared.old.engine.disk shared.new.engine.disk (MeansEither shared.old.engine command.now) }
     ensures means { D.honest shared.new.engine.disk → shared.new.engine.failed ≡ false
         → LeavesNow (D.now shared.new.engine.disk) (MeansState shared.new.engine) }
     ensures honest { D.honest shared.new.engine.disk → D.honest shared.old.engine.disk }
@@ -212,6 +207,15 @@ fn told_turn(room: u32, done: Result<TurnDone, Refusal>) -> Result<TurnDone, Ref
     }
 }
 
+// Notes a turn that put a checkpoint in force: the next line of the trace tells it.
+fn note_turn<K: Name>(log: &mut Log<K>, done: Result<TurnDone, Refusal>)
+    ensures { log.new ≡ log.old }
+{
+    if matches!(done, Ok(TurnDone::InForce)) {
+        log.note_checkpoint();
+    }
+}
+
 /// Lends the engine to one turn of a checkpoint. The memory, the trace and the servers stay as they are. It takes no
 /// memory.
 ///
@@ -227,15 +231,14 @@ pub fn lend_turn<D: Disk, K: Name>(shared: &mut Shared<D, K>) -> Result<TurnDone
     ensures faults { Faults (λ e. Unit {0}) result (D.failures shared.old.engine.disk)
         (D.failures shared.new.engine.disk) }
     ensures leaves { D.honest shared.new.engine.disk → shared.old.engine.failed ≡ false
-        → LeavesWithin D.now D.past shared.old.engine.disk shared.new.engine.disk (MeansState shared.old.engine) }
-    ensures now { D.honest shared.new.engine.disk → shared.old.engine.failed ≡ false
-        → LeavesNow (D.now shared.new.engine.disk) (MeansState shared.old.engine) }
+        → LeavesOnly D.now D.past shared.old.engine.disk shared.new.engine.disk (MeansState shared.old.engine) }
     ensures means { D.honest shared.new.engine.disk → shared.new.engine.failed ≡ false
         → LeavesNow (D.now shared.new.engine.disk) (MeansState shared.new.engine) }
     ensures honest { D.honest shared.new.engine.disk → D.honest shared.old.engine.disk }
 {
     // A stop in it leaves the memory as it is.
     let done = shared.engine.turn();
+    note_turn(&mut shared.log, done);
     told_turn(shared.engine.room(), done)
 }
 

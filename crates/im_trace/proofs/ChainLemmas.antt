@@ -1,7 +1,8 @@
 -- The steps keep the rule of the book of lines, and what they leave of its lines.
 use Rattle.std.proofs.Common.{◌≡◌, ◌⊎◌, inl, inr, ℕ, zero, suc, ◌<◌, ◌==◌, Bool, true, false, List, [], ◌∷◌}
 use Rattle.std.proofs.Common.{◌++◌, length, refl, ap, sym}
-use Rattle.std.proofs.Common.{◌∙◌, subst, arith, None, set, append-nil, append_assoc, if◌then◌else◌}
+use Rattle.std.proofs.Common.{◌∙◌, subst, arith, None, set, take, drop, append-nil, append_assoc, take-append-drop}
+use Rattle.std.proofs.Common.{if◌then◌else◌}
 use Rattle.std.proofs.lemmas.Bool.Decides.{nat_tests}
 use Rattle.std.specs.List.{AllByRecursion}
 use mathlib.Core.List.{IsPrefix}
@@ -10,7 +11,7 @@ use Rattle.logbook.specs.Pages.{Cell, cell, keeps, gives, adds, no_nib, Nib, may
 use Rattle.logbook.specs.Pages.{Moves}
 use Rattle.im_types.specs.declared.commands.Line.{Line}
 use Rattle.im_laws.proofs.Tests.{true_false, test-self}
-use Rattle.im_trace.specs.declared.chain.Link.{Link}
+use Rattle.im_trace.specs.declared.rule.Link.{Link}
 use Rattle.im_trace.specs.Lines.{AreInOrder}
 use Rattle.im_trace.specs.Chains.{IsChained, IsUsed, IsApart, MakesPen, KeepsPen, UsesPen, lines_from, tip_from}
 
@@ -246,6 +247,10 @@ lines-prefix root xs ys p = (
 )
 
 -- ---- prefixes of one list
+
+-- the first lines of a list begin it
+pub first-prefix : (n : ℕ) (xs : List Line) → IsPrefix (take n xs) xs
+first-prefix n xs = (drop n xs, take-append-drop n xs)
 
 pub prefix-trans : {X : Type 0} (xs ys zs : List X) → IsPrefix xs ys → IsPrefix ys zs → IsPrefix xs zs
 prefix-trans xs ys zs p q = (p.0 ++ q.0, sym (append_assoc xs p.0 q.0) ∙ ap (λ l. l ++ q.0) p.1 ∙ q.1)

@@ -1,10 +1,12 @@
 -- A log that grows by a line, keeps an answer for its port, and hands it out.
 use Rattle.std.proofs.Common.{◌≡◌, ℕ, zero, suc, ◌+◌, ◌<◌, ◌≤◌, Bool, true, false, List, [], ◌∷◌, ◌++◌, refl, sym, ap}
 use Rattle.std.proofs.Common.{◌∙◌, subst, cond, Option, None, Some, Result, Ok, Err, length, length-append}
-use Rattle.std.proofs.Common.{append-nil, append_assoc, slice_get, slice_set, sum_by, arith, if◌then◌else◌}
+use Rattle.std.proofs.Common.{append-nil, append_assoc, slice_get, slice_set, sum_by, take, arith}
+use Rattle.std.proofs.Common.{if◌then◌else◌}
 use Rattle.std.specs.Prelude.{count_by, IfOk}
 use Rattle.std.specs.List.{AllByRecursion}
 use mathlib.Core.List.{IsPrefix}
+use Rattle.std.proofs.lemmas.List.{take_all, take-append-le}
 use Rattle.std.proofs.lemmas.List.Sums.{sum_by-append, sum_by-set}
 use Rattle.std.proofs.lemmas.Option.{slice_get_within, get_or_from_slice_get}
 use Rattle.im_types.specs.declared.changes.Change.{Change}
@@ -18,10 +20,10 @@ use Rattle.im_types.specs.Contents.{Contents}
 use Rattle.im_types.specs.declared.operations.Entry.{Entry}
 use Rattle.im_types.specs.declared.commands.Outcome.TheVariants.{Entry as Tells}
 use Rattle.im_types.specs.Trace.{told, answer_to, contents_after, IsLegal, end_of}
-use Rattle.im_laws.proofs.TraceLemmas.{end_of-append, IsLegal-push}
+use Rattle.im_laws.proofs.TraceLemmas.{end_of-append, IsLegal-push, IsLegal-split}
 use Rattle.im_trace.specs.Lines.{Counts, EndsIn, EndsInAll, leaves_line, line_of, lines_of, memory_after}
 use Rattle.im_trace.specs.Lines.{counts_after}
-use Rattle.im_trace.specs.Log.{sender_of, UnclaimedState, LogState, IsProof, IsProofIn, unclaimed_lines, with_line}
+use Rattle.im_trace.specs.Log.{sender_of, UnclaimedState, LogState, IsProof, StandsIn, unclaimed_lines, with_line}
 use Rattle.im_trace.specs.Log.{with_unclaimed, without_unclaimed, AreFree, AreClaimed, IsLog, IsOfTrace}
 use Rattle.im_trace.specs.Log.{receipt_for}
 
@@ -55,11 +57,6 @@ count-append : (marks : Line → Bool) (xs ys : List Line) → count_by marks (x
 count-append marks xs ys = sum_by-append (λ x. cond (marks x) 1 0) xs ys
 
 -- the trace of an answer's receipt
-proof_at : (m : Contents) (trace : List Line) (call : Call) (answer : Result Outcome Refusal)
-    → IsLegal m (trace ++ lines_of call answer) → IsProof m call answer (trace ++ lines_of call answer)
-proof_at m trace call (Ok outcome) legal = (legal, (trace, refl))
-proof_at m trace call (Err refusal) legal = tt
-
 pub proof-at_end : (m : Contents) (trace : List Line) (call : Call) (answer : Result Outcome Refusal)
     → IsLegal m trace → EndsInAll trace (lines_of call answer) → IsProof m call answer trace
 proof-at_end m trace call (Ok outcome) legal ends = (legal, ends)
@@ -69,12 +66,38 @@ proof-at_end m trace call (Err refusal) legal ends = tt
 pub prefix-more : {X : Type 0} (xs ys zs : List X) → IsPrefix xs ys → IsPrefix xs (ys ++ zs)
 prefix-more xs ys zs p = (p.0 ++ zs, sym (append_assoc xs p.0 zs) ∙ ap (λ l. l ++ zs) p.1)
 
-proofs-more : (m : Contents) (trace more : List Line) (places : List (Option UnclaimedState))
-    → AllByRecursion (IsProofIn m trace) places → AllByRecursion (IsProofIn m (trace ++ more)) places
-proofs-more m trace more [] all = tt
-proofs-more m trace more (None ∷ places) all = (tt, proofs-more m trace more places all.1)
-proofs-more m trace more (Some w ∷ places) all =
-    ((all.0.0, prefix-more w.history trace more all.0.1, all.0.2), proofs-more m trace more places all.1)
+stand-more : (trace more : List Line) (places : List (Option UnclaimedState))
+    → AllByRecursion (StandsIn trace) places → AllByRecursion (StandsIn (trace ++ more)) places
+stand-more trace more [] all = tt
+stand-more trace more (None ∷ places) all = (tt, stand-more trace more places all.1)
+stand-more trace more (Some w ∷ places) all =
+    ((all.0.0, prefix-more all.0.0 trace more all.0.1, all.0.2), stand-more trace more places all.1)
+
+-- the first lines of a list are what begins it
+taken : (history trace : List Line) (n : ℕ) → IsPrefix history trace → n ≡ length history → take n trace ≡ history
+taken history trace n p is = ap (λ ls. take n ls) (sym p.1) ∙ take-append-le n history p.0 (omega (arith, is))
+    ∙ take_all n history (omega (arith, is))
+
+-- an answer that waits: the trace up to its line is legal, and ends in it
+module _ (trace : List Line) (w : UnclaimedState) (s : StandsIn trace (Some w)) where
+  waiting-length : w.before + length (unclaimed_lines (Some w)) ≡ length s.0
+  waiting-length = omega (arith, s.2.1, ap length s.2.2, length-append s.2.0 (unclaimed_lines (Some w)))
+
+  pub waiting-within : w.before + length (unclaimed_lines (Some w)) ≤ length trace
+  waiting-within = omega (arith, waiting-length, ap length s.1.1, length-append s.0 s.1.0)
+
+  pub waiting-history : take (w.before + length (unclaimed_lines (Some w))) trace ≡ s.0
+  waiting-history = taken s.0 trace _ s.1 waiting-length
+
+ends-legal : (m : Contents) (call : Call) (answer : Result Outcome Refusal) (start history : List Line)
+    → IsLegal m history → history ≡ start ++ lines_of call answer → IsProof m call answer history
+ends-legal m call (Ok outcome) start history legal is = (legal, (start, is))
+ends-legal m call (Err refusal) start history legal is = tt
+
+pub waiting-proof : (m : Contents) (trace : List Line) (w : UnclaimedState) → IsLegal m trace
+    → (s : StandsIn trace (Some w)) → IsProof m (Commands w.command) w.answer s.0
+waiting-proof m trace w legal s = ends-legal m (Commands w.command) w.answer s.2.0 s.0
+    (IsLegal-split m s.0 s.1.0 (subst (λ ls. IsLegal m ls) (sym s.1.1) legal)).0 s.2.2
 
 -- sums over places
 module _ (f : Option UnclaimedState → ℕ) (none : f None ≡ 0) (places : List (Option UnclaimedState)) (e : ℕ)
@@ -121,7 +144,7 @@ module _ (m : Contents) (marks : Line → Bool) (l : LogState) (books : Counts) 
         );
         lines = omega (arith, is.lines, length-append l.trace more);
         marked = omega (arith, is.marked, count-append marks l.trace more);
-        proofs = proofs-more m l.trace more l.places is.proofs;
+        stand = stand-more l.trace more l.places is.stand;
       }
 
   -- an answer that waits for its port
@@ -133,9 +156,8 @@ module _ (m : Contents) (marks : Line → Bool) (l : LogState) (books : Counts) 
       let call = Commands r in
       let more = lines_of call answer in
       let history = l.trace ++ more in
-      let w : UnclaimedState = record { command = r; answer = answer; before = length l.trace; history = history } in
-      let legal = legal_by (leaves_line answer) m l.trace call answer is.legal so in record {
-        legal = legal;
+      let w : UnclaimedState = record { command = r; answer = answer; before = length l.trace } in record {
+        legal = legal_by (leaves_line answer) m l.trace call answer is.legal so;
         few = omega (
           arith,
           few_by (leaves_line answer) call answer
@@ -156,9 +178,8 @@ module _ (m : Contents) (marks : Line → Bool) (l : LogState) (books : Counts) 
               (λ p. count_by marks (unclaimed_lines p)) refl l.places (sender_of r) w free,
           count-append marks l.trace more,
         );
-        proofs = all-set (IsProofIn m (l.trace ++ more)) l.places (sender_of r) (Some w)
-            (proofs-more m l.trace more l.places is.proofs)
-            (proof_at m l.trace call answer legal, ([], append-nil (l.trace ++ more)), (l.trace, refl, refl));
+        stand = all-set (StandsIn history) l.places (sender_of r) (Some w) (stand-more l.trace more l.places is.stand)
+            (history, ([], append-nil history), (l.trace, refl, refl));
       }
 
   -- an answer that its port takes
@@ -169,7 +190,7 @@ module _ (m : Contents) (marks : Line → Bool) (l : LogState) (books : Counts) 
     few = is.few;
     lines = omega (arith, is.lines, sum_claimed (λ p. length (unclaimed_lines p)) refl l.places e w there);
     marked = omega (arith, is.marked, sum_claimed (λ p. count_by marks (unclaimed_lines p)) refl l.places e w there);
-    proofs = all-set (IsProofIn m l.trace) l.places e None is.proofs tt;
+    stand = all-set (StandsIn l.trace) l.places e None is.stand tt;
   }
 
 -- places in which no answer waits
@@ -179,11 +200,11 @@ free-sum f [] none free = refl
 free-sum f (p ∷ places) none free = omega
     (arith, free-sum f places none free.1, ap f free.0 ∙ none, sum_by-append f (p ∷ []) places)
 
-free-proofs : (m : Contents) (trace : List Line) (places : List (Option UnclaimedState)) → AreFree places
-    → AllByRecursion (IsProofIn m trace) places
-free-proofs m trace [] free = tt
-free-proofs m trace (p ∷ places) free =
-    (subst (λ (q : Option UnclaimedState). IsProofIn m trace q) (sym free.0) tt, free-proofs m trace places free.1)
+free-stand : (trace : List Line) (places : List (Option UnclaimedState)) → AreFree places
+    → AllByRecursion (StandsIn trace) places
+free-stand trace [] free = tt
+free-stand trace (p ∷ places) free =
+    (subst (λ (q : Option UnclaimedState). StandsIn trace q) (sym free.0) tt, free-stand trace places free.1)
 
 -- a log before its first line
 pub log-starts : (m : Contents) (marks : Line → Bool) (trace : List Line) (limit : ℕ)
@@ -195,7 +216,7 @@ log-starts m marks trace limit places books none free no_lines no_marked = rw no
   few = omega arith;
   lines = omega (arith, no_lines, free-sum (λ p. length (unclaimed_lines p)) places refl free);
   marked = omega (arith, no_marked, free-sum (λ p. count_by marks (unclaimed_lines p)) places refl free);
-  proofs = free-proofs m [] places free;
+  stand = free-stand [] places free;
 })
 
 -- no more lines are marked than there are

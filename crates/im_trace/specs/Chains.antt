@@ -6,7 +6,7 @@ use Rattle.logbook.specs.Pages.{Cell, cell, Step, View, Book, Named, may_make}
 use Rattle.im_types.specs.declared.commands.Line.{Line}
 use Rattle.im_types.specs.Contents.{Contents}
 use Rattle.im_types.specs.Memory.{IsMemory}
-use Rattle.im_trace.specs.declared.chain.Link.{Link}
+use Rattle.im_trace.specs.declared.rule.Link.{Link}
 
 -- these contents are a memory's, as an engine has them when its trace begins
 abbrev pub IsOpened : Contents → Type 0

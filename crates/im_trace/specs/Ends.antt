@@ -1,17 +1,28 @@
--- A log before it has a name, and at its end. (Own.)
+-- A log before it has a name, and at its end; the record of its trace. (Own.)
 use Rattle.std.specs.Prelude.{◌≡◌, ℕ, ◌+◌, ◌<◌, Bool, true, false, List, length, count_by}
 use Rattle.im_types.specs.declared.commands.Line.{Line}
 use Rattle.im_trace.specs.Books.{LinesBook}
 use Rattle.im_trace.specs.Lines.{Counts}
 
--- room for a log: how many lines it may have, how many ports there are, which ledgers count the lines and the marked
--- lines, and the book of the lines
+-- room for a log: how many lines it may have, whether they are recorded, how many ports there are, which ledgers count
+-- the lines and the marked lines, and the book of the lines
 pub record NewLogState : Type 0 where
   pub limit : ℕ
+  pub recorded : Bool
   pub ports : ℕ
   pub lines_name : ℕ
   pub marked_name : ℕ
   pub book : LinesBook
+
+-- a trace, and how many lines it may have
+pub record RecordState : Type 0 where
+  pub lines : List Line
+  pub limit : ℕ
+
+-- a trace at its end, and whether it was recorded at run time
+pub record RecordingState : Type 0 where
+  pub items : List Line
+  pub recorded : Bool
 
 -- a log at its end: whether no line waits, how many shares are back, and how many lines their ports were told
 pub record EndedState : Type 0 where

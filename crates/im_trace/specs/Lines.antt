@@ -1,9 +1,10 @@
 -- The lines that calls leave in a trace, and how many of them a port was told. (Own.)
-use Rattle.std.specs.Prelude.{ℕ, ◌≡◌, ◌+◌, ◌++◌, List, [], ◌∷◌, Bool, true, Result, Ok, Err, length, count_by, nat_lt}
-use Rattle.std.specs.Prelude.{if◌then◌else◌, ◌⊎◌}
+use Rattle.std.specs.Prelude.{ℕ, ◌≡◌, ◌+◌, ◌++◌, List, [], ◌∷◌, Bool, true, false, Result, Ok, Err, length, count_by}
+use Rattle.std.specs.Prelude.{nat_lt, if◌then◌else◌, ◌⊎◌}
 use mathlib.Core.List.{IsPrefix}
 use Rattle.im_types.specs.declared.commands.Outcome.{Outcome}
 use Rattle.im_types.specs.declared.commands.Call.{Call}
+use Rattle.im_types.specs.declared.commands.Call.TheVariants.{Command as Commands, Collect}
 use Rattle.im_types.specs.declared.commands.Line.{Line}
 use Rattle.im_types.specs.declared.refusals.Refusal.{Refusal}
 use Rattle.im_types.specs.Refusals.{number_of}
@@ -22,6 +23,12 @@ line_of call answer = record { call = call; answer = answer }
 -- the line that a call leaves with this answer, if it leaves one
 abbrev pub lines_of : Call → Result Outcome Refusal → List Line
 lines_of call answer = if leaves_line answer then line_of call answer ∷ [] else []
+
+-- whether a call with this answer may begin a group: a command with an outcome
+abbrev pub may_begin : Call → Result Outcome Refusal → Bool
+may_begin (Commands command) (Ok outcome) = true
+may_begin (Commands command) (Err refusal) = false
+may_begin (Collect element number) answer = false
 
 -- the memory after a call with this answer
 abbrev pub memory_after : Contents → Call → Result Outcome Refusal → Contents

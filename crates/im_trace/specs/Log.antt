@@ -37,13 +37,11 @@ abbrev pub sender_of : Command → ℕ
 sender_of (Asks r) = r.element
 sender_of (Confirm element upto) = element
 
--- the answer to a command that its port hasn't taken yet, how many lines there were before it, and the trace right
--- after it
+-- the answer to a command that its port hasn't taken yet, and how many lines there were before its own
 pub record UnclaimedState : Type 0 where
   pub command : Command
   pub answer : Result Outcome Refusal
   pub before : ℕ
-  pub history : List Line
 
 -- a trace, how many lines it may have, and a place for each element's answer
 pub record LogState : Type 0 where
@@ -83,12 +81,11 @@ with_line l call answer = record l { trace = l.trace ++ lines_of call answer }
 -- the log with the answer to a command in its element's place
 abbrev pub with_unclaimed : LogState → Command → Result Outcome Refusal → LogState
 with_unclaimed l command answer =
-    let trace = l.trace ++ lines_of (Commands command) answer in
     record {
-      trace = trace;
+      trace = l.trace ++ lines_of (Commands command) answer;
       limit = l.limit;
       places = slice_set l.places (sender_of command)
-          (Some (record { command = command; answer = answer; before = length l.trace; history = trace }));
+          (Some (record { command = command; answer = answer; before = length l.trace }));
     }
 
 -- the log with an element's place free
@@ -99,12 +96,12 @@ without_unclaimed l element = record l { places = slice_set l.places element Non
 abbrev pub IsBefore : ℕ → List Line → List Line → Type 0
 IsBefore before last lines = (start : List Line) × (length start ≡ before) × (lines ≡ start ++ last)
 
--- an answer that waits in a place has a prefix of the trace, which is legal and ends in its line
-abbrev pub IsProofIn : Contents → List Line → Option UnclaimedState → Type 0
-IsProofIn m trace None = Unit {0}
-IsProofIn m trace (Some waiting) =
-    IsProof m (Commands waiting.command) waiting.answer waiting.history × IsPrefix waiting.history trace
-    × IsBefore waiting.before (unclaimed_lines (Some waiting)) waiting.history
+-- the line of an answer that waits in a place, if it left one, stands in the trace behind so many lines
+abbrev pub StandsIn : List Line → Option UnclaimedState → Type 0
+StandsIn trace None = Unit {0}
+StandsIn trace (Some waiting) =
+    (history : List Line) × IsPrefix history trace
+    × IsBefore waiting.before (unclaimed_lines (Some waiting)) history
 
 -- A legal trace with no more lines than it may have. The books count each line that its port was told: all but those of
 -- answers that wait.
@@ -113,8 +110,8 @@ pub record IsLog (m : Contents) (marks : Line → Bool) (l : LogState) (books : 
   pub few : length l.trace ≤ l.limit
   pub lines : books.lines + sum_by (λ p. length (unclaimed_lines p)) l.places ≡ length l.trace
   pub marked : books.marked + sum_by (λ p. count_by marks (unclaimed_lines p)) l.places ≡ count_by marks l.trace
-  -- each answer that waits has a prefix of the trace, which is legal and ends in its line
-  pub proofs : AllByRecursion (IsProofIn m l.trace) l.places
+  -- the line of each answer that waits stands in the trace
+  pub stand : AllByRecursion (StandsIn l.trace) l.places
 
 -- a receipt is of this command
 abbrev pub IsOf : Command → Result ReceiptState Refusal → Type 0

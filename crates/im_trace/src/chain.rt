@@ -1,110 +1,18 @@
 //! The book of the lines: the trace, of which each port and each receipt has a prefix. It is one book of the
 //! toolchain's `logbook`, and contracts alone see its entries. Who has the next pen knows all its lines, and nobody
 //! else adds one.
-ghost use Rattle.std.specs.Prelude.{◌≡◌, ◌<◌, ◌++◌, ◌∷◌, [], length};
+ghost use Rattle.std.specs.Prelude.{◌≡◌, ◌<◌, ◌≤◌, ◌++◌, ◌∷◌, [], length, take};
 ghost use mathlib.Core.List.{IsPrefix};
 ghost use Rattle.logbook.specs.Pages.{may_write};
 ghost use Rattle.im_trace.specs.Lines.{AreInOrder};
-ghost use Rattle.im_trace.specs.Chains.{IsOpened, first_of};
+ghost use Rattle.im_trace.specs.Chains.{IsOpened, first_of, lines_from};
 
 use crate::name::Name;
-use crate::traced::Traced;
+use crate::rule::{Chained, KeepPen, Link, MakePen, NoGain, Signed, UsePen};
 use im_types::Line;
-use logbook::{Gain, Offer, Pen, Plain, Play, Rule, Seen, Start, Word};
+use logbook::{Offer, Pen, Seen, Start, Word};
 use std::marker::{Model, PhantomData};
 use std::snapshot::Snapshot;
-
-/// An entry of the book. Contracts alone see it, and no value of it is made.
-pub struct Link {
-    /// The key of the pen that wrote it.
-    pub from: u64,
-    /// The line.
-    pub line: Line,
-    /// The key of the pen that writes the next one.
-    pub next: u64,
-}
-
-/// The rule of the book: the pen of each entry is used up.
-pub struct Chained;
-
-impl Rule<Link, u64> for Chained {
-    ghost use Rattle.std.specs.Prelude.{[]};
-    ghost use base.Fml.{ftrue};
-    ghost use Rattle.im_trace.specs.Chains.{IsChained};
-
-    ghost holds = { λ cells log. IsChained cells log };
-
-    ghost first = { [] };
-
-    ghost hinted = { λ n log. Unit {0} };
-
-    ghost shows = { λ log. [] };
-
-    ghost keeps = { λ names log. ftrue };
-
-    ghost moves = { λ ask before after answer. Unit {0} };
-}
-
-// Nothing is traded.
-pub struct NoGain;
-
-impl Gain<Link, u64> for NoGain {
-    ghost use base.Fml.{ftrue};
-
-    ghost after = { λ names about answer. ftrue };
-}
-
-// A step that makes a pen.
-pub struct MakePen;
-
-impl Play<Link, u64> for MakePen {
-    ghost use Rattle.im_trace.specs.Chains.{MakesPen};
-
-    ghost then = { MakesPen };
-}
-
-// A step that adds nothing.
-pub struct KeepPen;
-
-impl Play<Link, u64> for KeepPen {
-    ghost use Rattle.im_trace.specs.Chains.{KeepsPen};
-
-    ghost then = { KeepsPen };
-}
-
-impl Plain<u64, Link, u64> for KeepPen {
-    ghost use Rattle.std.specs.Prelude.{None, Err};
-    ghost use Rattle.im_types.specs.declared.commands.Call.TheVariants.{Collect};
-    ghost use Rattle.im_types.specs.declared.refusals.Refusal.TheVariants.{NoElement};
-
-    ghost ask = { λ n. record { from = 0; line = record { call = Collect 0 0; answer = Err NoElement }; next = 0 } };
-
-    ghost state = { λ n. None };
-}
-
-// What is to be added: a line, and the pen of the next one. It has no bytes.
-#[derive(Drop)]
-pub struct Signed {
-    line: Snapshot<Line>,
-    next: Pen,
-}
-
-// A step that adds a line.
-pub struct UsePen;
-
-impl Play<Link, u64> for UsePen {
-    ghost use Rattle.im_trace.specs.Chains.{UsesPen};
-
-    ghost then = { UsesPen };
-}
-
-impl Plain<Signed, Link, u64> for UsePen {
-    ghost use Rattle.std.specs.Prelude.{None};
-
-    ghost ask = { λ s. record { from = 0; line = s.line.value; next = s.next.nib.key } };
-
-    ghost state = { λ s. None };
-}
 
 // Returns a pen that isn't used up.
 fn new_pen(head: &Word<Link, u64, Chained>, seen: &Seen<Link, u64, Chained>) -> Pen
@@ -126,6 +34,7 @@ pub struct NewChain {
     head: Word<Link, u64, Chained>,
     seen: Seen<Link, u64, Chained>,
     pen: Pen,
+    first: Snapshot<Pen>,
 }
 
 impl Model for NewChain {
@@ -139,7 +48,7 @@ impl Model for NewChain {
     ghost view = { λ c. record { book = c.seen.book; root = c.pen.nib.key } };
 
     ghost invariant = { λ c. (c.seen.log ≡ []) × (c.head ≡ first_of c.seen.book)
-        × (c.pen.book ≡ c.seen.book) × (c.pen.nib.right ≡ may_write) };
+        × (c.pen.book ≡ c.seen.book) × (c.pen.nib.right ≡ may_write) × (c.first.value.nib.key ≡ c.pen.nib.key) };
 }
 
 impl NewChain {
@@ -148,7 +57,13 @@ impl NewChain {
         let (seen, mut first, _second) = Seen::open(Start::alone(), 0, 0);
         let head = Word::tracked(0, &mut first);
         let pen = new_pen(&head, &seen);
-        NewChain { head, seen, pen }
+        let first = Snapshot::of(&pen);
+        NewChain {
+            head,
+            seen,
+            pen,
+            first,
+        }
     }
 
     // Returns the book under a name.
@@ -157,11 +72,17 @@ impl NewChain {
         requires memory { IsOpened K.memory }
         ensures { result ≡ [] }
     {
-        let NewChain { head, seen, pen } = self;
+        let NewChain {
+            head,
+            seen,
+            pen,
+            first,
+        } = self;
         Chain {
             head,
             seen,
             pen,
+            first,
             of: PhantomData,
         }
     }
@@ -173,6 +94,7 @@ pub struct Chain<K: Name> {
     head: Word<Link, u64, Chained>,
     seen: Seen<Link, u64, Chained>,
     pen: Pen,
+    first: Snapshot<Pen>,
     of: PhantomData<K>,
 }
 
@@ -188,7 +110,8 @@ impl<K: Name> Model for Chain<K> {
 
     ghost invariant = { λ c. (c.head ≡ first_of K.book.lines.book) × (c.seen.book ≡ K.book.lines.book)
         × (c.pen.book ≡ K.book.lines.book) × (c.pen.nib.right ≡ may_write)
-        × (tip_from K.book.lines.root c.seen.log ≡ c.pen.nib.key) × IsOpened K.memory };
+        × (tip_from K.book.lines.root c.seen.log ≡ c.pen.nib.key) × IsOpened K.memory
+        × (c.first.value.nib.key ≡ K.book.lines.root) };
 }
 
 impl<K: Name> Chain<K> {
@@ -222,29 +145,41 @@ impl<K: Name> Chain<K> {
             .head
             .compare_exchange::<KeepPen, NoGain>(0, 0, &mut seen, &mut offer, &mut self.pen);
     }
+
+    // Returns what was seen of the book, which are all its lines, and its first pen.
+    pub(crate) fn end(self) -> (Seen<Link, u64, Chained>, Snapshot<Pen>)
+        ensures { lines_from result.1.value.nib.key result.0.log ≡ self }
+    {
+        let Chain {
+            head: _,
+            seen,
+            pen: _,
+            first,
+            of: _,
+        } = self;
+        (seen, first)
+    }
 }
 
 /// A prefix of the controller's trace. Contracts see its lines.
 #[derive(Drop)]
 pub struct Prefix<K: Name> {
     count: usize,
-    lines: Snapshot<Vec<Traced>>,
     seen: Seen<Link, u64, Chained>,
     of: PhantomData<K>,
 }
 
 impl<K: Name> Model for Prefix<K> {
-    ghost use Rattle.std.specs.Prelude.{◌≡◌, List, length};
-    ghost use mathlib.Core.List.{IsPrefix};
+    ghost use Rattle.std.specs.Prelude.{◌≡◌, ◌≤◌, List, length, take};
     ghost use Rattle.im_types.specs.declared.commands.Line.{Line};
     ghost use Rattle.im_trace.specs.Chains.{IsOpened, lines_from};
 
     ghost Value = { List Line };
 
-    ghost view = { λ p. p.lines.value.items };
+    ghost view = { λ p. take p.count (lines_from K.book.lines.root p.seen.log) };
 
-    ghost invariant = { λ p. (p.count ≡ length p.lines.value.items) × (p.seen.book ≡ K.book.lines.book)
-        × IsPrefix p.lines.value.items (lines_from K.book.lines.root p.seen.log) × IsOpened K.memory };
+    ghost invariant = { λ p. (p.count ≤ length (lines_from K.book.lines.root p.seen.log))
+        × (p.seen.book ≡ K.book.lines.book) × IsOpened K.memory };
 }
 
 // Returns what two have seen together.
@@ -262,15 +197,13 @@ fn both_of(
 }
 
 impl<K: Name> Prefix<K> {
-    // Returns a prefix of the book's lines.
-    pub(crate) fn begun(lines: Snapshot<Vec<Traced>>, count: usize, chain: &Chain<K>) -> Prefix<K>
-        requires count { count ≡ length lines.value.items }
-        requires known { IsPrefix lines.value.items chain.now }
-        ensures { result ≡ lines.value.items }
+    // Returns the given number of the book's first lines.
+    pub(crate) fn begun(count: usize, chain: &Chain<K>) -> Prefix<K>
+        requires few { count ≤ length chain.now }
+        ensures { result ≡ take count chain.now }
     {
         Prefix {
             count,
-            lines,
             seen: chain.seen.again(),
             of: PhantomData,
         }

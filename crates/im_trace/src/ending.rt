@@ -5,10 +5,10 @@ ghost use Rattle.im_types.specs.Trace.{IsLegal};
 ghost use Rattle.im_trace.specs.Ends.{IsCounted, with_share_back};
 
 use crate::books::{Books, Reserve, Tally};
-use crate::chain::{Chain, Prefix};
+use crate::chain::Prefix;
 use crate::log::{Log, are_claimed};
 use crate::name::{Lines, Marked, Name};
-use crate::traced::Traced;
+use crate::record::{Record, Recording};
 use std::marker::Model;
 use std::sync::ledger::Share;
 
@@ -16,8 +16,7 @@ use std::sync::ledger::Share;
 /// shares are back, and how many lines their ports were told.
 #[derive(Drop)]
 pub struct Ended<K: Name> {
-    trace: Vec<Traced>,
-    chain: Chain<K>,
+    record: Record<K>,
     books: Books<K>,
     claimed: bool,
     lines: Share<Lines<K>>,
@@ -31,14 +30,14 @@ impl<K: Name> Model for Ended<K> {
     ghost Value = { EndedState };
 
     ghost view = { λ e. record {
-      trace = e.trace.items;
+      trace = e.record.lines;
       claimed = e.claimed;
       back = e.lines.parts;
       told = record { lines = e.lines.amount; marked = e.marked.amount };
     } };
 
-    ghost invariant = { λ e. IsCounted K.marks e.trace.items e.claimed e.books × (e.marked.parts ≡ e.lines.parts)
-        × (e.lines.parts ≤ K.ports) × (e.chain ≡ e.trace.items) };
+    ghost invariant = { λ e. IsCounted K.marks e.record.lines e.claimed e.books × (e.marked.parts ≡ e.lines.parts)
+        × (e.lines.parts ≤ K.ports) };
 }
 
 impl<K: Name> Ended<K> {
@@ -50,9 +49,7 @@ impl<K: Name> Ended<K> {
         ensures told { result.told ≡ record { lines = 0; marked = 0 } }
     {
         let Log {
-            trace,
-            chain,
-            limit: _,
+            record,
             books,
             places,
         } = log;
@@ -64,8 +61,7 @@ impl<K: Name> Ended<K> {
         } = reserve;
         let claimed = are_claimed(places.as_slice());
         Ended {
-            trace,
-            chain,
+            record,
             books,
             claimed,
             lines,
@@ -79,7 +75,7 @@ impl<K: Name> Ended<K> {
         ensures few { self.new.back ≤ K.ports }
         ensures known { IsPrefix seen.now self.old.trace }
     {
-        self.chain.knows(seen);
+        self.record.knows(seen);
         let Tally { lines, marked } = tally;
         self.lines.merge(lines);
         self.marked.merge(marked);
@@ -87,14 +83,13 @@ impl<K: Name> Ended<K> {
 
     /// Audits the books, and returns the trace, and whether no line waits for a port that didn't take its answer. If
     /// all shares are back, no line waits exactly if the ports were told as many lines as the trace has.
-    pub fn close(self) -> (Vec<Traced>, bool)
-        ensures trace { result.0.items ≡ self.trace }
+    pub fn close(self) -> (Recording, bool)
+        ensures trace { result.0 ≡ record { items = self.trace; recorded = K.book.recorded } }
         ensures claimed { result.1 ≡ self.claimed }
         ensures counted { self.back ≡ K.ports → IsCounted K.marks self.trace self.claimed self.told }
     {
         let Ended {
-            trace,
-            chain: _,
+            record,
             books,
             claimed,
             mut lines,
@@ -106,6 +101,6 @@ impl<K: Name> Ended<K> {
         } = books;
         lines_book.audit(&mut lines);
         marked_book.audit(&mut marked);
-        (trace, claimed)
+        (record.end(), claimed)
     }
 }

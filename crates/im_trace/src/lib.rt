@@ -8,6 +8,8 @@ mod ending; // A log at its end.
 mod log; // The trace, with all that is counted of it.
 mod name; // What the parts of one controller agree on.
 mod receipts; // What a port is told.
+mod record; // The lines, and whether they are recorded.
+mod rule; // The rule of the book, and its steps.
 mod starting; // A log before it has a name.
 mod traced; // A line in few bytes.
 
@@ -17,5 +19,6 @@ pub use ending::Ended;
 pub use log::{Log, element_of};
 pub use name::{Lines, Marked, Name, Shown};
 pub use receipts::{Found, Receipt};
+pub use record::Recording;
 pub use starting::NewLog;
-pub use traced::Traced;
+pub use traced::{Since, Traced};

@@ -1,7 +1,6 @@
 //! The trace, the books that count its lines, and the answers that wait for their ports.
-ghost use Rattle.std.specs.Prelude.{◌≡◌, ◌<◌, ◌≤◌, ◌+◌, ◌-◌, ◌++◌, true, false, Some, None, Ok, length, vec_len};
-ghost use Rattle.std.specs.Prelude.{vec_capacity, slice_get, slice_set, sum_by, IfOk, IfSome, MatchOption};
-ghost use Rattle.std.specs.Prelude.{if◌then◌else◌};
+ghost use Rattle.std.specs.Prelude.{◌≡◌, ◌<◌, ◌≤◌, ◌+◌, ◌-◌, true, false, Some, None, Ok, length, slice_get, slice_set};
+ghost use Rattle.std.specs.Prelude.{sum_by, IfOk, IfSome, MatchOption, if◌then◌else◌};
 ghost use mathlib.Core.List.{IsPrefix};
 ghost use Rattle.im_types.specs.declared.commands.Call.TheVariants.{Command as Commands, Collect};
 ghost use Rattle.im_types.specs.declared.commands.Outcome.TheVariants.{Entry as Tells};
@@ -13,10 +12,10 @@ ghost use Rattle.im_trace.specs.Log.{AreFree};
 ghost use Rattle.im_trace.specs.Log.{receipt_for, unclaimed_lines, IsOfTrace, SeesAnswer, AreClaimed};
 
 use crate::books::{Books, Tally};
-use crate::chain::{Chain, Prefix};
+use crate::chain::Prefix;
 use crate::name::{Name, Shown};
 use crate::receipts::{Found, Receipt};
-use crate::traced::Traced;
+use crate::record::{Record, leaves_line};
 use arrayvec::ArrayVec;
 use im_glass::Told;
 use im_types::{Call, Command, Entry, Line, Outcome, Refusal};
@@ -30,14 +29,14 @@ use std::snapshot::Snapshot;
 pub(crate) struct Unclaimed {
     command: Command,
     answer: Result<Outcome, Refusal>,
-    before: usize,
-    count: usize,
-    history: Snapshot<Vec<Traced>>,
-    same: Snapshot<Vec<Traced>>, // For the port, beside its receipt.
+    before: usize, // How many lines there were before its own,
+    count: usize, // and with it.
 }
 
 impl Model for Unclaimed {
-    ghost use Rattle.std.specs.Prelude.{◌≡◌, length};
+    ghost use Rattle.std.specs.Prelude.{◌≡◌, ◌+◌, length};
+    ghost use Rattle.im_types.specs.declared.commands.Call.TheVariants.{Command as Commands};
+    ghost use Rattle.im_trace.specs.Lines.{lines_of};
     ghost use Rattle.im_trace.specs.Log.{UnclaimedState};
 
     ghost Value = { UnclaimedState };
@@ -46,34 +45,28 @@ impl Model for Unclaimed {
       command = u.command;
       answer = u.answer;
       before = u.before;
-      history = u.history.value.items;
     } };
 
-    ghost invariant = { λ u. (u.count ≡ length u.history.value.items)
-        × (u.same.value.items ≡ u.history.value.items) };
+    ghost invariant = { λ u. u.count ≡ u.before + length (lines_of (Commands u.command) u.answer) };
 }
 
 /// The trace, with books that count those of its lines that a port was told.
 #[derive(Drop)]
 pub struct Log<K: Name> {
-    pub(crate) trace: Vec<Traced>,
-    pub(crate) chain: Chain<K>,
-    pub(crate) limit: usize,
+    pub(crate) record: Record<K>,
     pub(crate) books: Books<K>,
     pub(crate) places: Vec<Option<Unclaimed>>,
 }
 
 impl<K: Name> Model for Log<K> {
-    ghost use Rattle.std.specs.Prelude.{◌≡◌, ◌≤◌, vec_capacity};
     ghost use Rattle.im_trace.specs.Log.{LogState, IsLog};
 
     ghost Value = { LogState };
 
-    ghost view = { λ l. record { trace = l.trace.items; limit = l.limit; places = l.places.items } };
+    ghost view = { λ l. record { trace = l.record.lines; limit = l.record.limit; places = l.places.items } };
 
-    ghost invariant = { λ l.
-        IsLog K.memory K.marks (record { trace = l.trace.items; limit = l.limit; places = l.places.items }) l.books
-        × (l.limit ≤ vec_capacity l.trace) × (l.chain ≡ l.trace.items) };
+    ghost invariant = { λ l. IsLog K.memory K.marks
+        (record { trace = l.record.lines; limit = l.record.limit; places = l.places.items }) l.books };
 }
 
 /// Returns the element of a command.
@@ -86,23 +79,13 @@ pub fn element_of(command: &Command) -> u16
     }
 }
 
-// Returns whether an answer leaves a line.
-fn leaves_line(answer: Result<Outcome, Refusal>) -> bool
-    ensures { result ≡ leaves_line answer }
-{
-    match answer {
-        Ok(_) => true,
-        Err(refusal) => refusal.number() < 7,
-    }
-}
-
 impl<K: Name> Log<K> {
     /// Returns how many more lines there is room for.
     pub fn room(&self) -> usize
         ensures room { result ≡ self.now.limit - length self.now.trace }
         ensures few { length self.now.trace ≤ self.now.limit }
     {
-        self.limit - self.trace.len()
+        self.record.room()
     }
 
     /// Returns how many elements have a place: at most 65,535.
@@ -136,7 +119,7 @@ impl<K: Name> Log<K> {
         ensures same { result ≡ self.now.trace }
         ensures legal { IsLegal K.memory self.now.trace }
     {
-        Prefix::begun(Snapshot::of(&self.trace), self.trace.len(), &self.chain)
+        self.record.first(self.record.len())
     }
 
     /// A prefix that went out of the lock is a prefix of the trace.
@@ -144,10 +127,18 @@ impl<K: Name> Log<K> {
         ensures same { self.new ≡ self.old }
         ensures known { IsPrefix seen.now self.old.trace }
     {
-        self.chain.knows(seen);
+        self.record.knows(seen);
     }
 
-    /// Leaves a call's line, if its answer leaves one. The port is told the answer at once.
+    /// Notes that a checkpoint was put in force: the next line tells it.
+    pub fn note_checkpoint(&mut self)
+        ensures same { self.new ≡ self.old }
+    {
+        self.record.note_checkpoint();
+    }
+
+    /// Leaves a call's line, if its answer leaves one. The port is told the answer at once. A command is a group of its
+    /// own.
     pub fn leave(&mut self, tally: &mut Tally<K>, call: Call, answer: Result<Outcome, Refusal>)
         requires room { length self.old.trace < self.old.limit }
         requires is_so { leaves_line answer ≡ true → answer ≡ answer_to (end_of K.memory self.old.trace) call }
@@ -156,7 +147,7 @@ impl<K: Name> Log<K> {
         ensures end { end_of K.memory self.new.trace ≡ memory_after (end_of K.memory self.old.trace) call answer }
     {
         count_line(&mut self.books, tally, call, answer);
-        push_line(&mut self.trace, &mut self.chain, call, answer);
+        self.record.push(call, answer, true);
     }
 
     /// Returns the answer to a command, with the trace that ends in its line, and with what is shown.
@@ -197,8 +188,8 @@ impl<K: Name> Log<K> {
     }
 
     /// Keeps the answer to a command for its port, and leaves its line. The line is counted when the port takes the
-    /// answer.
-    pub fn keep(&mut self, command: &Command, answer: Result<Outcome, Refusal>)
+    /// answer. If a group begins, its first line with an outcome tells it.
+    pub fn keep(&mut self, command: &Command, answer: Result<Outcome, Refusal>, begins: bool)
         requires free { slice_get self.old.places (sender_of command.now) ≡ Some None }
         requires room { leaves_line answer ≡ true → length self.old.trace < self.old.limit }
         requires is_so { leaves_line answer ≡ true
@@ -207,22 +198,15 @@ impl<K: Name> Log<K> {
         ensures end { end_of K.memory self.new.trace
             ≡ memory_after (end_of K.memory self.old.trace) (Commands command.now) answer }
     {
-        let before = self.trace.len();
-        push_line(
-            &mut self.trace,
-            &mut self.chain,
-            Call::Command(*command),
-            answer,
-        );
+        let before = self.record.len();
+        self.record.push(Call::Command(*command), answer, begins);
         put_in(
             &mut self.places,
             Unclaimed {
                 command: *command,
                 answer,
                 before,
-                count: self.trace.len(),
-                history: Snapshot::of(&self.trace),
-                same: Snapshot::of(&self.trace),
+                count: self.record.len(),
             },
         );
     }
@@ -247,28 +231,10 @@ impl<K: Name> Log<K> {
         let asked = found.command;
         let answer = found.answer;
         count_line(&mut self.books, tally, Call::Command(asked), answer);
-        let history = Prefix::begun(found.history, found.count, &self.chain);
+        let history = self.record.first(found.count);
         seen.order(&history);
-        *seen = Prefix::begun(found.same, found.count, &self.chain);
+        *seen = self.record.first(found.count);
         Some(receipt_of(history, told, &asked, answer))
-    }
-}
-
-// Puts a call's line at the end of the trace, if it leaves one.
-fn push_line<K: Name>(
-    trace: &mut Vec<Traced>,
-    chain: &mut Chain<K>,
-    call: Call,
-    answer: Result<Outcome, Refusal>,
-)
-    requires { leaves_line answer ≡ true → vec_len trace.old < vec_capacity trace.old }
-    ensures items { trace.new.items ≡ trace.old.items ++ lines_of call answer }
-    ensures capacity { vec_capacity trace.new ≡ vec_capacity trace.old }
-    ensures chain { chain.new ≡ chain.old ++ lines_of call answer }
-{
-    if leaves_line(answer) {
-        chain.add(&Line { call, answer });
-        trace.push_reserved(Traced::new(call, answer));
     }
 }
 

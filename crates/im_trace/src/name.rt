@@ -31,7 +31,7 @@ pub trait Name {
     /// How many ports there are.
     ghost ports: { ℕ };
 
-    /// The book of the changes that are shown, and the book of the lines.
+    /// The book of the changes that are shown, the book of the lines, and whether lines are recorded.
     ghost book: { BookNames };
 
     /// What was known of the engine when the trace began.
@@ -59,6 +59,7 @@ impl Name for Brand {
     ghost book = { record {
       shown = record { number = 0; log_name = 0; cells_name = 0 };
       lines = record { book = record { number = 0; log_name = 0; cells_name = 0 }; root = 0 };
+      recorded = false;
     } };
 
     ghost begun = { record {

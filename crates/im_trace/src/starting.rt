@@ -1,11 +1,12 @@
 //! A log before it has a name.
-ghost use Rattle.std.specs.Prelude.{◌≡◌, [], IfOk};
+ghost use Rattle.std.specs.Prelude.{◌≡◌, ◌≤◌, [], true, false, IfOk, vec_capacity};
 ghost use Rattle.im_trace.specs.Chains.{IsOpened};
 
 use crate::books::{Books, Reserve};
 use crate::chain::NewChain;
 use crate::log::{Log, Unclaimed, free_places};
 use crate::name::{Lines, Marked, Name};
+use crate::record::Record;
 use crate::traced::Traced;
 use std::alloc::{AllocError, Global};
 use std::marker::Model;
@@ -16,6 +17,7 @@ use std::sync::ledger::Blank;
 #[derive(Drop)]
 pub struct NewLog {
     trace: Vec<Traced>,
+    recorded: bool,
     limit: usize,
     places: Vec<Option<Unclaimed>>,
     chain: NewChain,
@@ -25,7 +27,7 @@ pub struct NewLog {
 }
 
 impl Model for NewLog {
-    ghost use Rattle.std.specs.Prelude.{◌≡◌, ◌≤◌, [], vec_capacity};
+    ghost use Rattle.std.specs.Prelude.{◌≡◌, ◌≤◌, [], true, vec_capacity};
     ghost use Rattle.im_trace.specs.Log.{AreFree};
     ghost use Rattle.im_trace.specs.Ends.{NewLogState};
 
@@ -33,6 +35,7 @@ impl Model for NewLog {
 
     ghost view = { λ n. record {
       limit = n.limit;
+      recorded = n.recorded;
       ports = n.ports;
       lines_name = n.lines.name;
       marked_name = n.marked.name;
@@ -40,7 +43,7 @@ impl Model for NewLog {
     } };
 
     ghost invariant = { λ n. (n.lines.parts ≡ n.ports) × (n.marked.parts ≡ n.ports) × (n.trace.items ≡ [])
-        × (n.limit ≤ vec_capacity n.trace) × AreFree n.places.items };
+        × (n.recorded ≡ true → n.limit ≤ vec_capacity n.trace) × AreFree n.places.items };
 }
 
 impl NewLog {
@@ -48,14 +51,43 @@ impl NewLog {
     /// that count the lines. Returns `AllocError` if `alloc` refuses the memory.
     pub fn new(alloc: Global, trace_room: usize, elements: u16) -> Result<NewLog, AllocError>
         ensures limit { IfOk result (λ n. n.limit ≡ trace_room) }
+        ensures recorded { IfOk result (λ n. n.recorded ≡ true) }
         ensures ports { IfOk result (λ n. n.ports ≡ elements) }
     {
         let trace = Vec::with_capacity(alloc, trace_room)?;
+        NewLog::over(alloc, trace, true, trace_room, elements)
+    }
+
+    /// Makes the same for a trace whose lines aren't recorded. It takes no room for lines, and may have as many as a
+    /// `usize` counts.
+    pub fn unrecorded(alloc: Global, elements: u16) -> Result<NewLog, AllocError>
+        ensures limit { IfOk result (λ n. n.limit ≡ 18446744073709551615) }
+        ensures recorded { IfOk result (λ n. n.recorded ≡ false) }
+        ensures ports { IfOk result (λ n. n.ports ≡ elements) }
+    {
+        NewLog::over(alloc, Vec::new(alloc), false, usize::MAX, elements)
+    }
+
+    // Makes a log over an empty trace.
+    fn over(
+        alloc: Global,
+        trace: Vec<Traced>,
+        recorded: bool,
+        limit: usize,
+        elements: u16,
+    ) -> Result<NewLog, AllocError>
+        requires empty { trace.items ≡ [] }
+        requires room { recorded ≡ true → limit ≤ vec_capacity trace }
+        ensures limit { IfOk result (λ n. n.limit ≡ limit) }
+        ensures recorded { IfOk result (λ n. n.recorded ≡ recorded) }
+        ensures ports { IfOk result (λ n. n.ports ≡ elements) }
+    {
         let places = free_places(alloc, elements)?;
         let ports = u64::from(elements);
         Ok(NewLog {
             trace,
-            limit: trace_room,
+            recorded,
+            limit,
             places,
             chain: NewChain::new(),
             lines: Blank::new(ports),
@@ -71,13 +103,14 @@ impl NewLog {
         requires lines { self.lines_name ≡ K.lines_name }
         requires marked { self.marked_name ≡ K.marked_name }
         requires ports { self.ports ≡ K.ports }
-        requires book { self.book ≡ K.book.lines }
+        requires book { (self.book ≡ K.book.lines) × (self.recorded ≡ K.book.recorded) }
         ensures trace { result.0.trace ≡ [] }
         ensures limit { result.0.limit ≡ self.limit }
         ensures reserve { result.1 ≡ K.ports }
     {
         let NewLog {
             trace,
+            recorded,
             limit,
             places,
             chain,
@@ -85,24 +118,34 @@ impl NewLog {
             marked,
             ports,
         } = self;
-        let (lines_book, lines) = lines.open::<Lines<K>>();
-        let (marked_book, marked) = marked.open::<Marked<K>>();
+        let (books, reserve) = open_books(lines, marked, ports);
         let log = Log {
-            trace,
-            chain: chain.named::<K>(),
-            limit,
-            books: Books {
-                lines: lines_book,
-                marked: marked_book,
-            },
+            record: Record::begun(trace, recorded, limit, chain),
+            books,
             places,
-        };
-        let reserve = Reserve {
-            lines,
-            marked,
-            left: ports,
-            ports,
         };
         (log, reserve)
     }
+}
+
+// Opens the ledgers under their names. Beside the books it returns the shares of all ports.
+fn open_books<K: Name>(lines: Blank, marked: Blank, ports: u64) -> (Books<K>, Reserve<K>)
+    requires names { (lines.name ≡ K.lines_name) × (marked.name ≡ K.marked_name) }
+    requires parts { (lines.parts ≡ ports) × (marked.parts ≡ ports) × (ports ≡ K.ports) }
+    ensures books { result.0 ≡ record { lines = 0; marked = 0 } }
+    ensures reserve { result.1 ≡ K.ports }
+{
+    let (lines_book, lines) = lines.open::<Lines<K>>();
+    let (marked_book, marked) = marked.open::<Marked<K>>();
+    let books = Books {
+        lines: lines_book,
+        marked: marked_book,
+    };
+    let reserve = Reserve {
+        lines,
+        marked,
+        left: ports,
+        ports,
+    };
+    (books, reserve)
 }

@@ -1,6 +1,6 @@
 //! A line of the trace, in few bytes.
-ghost use Rattle.std.specs.Prelude.{◌≡◌};
-ghost use Rattle.im_trace.specs.Lines.{line_of};
+ghost use Rattle.std.specs.Prelude.{◌≡◌, ◌&&◌, true};
+ghost use Rattle.im_trace.specs.Lines.{line_of, may_begin};
 ghost use Rattle.im_trace.specs.Traced.{call_with, answer_with};
 
 use im_types::{Call, Command, Entry, Line, Op, Outcome, Refusal, Reply, Request};
@@ -23,6 +23,16 @@ pub(crate) enum Said {
     Refused(Refusal),
 }
 
+/// What happened between a line and the one before it.
+#[derive(Clone, Copy, Debug, PartialEq, Eq)]
+pub struct Since {
+    /// Whether a group of commands began, which share the syncs that put them on the disk. The line is then the first
+    /// one of that group with an outcome.
+    pub group: bool,
+    /// Whether a checkpoint was put in force.
+    pub checkpoint: bool,
+}
+
 /// A line of the trace, in 48 bytes. A call beside its answer would take 88, since each of their layers has a tag of
 /// its own. Contracts see the [`Line`].
 #[derive(Drop)]
@@ -33,10 +43,14 @@ pub struct Traced {
     element: u16,
     asked: Asked,
     said: Said,
+    group: bool,
+    checkpoint: bool,
 }
 
 impl Model for Traced {
+    ghost use Rattle.std.specs.Prelude.{◌≡◌, true};
     ghost use Rattle.im_types.specs.declared.commands.Line.{Line};
+    ghost use Rattle.im_trace.specs.Lines.{may_begin};
     ghost use Rattle.im_trace.specs.Traced.{call_with, answer_with};
 
     ghost Value = { Line };
@@ -45,6 +59,19 @@ impl Model for Traced {
       call = call_with t.asked t.element t.number t.op;
       answer = answer_with t.said t.reply;
     } };
+
+    ghost invariant = { λ t. t.group ≡ true
+        → may_begin (call_with t.asked t.element t.number t.op) (answer_with t.said t.reply) ≡ true };
+}
+
+// Returns whether a line may begin a group: a command's, with an outcome.
+pub(crate) fn may_begin(call: Call, answer: Result<Outcome, Refusal>) -> bool
+    ensures { result ≡ may_begin call answer }
+{
+    match call {
+        Call::Command(_) => answer.is_ok(),
+        Call::Collect { .. } => false,
+    }
 }
 
 // Returns what a call asks, its element, its number and its operation.
@@ -105,8 +132,8 @@ fn answer_with(said: Said, reply: Reply) -> Result<Outcome, Refusal>
 }
 
 impl Traced {
-    // Returns the line of a call and its answer.
-    pub(crate) fn new(call: Call, answer: Result<Outcome, Refusal>) -> Traced
+    // Returns the line of a call and its answer. It begins a group only if it may.
+    pub(crate) fn new(call: Call, answer: Result<Outcome, Refusal>, since: Since) -> Traced
         ensures { result ≡ line_of call answer }
     {
         let (asked, element, number, op) = parts_of(call);
@@ -118,6 +145,8 @@ impl Traced {
             element,
             asked,
             said,
+            group: since.group && may_begin(call, answer),
+            checkpoint: since.checkpoint,
         }
     }
 
@@ -128,6 +157,16 @@ impl Traced {
         Line {
             call: call_with(self.asked, self.element, self.number, self.op),
             answer: answer_with(self.said, self.reply),
+        }
+    }
+
+    /// Returns what happened since the line before. A collect or a refusal begins no group.
+    pub fn since(&self) -> Since
+        ensures group { result.group ≡ true → may_begin self.now.call self.now.answer ≡ true }
+    {
+        Since {
+            group: self.group,
+            checkpoint: self.checkpoint,
         }
     }
 }

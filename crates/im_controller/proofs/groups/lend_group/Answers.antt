@@ -1,10 +1,8 @@
-use Rattle.std.proofs.Common.{◌≡◌, false, List, length}
+use Rattle.std.proofs.Common.{List}
 use Rattle.im_types.specs.declared.commands.Command.{Command}
-use Rattle.im_disk.specs.Since.{CallsAtMost, LeavesWithin, LeavesNow}
-use Rattle.im_engine.specs.Groups.{GroupFaults, calls_for_group}
-use Rattle.im_engine.specs.Commands.{MeansCommands, commands_put}
 use Rattle.im_controller.specs.State.{SharedState}
 use Rattle.im_controller.specs.Groups.{those, LendsGroup}
+use Rattle.im_controller.specs.Runs.{LendsRuns}
 use Rattle.im_controller.proofs.AdmitLemmas.{admit-on, admit-cut, admit-apart, admit-sure, admit-free, admit-room}
 use Rattle.im_controller.proofs.AdmitLemmas.{admit-within}
 use Rattle.im_controller.proofs.AdmitLemmas.{admitted-same}
@@ -31,37 +29,9 @@ returns-clause-lends g c =
     c.as_slice.result.now c.as_slice.ensures.value
     g.K.Name.plan c.admit.new.shared c.admit.new.lent.items c.admit.ensures.shared c.admit.ensures.lent c.lend_members.ensures.lends
 
-pub returns-clause-few : goal.returns-clause-few
-returns-clause-few g c =
+pub returns-clause-runs : goal.returns-clause-runs
+returns-clause-runs g c =
     let res = c.lend_members.result.items in let f = c.lend_members.new.shared.engine in
-    admitted-same (λ (u : SharedState g.row.D.Denot) (qs : List Command). g.D.Disk.honest f.disk
-    → CallsAtMost g.D.Disk.past u.engine.disk f.disk (calls_for_group (length (commands_put u.engine (those res qs)))))
-    c.args.shared.now c.args.members.now.items c.as_slice.result.now c.as_slice.ensures.value g.K.Name.plan c.admit.new.shared c.admit.new.lent.items c.admit.ensures.shared c.admit.ensures.lent c.lend_members.ensures.few
-
-pub returns-clause-faults : goal.returns-clause-faults
-returns-clause-faults g c =
-    let f = c.lend_members.new.shared.engine in
-    admitted-same (λ (u : SharedState g.row.D.Denot) (qs : List Command). GroupFaults u.engine.failed f.failed
-    (g.D.Disk.failures u.engine.disk) (g.D.Disk.failures f.disk))
-    c.args.shared.now c.args.members.now.items c.as_slice.result.now c.as_slice.ensures.value g.K.Name.plan c.admit.new.shared c.admit.new.lent.items c.admit.ensures.shared c.admit.ensures.lent c.lend_members.ensures.faults
-
-pub returns-clause-leaves : goal.returns-clause-leaves
-returns-clause-leaves g c =
-    let res = c.lend_members.result.items in let f = c.lend_members.new.shared.engine in
-    admitted-same (λ (u : SharedState g.row.D.Denot) (qs : List Command). g.D.Disk.honest f.disk → u.engine.failed
-    ≡ false → LeavesWithin g.D.Disk.now g.D.Disk.past u.engine.disk f.disk (MeansCommands u.engine (those res qs)))
-    c.args.shared.now c.args.members.now.items c.as_slice.result.now c.as_slice.ensures.value g.K.Name.plan c.admit.new.shared c.admit.new.lent.items c.admit.ensures.shared c.admit.ensures.lent c.lend_members.ensures.leaves
-
-pub returns-clause-doubt : goal.returns-clause-doubt
-returns-clause-doubt g c =
-    let res = c.lend_members.result.items in let f = c.lend_members.new.shared.engine in
-    admitted-same (λ (u : SharedState g.row.D.Denot) (qs : List Command). g.D.Disk.honest f.disk → u.engine.failed
-    ≡ false → LeavesNow (g.D.Disk.now f.disk) (MeansCommands u.engine (those res qs)))
-    c.args.shared.now c.args.members.now.items c.as_slice.result.now c.as_slice.ensures.value g.K.Name.plan c.admit.new.shared c.admit.new.lent.items c.admit.ensures.shared c.admit.ensures.lent c.lend_members.ensures.doubt
-
-pub returns-clause-honest : goal.returns-clause-honest
-returns-clause-honest g c =
-    let f = c.lend_members.new.shared.engine in
-    admitted-same (λ (u : SharedState g.row.D.Denot) (qs : List Command). g.D.Disk.honest f.disk
-    → g.D.Disk.honest u.engine.disk)
-    c.args.shared.now c.args.members.now.items c.as_slice.result.now c.as_slice.ensures.value g.K.Name.plan c.admit.new.shared c.admit.new.lent.items c.admit.ensures.shared c.admit.ensures.lent c.lend_members.ensures.honest
+    admitted-same (λ (u : SharedState g.row.D.Denot) (qs : List Command). LendsRuns g.D.Disk u.engine f (those res qs))
+    c.args.shared.now c.args.members.now.items c.as_slice.result.now c.as_slice.ensures.value g.K.Name.plan
+    c.admit.new.shared c.admit.new.lent.items c.admit.ensures.shared c.admit.ensures.lent c.lend_members.ensures.runs

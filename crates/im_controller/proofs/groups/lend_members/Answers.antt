@@ -4,14 +4,12 @@ use Rattle.im_types.specs.declared.commands.Line.{Line}
 use Rattle.im_types.specs.Contents.{Contents}
 use Rattle.im_types.specs.Agreement.{WaitingAgrees}
 use Rattle.im_types.specs.Changes.{shown_by}
-use Rattle.im_disk.specs.Since.{CallsAtMost, LeavesWithin, LeavesNow}
-use Rattle.im_engine.specs.Groups.{calls_for_group}
-use Rattle.im_engine.specs.Commands.{MeansCommands, commands_put}
 use Rattle.im_trace.specs.Log.{LogState}
 use Rattle.im_controller.specs.State.{SharedState}
 use Rattle.im_controller.specs.Groups.{answer_in, those, with_all_unclaimed, AreAnswersTo, memory_after_all}
 use Rattle.im_queue.specs.Members.{AreFreeFor, AreSureBehind}
 use Rattle.im_controller.specs.Groups.{LendsGroup}
+use Rattle.im_controller.specs.Runs.{LendsRuns}
 use Rattle.im_controller.specs.Kept.{accepted_in}
 use Rattle.im_controller.specs.Planned.{AreOnPlan, KeepsTo}
 use Rattle.im_controller.proofs.AdmitLemmas.{keeps-members}
@@ -93,15 +91,16 @@ invariant_of-shared g c =
       pane.shown_is ∙ ap (λ (l : LogState). shown_by g.K.Name.memory l.trace) (sym log),
       pane.cells ∙ c.shared.invariant.2,
       pane.ahead,
-      (λ honest. c.shared.invariant.4 (c.serve_members.ensures.honest honest)),
+      (λ honest. c.shared.invariant.4 (c.serve_members.ensures.runs.honest honest)),
       (λ honest began.
           kept_on g.D.Disk.now g.D.Disk.past g.D.Disk.failures g.K.Name.begun m e f trace c.keep_all.new.log.trace
           (lines_all lent (map answer_in ss)) lines c.shared.invariant.0
           (kept_members g.D.Disk.now g.D.Disk.past g.D.Disk.failures g.K.Name.begun m e f (accepted_in m trace)
-          (c.shared.invariant.5 (c.serve_members.ensures.honest honest) began)
-          (sym (accepted-after m trace ∙ c.shared.invariant.0)) lent ss c.serve_members.ensures.faults
-          (c.serve_members.ensures.leaves honest) (c.serve_members.ensures.doubt honest)
-          (c.serve_members.ensures.means honest)
+          (c.shared.invariant.5 (c.serve_members.ensures.runs.honest honest) began)
+          (sym (accepted-after m trace ∙ c.shared.invariant.0)) lent ss c.serve_members.ensures.runs.faults
+          (λ alive. (c.serve_members.ensures.runs.leaves honest alive).within)
+          (λ alive. (c.serve_members.ensures.runs.leaves honest alive).after)
+          (c.serve_members.ensures.runs.means honest)
           c.room-room.result c.serve_members.ensures.answered)),
       c.shared.invariant.6,
       c.shared.invariant.7,
@@ -132,35 +131,10 @@ returns-clause-lends g c =
     subst (λ (u : SharedState g.row.D.Denot). LendsGroup u c.args.members.now.items c.choose.new.roomy.items s') c.shared.view_is
     (lends-group s s' c.args.members.now.items c.choose.new.roomy.items c.choose.new.lent.items c.serve_members.new.served.items c.spread.new.answers.items c.room-room.result it c.room-room.ensures.room log refl pane.alive pane.dead)
 
-pub returns-clause-few : goal.returns-clause-few
-returns-clause-few g c =
+pub returns-clause-runs : goal.returns-clause-runs
+returns-clause-runs g c =
     let f = c.serve_members.new.engine in
     let these = c.choose.ensures.lent ∙ ap (those c.choose.new.roomy.items) c.as_slice.ensures.value in
-    subst (λ (s : SharedState g.row.D.Denot). g.D.Disk.honest f.disk
-    → CallsAtMost g.D.Disk.past s.engine.disk f.disk
-    (calls_for_group (length
-    (commands_put s.engine (those c.choose.new.roomy.items c.args.members.now.items))))) c.shared.view_is
-    (subst (λ (rs : List Command). g.D.Disk.honest f.disk
-    → CallsAtMost g.D.Disk.past c.shared.inside.engine.disk f.disk
-    (calls_for_group (length (commands_put c.shared.inside.engine rs)))) these c.serve_members.ensures.few)
-
-pub returns-clause-leaves : goal.returns-clause-leaves
-returns-clause-leaves g c =
-    let f = c.serve_members.new.engine in
-    let these = c.choose.ensures.lent ∙ ap (those c.choose.new.roomy.items) c.as_slice.ensures.value in
-    subst (λ (s : SharedState g.row.D.Denot). g.D.Disk.honest f.disk → s.engine.failed ≡ false
-    → LeavesWithin g.D.Disk.now g.D.Disk.past s.engine.disk f.disk
-    (MeansCommands s.engine (those c.choose.new.roomy.items c.args.members.now.items))) c.shared.view_is
-    (subst (λ (rs : List Command). g.D.Disk.honest f.disk → c.shared.inside.engine.failed ≡ false
-    → LeavesWithin g.D.Disk.now g.D.Disk.past c.shared.inside.engine.disk f.disk
-    (MeansCommands c.shared.inside.engine rs)) these c.serve_members.ensures.leaves)
-
-pub returns-clause-doubt : goal.returns-clause-doubt
-returns-clause-doubt g c =
-    let f = c.serve_members.new.engine in
-    let these = c.choose.ensures.lent ∙ ap (those c.choose.new.roomy.items) c.as_slice.ensures.value in
-    subst (λ (s : SharedState g.row.D.Denot). g.D.Disk.honest f.disk → s.engine.failed ≡ false
-    → LeavesNow (g.D.Disk.now f.disk)
-    (MeansCommands s.engine (those c.choose.new.roomy.items c.args.members.now.items))) c.shared.view_is
-    (subst (λ (rs : List Command). g.D.Disk.honest f.disk → c.shared.inside.engine.failed ≡ false
-    → LeavesNow (g.D.Disk.now f.disk) (MeansCommands c.shared.inside.engine rs)) these c.serve_members.ensures.doubt)
+    subst (λ (s : SharedState g.row.D.Denot). LendsRuns g.D.Disk s.engine f
+    (those c.choose.new.roomy.items c.args.members.now.items)) c.shared.view_is
+    (subst (λ (rs : List Command). LendsRuns g.D.Disk c.shared.inside.engine f rs) these c.serve_members.ensures.runs)

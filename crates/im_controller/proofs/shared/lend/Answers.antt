@@ -5,7 +5,7 @@ use Rattle.im_types.specs.declared.commands.Request.{Request}
 use Rattle.im_types.specs.Contents.{Contents}
 use Rattle.im_types.specs.Step.{step}
 use Rattle.im_engine.specs.State.{MeansState, MeansEither}
-use Rattle.im_disk.specs.Since.{LeavesNow}
+use Rattle.im_disk.specs.Since.{LeavesNow, LeavesOnly}
 use Rattle.im_trace.specs.Lines.{memory_after}
 use Rattle.im_controller.specs.Lends.{Lends}
 use Rattle.im_trace.specs.Log.{LogState, receipt_for}
@@ -13,16 +13,20 @@ use Rattle.im_controller.specs.State.{SharedState}
 use Rattle.im_controller.specs.Kept.{accepted_in}
 use Rattle.im_controller.specs.Planned.{has_command, KeepsTo}
 use Rattle.im_controller.proofs.PlannedLemmas.{keeps-line, keeps-starts, on-command, tells-of}
+use Rattle.im_disk.proofs.SinceLemmas.{leaves_start}
 use Rattle.im_controller.proofs.LendLemmas.{answered-so, answered-memory}
 use Rattle.im_controller.proofs.ShownLemmas.{lend-shown, end-cells, told-all, lends-served, some_room}
 use Rattle.im_controller.proofs.KeptLemmas.{accepted-after, kept_on, kept_lent}
 use Rattle.im_controller.proofs.shared.lend.Goals as goal
 
-pub returns-then-room-eq0-clause-doubt : goal.returns-then-room-eq0-clause-doubt
-returns-then-room-eq0-clause-doubt g c = λ honest alive file left. inl (
-    subst (λ (s : SharedState g.row.D.Denot). g.D.Disk.honest s.engine.disk → s.engine.failed ≡ false
-    → LeavesNow (g.D.Disk.now s.engine.disk)
-    (MeansState s.engine)) c.shared.view_is c.failed.ensures.means honest alive file left)
+pub returns-then-room-eq0-clause-leaves : goal.returns-then-room-eq0-clause-leaves
+returns-then-room-eq0-clause-leaves g c = λ honest alive. record {
+  within = leaves_start _ _ _;
+  after = λ file left. inl
+      (subst (λ (s : SharedState g.row.D.Denot). g.D.Disk.honest s.engine.disk → s.engine.failed ≡ false
+      → LeavesNow (g.D.Disk.now s.engine.disk)
+      (MeansState s.engine)) c.shared.view_is c.failed.ensures.means honest alive file left);
+}
 
 pub returns-then-room-eq0-clause-means : goal.returns-then-room-eq0-clause-means
 returns-then-room-eq0-clause-means g c =
@@ -111,16 +115,23 @@ returns-in-Ok-clause-lends g c =
     ∙ sym c.has_command.ensures ∙ c.if-not-has_command.false)
     c.serve-answer.ensures.answered c.leave.ensures.log refl c.leave.ensures.tally shown.pane.is)
 
-pub returns-in-Ok-clause-doubt : goal.returns-in-Ok-clause-doubt
-returns-in-Ok-clause-doubt g c =
-    subst (λ (s : SharedState g.row.D.Denot). g.D.Disk.honest c.serve-answer.new.self.disk → s.engine.failed ≡ false
-    → LeavesNow (g.D.Disk.now c.serve-answer.new.self.disk)
-    (MeansEither s.engine c.args.command.now)) c.shared.view_is c.serve-answer.ensures.doubt
+pub returns-in-Ok-clause-leaves : goal.returns-in-Ok-clause-leaves
+returns-in-Ok-clause-leaves g c = λ honest. let f = c.serve-answer.new.self in
+    subst (λ (s : SharedState g.row.D.Denot). s.engine.failed ≡ false
+    → LeavesOnly g.D.Disk.now g.D.Disk.past s.engine.disk f.disk (MeansEither s.engine c.args.command.now))
+    c.shared.view_is (λ alive. record {
+      within = c.serve-answer.ensures.leaves honest alive;
+      after = c.serve-answer.ensures.doubt honest alive;
+    })
 
-pub returns-in-Err-clause-doubt : goal.returns-in-Err-clause-doubt
-returns-in-Err-clause-doubt g c = λ honest alive file left.
-    let means = c.failed.ensures.means honest (sym c.failed.ensures.failed ∙ c.if-failed.false) file left in
-    inl (subst (λ (s : SharedState g.row.D.Denot). MeansState s.engine file) c.shared.view_is means)
+pub returns-in-Err-clause-leaves : goal.returns-in-Err-clause-leaves
+returns-in-Err-clause-leaves g c = λ honest. let e = c.shared.inside.engine in
+    subst (λ (s : SharedState g.row.D.Denot). s.engine.failed ≡ false
+    → LeavesOnly g.D.Disk.now g.D.Disk.past s.engine.disk e.disk (MeansEither s.engine c.args.command.now))
+    c.shared.view_is (λ alive. record {
+      within = leaves_start _ _ _;
+      after = λ file left. inl (c.failed.ensures.means honest alive file left);
+    })
 
 pub returns-in-Ok-clause-planned : goal.returns-in-Ok-clause-planned
 returns-in-Ok-clause-planned g c =
@@ -133,11 +144,14 @@ returns-in-Ok-clause-planned g c =
     ∙ sym c.has_command.ensures ∙ c.if-not-has_command.false))))
     c.receipt.ensures.proof
 
-pub returns-then-not-has_command-clause-doubt : goal.returns-then-not-has_command-clause-doubt
-returns-then-not-has_command-clause-doubt g c = λ honest alive file left. inl (
-    subst (λ (s : SharedState g.row.D.Denot). g.D.Disk.honest s.engine.disk → s.engine.failed ≡ false
-    → LeavesNow (g.D.Disk.now s.engine.disk)
-    (MeansState s.engine)) c.shared.view_is c.failed.ensures.means honest alive file left)
+pub returns-then-not-has_command-clause-leaves : goal.returns-then-not-has_command-clause-leaves
+returns-then-not-has_command-clause-leaves g c = λ honest alive. record {
+  within = leaves_start _ _ _;
+  after = λ file left. inl
+      (subst (λ (s : SharedState g.row.D.Denot). g.D.Disk.honest s.engine.disk → s.engine.failed ≡ false
+      → LeavesNow (g.D.Disk.now s.engine.disk)
+      (MeansState s.engine)) c.shared.view_is c.failed.ensures.means honest alive file left);
+}
 
 pub returns-then-not-has_command-clause-means : goal.returns-then-not-has_command-clause-means
 returns-then-not-has_command-clause-means g c =

@@ -1,6 +1,6 @@
 use Rattle.std.proofs.Common.{◌≡◌, ◌⊎◌, ◌∙◌, false, ap, subst, sym, Result}
 use Rattle.std.specs.Prelude.{IfErr}
-use Rattle.im_disk.specs.Since.{LeavesNow}
+use Rattle.im_disk.specs.Since.{LeavesOnly}
 use Rattle.im_engine.specs.State.{MeansState}
 use Rattle.im_checkpoint.specs.declared.checkpoint.TurnDone.{TurnDone}
 use Rattle.im_types.specs.declared.refusals.Refusal.{Refusal}
@@ -11,16 +11,18 @@ use Rattle.im_controller.specs.State.{SharedState}
 use Rattle.im_controller.proofs.KeptLemmas.{accepted-after, turn_quiet, quiet_alive, kept_quiet, turn-only, turn-full}
 use Rattle.im_controller.proofs.shared.lend_turn.Goals as goal
 
-pub returns-clause-now : goal.returns-clause-now
-returns-clause-now g c =
-    subst (λ (s : SharedState g.row.D.Denot). g.D.Disk.honest c.turn-done.new.self.disk → s.engine.failed ≡ false
-    → LeavesNow (g.D.Disk.now c.turn-done.new.self.disk)
-    (MeansState s.engine)) c.shared.view_is c.turn-done.ensures.now
+pub returns-clause-leaves : goal.returns-clause-leaves
+returns-clause-leaves g c = λ honest. let f = c.turn-done.new.self in
+    subst (λ (s : SharedState g.row.D.Denot). s.engine.failed ≡ false
+    → LeavesOnly g.D.Disk.now g.D.Disk.past s.engine.disk f.disk (MeansState s.engine)) c.shared.view_is (λ alive. record {
+      within = c.turn-done.ensures.leaves honest alive;
+      after = c.turn-done.ensures.now honest alive;
+    })
 
 pub invariant_of-shared : goal.invariant_of-shared
 invariant_of-shared g c =
     let e = c.shared.inside.engine in let f = c.turn-done.new.self in let m = g.K.Name.memory in let trace = c.shared.inside.log.trace in
-    let quiet = turn_quiet g.D.Disk.failures e f c.turn-done.result c.turn-done.ensures.answered c.turn-done.ensures.faults in (
+    let quiet = turn_quiet g.D.Disk.failures e f c.turn-done.result c.turn-done.ensures.answered c.turn-done.ensures.faults in rw c.note_turn.ensures (
       c.shared.invariant.0 ∙ sym quiet.stays.0,
       c.shared.invariant.1,
       c.shared.invariant.2,

@@ -1,6 +1,6 @@
 use Rattle.std.proofs.Common.{sym, ◌∙◌, ap, refl, ◌++◌, ◌∷◌, [], List}
 use Rattle.im_types.specs.declared.commands.Line.{Line}
-use Rattle.im_trace.specs.declared.chain.Link.{Link}
+use Rattle.im_trace.specs.declared.rule.Link.{Link}
 use Rattle.im_trace.proofs.ChainLemmas.{add_moves, added}
 use Rattle.im_trace.proofs.chain.Chain.add.Goals as goal
 
@@ -27,6 +27,7 @@ invariant_of-self g c =
       c.new_pen.ensures.right,
       all.1 ∙ ap (λ (l : Link). l.next) c.plain-offer.ensures.1,
       h.5,
+      h.6,
     )
 
 pub returns : goal.returns

@@ -1,7 +1,8 @@
 use Rattle.std.proofs.Common.{sym, ◌∙◌, ap, subst, List}
 use mathlib.Core.List.{IsPrefix}
-use Rattle.im_trace.specs.declared.chain.Link.{Link}
-use Rattle.im_trace.proofs.ChainLemmas.{look_moves, known}
+use Rattle.im_trace.specs.declared.rule.Link.{Link}
+use Rattle.im_trace.specs.Chains.{lines_from}
+use Rattle.im_trace.proofs.ChainLemmas.{look_moves, known, first-prefix}
 use Rattle.im_trace.proofs.chain.Chain.knows.Goals as goal
 
 pub compare_exchange-zero-requires : goal.compare_exchange-zero-requires
@@ -24,5 +25,5 @@ returns-clause-known g c =
     (ap (λ s. s.log) c.again-seen.ensures) c.learn.ensures.2 in
     rw (← c.prefix.view_is, ← c.self.view_is)
     (known g.K.Name.book.lines.root c.self.inside.pen.nib.key c.self.inside.seen.log c.prefix.inside.seen.log both
-    c.compare_exchange-zero.new.seen.log c.prefix.inside.lines.value.items this c.learn.ensures.3 z.6 z.7.0 h.4
-    c.prefix.invariant.2)
+    c.compare_exchange-zero.new.seen.log _ this c.learn.ensures.3 z.6 z.7.0 h.4
+    (first-prefix c.prefix.inside.count (lines_from g.K.Name.book.lines.root c.prefix.inside.seen.log)))

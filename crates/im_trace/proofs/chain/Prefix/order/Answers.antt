@@ -1,9 +1,12 @@
-use Rattle.im_trace.proofs.ChainLemmas.{ordered}
+use Rattle.im_trace.specs.Chains.{lines_from}
+use Rattle.im_trace.proofs.ChainLemmas.{ordered, first-prefix}
 use Rattle.im_trace.proofs.chain.Prefix.order.Goals as goal
 
 pub returns-clause-order : goal.returns-clause-order
 returns-clause-order g c =
+    let root = g.K.Name.book.lines.root in
     rw (← c.self.view_is, ← c.other.view_is)
-    (ordered g.K.Name.book.lines.root c.self.inside.seen.log c.other.inside.seen.log c.both_of-both.result.log
-    c.self.inside.lines.value.items c.other.inside.lines.value.items
-    c.both_of-both.ensures.one c.both_of-both.ensures.two c.self.invariant.2 c.other.invariant.2)
+    (ordered root c.self.inside.seen.log c.other.inside.seen.log c.both_of-both.result.log _ _
+    c.both_of-both.ensures.one c.both_of-both.ensures.two
+    (first-prefix c.self.inside.count (lines_from root c.self.inside.seen.log))
+    (first-prefix c.other.inside.count (lines_from root c.other.inside.seen.log)))

@@ -6,7 +6,7 @@ use Rattle.im_trace.proofs.ending.Ended.of.Goals as goal
 pub invariant_of-result : goal.invariant_of-result
 invariant_of-result g c =
     let r = c.reserve.invariant in
-    let is = c.log.invariant.0 in
+    let is = c.log.invariant in
     let same = c.as_slice.ensures.value in
     let told = c.are_claimed-claimed.ensures in
     let m = g.K.Name.memory in
@@ -21,5 +21,4 @@ invariant_of-result g c =
       },
       r.1 ∙ sym r.0,
       omega (arith, r.0, r.4, r.5),
-      c.log.invariant.2,
     )

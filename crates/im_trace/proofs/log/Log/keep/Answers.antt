@@ -1,7 +1,7 @@
-use Rattle.std.proofs.Common.{◌≡◌, ◌<◌, ◌++◌, true, Some, None, subst, sym, ap, ◌∙◌, length, slice_get, arith}
+use Rattle.std.proofs.Common.{◌≡◌, ◌<◌, true, Some, None, subst, sym, ap, ◌∙◌, length, slice_get}
 use Rattle.im_types.specs.declared.commands.Call.TheVariants.{Command as Commands}
 use Rattle.im_types.specs.Trace.{answer_to, end_of}
-use Rattle.im_trace.specs.Lines.{leaves_line, lines_of, memory_after}
+use Rattle.im_trace.specs.Lines.{leaves_line, memory_after}
 use Rattle.im_trace.specs.Log.{sender_of, LogState}
 use Rattle.im_trace.proofs.LogLemmas.{log-keeps, end-lines}
 use Rattle.im_trace.proofs.log.Log.keep.Goals as goal
@@ -13,15 +13,12 @@ invariant_of-self g c =
     ≡ answer_to (end_of m l.trace) (Commands r)) v c.requires.is_so in
     let room = subst (λ (l : LogState). leaves_line answer ≡ true → length l.trace < l.limit) v c.requires.room in
     let free = subst (λ (l : LogState). slice_get l.places (sender_of r) ≡ Some None) v c.requires.free in
-    rw (c.put_in.ensures, c.of.ensures, c.len-before.ensures, c.self.inside.trace.ok.0, c.push_line.ensures.items) (
-      log-keeps m g.K.Name.marks _ c.self.inside.books c.self.invariant.0 r answer free room so,
-      omega (arith, c.self.invariant.1, c.push_line.ensures.capacity),
-      c.push_line.ensures.chain ∙ ap (λ ls. ls ++ lines_of (Commands r) answer) c.self.invariant.2,
-    )
+    rw (c.put_in.ensures, c.len-before.ensures, c.push.ensures)
+    (log-keeps m g.K.Name.marks _ c.self.inside.books c.self.invariant r answer free room so)
 
 pub returns-clause-end : goal.returns-clause-end
 returns-clause-end g c =
     let m = g.K.Name.memory in let call = Commands c.args.command.now in
-    rw c.push_line.ensures.items (
-    end-lines m c.self.inside.trace.items call c.args.answer
+    rw c.push.ensures (
+    end-lines m c.self.inside.record.lines call c.args.answer
     ∙ ap (λ (l : LogState). memory_after (end_of m l.trace) call c.args.answer) c.self.view_is)

@@ -5,4 +5,4 @@ use Rattle.im_trace.proofs.log.Log.prefix.Goals as goal
 
 pub returns-clause-legal : goal.returns-clause-legal
 returns-clause-legal g c =
-    subst (λ (l : LogState). IsLegal g.K.Name.memory l.trace) c.self.view_is c.self.invariant.0.legal
+    subst (λ (l : LogState). IsLegal g.K.Name.memory l.trace) c.self.view_is c.self.invariant.legal

@@ -1,0 +1,85 @@
+//! An engine becomes a controller's, with room for its trace or for a trace that isn't recorded.
+ghost use Rattle.std.specs.Prelude.{◌≡◌, ◌⊎◌, true, false, None, Some, IfOk, IfErr, OnOk, length};
+ghost use Rattle.im_types.specs.declared.refusals.Refusal.TheVariants.{NoMemory, BadPlan};
+ghost use Rattle.im_types.specs.Plan.{FitsPlan};
+
+use crate::opening::{Opening, begin, begin_planned};
+use im_disk::Disk;
+use im_engine::Engine;
+use im_planning::Plan;
+use im_types::Refusal;
+use std::alloc::Global;
+use std::sync::Wait;
+
+/// Makes room for a trace of `trace_room` lines, 48 bytes each, for the server, the request and the answer of each
+/// element, and for the ledgers that count the lines. It shows the full cells on a pane with a reader for each element.
+/// Returns `NoMemory`, with the engine as it was, if `alloc` refuses the memory.
+pub fn start<D: Disk + Drop, R: Wait>(
+    rt: &R,
+    alloc: Global,
+    engine: Engine<D>,
+    trace_room: usize,
+) -> Result<Opening<D>, (Refusal, Engine<D>)>
+    ensures found { IfOk result (λ o. (o.engine ≡ engine) × (o.limit ≡ trace_room) × (o.plan ≡ None)) }
+    ensures recorded { IfOk result (λ o. o.book.recorded ≡ true) }
+    ensures ports { IfOk result (λ o. o.ports ≡ length engine.memory.windows) }
+    ensures refused { IfErr result (λ e. (e.0 ≡ NoMemory) × (e.1 ≡ engine)) }
+{
+    begin(rt, alloc, engine, Some(trace_room))
+}
+
+/// Does what [`start`] does, for a trace that isn't recorded. No line of it is kept at run time, and it may have as
+/// many lines as a `usize` counts. All that contracts say of the trace holds as well. So any number of requests is
+/// served in the same memory.
+pub fn start_unrecorded<D: Disk + Drop, R: Wait>(
+    rt: &R,
+    alloc: Global,
+    engine: Engine<D>,
+) -> Result<Opening<D>, (Refusal, Engine<D>)>
+    ensures found { IfOk result (λ o. (o.engine ≡ engine) × (o.limit ≡ 18446744073709551615) × (o.plan ≡ None)) }
+    ensures recorded { IfOk result (λ o. o.book.recorded ≡ false) }
+    ensures ports { IfOk result (λ o. o.ports ≡ length engine.memory.windows) }
+    ensures refused { IfErr result (λ e. (e.0 ≡ NoMemory) × (e.1 ≡ engine)) }
+{
+    begin(rt, alloc, engine, None)
+}
+
+/// Does what [`start`] does, under a plan. From then on a request is refused with `OffPlan` if the plan doesn't have it
+/// with its operation under its number.
+///
+/// Returns `BadPlan` exactly if the plan doesn't fit the engine's memory, and else `NoMemory` as [`start`] does. The
+/// engine is then as it was, and the plan is dropped.
+pub fn start_planned<D: Disk + Drop, R: Wait>(
+    rt: &R,
+    alloc: Global,
+    engine: Engine<D>,
+    plan: Plan,
+    trace_room: usize,
+) -> Result<Opening<D>, (Refusal, Engine<D>)>
+    ensures found { IfOk result (λ o. (o.engine ≡ engine) × (o.limit ≡ trace_room) × (o.plan ≡ Some plan)) }
+    ensures recorded { IfOk result (λ o. o.book.recorded ≡ true) }
+    ensures ports { IfOk result (λ o. o.ports ≡ length engine.memory.windows) }
+    ensures fits { OnOk result (FitsPlan engine.memory plan) }
+    ensures bad { IfErr result (λ e. e.0 ≡ BadPlan → FitsPlan engine.memory plan → ⊥) }
+    ensures refused { IfErr result (λ e. ((e.0 ≡ NoMemory) ⊎ (e.0 ≡ BadPlan)) × (e.1 ≡ engine)) }
+{
+    begin_planned(rt, alloc, engine, plan, Some(trace_room))
+}
+
+/// Does what [`start_planned`] does, for a trace that isn't recorded, as [`start_unrecorded`] has it.
+pub fn start_planned_unrecorded<D: Disk + Drop, R: Wait>(
+    rt: &R,
+    alloc: Global,
+    engine: Engine<D>,
+    plan: Plan,
+) -> Result<Opening<D>, (Refusal, Engine<D>)>
+    ensures found { IfOk result (λ o. (o.engine ≡ engine) × (o.limit ≡ 18446744073709551615)
+        × (o.plan ≡ Some plan)) }
+    ensures recorded { IfOk result (λ o. o.book.recorded ≡ false) }
+    ensures ports { IfOk result (λ o. o.ports ≡ length engine.memory.windows) }
+    ensures fits { OnOk result (FitsPlan engine.memory plan) }
+    ensures bad { IfErr result (λ e. e.0 ≡ BadPlan → FitsPlan engine.memory plan → ⊥) }
+    ensures refused { IfErr result (λ e. ((e.0 ≡ NoMemory) ⊎ (e.0 ≡ BadPlan)) × (e.1 ≡ engine)) }
+{
+    begin_planned(rt, alloc, engine, plan, None)
+}

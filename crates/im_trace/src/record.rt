@@ -1,0 +1,227 @@
+//! The trace: the book of its lines, and the lines themselves if they are recorded.
+ghost use Rattle.std.specs.Prelude.{◌≡◌, ◌<◌, ◌≤◌, ◌-◌, ◌++◌, ◌∷◌, [], true, length, take, vec_len, vec_capacity};
+ghost use Rattle.std.specs.Prelude.{if◌then◌else◌};
+ghost use mathlib.Core.List.{IsPrefix};
+ghost use Rattle.im_trace.specs.Chains.{IsOpened};
+ghost use Rattle.im_trace.specs.Lines.{leaves_line, lines_of};
+
+use crate::chain::{Chain, NewChain, Prefix};
+use crate::name::Name;
+use crate::rule::{Chained, Link};
+use crate::traced::{Since, Traced, may_begin};
+use im_types::{Call, Line, Outcome, Refusal};
+use logbook::{Pen, Seen};
+use std::marker::Model;
+use std::snapshot::Snapshot;
+
+/// The trace, and how many lines it may have. If it isn't recorded, no line of it is kept at run time.
+#[derive(Drop)]
+pub struct Record<K: Name> {
+    lines: Vec<Traced>, // If the trace isn't recorded, it stays empty.
+    recorded: bool,
+    count: usize,
+    limit: usize,
+    since: Since, // For the next line.
+    chain: Chain<K>,
+}
+
+impl<K: Name> Model for Record<K> {
+    ghost use Rattle.std.specs.Prelude.{◌≡◌, ◌≤◌, [], true, length, vec_capacity, if◌then◌else◌};
+    ghost use Rattle.im_trace.specs.Ends.{RecordState};
+
+    ghost Value = { RecordState };
+
+    ghost view = { λ r. record { lines = r.chain; limit = r.limit } };
+
+    ghost invariant = { λ r. (r.count ≡ length r.chain) × (r.lines.items ≡ (if r.recorded then r.chain else []))
+        × (r.recorded ≡ true → r.limit ≤ vec_capacity r.lines) × (r.recorded ≡ K.book.recorded) };
+}
+
+// Returns whether an answer leaves a line.
+pub(crate) fn leaves_line(answer: Result<Outcome, Refusal>) -> bool
+    ensures { result ≡ leaves_line answer }
+{
+    match answer {
+        Ok(_) => true,
+        Err(refusal) => refusal.number() < 7,
+    }
+}
+
+// Puts a line at the end, if the trace is recorded.
+fn push_if(lines: &mut Vec<Traced>, recorded: bool, line: Traced)
+    requires room { recorded ≡ true → vec_len lines.old < vec_capacity lines.old }
+    ensures items { lines.new.items ≡ (if recorded then lines.old.items ++ line ∷ [] else lines.old.items) }
+    ensures capacity { vec_capacity lines.new ≡ vec_capacity lines.old }
+{
+    if recorded {
+        lines.push_reserved(line);
+    }
+}
+
+impl<K: Name> Record<K> {
+    // Begins a trace.
+    pub(crate) fn begun(
+        lines: Vec<Traced>,
+        recorded: bool,
+        limit: usize,
+        chain: NewChain,
+    ) -> Record<K>
+        requires empty { lines.items ≡ [] }
+        requires room { recorded ≡ true → limit ≤ vec_capacity lines }
+        requires recorded { recorded ≡ K.book.recorded }
+        requires book { chain ≡ K.book.lines }
+        requires memory { IsOpened K.memory }
+        ensures { result ≡ record { lines = []; limit = limit } }
+    {
+        Record {
+            lines,
+            recorded,
+            count: 0,
+            limit,
+            since: Since {
+                group: false,
+                checkpoint: false,
+            },
+            chain: chain.named::<K>(),
+        }
+    }
+
+    // Returns how many lines there are.
+    pub(crate) fn len(&self) -> usize
+        ensures { result ≡ length self.now.lines }
+    {
+        self.count
+    }
+
+    // Returns how many more lines there is room for.
+    pub(crate) fn room(&self) -> usize
+        ensures { result ≡ self.now.limit - length self.now.lines }
+    {
+        self.limit.saturating_sub(self.count)
+    }
+
+    // Notes that a checkpoint was put in force.
+    pub(crate) fn note_checkpoint(&mut self)
+        ensures same { self.new ≡ self.old }
+    {
+        self.since.checkpoint = true;
+    }
+
+    // Puts a call's line at the end, if it leaves one. It may begin a group.
+    pub(crate) fn push(&mut self, call: Call, answer: Result<Outcome, Refusal>, begins: bool)
+        requires room { leaves_line answer ≡ true → length self.old.lines < self.old.limit }
+        ensures { self.new ≡ record { lines = self.old.lines ++ lines_of call answer; limit = self.old.limit } }
+    {
+        self.since.group = self.since.group || begins;
+        if leaves_line(answer) {
+            self.add(Line { call, answer });
+        }
+    }
+
+    // Puts a line at the end.
+    fn add(&mut self, line: Line)
+        requires room { length self.old.lines < self.old.limit }
+        ensures { self.new ≡ record { lines = self.old.lines ++ line ∷ []; limit = self.old.limit } }
+    {
+        let since = self.since;
+        self.chain.add(&line);
+        push_if(
+            &mut self.lines,
+            self.recorded,
+            Traced::new(line.call, line.answer, since),
+        );
+        self.count += 1;
+        self.since = Since {
+            group: since.group && !may_begin(line.call, line.answer),
+            checkpoint: false,
+        };
+    }
+
+    // Returns the given number of first lines, as a prefix that may go out of the lock.
+    pub(crate) fn first(&self, count: usize) -> Prefix<K>
+        requires few { count ≤ length self.now.lines }
+        ensures { result ≡ take count self.now.lines }
+    {
+        Prefix::begun(count, &self.chain)
+    }
+
+    // A prefix that went out of the lock is a prefix of the trace.
+    pub(crate) fn knows(&mut self, seen: &Prefix<K>)
+        ensures same { self.new ≡ self.old }
+        ensures known { IsPrefix seen.now self.old.lines }
+    {
+        self.chain.knows(seen);
+    }
+
+    // Returns the trace, without its name.
+    pub(crate) fn end(self) -> Recording
+        ensures { result ≡ record { items = self.lines; recorded = K.book.recorded } }
+    {
+        let Record {
+            lines,
+            recorded,
+            count: _,
+            limit: _,
+            since: _,
+            chain,
+        } = self;
+        let (seen, first) = chain.end();
+        Recording {
+            lines,
+            recorded,
+            seen,
+            first,
+        }
+    }
+}
+
+/// The trace of a controller at its end. Contracts see its lines, recorded or not.
+#[derive(Drop)]
+pub struct Recording {
+    lines: Vec<Traced>,
+    recorded: bool,
+    seen: Seen<Link, u64, Chained>,
+    first: Snapshot<Pen>,
+}
+
+impl Model for Recording {
+    ghost use Rattle.std.specs.Prelude.{◌≡◌, [], if◌then◌else◌};
+    ghost use Rattle.im_trace.specs.Chains.{lines_from};
+    ghost use Rattle.im_trace.specs.Ends.{RecordingState};
+
+    ghost Value = { RecordingState };
+
+    ghost view = { λ r. record { items = lines_from r.first.value.nib.key r.seen.log; recorded = r.recorded } };
+
+    ghost invariant = { λ r. r.lines.items
+        ≡ (if r.recorded then lines_from r.first.value.nib.key r.seen.log else []) };
+}
+
+impl Recording {
+    /// Returns whether the lines were recorded.
+    pub fn is_recorded(&self) -> bool
+        ensures { result ≡ self.now.recorded }
+    {
+        self.recorded
+    }
+
+    /// Returns the lines, and none if they weren't recorded.
+    pub fn as_slice(&self) -> &[Traced]
+        ensures { result.now ≡ (if self.now.recorded then self.now.items else []) }
+    {
+        self.lines.as_slice()
+    }
+
+    /// Returns the lines, and none if they weren't recorded.
+    pub fn into_lines(self) -> Vec<Traced>
+        ensures { result.items ≡ (if self.recorded then self.items else []) }
+    {
+        let Recording {
+            lines,
+            recorded: _,
+            seen: _,
+            first: _,
+        } = self;
+        lines
+    }
+}
