@@ -147,12 +147,11 @@ impl<D: Disk> Dialogue<D> {
             self.old.engine (W.contents out.old) self.new.engine (W.contents out.new) result }
         ensures same { self.new.setting ≡ self.old.setting }
     {
-        let setting = self.setting;
         let asked = self.drafts.standing.asked.as_slice();
         match take_parts(
             self.alloc,
             &self.engine,
-            setting,
+            self.setting,
             asked,
             &mut self.drafts.group,
         ) {
