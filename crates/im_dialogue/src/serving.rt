@@ -246,32 +246,33 @@ impl<D: Disk> Dialogue<D> {
         }
     }
 
-    /// Serves a dialogue on an engine, until the input ends or `quit` is asked. Each line of the input is answered by one
-    /// line, in order. The answer is written and put through after what it tells is on the disk.
+    /// Serves a dialogue on an engine, until the input ends or `quit` is asked. Each line of the input is answered by
+    /// one line, in order. The answer is written and put through after what it tells is on the disk.
     ///
-    /// A line that isn't in the grammar is answered by where it goes wrong, and changes nothing. A line of more than 4,096
-    /// bytes is such a line, and no more of it is kept. An end of the input without a line feed before it is no line.
+    /// A line that isn't in the grammar is answered by where it goes wrong, and changes nothing. A line of more than
+    /// 4,096 bytes is such a line, and no more of it is kept. An end of the input without a line feed before it is no
+    /// line.
     ///
     /// Up to 16 requests and confirmations are served as one group, if their lines follow each other in the reader's
     /// buffer, with lines between them that change nothing. Their answers are written together, and are those that the
-    /// lines would have by themselves. A group ends before a confirmation that would drop an entry of which it isn't known,
-    /// before the group acts, that it is answered: one that waits, or that a fetch or a take of the group makes. It also
-    /// ends before a command that may change what a line ahead of it shows that only looks. No line waits for another. All
-    /// other lines are answered before the next one is read.
+    /// lines would have by themselves. A group ends before a confirmation that would drop an entry of which it isn't
+    /// known, before the group acts, that it is answered: one that waits, or that a fetch or a take of the group makes.
+    /// It also ends before a command that may change what a line ahead of it shows that only looks. No line waits for
+    /// another. All other lines are answered before the next one is read.
     ///
-    /// The reader tells whether something is there to be read. While nothing is, turns of a checkpoint are taken if there
-    /// is room for less than half as many commands as the journal has slots.
+    /// The reader tells whether something is there to be read. While nothing is, turns of a checkpoint are taken if
+    /// there is room for less than half as many commands as the journal has slots.
     ///
-    /// If the dialogue is watched, lines `E.N now REPLY` follow the answer to a request: one for each request that waited
-    /// and is answered by it, in the order in which they came. A group then ends before a store or put of which it isn't
-    /// known, before the group acts, whom it answers.
+    /// If the dialogue is watched, lines `E.N now REPLY` follow the answer to a request: one for each request that
+    /// waited and is answered by it, in the order in which they came. A group then ends before a store or put of which
+    /// it isn't known, before the group acts, whom it answers.
     ///
     /// A backup is kept of the memory after all commands before its line. Its answer is written once it is kept.
     ///
     /// A refusal is an answer, except for `Device` and `Failed`, which say that a call of the disk failed. They end the
-    /// dialogue, as do an input that can't be read, an output that can't be written, and want of memory. What was printed
-    /// is then a prefix of the answers. Each command that was answered is in every file that a crash leaves. The commands
-    /// of a group that wasn't answered are there all together or not at all.
+    /// dialogue, as do an input that can't be read, an output that can't be written, and want of memory. What was
+    /// printed is then a prefix of the answers. Each command that was answered is in every file that a crash leaves.
+    /// The commands of a group that wasn't answered are there all together or not at all.
     pub fn serve_lines<B: Backups, R: BufRead + Ear, W: Write>(
         &mut self,
         backups: &mut B,

@@ -93,7 +93,7 @@ fn serve_all<D: Disk, K: Name, G: Gate, R: Wait>(
     outlet: &mut Outlet<Intent>,
 ) -> Result<(), Refusal>
     requires { outlet.old.ended ≡ false }
-    ensures serves { ServesOn K.memory (deeds_of port.old served.old glances.old)
+    ensures done { ServesOn K.memory (deeds_of port.old served.old glances.old)
         (deeds_of port.new served.new glances.new) result outlet.old outlet.new }
     ensures open { OnErr result (outlet.new.ended ≡ false) }
 {
@@ -139,7 +139,7 @@ fn serve_to_end<D: Disk, K: Name, G: Gate, R: Wait>(
     outlet: &mut Outlet<Intent>,
 ) -> Result<(), Refusal>
     requires { outlet.old.ended ≡ false }
-    ensures serves { ServesOn K.memory (deeds_of port.old served.old glances.old)
+    ensures done { ServesOn K.memory (deeds_of port.old served.old glances.old)
         (deeds_of port.new served.new glances.new) result outlet.old outlet.new }
 {
     match serve_all(context, port, served, glances, outlet) {
@@ -180,7 +180,7 @@ pub fn serve_element<D: Disk, K: Name, G: Gate, R: Wait>(
     outlet: &mut Outlet<Intent>,
 ) -> Result<(), Refusal>
     requires { outlet.old.ended ≡ false }
-    ensures serves { ServesOn K.memory (deeds_of port.old served.old glances.old)
+    ensures done { ServesOn K.memory (deeds_of port.old served.old glances.old)
         (deeds_of port.new served.new glances.new) result outlet.old outlet.new }
 {
     let done = serve_to_end(context, port, served, glances, outlet);

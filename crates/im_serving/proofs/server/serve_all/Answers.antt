@@ -26,8 +26,8 @@ loop-preserved g c = (
       c.loop.invariant.8 c.serve_intent.ensures.seen,
 )
 
-pub returns-in-Err-clause-serves : goal.returns-in-Err-clause-serves
-returns-in-Err-clause-serves g c =
+pub returns-in-Err-clause-done : goal.returns-in-Err-clause-done
+returns-in-Err-clause-done g c =
     let l = c.loop in
     let s = c.serve_intent in
     let items : c.receive.new.self.items ≡ l.outlet.items ++ c.in-Item.intent ∷ [] = search rules in
@@ -48,8 +48,8 @@ returns-in-Err-clause-serves g c =
           s.ensures.seen;
     }
 
-pub returns-in-End-clause-serves : goal.returns-in-End-clause-serves
-returns-in-End-clause-serves g c =
+pub returns-in-End-clause-done : goal.returns-in-End-clause-done
+returns-in-End-clause-done g c =
     let l = c.loop in
     let items : c.receive.new.self.items ≡ l.outlet.items = search rules in
     let count = counted_same _ _ _ l.outlet.items c.receive.new.self.items l.invariant.7 items in
@@ -66,8 +66,8 @@ returns-in-End-clause-serves g c =
       seen = l.invariant.8;
     }
 
-pub returns-in-Gone-clause-serves : goal.returns-in-Gone-clause-serves
-returns-in-Gone-clause-serves g c =
+pub returns-in-Gone-clause-done : goal.returns-in-Gone-clause-done
+returns-in-Gone-clause-done g c =
     let l = c.loop in
     let items : c.receive.new.self.items ≡ l.outlet.items = search rules in
     let count = counted_same _ _ _ l.outlet.items c.receive.new.self.items l.invariant.7 items in

@@ -7,11 +7,11 @@ pub returns-in-Ok : goal.returns-in-Ok
 returns-in-Ok g c =
     let s = c.serve_all.new in
     let a = c.await_rest in
-    let it = c.in-Ok.ensures.serves in
+    let it = c.in-Ok.ensures.done in
     let same = found_length a.new.port.history s.port.element s.served.first s.served.entries.items
     a.new.served.entries.items a.ensures.looked.found in
     record {
-      serves = record {
+      done = record {
         element = a.ensures.element ∙ it.element;
         first = a.ensures.first ∙ it.first;
         pipe = it.pipe;
@@ -34,9 +34,9 @@ pub returns-in-Err : goal.returns-in-Err
 returns-in-Err g c =
     let s = c.serve_all.new in
     let d = c.drain in
-    let it = c.in-Err.ensures.serves in
+    let it = c.in-Err.ensures.done in
     record {
-      serves = record {
+      done = record {
         element = it.element;
         first = it.first;
         pipe = d.ensures.same ∙ it.pipe;

@@ -6,7 +6,7 @@ use Rattle.im_serving.proofs.starting.serve_part.Goals as goal
 pub returns-clause-stopped : goal.returns-clause-stopped
 returns-clause-stopped g c =
     let new = c.serve_element-done.new in
-    let said = c.serve_element-done.ensures.serves in
+    let said = c.serve_element-done.ensures.done in
     let was = c.server.inside in
     let start : Deeds = record {
       port = was.port;
