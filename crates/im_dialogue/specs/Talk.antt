@@ -285,3 +285,9 @@ TalksThrough disk watch old was new is result = MatchResult result
     → TalksOn watch disk.now disk.past disk.honest old (outputs was backups) new (outputs is backups))
     (λ e. (backups : List Backup)
     → TalkEnds watch disk.now disk.past disk.honest old (outputs was backups) new (outputs is backups))
+
+-- what a call comes to that does what a line asks, if a line asks so
+abbrev pub TalksAsked : {D T E : Type 0} → Ghosts D → Bool → Asked → EngineState D → Outputs → EngineState D → Outputs
+    → Result T E → Type 0
+TalksAsked disk watch asked old was new is result = (line : List ℕ) → asked_of line ≡ Some asked
+    → TalksWith disk watch old was new is result

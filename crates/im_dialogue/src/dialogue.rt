@@ -68,7 +68,8 @@ fn talk_on<D: Disk, B: Backups, R: BufRead + Ear, W: Write, N: Observer>(
     observer: &mut N,
 ) -> (u8, D)
     requires works { dialogue.engine.failed ≡ false }
-    requires means { D.honest dialogue.engine.disk → LeavesNow (D.now dialogue.engine.disk) (MeansState dialogue.engine) }
+    requires means { D.honest dialogue.engine.disk
+        → LeavesNow (D.now dialogue.engine.disk) (MeansState dialogue.engine) }
     ensures status { result.0 ≤ 1 }
     ensures closed { D.honest result.1 → Closed dialogue.setting.watch D.now D.past dialogue.engine result.1
         (outputs (W.contents out.old) (B.kept backups.old)) (outputs (W.contents out.new) (B.kept backups.new))

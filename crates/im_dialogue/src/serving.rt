@@ -1,7 +1,6 @@
 //! Serves a dialogue, line by line.
-ghost use Rattle.std.specs.Prelude.{◌≡◌, List, ℕ, Some};
-ghost use Rattle.im_dialogue.specs.Asking.{asked_of};
-ghost use Rattle.im_dialogue.specs.Talk.{TalksThrough, TalksWith, outputs};
+ghost use Rattle.std.specs.Prelude.{◌≡◌};
+ghost use Rattle.im_dialogue.specs.Talk.{TalksAsked, TalksThrough, TalksWith, outputs};
 ghost use Rattle.im_dialogue.specs.Together.{AreAsked};
 
 use crate::asking::{Asked, read_asked};
@@ -81,7 +80,7 @@ impl<D: Disk> Dialogue<D> {
         asked: Asked,
         out: &mut W,
     ) -> Result<bool, Reason>
-        ensures talks { (line : List ℕ) → asked_of line ≡ Some asked → TalksWith D.Disk self.old.setting.watch
+        ensures talks { TalksAsked D.Disk self.old.setting.watch asked
             self.old.engine (outputs (W.contents out.old) (B.kept backups.old))
             self.new.engine (outputs (W.contents out.new) (B.kept backups.new)) result }
         ensures same { self.new.setting ≡ self.old.setting }

@@ -16,12 +16,14 @@ returns-in-Ok-clause-talked g c = λ honest.
     let opened = c.in-Ok.ensures in
     let before = outputs (g.W.Write.contents c.args.out.now) (g.B.Backups.kept c.args.backups.now) in
     let after = outputs (g.W.Write.contents c.talk_on.new.out) (g.B.Backups.kept c.talk_on.new.backups) in
-    subst (λ (s : Setting). NotOpened g.D.Disk.now g.D.Disk.past c.args.disk c.talk_on.result.1 before after c.talk_on.result.0
+    subst (λ (s : Setting). NotOpened g.D.Disk.now g.D.Disk.past c.args.disk c.talk_on.result.1 before after
+    c.talk_on.result.0
     ⊎ Talked s.watch g.D.Disk.now g.D.Disk.past c.args.disk c.talk_on.result.1 before after c.talk_on.result.0)
     c.new-dialogue.ensures.setting
     (inr (talked dialogue.setting.watch g.D.Disk.now g.D.Disk.past c.args.disk dialogue.engine c.talk_on.result.1
     before after c.talk_on.result.0
-    (subst (λ (s : EngineState _). LeavesWithin g.D.Disk.now g.D.Disk.past c.args.disk s.disk (Left (g.D.Disk.now c.args.disk)))
+    (subst (λ (s : EngineState _). LeavesWithin g.D.Disk.now g.D.Disk.past c.args.disk s.disk
+    (Left (g.D.Disk.now c.args.disk)))
     (sym same) (opened.leaves (subst (λ (s : EngineState _). g.D.Disk.honest s.disk) same was)))
     (subst (λ (s : EngineState _). LeavesNow (g.D.Disk.now s.disk) (MeansState s)) (sym same)
     (opened.means (subst (λ (s : EngineState _). g.D.Disk.honest s.disk) same was)))

@@ -45,7 +45,8 @@ loop-part-preserved g c = λ watch old cs served.
     (sym answer_is ∙ c.in-Some-line_answer.is)
     (line.1 ∙ ap (λ (x : Contents). string_bytes c.loop-part.draft.text
     ++ (answer_text line.0 x given ++ told_with given c.as_str.result.now)) c.memory.ensures
-    ∙ ap (λ (t : List ℕ). string_bytes c.loop-part.draft.text ++ (answer_text line.0 m given ++ told_with given t)) same)
+    ∙ ap (λ (t : List ℕ). string_bytes c.loop-part.draft.text ++ (answer_text line.0 m given ++ told_with given t))
+    same)
     (c.loop-part.invariant watch old cs served)
 
 pub returns : goal.returns

@@ -8,8 +8,10 @@ pub returns-in-Ok-clause-looked : goal.returns-in-Ok-clause-looked
 returns-in-Ok-clause-looked g c =
     let a = c.collect in
     looked_found c.args.port.now.history a.new.self.history c.args.port.now.element c.args.served.now.first
-    c.args.number c.args.served.now.entries.items c.note.new.self.entries.items c.entry-entry.result c.note.ensures.noted
-    (sees_found _ _ _ _ a.result c.in-Ok.found c.entry-entry.result c.in-Ok.is c.entry-entry.ensures.entry a.ensures.order)
+    c.args.number c.args.served.now.entries.items c.note.new.self.entries.items c.entry-entry.result
+    c.note.ensures.noted
+    (sees_found _ _ _ _ a.result c.in-Ok.found c.entry-entry.result c.in-Ok.is c.entry-entry.ensures.entry
+    a.ensures.order)
 
 pub returns-in-Err-clause-looked : goal.returns-in-Err-clause-looked
 returns-in-Err-clause-looked g c =

@@ -19,7 +19,8 @@ returns-in-Ok-clause-talks g c = λ line read.
     let old = c.args.self.now.engine in
     let answer = c.in-Ok-Some.answer in
     let said = c.in-Ok.ensures in
-    let told : c.told_with-told.result.now ≡ told_with answer (told_by watch old.memory (Some c.args.asked)) = search rules
+    let told : c.told_with-told.result.now ≡ told_with answer (told_by watch old.memory (Some c.args.asked)) = search
+    rules
     in
     talks_on g.D.Disk.now g.D.Disk.past g.D.Disk.honest watch old c.answer.new.engine
     (outputs (g.W.Write.contents c.args.out.now) (g.B.Backups.kept c.args.backups.now))
@@ -37,7 +38,8 @@ returns-in-Err-say-clause-talks g c = λ line read.
     let old = c.args.self.now.engine in
     let answer = c.in-Ok-Some.answer in
     let said = c.in-Err-say.ensures in
-    let told : c.told_with-told.result.now ≡ told_with answer (told_by watch old.memory (Some c.args.asked)) = search rules
+    let told : c.told_with-told.result.now ≡ told_with answer (told_by watch old.memory (Some c.args.asked)) = search
+    rules
     in
     talk_ends g.D.Disk.now g.D.Disk.past g.D.Disk.honest watch old c.answer.new.engine
     (outputs (g.W.Write.contents c.args.out.now) (g.B.Backups.kept c.args.backups.now))

@@ -24,7 +24,8 @@ returns-in-Ok-eq0-clause-talks g c =
     (goes_talk g.D.Disk.now g.D.Disk.past g.D.Disk.honest c.args.self.now.setting.watch c.args.self.now.engine
     c.turn_while_quiet.new.engine was c.turn_while_quiet.ensures.honest (search rules))
     (c.in-Ok-eq0.ensures.talks kept))
-    (subst (λ (s : Setting). TalksWith g.D.Disk s.watch c.serve_together.new.self.engine been c.serve_alone.new.self.engine is
+    (subst (λ (s : Setting). TalksWith g.D.Disk s.watch c.serve_together.new.self.engine been
+    c.serve_alone.new.self.engine is
     c.serve_alone.result) c.serve_together.ensures.same c.serve_alone.ensures.talks)
 
 pub returns-in-Ok-clause-talks : goal.returns-in-Ok-clause-talks
