@@ -1,4 +1,4 @@
-use Rattle.std.proofs.Common.{◌⊎◌, inr, subst, sym}
+use Rattle.std.proofs.Common.{◌≡◌, ◌⊎◌, false, inr, subst, sym}
 use Rattle.im_disk.specs.Moment.{Left}
 use Rattle.im_disk.specs.Since.{LeavesNow, LeavesWithin}
 use Rattle.im_engine.specs.State.{EngineState, MeansState}
@@ -28,3 +28,18 @@ returns-in-Ok-clause-talked g c = λ honest.
     (subst (λ (s : EngineState _). LeavesNow (g.D.Disk.now s.disk) (MeansState s)) (sym same)
     (opened.means (subst (λ (s : EngineState _). g.D.Disk.honest s.disk) same was)))
     (c.talk_on.ensures.closed honest)))
+
+pub returns-in-Ok-clause-honest : goal.returns-in-Ok-clause-honest
+returns-in-Ok-clause-honest g c = λ honest. c.in-Ok.ensures.honest
+    (subst (λ (s : EngineState _). g.D.Disk.honest s.disk) c.new-dialogue.ensures.engine
+    (c.talk_on.ensures.honest honest))
+
+pub talk_on-requires-clause-works : goal.talk_on-requires-clause-works
+talk_on-requires-clause-works g c = subst (λ (s : EngineState _). s.failed ≡ false)
+    (sym c.new-dialogue.ensures.engine) c.in-Ok.ensures.works
+
+pub talk_on-requires-clause-means : goal.talk_on-requires-clause-means
+talk_on-requires-clause-means g c = λ honest.
+    let same = c.new-dialogue.ensures.engine in
+    subst (λ (s : EngineState _). LeavesNow (g.D.Disk.now s.disk) (MeansState s)) (sym same)
+    (c.in-Ok.ensures.means (subst (λ (s : EngineState _). g.D.Disk.honest s.disk) same honest))
