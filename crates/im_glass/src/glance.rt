@@ -9,8 +9,8 @@ ghost use Rattle.im_glass.specs.Rule.{HasSeen, state_of};
 
 use crate::book::{Beginning, PaneName};
 use crate::copies::{Ahead, Copy, History};
+use crate::pane::Told;
 use crate::rule::{Known, Notes, Sees, Shows};
-use crate::told::Told;
 use core::mem::replace_with;
 use im_types::Refusal;
 use left_right::reader::Reader;

@@ -3,17 +3,12 @@
 #![tactic(auto)]
 
 mod book;
-mod both;
 mod cells;
 mod copies;
 mod glance;
 mod pane;
 mod rule;
-mod told;
-mod unnamed;
 
 pub use book::{NewBook, PaneName};
 pub use glance::Glance;
-pub use pane::Pane;
-pub use told::Told;
-pub use unnamed::{Unnamed, open};
+pub use pane::{Pane, Told, Unnamed, open};
