@@ -3,6 +3,10 @@ use Rattle.std.specs.Prelude.{◌≡◌, ◌⊎◌, ℕ, ◌≤◌, Bool, List, 
 use Rattle.std.specs.Io.KnownBytes.{Appends}
 use Rattle.im_types.specs.declared.TheConstants.{MAX_GROUP}
 use Rattle.im_types.specs.declared.commands.Command.{Command}
+use Rattle.im_types.specs.Contents.{Contents}
+use Rattle.im_types.specs.Layout.{image_length, layout_in_use}
+use Rattle.im_types.specs.Sizes.{AreLimits}
+use Rattle.im_disk.specs.declared.disk.Disk.{Ghosts}
 use Rattle.im_disk.specs.Moment.{Moment, Left}
 use Rattle.im_disk.specs.Since.{Leaves, LeavesNow}
 use Rattle.im_engine.specs.State.{EngineState, MeansState}
@@ -56,6 +60,12 @@ pub record NotOpened {D : Type 0} (now : D → Moment) (past : D → List Moment
   pub backups : is.backups ≡ was.backups
   pub leaves : Leaves (now old) (now new) (past old) (past new) (Left (now old))
 
+-- what comes of a dialogue on the image of a disk, if the disk is honest at its end: the image was not opened, or this
+-- was said on it
+abbrev pub TalkedOn : {D : Type 0} → Ghosts D → Bool → D → D → Outputs → Outputs → ℕ → Type 0
+TalkedOn disk watch old new was is status = disk.honest new
+    → NotOpened disk.now disk.past old new was is status ⊎ Talked watch disk.now disk.past old new was is status
+
 -- The same of a disk that is at this moment, and has no moment before it.
 pub record TalkedFrom {D : Type 0} (watch : Bool) (now : D → Moment) (past : D → List Moment) (first : Moment) (new : D)
     (before after : Outputs) (status : ℕ) : Type 0 where
@@ -63,3 +73,9 @@ pub record TalkedFrom {D : Type 0} (watch : Bool) (now : D → Moment) (past : D
   pub was : now old ≡ first
   pub none : past old ≡ []
   pub talked : NotOpened now past old new before after status ⊎ Talked watch now past old new before after status
+
+-- it is how many slots the journal has of an image with this memory, of this many bytes
+abbrev pub CountsSlots : Contents → ℕ → ℕ → Type 0
+CountsSlots m bytes told = (slots : ℕ) → AreLimits (length m.cells) (length m.windows) slots
+    → bytes ≡ image_length layout_in_use
+    (record { cells = length m.cells; elements = length m.windows; slots = slots }) → told ≡ slots

@@ -1,6 +1,6 @@
 -- A dialogue over an engine: what was asked, what it was answered, and what a crash leaves of it. (Own.)
 use Rattle.std.specs.Prelude.{◌≡◌, ◌⊎◌, ℕ, ◌+◌, ◌≤◌, Bool, true, false, List, [], ◌∷◌, ◌++◌, length}
-use Rattle.std.specs.Prelude.{Option, None, Some, MatchResult, Result, Ok, Err}
+use Rattle.std.specs.Prelude.{Option, None, Some, MatchOption, MatchResult, Result, Ok, Err}
 use Rattle.im_types.specs.declared.TheConstants.{MAX_GROUP}
 use Rattle.std.specs.Io.KnownBytes.{Appends}
 use Rattle.im_types.specs.declared.commands.Command.{Command}
@@ -184,7 +184,40 @@ Says {D} now past honest old new asked answer =
     → Going now past honest start old said
     → Going now past honest start new (record { line = line; answer = answer; name = name } ∷ said)
 
+-- what a call comes to that answers nothing: nothing more was said, or it was ended
+abbrev pub GoesOrHalts : {D T E : Type 0} → Ghosts D → EngineState D → EngineState D → Result T E → Type 0
+GoesOrHalts disk old new result = MatchResult result (λ done. GoesOn disk.now disk.past disk.honest old new)
+    (λ e. Halts disk.now disk.past disk.honest old new)
+
+-- what a call comes to that does what is asked: it was answered, or it was ended
+abbrev pub SaysOrHalts : {D E : Type 0} → Ghosts D → EngineState D → EngineState D → Option Asked → Result Answer E
+    → Type 0
+SaysOrHalts disk old new asked result = MatchResult result
+    (λ answer. Says disk.now disk.past disk.honest old new asked answer)
+    (λ e. Halts disk.now disk.past disk.honest old new)
+
+-- the same of a call that may also be asked for the end; that has no answer, and changes nothing
+abbrev pub AnswersOrHalts : {D E : Type 0} → Ghosts D → EngineState D → EngineState D → Asked
+    → Result (Option Answer) E → Type 0
+AnswersOrHalts disk old new asked result = MatchResult result
+    (λ given. MatchOption given ((asked ≡ asks.Quit) × (new ≡ old))
+    (λ answer. Says disk.now disk.past disk.honest old new (Some asked) answer))
+    (λ e. Halts disk.now disk.past disk.honest old new)
+
+-- besides the backups that were kept, exactly the one is kept that was answered on this memory
+abbrev pub KeepsAnswered : {E : Type 0} → Contents → List Backup → List Backup → Result (Option Answer) E → Type 0
+KeepsAnswered m was is result = MatchResult result
+    (λ given. MatchOption given (is ≡ was) (λ answer. is ≡ backup_by m answer ++ was)) (λ e. is ≡ was)
+
 -- ---- and printed
+
+-- what a call comes to that prints the line of an answer on this memory, and what is told behind it: all of the line
+-- was printed, or a prefix of it
+abbrev pub PrintsAnswer : {T E : Type 0} → Option (List ℕ) → Option (List ℕ) → Contents → Answer → List ℕ
+    → Result T E → Type 0
+PrintsAnswer was is m answer nows result = MatchResult result
+    (λ done. (name : List ℕ) × Appends was is (answer_text name m answer ++ nows))
+    (λ e. (name : List ℕ) × Begins was is (answer_text name m answer ++ nows))
 
 -- what a dialogue puts out: what the writer holds, and the backups that are kept, the last first
 pub record Outputs : Type 0 where
@@ -252,3 +285,9 @@ TalksThrough disk watch old was new is result = MatchResult result
     → TalksOn watch disk.now disk.past disk.honest old (outputs was backups) new (outputs is backups))
     (λ e. (backups : List Backup)
     → TalkEnds watch disk.now disk.past disk.honest old (outputs was backups) new (outputs is backups))
+
+-- what a call comes to that does what a line asks, if a line asks so
+abbrev pub TalksAsked : {D T E : Type 0} → Ghosts D → Bool → Asked → EngineState D → Outputs → EngineState D → Outputs
+    → Result T E → Type 0
+TalksAsked disk watch asked old was new is result = (line : List ℕ) → asked_of line ≡ Some asked
+    → TalksWith disk watch old was new is result

@@ -1,15 +1,16 @@
 -- What is said by the answers to a group. (Own.)
-use Rattle.std.specs.Prelude.{◌≡◌, ℕ, ◌+◌, Bool, List, [], ◌++◌, length, map, take}
+use Rattle.std.specs.Prelude.{◌≡◌, ℕ, ◌+◌, Bool, List, [], ◌++◌, length, map, take, Option, Result}
 use Rattle.im_types.specs.declared.commands.Command.{Command}
 use Rattle.im_types.specs.declared.groups.Served.{Served}
 use Rattle.im_types.specs.Contents.{Contents}
 use Rattle.im_types.specs.Groups.{as_served}
 use Rattle.im_types.specs.Memory.{IsMemory}
 use Rattle.im_types.specs.Run.{after}
+use Rattle.im_disk.specs.declared.disk.Disk.{Ghosts}
 use Rattle.im_groups.specs.Commands.{answers_with, commands_at}
 use Rattle.im_engine.specs.State.{EngineState}
 use Rattle.im_dialogue.specs.declared.group_line.GroupLine.{GroupLine}
-use Rattle.im_dialogue.specs.Talk.{AreAnswered, Exchange, backups_of, put_of, texts_of}
+use Rattle.im_dialogue.specs.Talk.{AreAnswered, Exchange, TalksThrough, backups_of, put_of, texts_of}
 use Rattle.im_dialogue.specs.Together.{GroupStart, MayBeServed, group_start, count_between, memory_between}
 
 -- what was said comes to the memory and the count behind these members
@@ -42,3 +43,16 @@ pub record WasServed {D : Type 0} (watch : Bool) (old : EngineState D) (parts : 
   pub first : served ≡ take many members
   pub answers_are : answers ≡ map as_served (answers_with old.memory (group_start old).places served)
   pub memory_is : m ≡ memory_between (group_start old) served
+
+-- the text tells the answers to the members of a group with these parts, whatever was said before it: of each engine
+-- that served members of it so, and came to this memory
+abbrev pub TellsGroup : (D : Type 0) → List GroupLine → List (List ℕ) → List Command → List Served → Contents
+    → List ℕ → Type 0
+TellsGroup D parts texts members answers m text = (watch : Bool) (old : EngineState D) (served : List Command)
+    → WasServed watch old parts texts members served answers m → SaysAll watch old served text
+
+-- what a call comes to that serves a group with these parts, if it may be served
+abbrev pub TalksAsGroup : {D T E : Type 0} → Ghosts D → List GroupLine → List (List ℕ) → List Command → EngineState D
+    → Option (List ℕ) → EngineState D → Option (List ℕ) → Result T E → Type 0
+TalksAsGroup disk parts texts members old was new is result = (watch : Bool)
+    → MayBeServed watch (group_start old) parts texts members → TalksThrough disk watch old was new is result

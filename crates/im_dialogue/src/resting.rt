@@ -1,10 +1,10 @@
 //! How many slots the journal of an image has, and when a dialogue makes room while nobody asks.
-ghost use Rattle.std.specs.Prelude.{◌≡◌, ◌≤◌, ◌/◌, ℕ, false, length, IfOk, MatchResult};
+ghost use Rattle.std.specs.Prelude.{◌≡◌, ◌≤◌, ◌/◌, ℕ, false, IfOk, MatchResult};
 ghost use Rattle.im_types.specs.Layout.{image_length as length_of_image, layout_in_use};
-ghost use Rattle.im_types.specs.Sizes.{AreLimits};
 ghost use Rattle.im_disk.specs.Moment.{Left};
 ghost use Rattle.im_disk.specs.Since.{LeavesNow, LeavesWithin};
 ghost use Rattle.im_engine.specs.State.{MeansState};
+ghost use Rattle.im_dialogue.specs.Dialogue.{CountsSlots};
 
 use im_disk::Disk;
 use im_engine::Engine;
@@ -33,13 +33,7 @@ pub(crate) fn half_of(slots: u32) -> u32
 
 // Returns how many slots the journal of an image of `bytes` bytes has.
 fn slots_of<D: Disk>(engine: &Engine<D>, bytes: usize) -> u32
-    ensures { (slots : ℕ) → AreLimits (length engine.now.memory.cells) (length engine.now.memory.windows) slots
-        → bytes ≡ length_of_image layout_in_use (record {
-          cells = length engine.now.memory.cells;
-          elements = length engine.now.memory.windows;
-          slots = slots;
-        })
-        → result ≡ slots }
+    ensures { CountsSlots engine.now.memory bytes result }
 {
     let memory = engine.memory();
     match Limits::new(memory.cells(), memory.elements(), MIN_SLOTS) {

@@ -1,10 +1,11 @@
 //! Does on an engine what is asked.
-ghost use Rattle.std.specs.Prelude.{◌≡◌, ◌≤◌, ◌++◌, true, Some, None, IfOk, MatchOption, MatchResult};
-ghost use Rattle.im_dialogue.specs.declared.asking.Asked.TheVariants.{Backup, Count, Quit, Room};
+ghost use Rattle.std.specs.Prelude.{◌≡◌, ◌≤◌, ◌++◌, true, Some, None, IfOk};
+ghost use Rattle.im_dialogue.specs.declared.asking.Asked.TheVariants.{Backup, Count, Room};
 ghost use Rattle.im_dialogue.specs.declared.asking.Asked.TheVariants.{Serve, Turn, Window};
 ghost use Rattle.im_dialogue.specs.declared.answers.Answer.TheVariants as answer;
 ghost use Rattle.im_dialogue.specs.declared.look.Look.{Look};
-ghost use Rattle.im_dialogue.specs.Talk.{GoesOn, Halts, KeepsNone, Says, about_of, backup_by, is_end};
+ghost use Rattle.im_dialogue.specs.Talk.{AnswersOrHalts, GoesOrHalts, KeepsAnswered, KeepsNone, Says, SaysOrHalts};
+ghost use Rattle.im_dialogue.specs.Talk.{about_of, backup_by, is_end};
 
 use crate::about::About;
 use crate::answers::Answer;
@@ -24,9 +25,7 @@ const MOST_TURNS: usize = 2 * (MOST_AREA_PAGES + 4);
 
 // Takes a turn of a checkpoint.
 fn take_turn<D: Disk>(engine: &mut Engine<D>) -> Result<TurnDone, Refusal>
-    ensures goes { MatchResult result
-        (λ _. GoesOn D.now D.past D.honest engine.old engine.new)
-        (λ _. Halts D.now D.past D.honest engine.old engine.new) }
+    ensures goes { GoesOrHalts D.Disk engine.old engine.new result }
     ensures honest { D.honest engine.new.disk → D.honest engine.old.disk }
 {
     // A crash in this call leaves the memory as it is.
@@ -54,9 +53,7 @@ pub(crate) fn turn_while_quiet<D: Disk, E: Ear>(
     ear: &mut E,
     least: u32,
 ) -> Result<(), Refusal>
-    ensures goes { MatchResult result
-        (λ _. GoesOn D.now D.past D.honest engine.old engine.new)
-        (λ _. Halts D.now D.past D.honest engine.old engine.new) }
+    ensures goes { GoesOrHalts D.Disk engine.old engine.new result }
     ensures honest { D.honest engine.new.disk → D.honest engine.old.disk }
     ensures enough { least ≤ engine.old.room → engine.new ≡ engine.old }
     ensures ready { E.is_ready ear.old ≡ true → engine.new ≡ engine.old }
@@ -80,9 +77,7 @@ pub(crate) fn turn_while_quiet<D: Disk, E: Ear>(
 /// Takes turns of a checkpoint while there is room for fewer than `least` commands and something is left to do. Returns
 /// `Device` if a call of the disk failed, or `Failed` if one had failed before. What was said before stays.
 pub fn make_room<D: Disk>(engine: &mut Engine<D>, least: u32) -> Result<(), Refusal>
-    ensures goes { MatchResult result
-        (λ _. GoesOn D.now D.past D.honest engine.old engine.new)
-        (λ _. Halts D.now D.past D.honest engine.old engine.new) }
+    ensures goes { GoesOrHalts D.Disk engine.old engine.new result }
     ensures honest { D.honest engine.new.disk → D.honest engine.old.disk }
 {
     turn_while_quiet(engine, &mut Deaf, least)
@@ -97,9 +92,7 @@ fn ends(refusal: Refusal) -> bool
 
 // Serves a command, with room for it if there can be.
 fn serve<D: Disk>(engine: &mut Engine<D>, command: Command) -> Result<Answer, Refusal>
-    ensures answered { MatchResult result
-        (λ answer. Says D.now D.past D.honest engine.old engine.new (Some (Serve command)) answer)
-        (λ _. Halts D.now D.past D.honest engine.old engine.new) }
+    ensures answered { SaysOrHalts D.Disk engine.old engine.new (Some (Serve command)) result }
     ensures honest { D.honest engine.new.disk → D.honest engine.old.disk }
     ensures same { IfOk result (λ answer. KeepsNone answer) }
 {
@@ -118,9 +111,7 @@ fn serve<D: Disk>(engine: &mut Engine<D>, command: Command) -> Result<Answer, Re
 
 // Makes room for a command, and serves it.
 fn serve_with_room<D: Disk>(engine: &mut Engine<D>, command: Command) -> Result<Answer, Refusal>
-    ensures answered { MatchResult result
-        (λ answer. Says D.now D.past D.honest engine.old engine.new (Some (Serve command)) answer)
-        (λ _. Halts D.now D.past D.honest engine.old engine.new) }
+    ensures answered { SaysOrHalts D.Disk engine.old engine.new (Some (Serve command)) result }
     ensures honest { D.honest engine.new.disk → D.honest engine.old.disk }
     ensures same { IfOk result (λ answer. KeepsNone answer) }
 {
@@ -132,9 +123,7 @@ fn serve_with_room<D: Disk>(engine: &mut Engine<D>, command: Command) -> Result<
 
 // Takes a turn, and returns what it did as an answer.
 fn turn<D: Disk>(engine: &mut Engine<D>) -> Result<Answer, Refusal>
-    ensures answered { MatchResult result
-        (λ answer. Says D.now D.past D.honest engine.old engine.new (Some Turn) answer)
-        (λ _. Halts D.now D.past D.honest engine.old engine.new) }
+    ensures answered { SaysOrHalts D.Disk engine.old engine.new (Some Turn) result }
     ensures honest { D.honest engine.new.disk → D.honest engine.old.disk }
     ensures same { IfOk result (λ answer. KeepsNone answer) }
 {
@@ -223,16 +212,10 @@ pub fn answer<D: Disk, B: Backups>(
     slots: u32,
     asked: Asked,
 ) -> Result<Option<Answer>, Refusal>
-    ensures answered { MatchResult result
-        (λ given. MatchOption given ((asked ≡ Quit) × (engine.new ≡ engine.old))
-        (λ answer. Says D.now D.past D.honest engine.old engine.new (Some asked) answer))
-        (λ _. Halts D.now D.past D.honest engine.old engine.new) }
+    ensures answered { AnswersOrHalts D.Disk engine.old engine.new asked result }
     ensures honest { D.honest engine.new.disk → D.honest engine.old.disk }
     ensures same { (look : Look) → asked ≡ Asked.Look look → engine.new ≡ engine.old }
-    ensures kept { let before = B.kept backups.old in MatchResult result
-        (λ given. MatchOption given (B.kept backups.new ≡ before)
-        (λ answer. B.kept backups.new ≡ backup_by engine.old.memory answer ++ before))
-        (λ _. B.kept backups.new ≡ before) }
+    ensures kept { KeepsAnswered engine.old.memory (B.kept backups.old) (B.kept backups.new) result }
 {
     match asked {
         Asked::Serve(command) => match serve_with_room(engine, command) {

@@ -1,13 +1,8 @@
 //! Lines that stand together in the reader's buffer are served as one group.
-ghost use Rattle.std.specs.Prelude.{◌≡◌, ◌+◌, ◌∷◌, [], Bool, length, map, IfSome, OnOk, Some, List, ℕ, string_bytes};
-ghost use Rattle.std.specs.Prelude.{◌++◌};
-ghost use Rattle.im_types.specs.declared.commands.Command.{Command};
-ghost use Rattle.im_engine.specs.State.{EngineState};
+ghost use Rattle.std.specs.Prelude.{◌≡◌, ◌+◌, ◌∷◌, ◌++◌, [], length, map, IfSome, OnOk, Some, List, ℕ, string_bytes};
 ghost use Rattle.im_dialogue.specs.Answers.{answer_text};
-ghost use Rattle.im_dialogue.specs.Talk.{TalksThrough};
-ghost use Rattle.im_dialogue.specs.Together.{AreAsked, IsAsked, MayBeServed, line_answer, group_start, answers_behind};
-ghost use Rattle.im_dialogue.specs.Together.{result_of};
-ghost use Rattle.im_dialogue.specs.Telling.{WasServed, SaysAll};
+ghost use Rattle.im_dialogue.specs.Together.{AreAsked, IsAsked, answers_behind, line_answer, result_of};
+ghost use Rattle.im_dialogue.specs.Telling.{TalksAsGroup, TellsGroup};
 ghost use Rattle.im_dialogue.specs.Watching.{told_with};
 
 use crate::answers::{Answer, add_answer};
@@ -15,7 +10,7 @@ use crate::asking::{Asked, read_asked};
 use crate::group_line::GroupLine;
 use crate::grouping::Gathered;
 use crate::lines::unread;
-use crate::serving::name_of;
+use crate::saying::{Draft, name_of};
 use crate::watching::told_with;
 use arrayvec::ArrayVec;
 use im_damage::Damage;
@@ -212,18 +207,15 @@ fn add_line(
 // Makes the lines of the answers to a group that was served, in the order of its lines. Returns how many lines it has:
 // those up to the first member that wasn't served.
 fn make_lines<D: Disk>(
-    alloc: Global,
     engine: &Engine<D>,
     group: &Gathered,
     served: &[Served],
-    text: &mut String,
+    draft: &mut Draft,
 ) -> Result<usize, AllocError>
-    ensures { OnOk result ((watch : Bool) (old : EngineState D) (commands : List Command)
-        → WasServed watch old group.now.parts.items (map string_bytes group.now.nows.items)
-        group.now.members.items commands served.now engine.now.memory
-        → SaysAll watch old commands (string_bytes text.new)) }
+    ensures { OnOk result (TellsGroup D group.now.parts.items (map string_bytes group.now.nows.items)
+        group.now.members.items served.now engine.now.memory (string_bytes draft.new.text)) }
 {
-    text.clear();
+    draft.text.clear();
     let mut told: usize = 0;
     let mut parts = group.parts.as_slice();
     let mut nows = group.nows.as_slice();
@@ -235,7 +227,13 @@ fn make_lines<D: Disk>(
         let Some(answer) = line_answer(answers, *part) else {
             return Ok(told);
         };
-        add_line(alloc, text, engine.memory(), answer, now.as_str())?;
+        add_line(
+            draft.alloc,
+            &mut draft.text,
+            engine.memory(),
+            answer,
+            now.as_str(),
+        )?;
         answers = answers_behind(*part, answers);
         parts = later;
         nows = others;
@@ -250,15 +248,13 @@ fn make_lines<D: Disk>(
 /// A member that finds no room is answered `JournalFull`. If a call of the disk fails, the dialogue ends. Then the
 /// commands of the group are on the disk all together or not at all, and none is answered.
 pub(crate) fn serve_parts<D: Disk, W: Write>(
-    alloc: Global,
     engine: &mut Engine<D>,
     group: &Gathered,
-    text: &mut String,
+    draft: &mut Draft,
     out: &mut W,
 ) -> Result<usize, Reason>
-    ensures { (watch : Bool) → MayBeServed watch (group_start engine.old)
-        group.now.parts.items (map string_bytes group.now.nows.items) group.now.members.items
-        → TalksThrough D.Disk watch engine.old (W.contents out.old) engine.new (W.contents out.new) result }
+    ensures { TalksAsGroup D.Disk group.now.parts.items (map string_bytes group.now.nows.items)
+        group.now.members.items engine.old (W.contents out.old) engine.new (W.contents out.new) result }
 {
     let _cells = engine.memory().cells(); // So that it is known to be a memory.
     let mut served = ArrayVec::new();
@@ -268,8 +264,8 @@ pub(crate) fn serve_parts<D: Disk, W: Write>(
     if engine.failed() {
         return Err(Reason::Image(Refusal::Device, Damage::Unknown));
     }
-    match make_lines(alloc, engine, group, served.as_slice(), text) {
-        Ok(many) => match put_through(out, text.as_str()) {
+    match make_lines(engine, group, served.as_slice(), draft) {
+        Ok(many) => match put_through(out, draft.text.as_str()) {
             Ok(()) => Ok(many),
             Err(reason) => Err(reason),
         },

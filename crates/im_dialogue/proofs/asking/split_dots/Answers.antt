@@ -6,4 +6,5 @@ use Rattle.im_dialogue.proofs.asking.split_dots.Goals as goal
 
 pub returns : goal.returns
 returns c = map_from_collect _ c.collect.ensures.ran
-    (YieldsList-from_slice_split _ (λ b. b == 46) c.args.word.now (search rules) (search rules) c.split.ensures.closure (λ x b q k. search (rules, tests)))
+    (YieldsList-from_slice_split _ (λ b. b == 46) c.args.word.now (search rules) (search rules)
+    c.split.ensures.closure (λ x b q k. search (rules, tests)))

@@ -15,7 +15,8 @@ loop-a-preserved c =
     let passes = c.is_counted-passes.ensures
     ∙ ap₂ (is_counted c.args.sort a) c.block.ensures c.cell.ensures in
     record {
-      sum = sum_more (counted_at c.args.sort c.args.memory.now.contents) a _ c.loop-a.count c.one_that-count.result (omega arith)
+      sum = sum_more (counted_at c.args.sort c.args.memory.now.contents) a _ c.loop-a.count c.one_that-count.result
+          (omega arith)
           c.loop-a.invariant.sum (c.one_that-count.ensures.value ∙ ap one_that passes);
       few = omega (arith, c.loop-a.invariant.few, c.one_that-count.ensures.few);
     }

@@ -18,7 +18,10 @@ returns-in-Some g c = λ watch shown.
     let put : c.as_slice.result.now ≡ commands_put c.args.engine.now c.args.ahead.now = c.as_slice.ensures.value
     ∙ c.judge_all.ensures c.if-judge_all.true in
     record {
-      is = ((c.args.asked, c.requires.asked, c.in-Some.ensures.answer c.args.ahead.now put), (c.in-Some.ensures.plain, refl));
+      is = (
+        (c.args.asked, c.requires.asked, c.in-Some.ensures.answer c.args.ahead.now put),
+        (c.in-Some.ensures.plain, refl),
+      );
       leaves = tt;
       room = c.requires.fits;
     }

@@ -8,4 +8,6 @@ returns-in-Some g c = λ slots limits is.
     let l = c.in-Some.ensures.limits in
     let memory = c.memory-memory.ensures in
     c.slots_in.ensures slots limits.few_slots (omega (arith, l.2, limits.enough_slots))
-    (same_length _ _ slots _ _ c.args.bytes (l.0 ∙ c.cells.ensures.count ∙ ap (λ (m : Contents). length m.cells) memory) (l.1 ∙ c.elements.ensures.count ∙ ap (λ (m : Contents). length m.windows) memory) is)
+    (same_length _ _ slots _ _ c.args.bytes
+    (l.0 ∙ c.cells.ensures.count ∙ ap (λ (m : Contents). length m.cells) memory)
+    (l.1 ∙ c.elements.ensures.count ∙ ap (λ (m : Contents). length m.windows) memory) is)

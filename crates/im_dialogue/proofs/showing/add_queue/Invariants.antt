@@ -5,4 +5,5 @@ use Rattle.im_dialogue.proofs.showing.add_queue.Given as goal
 
 abbrev pub invariant-loop-who : goal.invariant-loop-who
 invariant-loop-who l =
-    string_bytes l.out ++ queue_text l.who-iterator ≡ string_bytes l.fn.out ++ queue_text (waiters_at l.memory.contents.cells l.a)
+    string_bytes l.out ++ queue_text l.who-iterator ≡ string_bytes l.fn.out ++ queue_text
+    (waiters_at l.memory.contents.cells l.a)

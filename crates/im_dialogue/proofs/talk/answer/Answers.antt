@@ -9,10 +9,12 @@ use Rattle.im_dialogue.proofs.TalkLemmas.{quiet, says_as}
 use Rattle.im_dialogue.proofs.talk.answer.Goals as goal
 
 pub returns-in-Ok-clause-answered : goal.returns-in-Ok-clause-answered
-returns-in-Ok-clause-answered g c = says_as g.D.Disk.now g.D.Disk.past g.D.Disk.honest c.args.engine.now c.serve_with_room.new.engine _ (Some c.args.asked) _ (ap Some c.in-Serve.is) c.in-Ok.ensures.answered
+returns-in-Ok-clause-answered g c = says_as g.D.Disk.now g.D.Disk.past g.D.Disk.honest c.args.engine.now
+    c.serve_with_room.new.engine _ (Some c.args.asked) _ (ap Some c.in-Serve.is) c.in-Ok.ensures.answered
 
 pub returns-in-Ok-turn-clause-answered : goal.returns-in-Ok-turn-clause-answered
-returns-in-Ok-turn-clause-answered g c = says_as g.D.Disk.now g.D.Disk.past g.D.Disk.honest c.args.engine.now c.turn.new.engine _ (Some c.args.asked) _ (ap Some c.in-Turn.is) c.in-Ok-turn.ensures.answered
+returns-in-Ok-turn-clause-answered g c = says_as g.D.Disk.now g.D.Disk.past g.D.Disk.honest c.args.engine.now
+    c.turn.new.engine _ (Some c.args.asked) _ (ap Some c.in-Turn.is) c.in-Ok-turn.ensures.answered
 
 pub returns-in-Look-clause-answered : goal.returns-in-Look-clause-answered
 returns-in-Look-clause-answered g c =
@@ -22,10 +24,12 @@ returns-in-Look-clause-answered g c =
     (λ m. refl) (λ f. refl))
 
 pub returns-in-Window-clause-answered : goal.returns-in-Window-clause-answered
-returns-in-Window-clause-answered g c = says_as g.D.Disk.now g.D.Disk.past g.D.Disk.honest c.args.engine.now c.args.engine.now _ (Some c.args.asked) _ (ap Some c.in-Window.is) c.window.ensures.answered
+returns-in-Window-clause-answered g c = says_as g.D.Disk.now g.D.Disk.past g.D.Disk.honest c.args.engine.now
+    c.args.engine.now _ (Some c.args.asked) _ (ap Some c.in-Window.is) c.window.ensures.answered
 
 pub returns-in-Count-clause-answered : goal.returns-in-Count-clause-answered
-returns-in-Count-clause-answered g c = says_as g.D.Disk.now g.D.Disk.past g.D.Disk.honest c.args.engine.now c.args.engine.now _ (Some c.args.asked) _ (ap Some c.in-Count.is) c.count.ensures.answered
+returns-in-Count-clause-answered g c = says_as g.D.Disk.now g.D.Disk.past g.D.Disk.honest c.args.engine.now
+    c.args.engine.now _ (Some c.args.asked) _ (ap Some c.in-Count.is) c.count.ensures.answered
 
 pub returns-in-About-clause-answered : goal.returns-in-About-clause-answered
 returns-in-About-clause-answered g c =
@@ -36,7 +40,8 @@ returns-in-About-clause-answered g c =
     (λ f. (c.args.slots, c.args.engine.now.room, c.about.ensures)))
 
 pub returns-in-Backup-clause-answered : goal.returns-in-Backup-clause-answered
-returns-in-Backup-clause-answered g c = says_as g.D.Disk.now g.D.Disk.past g.D.Disk.honest c.args.engine.now c.args.engine.now _ (Some c.args.asked) _ (ap Some c.in-Backup.is) c.keep.ensures.answered
+returns-in-Backup-clause-answered g c = says_as g.D.Disk.now g.D.Disk.past g.D.Disk.honest c.args.engine.now
+    c.args.engine.now _ (Some c.args.asked) _ (ap Some c.in-Backup.is) c.keep.ensures.answered
 
 pub returns-in-Ok-clause-kept : goal.returns-in-Ok-clause-kept
 returns-in-Ok-clause-kept g c = let before = g.B.Backups.kept c.args.backups.now in

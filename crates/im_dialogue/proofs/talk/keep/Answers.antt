@@ -11,11 +11,13 @@ pub returns-in-Ok-clause-answered : goal.returns-in-Ok-clause-answered
 returns-in-Ok-clause-answered g c =
     let engine = c.args.engine.now in
     quiet g.D.Disk.now g.D.Disk.past g.D.Disk.honest engine (Some (asks.Backup c.args.name))
-    (answer.Backup c.args.name (Ok c.count-count.result)) (λ m. refl) (λ f. (Ok c.count-count.result, refl, c.count-count.ensures))
+    (answer.Backup c.args.name (Ok c.count-count.result)) (λ m. refl)
+    (λ f. (Ok c.count-count.result, refl, c.count-count.ensures))
 
 pub returns-in-Ok-clause-kept : goal.returns-in-Ok-clause-kept
 returns-in-Ok-clause-kept g c =
-    let made : Contents → Backup = λ m. record { name = bytes_of c.args.name; memory = m; count = c.count-count.result } in
+    let made : Contents → Backup = λ m. record
+    { name = bytes_of c.args.name; memory = m; count = c.count-count.result } in
     c.in-Ok.ensures.kept ∙ ap (λ (m : Contents). made m ∷ g.B.Backups.kept c.args.backups.now) c.memory.ensures
 
 pub returns-in-Err-clause-answered : goal.returns-in-Err-clause-answered

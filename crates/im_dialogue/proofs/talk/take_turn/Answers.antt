@@ -2,7 +2,9 @@ use Rattle.im_dialogue.proofs.TalkLemmas.{turn_goes, turn_halts}
 use Rattle.im_dialogue.proofs.talk.take_turn.Goals as goal
 
 pub returns-in-Ok-clause-goes : goal.returns-in-Ok-clause-goes
-returns-in-Ok-clause-goes g c = let e = c.turn.ensures in turn_goes g.D.Disk.now g.D.Disk.past g.D.Disk.honest c.args.engine.now c.turn.new.self c.turn.result c.in-Ok.done e.answered e.honest e.leaves e.means c.in-Ok.is
+returns-in-Ok-clause-goes g c = let e = c.turn.ensures in turn_goes g.D.Disk.now g.D.Disk.past g.D.Disk.honest
+    c.args.engine.now c.turn.new.self c.turn.result c.in-Ok.done e.answered e.honest e.leaves e.means c.in-Ok.is
 
 pub returns-in-Err-clause-goes : goal.returns-in-Err-clause-goes
-returns-in-Err-clause-goes g c = let e = c.turn.ensures in turn_halts g.D.Disk.now g.D.Disk.past g.D.Disk.honest c.args.engine.now c.turn.new.self c.turn.result e.answered e.honest e.leaves e.now
+returns-in-Err-clause-goes g c = let e = c.turn.ensures in turn_halts g.D.Disk.now g.D.Disk.past g.D.Disk.honest
+    c.args.engine.now c.turn.new.self c.turn.result e.answered e.honest e.leaves e.now

@@ -9,7 +9,7 @@ abbrev pub invariant-loop-part : goal.invariant-loop-part
 invariant-loop-part g l = (watch : Bool) (old : EngineState g.row.D.Denot) (cs : List Command)
     → WasServed watch old l.group.parts.items (map string_bytes l.group.nows.items) l.group.members.items cs l.served
     l.engine.memory
-    → Telling watch old cs l.parts (map string_bytes l.nows) l.answers (string_bytes l.text)
+    → Telling watch old cs l.parts (map string_bytes l.nows) l.answers (string_bytes l.draft.text)
 
 abbrev pub decreases-loop-part : goal.decreases-loop-part
 decreases-loop-part g l = length l.parts

@@ -46,7 +46,7 @@ returns-in-Ok-put_through g c = λ watch group.
       memory_is = done.memory;
     }) in
     group_on g.D.Disk.now g.D.Disk.past g.D.Disk.honest old new cs watch served
-    (string_bytes c.make_lines.new.text) tells e.answered e.runs.honest e.runs.leaves e.runs.means alive
+    (string_bytes c.make_lines.new.draft.text) tells e.answered e.runs.honest e.runs.leaves e.runs.means alive
     (g.W.Write.contents c.args.out.now) (g.W.Write.contents c.put_through.new.out) (search rules)
 
 pub returns-in-Err-put_through : goal.returns-in-Err-put_through
@@ -72,7 +72,7 @@ returns-in-Err-put_through g c = λ watch group.
       memory_is = done.memory;
     }) in
     group_cut g.D.Disk.now g.D.Disk.past g.D.Disk.honest old new cs watch served
-    (string_bytes c.make_lines.new.text) tells e.answered e.runs.honest e.runs.leaves e.runs.means alive
+    (string_bytes c.make_lines.new.draft.text) tells e.answered e.runs.honest e.runs.leaves e.runs.means alive
     (g.W.Write.contents c.args.out.now) (g.W.Write.contents c.put_through.new.out) (search rules)
 
 pub returns-in-Err : goal.returns-in-Err

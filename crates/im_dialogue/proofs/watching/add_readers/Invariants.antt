@@ -6,4 +6,5 @@ use Rattle.im_dialogue.proofs.watching.add_readers.Given as goal
 
 abbrev pub invariant-loop-reader : goal.invariant-loop-reader
 invariant-loop-reader l =
-    string_bytes l.out ++ nows_text (map (λ w. (w, Value l.value)) l.reader-iterator) ≡ string_bytes l.fn.out ++ nows_text (map (λ w. (w, Value l.value)) (waiters_at l.memory.contents.cells l.a))
+    string_bytes l.out ++ nows_text (map (λ w. (w, Value l.value)) l.reader-iterator) ≡ string_bytes l.fn.out
+    ++ nows_text (map (λ w. (w, Value l.value)) (waiters_at l.memory.contents.cells l.a))

@@ -55,67 +55,68 @@ stayed = (
 )
 
 module _ {M : Type 1} {𝓤 : Ura M} (𝓛 : Logic 𝓤) (at_mem : Memory → SProp 𝓤) (run : Routine → Fun 𝓤) (κ κ' κ'' : Lft)
-    (q q' q'' : Share) (b o : ℕ) (γ : GName) (h : Shelf) (m : Bor ((Mem.the_row).Denot)) (n : ℕ) (s : Bor (List ℕ)) where
-  open 𝓛 use {H, A}
+    (q q' q'' : Share) (b o : ℕ) (γ : GName) (h : Shelf) (m : Bor ((Mem.the_row).Denot)) (n : ℕ) (s : Bor (List ℕ))
+  where
+    open 𝓛 use {H, A}
 
-  abbrev x : Arg
-  x = (record { ref_ptr = (b, o); ghost_name = γ; now = h }, (m, (n, (s, tt))))
+    abbrev x : Arg
+    x = (record { ref_ptr = (b, o); ghost_name = γ; now = h }, (m, (n, (s, tt))))
 
-  abbrev noted : Backup
-  noted = record { name = s.now; memory = m.now.contents; count = n }
+    abbrev noted : Backup
+    noted = record { name = s.now; memory = m.now.contents; count = n }
 
-  abbrev h' : Shelf
-  h' = record { marker = h.marker; backups = noted ∷ h.backups }
+    abbrev h' : Shelf
+    h' = record { marker = h.marker; backups = noted ∷ h.backups }
 
-  abbrev at : List Val × (List Val × (List Val × (List Val × Unit {0})))
-  at = (
-    vptr b o ∷ [],
-    (
-      vptr m.ref_ptr.0 m.ref_ptr.1 ∷ [],
-      (vint w64 n ∷ [], (slice_val s.ref_ptr (length s.now) ∷ [], tt)),
-    ),
-  )
+    abbrev at : List Val × (List Val × (List Val × (List Val × Unit {0})))
+    at = (
+      vptr b o ∷ [],
+      (
+        vptr m.ref_ptr.0 m.ref_ptr.1 ∷ [],
+        (vint w64 n ∷ [], (slice_val s.ref_ptr (length s.now) ∷ [], tt)),
+      ),
+    )
 
-  abbrev rest : base.Fml.Fml
-  rest = owns (ShrRef (named 1) κ' Mem.the_row ∷ u64 ∷ ShrSlice (named 2) κ'' u8 ∷ []) x.1 at.1
+    abbrev rest : base.Fml.Fml
+    rest = owns (ShrRef (named 1) κ' Mem.the_row ∷ u64 ∷ ShrSlice (named 2) κ'' u8 ∷ []) x.1 at.1
 
-  abbrev Post : Val → SProp 𝓤
-  Post = (walk_of 𝓛 it.ended stayed (it.clauses 𝓛 at_mem run)).post
-      (((κ, (κ', (κ'', tt))), (q, (q', (q'', tt))), tt, x, at), tt)
+    abbrev Post : Val → SProp 𝓤
+    Post = (walk_of 𝓛 it.ended stayed (it.clauses 𝓛 at_mem run)).post
+        (((κ, (κ', (κ'', tt))), (q, (q', (q'', tt))), tt, x, at), tt)
 
-  exits : ent 𝓤 (sep 𝓤 (A.obs γ ((T.the_row).coded.code h'))
-      (sep 𝓤 (A.bor κ (Body (mem T.the_row) b o γ))
-      (sep 𝓤 (A.lft κ q) (sep 𝓤 (types.Logic.sem 𝓛 rest) (sep 𝓤 (A.lft κ' q') (sep 𝓤 (A.lft κ'' q'') (emp 𝓤)))))))
-      (Post vunit)
-  exits =
-      qed 𝓛 (‵ (fobs γ ((T.the_row).coded.code h')) ∷ ‵ (fbor κ (Body (mem T.the_row) b o γ)) ∷ ‵
-      (flft κ q) ∷ ‵ rest ∷ (‵ (flft κ' q') ⊛ (‵ (flft κ'' q'') ⊛ ‵ ftrue)) ∷ []) ∵
-      suffices ! _ (ends_at 𝓛 it.ended stayed (it.clauses 𝓛 at_mem run)
-      (((κ, (κ', (κ'', tt))), (q, (q', (q'', tt))), tt, x, at), tt) vunit tt (h', (tt, (tt, (tt, tt))))
-      (tt, (tt, (tt, (tt, tt))))) $ says ! refl $ move ! (2 ∷ 4 ∷ []) $ join ! $
-      frame ! $ feq_i ! (List Val) (vptr b o ∷ []) (vptr b o ∷ []) refl $ fjoin3 ! $ fjoin ! $
-      feq_i ! (List Val) (vunit ∷ []) (vunit ∷ []) refl $ move ! (1 ∷ 0 ∷ []) $ done !
+    exits : ent 𝓤 (sep 𝓤 (A.obs γ ((T.the_row).coded.code h'))
+        (sep 𝓤 (A.bor κ (Body (mem T.the_row) b o γ))
+        (sep 𝓤 (A.lft κ q) (sep 𝓤 (types.Logic.sem 𝓛 rest) (sep 𝓤 (A.lft κ' q') (sep 𝓤 (A.lft κ'' q'') (emp 𝓤)))))))
+        (Post vunit)
+    exits =
+        qed 𝓛 (‵ (fobs γ ((T.the_row).coded.code h')) ∷ ‵ (fbor κ (Body (mem T.the_row) b o γ)) ∷ ‵
+        (flft κ q) ∷ ‵ rest ∷ (‵ (flft κ' q') ⊛ (‵ (flft κ'' q'') ⊛ ‵ ftrue)) ∷ []) ∵
+        suffices ! _ (ends_at 𝓛 it.ended stayed (it.clauses 𝓛 at_mem run)
+        (((κ, (κ', (κ'', tt))), (q, (q', (q'', tt))), tt, x, at), tt) vunit tt (h', (tt, (tt, (tt, tt))))
+        (tt, (tt, (tt, (tt, tt))))) $ says ! refl $ move ! (2 ∷ 4 ∷ []) $ join ! $
+        frame ! $ feq_i ! (List Val) (vptr b o ∷ []) (vptr b o ∷ []) refl $ fjoin3 ! $ fjoin ! $
+        feq_i ! (List Val) (vunit ∷ []) (vunit ∷ []) refl $ move ! (1 ∷ 0 ∷ []) $ done !
 
-  module _ (C : Calls 𝓤 H) (Λ : Loops 𝓤 H) where
-    walk : n < 2 ^ 64 → length s.now < 2 ^ 64
-        → ent 𝓤 (on_entry 𝓛 it.signature (κ, (κ', (κ'', tt))) (q, (q', (q'', tt))) x at)
-        (WpFn 𝓤 H C Λ code.function
-        (vptr b o ∷ vptr m.ref_ptr.0 m.ref_ptr.1 ∷ vint w64 n ∷ slice_val s.ref_ptr (length s.now) ∷ []) Post)
-    walk fn fs =
-        qed 𝓛 ((‵ (flft κ q) ⊛ (‵ (flft κ' q') ⊛ (‵ (flft κ'' q'') ⊛ ‵ ftrue))) ∷ ‵
-        (owns (MutRef (named 0) κ T.the_row ∷ ShrRef (named 1) κ' Mem.the_row ∷ u64 ∷ ShrSlice
-        (named 2) κ'' u8 ∷ []) x at) ∷ []) ∵ split ! $ move ! (2 ∷ []) $ fsplit ! $ fsplit3 ! $ drop ! $ move !
-        (0 ∷ 1 ∷ 3 ∷ []) $
-        enter ! C Λ code.function
-        (vptr b o ∷ vptr m.ref_ptr.0 m.ref_ptr.1 ∷ vint w64 n ∷ slice_val s.ref_ptr (length s.now) ∷ []) _ $
-        alloc_all ! (λ l. pass_all ! refl
-        ((tt, tt), ((tt, tt), ((tt, record { fits = fn }), ((tt, (tt, (record { fits = fs }, tt))), tt)))) $
-        move ! (0 ∷ 1 ∷ 2 ∷ []) $ opens ! tt T.the_row {h = h} b o (λ vs.
-        sets ! (of_opd ! (unit_lit !)) refl (tt, tt) $
-        move ! (1 ∷ []) $ use1 𝓛 (‵ ((T.the_row).own_val h' vs)) (id⊢ 𝓤 _) $ move !
-        (1 ∷ 0 ∷ []) $ closes ! tt T.the_row h' vs b o $
-        returns ! (look_at ! 0 refl) $ free_all ! refl $
-        keep ! (0 ∷ 1 ∷ 2 ∷ 3 ∷ 4 ∷ []) $ by ! exits))
+    module _ (C : Calls 𝓤 H) (Λ : Loops 𝓤 H) where
+      walk : n < 2 ^ 64 → length s.now < 2 ^ 64
+          → ent 𝓤 (on_entry 𝓛 it.signature (κ, (κ', (κ'', tt))) (q, (q', (q'', tt))) x at)
+          (WpFn 𝓤 H C Λ code.function
+          (vptr b o ∷ vptr m.ref_ptr.0 m.ref_ptr.1 ∷ vint w64 n ∷ slice_val s.ref_ptr (length s.now) ∷ []) Post)
+      walk fn fs =
+          qed 𝓛 ((‵ (flft κ q) ⊛ (‵ (flft κ' q') ⊛ (‵ (flft κ'' q'') ⊛ ‵ ftrue))) ∷ ‵
+          (owns (MutRef (named 0) κ T.the_row ∷ ShrRef (named 1) κ' Mem.the_row ∷ u64 ∷ ShrSlice
+          (named 2) κ'' u8 ∷ []) x at) ∷ []) ∵ split ! $ move ! (2 ∷ []) $ fsplit ! $ fsplit3 ! $ drop ! $ move !
+          (0 ∷ 1 ∷ 3 ∷ []) $
+          enter ! C Λ code.function
+          (vptr b o ∷ vptr m.ref_ptr.0 m.ref_ptr.1 ∷ vint w64 n ∷ slice_val s.ref_ptr (length s.now) ∷ []) _ $
+          alloc_all ! (λ l. pass_all ! refl
+          ((tt, tt), ((tt, tt), ((tt, record { fits = fn }), ((tt, (tt, (record { fits = fs }, tt))), tt)))) $
+          move ! (0 ∷ 1 ∷ 2 ∷ []) $ opens ! tt T.the_row {h = h} b o (λ vs.
+          sets ! (of_opd ! (unit_lit !)) refl (tt, tt) $
+          move ! (1 ∷ []) $ use1 𝓛 (‵ ((T.the_row).own_val h' vs)) (id⊢ 𝓤 _) $ move !
+          (1 ∷ 0 ∷ []) $ closes ! tt T.the_row h' vs b o $
+          returns ! (look_at ! 0 refl) $ free_all ! refl $
+          keep ! (0 ∷ 1 ∷ 2 ∷ 3 ∷ 4 ∷ []) $ by ! exits))
 
 module _ {M : Type 1} {𝓤 : Ura M} (𝓛 : Logic 𝓤) (at_mem : Memory → SProp 𝓤) (run : Routine → Fun 𝓤) where
   open 𝓛 use {H}

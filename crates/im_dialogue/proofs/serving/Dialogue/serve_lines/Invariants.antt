@@ -1,0 +1,9 @@
+use Rattle.std.proofs.Common.{◌≡◌}
+use Rattle.im_dialogue.specs.Talk.{TalksOn, outputs}
+use Rattle.im_dialogue.proofs.serving.Dialogue.serve_lines.Given as goal
+
+abbrev pub invariant-loop-served : goal.invariant-loop-served
+invariant-loop-served g l = TalksOn l.fn.self.setting.watch g.D.Disk.now g.D.Disk.past g.D.Disk.honest l.fn.self.engine
+    (outputs (g.W.Write.contents l.fn.out) (g.B.Backups.kept l.fn.backups)) l.self.engine
+    (outputs (g.W.Write.contents l.out) (g.B.Backups.kept l.backups))
+    × (l.self.setting ≡ l.fn.self.setting)

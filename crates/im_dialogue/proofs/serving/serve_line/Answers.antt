@@ -1,8 +1,0 @@
-use Rattle.im_dialogue.specs.Talk.{outputs}
-use Rattle.im_dialogue.proofs.TalkLemmas.{talk_ends_here}
-use Rattle.im_dialogue.proofs.serving.serve_line.Goals as goal
-
-pub returns-in-Err : goal.returns-in-Err
-returns-in-Err g c =
-    talk_ends_here g.D.Disk.now g.D.Disk.past g.D.Disk.honest c.args.setting.watch c.args.engine.now
-    (outputs (g.W.Write.contents c.args.out.now) (g.B.Backups.kept c.args.backups.now))
