@@ -42,14 +42,15 @@ use Rattle.im_text.proofs.PrintingLemmas.{prints_begins, prints_none, true_false
 use Rattle.im_serial.specs.declared.waits.Mark.{Mark}
 use Rattle.im_serial.specs.declared.waits.Mark.TheVariants.{Here}
 use Rattle.im_serial.specs.Noted.{AreKnown, AreLast, AreNoted, Notes, learnt, noted_if, notes, mark_place}
-use Rattle.im_serial.specs.Asked.{Course, Wanted, LeadsIf, Standing, HasReached, bases_by, earlier_in, standing}
-use Rattle.im_serial.specs.Asked.{said_at, wanted_by, wanted_in, wanted_of, whole_course}
+use Rattle.im_serial.specs.Asked.{Course, HasNamed, HasReached, LeadsIf, Standing, Wanted, bases_by, earlier_in}
+use Rattle.im_serial.specs.Asked.{said_at, standing, wanted_by, wanted_in, wanted_of, whole_course}
 use Rattle.im_serial.specs.Serving.{GoesWith, HaltsWith, GoesAt, HaltsAt, GoesOn, Halts, Keeps, Drops, Prepares}
 use Rattle.im_serial.specs.Serving.{at, ScriptServer, server_of, Going, Serves, Ends}
 use Rattle.im_serial.specs.Serving.{AreWaited, IsOver, IsRecorded, IsServing}
 use Rattle.im_serial.specs.Serving.{GoingAt, EndedAt, Passes, EndsAt, HasAsked, HasServed, Closed}
-use Rattle.im_serial.proofs.AskedLemmas.{put_or_not, request_is, stands_anywhere, stands_asked, stands_confirmed}
-use Rattle.im_serial.proofs.AskedLemmas.{stands_first, stands_here, stands_last, wanted_line}
+use Rattle.im_serial.proofs.AskedLemmas.{named_asked, named_confirmed, named_first, put_or_not, request_is}
+use Rattle.im_serial.proofs.AskedLemmas.{stands_anywhere, stands_asked, stands_confirmed, stands_first, stands_here}
+use Rattle.im_serial.proofs.AskedLemmas.{stands_last, wanted_line}
 use Rattle.im_serial.proofs.NotedLemmas.{known_asked, noted_asked, noted_confirmed, noted_known, noted_same}
 use Rattle.im_serial.proofs.NotedLemmas.{noted_waits}
 use Rattle.im_serial.proofs.ServingLemmas.{answered, asked, closed_by, confirmed, goes_none, halts, next_is_new}
@@ -345,6 +346,10 @@ module _ {D : Type 0} (disk : Ghosts D) where
                       (is_accepted m c && is_put a)
                       (subst (HasReached start.memory s) (sym (append-nil put)) u.reached)
                       (stands_confirmed start.memory s put element upto u.reached);
+                  named = put_or_not (λ (more : List Command). HasNamed start.memory s (put ++ more)) c
+                      (is_accepted m c && is_put a)
+                      (subst (HasNamed start.memory s) (sym (append-nil put)) u.named)
+                      (named_confirmed start.memory s put element upto u.named);
                   recorded = if_any s.script (IsRecorded start.memory put (learnt waited marks element upto))
                       (IsRecorded start.memory (put ++ put_by_command m c a) (notes waited marks))
                       (confirm_recorded start.memory put element upto waited marks a o is answer) u.recorded;
@@ -466,6 +471,7 @@ module _ {D : Type 0} (disk : Ghosts D) where
                 g,
                 record {
                   reached = u.reached;
+                  named = u.named;
                   recorded = if_any s.script (IsRecorded start.memory put (notes waited marks))
                       (IsRecorded start.memory put (learnt learned later element upto))
                       (λ r. record {
@@ -612,6 +618,7 @@ module _ {D : Type 0} (disk : Ghosts D) where
                     record {
                       reached = stands_anywhere start.memory before
                           (wanted ++ []) g.1.0;
+                      named = λ more. tt;
                       recorded = tt;
                     },
                   ),
@@ -881,6 +888,8 @@ module _ {D : Type 0} (disk : Ghosts D) where
                               reached = stands_asked start.memory script bases added w rest t.1.put r t.1.under_way.reached
                                   (request_is (after start.memory t.1.put) bases w r t.1.base element op t.1.next_is) (ap
                                   (bases_by w) t.1.answer ∙ made);
+                              named = named_asked start.memory script bases added w rest t.1.put r
+                                  t.1.under_way.named (ap (bases_by w) t.1.answer ∙ made);
                               recorded = recorded start s going.0 t.1;
                             },
                           ),
@@ -990,6 +999,8 @@ module _ {D : Type 0} (disk : Ghosts D) where
                 record {
                   reached = subst (λ (l : List Wanted). HasReached start.memory (standing (Some c) c.first l) []) (sym
                       (append-nil c.wanted)) (stands_first start.memory c);
+                  named = subst (λ (l : List Wanted). HasNamed start.memory (standing (Some c) c.first l) []) (sym
+                      (append-nil c.wanted)) (named_first start.memory c);
                   recorded = recorded;
                 },
               ),

@@ -23,8 +23,8 @@ use Rattle.im_script.specs.Places.{op_of}
 use Rattle.im_serial.specs.declared.server.Server.{Server as Whole}
 use Rattle.im_serial.specs.declared.waits.Mark.{Mark}
 use Rattle.im_serial.specs.Noted.{AreKnown, AreLast, AreNoted, Notes, learnt, notes}
-use Rattle.im_serial.specs.Asked.{Course, IsAsked, LeadsIf, Standing, HasReached, Wanted, bases_by, earlier_in}
-use Rattle.im_serial.specs.Asked.{standing, wanted_of}
+use Rattle.im_serial.specs.Asked.{Course, HasNamed, HasReached, IsAsked, LeadsIf, Standing, Wanted, bases_by}
+use Rattle.im_serial.specs.Asked.{earlier_in, standing, wanted_of}
 
 -- ---- while it is served
 
@@ -138,10 +138,11 @@ pub record IsRecorded (m : Contents) (put : List Command) (n : Notes) : Type 0 w
   pub memory : IsMemory (length m.cells) (length m.windows) m
   pub noted : AreNoted m put n.element n.upto n.marks n.waited
 
--- What is known while it goes on: where the script stands after the commands that were put, and, if there is a script,
--- that the notes are right.
+-- What is known while it goes on: where the script stands after the commands that were put, with its names, and, if
+-- there is a script, that the notes are right.
 pub record IsServing (m : Contents) (s : Standing) (put : List Command) (n : Notes) : Type 0 where
   pub reached : HasReached m s put
+  pub named : HasNamed m s put
   pub recorded : IfSome s.script (λ _. IsRecorded m put n)
 
 -- What is known when it has ended. The commands that were put are the first requests of the script, and confirmations.

@@ -1,6 +1,7 @@
 //! Serves a script's requests one after another on the image of a disk.
 #![tactic(auto)]
 
+mod asking;
 mod comparing;
 mod hearing;
 mod meeting;
