@@ -1,3 +1,4 @@
+pub mod BlocksLemmas
 pub mod DoingLemmas
 pub mod OrdersLemmas
 pub mod RestLemmas

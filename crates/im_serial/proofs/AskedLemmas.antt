@@ -95,11 +95,6 @@ stands_last m script bases w left put r it is = by_made (bases_by w (step (after
 pub stands_first : (m : Contents) (c : Course) → HasReached m (standing (Some c) c.first c.wanted) []
 stands_first m c = λ more last leads. leads
 
--- nothing is said of it
-pub stands_anywhere : (m : Contents) (bases : List ℕ) (left : List Wanted) (put : List Command) → HasReached m
-    (standing None bases left) put
-stands_anywhere m bases left put = λ more last leads. tt
-
 -- ---- for which bases its names stand
 
 -- a confirmation more

@@ -2,7 +2,7 @@
 ghost use Rattle.std.specs.Prelude.{◌≡◌, ◌++◌, ◌∷◌, [], ℕ, false, Ok, OnOk};
 ghost use Rattle.im_types.specs.Window.{bounds};
 ghost use Rattle.im_serial.specs.Asked.{wanted_by, wanted_of};
-ghost use Rattle.im_serial.specs.Serving.{HasAsked, HasServed, Prepares, ServesOrEnds, at, seen_by};
+ghost use Rattle.im_serial.specs.Serving.{HasAsked, Prepares, ServedBy, seen_by};
 
 use crate::hearing::hear;
 use crate::room::{confirm, first_waiting, make_room, next_number, reason_of};
@@ -35,8 +35,7 @@ impl<D: Disk> Server<D> {
             self.waited.as_mut_slice(),
             &mut self.places,
             self.engine.memory(),
-            element,
-            (base, upto),
+            (element, base, upto),
             observer,
         );
         confirm(&mut self.engine, &mut self.progress, element, upto)
@@ -115,15 +114,22 @@ impl<D: Disk> Server<D> {
         }
     }
 
-    // Makes a block of the setup, prints its answer, and keeps its base.
-    fn name_block<W: Write, N: Observer>(
+    /// Makes a block of the setup, prints its answer, and keeps its base. If element 0's window is full, its entries
+    /// before the first that still waits are confirmed first. Turns of a checkpoint are taken while there is no room
+    /// for a command. An accepted command is on the disk before its line is kept for printing.
+    ///
+    /// The block is element 0's next request, and the base that is kept is the one in its answer.
+    ///
+    /// It is refused with what the engine refuses, with `Block` if the block isn't made, with `Memory`, or because a
+    /// write of the output failed.
+    pub fn make_block<W: Write, N: Observer>(
         &mut self,
         block: Allocation,
         out: &mut W,
         observer: &mut N,
     ) -> Result<(), Reason>
-        ensures served { HasServed D.Disk (wanted_by (Said.Block block)) self.old.bases.items self.new.bases.items
-            result (seen_by self.old (W.contents out.old)) (seen_by self.new (W.contents out.new)) }
+        ensures served { ServedBy D.Disk (wanted_by (Said.Block block)) result self.old (W.contents out.old) self.new
+            (W.contents out.new) }
         ensures named { OnOk result ((base : ℕ) × (self.new.bases.items ≡ self.old.bases.items ++ base ∷ [])) }
     {
         let entry = match self.request(0, Op::Alloc(block.kind, block.length), out, observer) {
@@ -139,30 +145,6 @@ impl<D: Disk> Server<D> {
         }
     }
 
-    /// Makes a block of the setup, prints its answer, and keeps its base. If element 0's window is full, its entries
-    /// before the first that still waits are confirmed first. Turns of a checkpoint are taken while there is no room
-    /// for a command. An accepted command is on the disk before its line is kept for printing.
-    ///
-    /// The block is element 0's next request, and the base that is kept is the one in its answer.
-    ///
-    /// It is refused with what the engine refuses, with `Block` if the block isn't made, with `Memory`, or because a
-    /// write of the output failed.
-    pub fn make_block<W: Write, N: Observer>(
-        &mut self,
-        block: Allocation,
-        out: &mut W,
-        observer: &mut N,
-    ) -> Result<(), Reason>
-        ensures serves { ServesOrEnds D.Disk result
-            (at self.old.engine (W.contents out.old) self.old.lines self.old.waited.items)
-            (at self.new.engine (W.contents out.new) self.new.lines self.new.waited.items) }
-        ensures served { HasServed D.Disk (wanted_by (Said.Block block)) self.old.bases.items self.new.bases.items
-            result (seen_by self.old (W.contents out.old)) (seen_by self.new (W.contents out.new)) }
-        ensures named { OnOk result ((base : ℕ) × (self.new.bases.items ≡ self.old.bases.items ++ base ∷ [])) }
-    {
-        self.name_block(block, out, observer)
-    }
-
     // Serves a request of a part.
     fn serve_line<W: Write, N: Observer>(
         &mut self,
@@ -170,8 +152,8 @@ impl<D: Disk> Server<D> {
         out: &mut W,
         observer: &mut N,
     ) -> Result<(), Reason>
-        ensures served { HasServed D.Disk (wanted_by (Said.Asks line)) self.old.bases.items self.new.bases.items result
-            (seen_by self.old (W.contents out.old)) (seen_by self.new (W.contents out.new)) }
+        ensures served { ServedBy D.Disk (wanted_by (Said.Asks line)) result self.old (W.contents out.old) self.new
+            (W.contents out.new) }
     {
         let Some(op) = line.action.op(self.bases.as_slice()) else {
             return Err(Reason::Place(line.element));
@@ -189,13 +171,13 @@ impl<D: Disk> Server<D> {
         out: &mut W,
         observer: &mut N,
     ) -> Result<(), Reason>
-        ensures served { HasServed D.Disk (wanted_by said) self.old.bases.items self.new.bases.items result
-            (seen_by self.old (W.contents out.old)) (seen_by self.new (W.contents out.new)) }
+        ensures served { ServedBy D.Disk (wanted_by said) result self.old (W.contents out.old) self.new
+            (W.contents out.new) }
     {
         match said {
             Said::Nothing => Ok(()),
             Said::Begins(_element) => Ok(()),
-            Said::Block(block) => self.name_block(block, out, observer),
+            Said::Block(block) => self.make_block(block, out, observer),
             Said::Asks(line) => self.serve_line(line, out, observer),
         }
     }
@@ -207,8 +189,8 @@ impl<D: Disk> Server<D> {
         out: &mut W,
         observer: &mut N,
     ) -> Result<(), Reason>
-        ensures served { HasServed D.Disk (wanted_by said) self.old.bases.items self.new.bases.items result
-            (seen_by self.old (W.contents out.old)) (seen_by self.new (W.contents out.new)) }
+        ensures served { ServedBy D.Disk (wanted_by said) result self.old (W.contents out.old) self.new
+            (W.contents out.new) }
     {
         match self.serve_said(said, out, observer) {
             Ok(()) => self.show(out, observer),
@@ -224,8 +206,8 @@ impl<D: Disk> Server<D> {
         out: &mut W,
         observer: &mut N,
     ) -> Result<(), Reason>
-        ensures served { HasServed D.Disk (wanted_of script.now) self.old.bases.items self.new.bases.items result
-            (seen_by self.old (W.contents out.old)) (seen_by self.new (W.contents out.new)) }
+        ensures served { ServedBy D.Disk (wanted_of script.now) result self.old (W.contents out.old) self.new
+            (W.contents out.new) }
     {
         let mut reader = Reader::new(alloc);
         let mut rest = Some(script.text());

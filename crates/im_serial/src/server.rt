@@ -11,7 +11,7 @@ ghost use Rattle.im_text.specs.Printing.{who_of};
 ghost use Rattle.im_serial.specs.declared.waits.Mark.TheVariants.{Here};
 ghost use Rattle.im_serial.specs.Noted.{AreKnown, AreLast, NotesMore, noted_if, mark_place};
 ghost use Rattle.im_serial.specs.Once.{done_line};
-ghost use Rattle.im_serial.specs.Serving.{HasServed, seen_by};
+ghost use Rattle.im_serial.specs.Serving.{ServedBy};
 
 use crate::past::make_done;
 use crate::waits::{Places, learn_all, note, tell_earlier, waited_at};
@@ -180,9 +180,12 @@ impl<D: Disk> Server<D> {
     }
 
     // Writes what is kept back, if each line is wanted as soon as it is true.
-    pub(crate) fn show<W: Write, N: Observer>(&mut self, out: &mut W, observer: &N) -> Result<(), Reason>
-        ensures served { HasServed D.Disk [] self.old.bases.items self.new.bases.items result
-            (seen_by self.old (W.contents out.old)) (seen_by self.new (W.contents out.new)) }
+    pub(crate) fn show<W: Write, N: Observer>(
+        &mut self,
+        out: &mut W,
+        observer: &N,
+    ) -> Result<(), Reason>
+        ensures served { ServedBy D.Disk [] result self.old (W.contents out.old) self.new (W.contents out.new) }
     {
         if observer.wants_each_line() {
             self.lines.flush(out)
