@@ -1,6 +1,6 @@
 -- What a run puts on a disk, and what it prints. (Own.)
 use Rattle.std.proofs.Common.{◌≡◌, ◌∙◌, ◌-◌, ◌+◌, ◌≤◌, inl, inr, ⊎_elim, ℕ, zero, suc, Bool, true, false, List, [], ◌++◌, length, refl, sym, ap, subst, take, drop, length-append, append_assoc, arith}
-use Rattle.std.specs.Prelude.{Option, Some, ◌⊎◌, MatchResult, Result, Ok, Err, slice_get}
+use Rattle.std.specs.Prelude.{Option, Some, ◌⊎◌, slice_get}
 use Rattle.std.specs.Io.KnownBytes.{Appends}
 use Rattle.std.proofs.lemmas.List.{append-nil, take_all, take-append-le, take-append-drop, length-take-le}
 use Rattle.im_types.specs.declared.commands.Command.{Command}

@@ -10,7 +10,7 @@ use crate::telling::print_finals;
 use im_damage::Damage;
 use im_disk::Disk;
 use im_engine::Engine;
-use im_serial::Paper;
+use im_serial::{Paper, both};
 use im_text::{Observer, Progress, Reason, finish};
 use im_types::{Entry, Refusal};
 use std::alloc::Global;
@@ -67,17 +67,6 @@ fn told_as(reason: Reason) -> Reason
     match reason {
         Reason::Request(_, Refusal::Failed) => disk_failed(),
         other => other,
-    }
-}
-
-// Returns the first refusal, if there is one.
-fn both(served: Result<(), Reason>, told: Result<(), Reason>) -> Result<(), Reason>
-    ensures served { IsOk result → IsOk served }
-    ensures told { IsOk result → IsOk told }
-{
-    match served {
-        Ok(()) => told,
-        Err(reason) => Err(reason),
     }
 }
 

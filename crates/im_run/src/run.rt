@@ -1,5 +1,5 @@
 //! A script on the image of a disk, from opening to end.
-ghost use Rattle.std.specs.Prelude.{◌≡◌, ◌⊎◌, ◌≤◌, None, false, true, map, IsOk};
+ghost use Rattle.std.specs.Prelude.{◌≡◌, ◌⊎◌, ◌≤◌, None, false, map, IsOk};
 ghost use Rattle.im_serial.specs.Serving.{seen_by};
 ghost use Rattle.im_run.specs.Orders.{ask_of, bases_first};
 ghost use Rattle.im_run.specs.Running.{EndsRun, EndsServing, Ran, RunsOn, RunsOnPlan};

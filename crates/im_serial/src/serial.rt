@@ -202,8 +202,8 @@ fn serve_once_on<D: Disk, W: Write, N: Observer>(
     (status_at(failed, status), engine.close())
 }
 
-// Returns the first refusal, if there is one.
-fn both(served: Result<(), Reason>, told: Result<(), Reason>) -> Result<(), Reason>
+/// Returns the first refusal, if there is one: that of what was served, or that of telling it.
+pub fn both(served: Result<(), Reason>, told: Result<(), Reason>) -> Result<(), Reason>
     ensures served { IsOk result → IsOk served }
     ensures told { IsOk result → IsOk told }
 {

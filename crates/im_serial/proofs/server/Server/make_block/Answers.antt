@@ -3,7 +3,6 @@ use Rattle.std.specs.Prelude.{Ok, true}
 use Rattle.im_types.specs.declared.commands.Outcome.TheVariants.{Entry as Tells}
 use Rattle.im_types.specs.declared.operations.Entry.{Entry}
 use Rattle.im_types.specs.declared.operations.Entry.TheVariants.{Answered}
-use Rattle.im_types.specs.declared.operations.Op.TheVariants as op
 use Rattle.im_script.specs.declared.places.Action.TheVariants.{Alloc}
 use Rattle.im_serial.specs.Asked.{base_told}
 use Rattle.im_serial.proofs.ScriptedLemmas.{asked_ends, asked_serves, served_with}
@@ -14,21 +13,21 @@ returns-in-Err-clause-served g c = asked_ends g.D.Disk _ (record {
   element = 0;
   action = Alloc c.args.block.kind c.args.block.length;
   named = true;
-}) _ _ (op.Alloc c.args.block.kind c.args.block.length) _ _ _ refl c.in-Err.ensures.serves
+}) _ _ _ _ _ _ refl c.in-Err.ensures.serves
 
 pub returns-in_default-clause-served : goal.returns-in_default-clause-served
 returns-in_default-clause-served g c = asked_ends g.D.Disk _ (record {
   element = 0;
   action = Alloc c.args.block.kind c.args.block.length;
   named = true;
-}) _ _ (op.Alloc c.args.block.kind c.args.block.length) _ _ _ refl c.in-Ok.ensures.serves
+}) _ _ _ _ _ _ refl c.in-Ok.ensures.serves
 
 pub returns-in-Err-push-clause-served : goal.returns-in-Err-push-clause-served
 returns-in-Err-push-clause-served g c = asked_ends g.D.Disk _ (record {
   element = 0;
   action = Alloc c.args.block.kind c.args.block.length;
   named = true;
-}) _ _ (op.Alloc c.args.block.kind c.args.block.length) _ _ _ refl c.in-Ok.ensures.serves
+}) _ _ _ _ _ _ refl c.in-Ok.ensures.serves
 
 pub returns-in-Ok-push-clause-served : goal.returns-in-Ok-push-clause-served
 returns-in-Ok-push-clause-served g c =
@@ -41,7 +40,7 @@ returns-in-Ok-push-clause-served g c =
       element = 0;
       action = Alloc c.args.block.kind c.args.block.length;
       named = true;
-    }) bases (base ∷ []) (op.Alloc c.args.block.kind c.args.block.length) c.in-Ok.entry _ _ refl (ap (λ
+    }) bases (base ∷ []) _ c.in-Ok.entry _ _ refl (ap (λ
     (e : Entry). base_told (Ok (Tells e))) (c.in-Answered-Base.is ∙ ap Answered told)) c.in-Ok.ensures.serves)
 
 pub returns-in-Ok-push-clause-named : goal.returns-in-Ok-push-clause-named
