@@ -5,7 +5,6 @@ use Rattle.std.specs.Io.KnownBytes.{Appends}
 use Rattle.std.proofs.lemmas.List.{append-nil, take_all, take-append-le, take-append-drop, length-take-le}
 use Rattle.im_types.specs.declared.commands.Command.{Command}
 use Rattle.im_types.specs.declared.commands.Line.{Line}
-use Rattle.im_types.specs.declared.commands.Request.{Request}
 use Rattle.im_types.specs.declared.operations.Waiter.{Waiter}
 use Rattle.im_types.specs.Contents.{Contents}
 use Rattle.im_types.specs.Meaning.{Means, accept_each}
@@ -22,7 +21,6 @@ use Rattle.im_engine.specs.State.{EngineState, MeansState}
 use Rattle.im_engine.specs.Run.{MeansAll, MeansAfter, MeansBeginning, MeansAllOrInDoubt, MeansWithOrWithout}
 use Rattle.im_engine.proofs.Keeping.{accept_both}
 use Rattle.im_controller.specs.Kept.{MeansSome, begun_in, accepted_in}
-use Rattle.im_controller.specs.Planned.{EndsAsPlanned, EndsBy}
 use Rattle.im_controller.proofs.KeptLemmas.{accepted-after, kept_start}
 use Rattle.im_text.specs.declared.lines.Lines.{Lines}
 use Rattle.im_text.specs.declared.replies.Waited.{Waited}
@@ -197,12 +195,6 @@ module _ {D : Type 0} (now : D → Moment) (past : D → List Moment) (failures 
         omega (arith, on.kept.count works, counts, length-append setup served),
       );
     }
-
--- the plan of the controller was this one
-pub plan_ends : (m begun : Contents) (plan : List Request) (found : Option (List Request)) (end : Contents)
-    → m ≡ begun → found ≡ Some plan → EndsBy m found end → EndsAsPlanned begun plan end
-plan_ends m begun plan found end same is it = subst (λ (n : Contents). EndsAsPlanned n plan end) same
-    (subst (λ (o : Option (List Request)). EndsBy m o end) is it)
 
 -- no servers began
 pub none_served : {D : Type 0} (now : D → Moment) (past : D → List Moment) (failures : D → ℕ) (begun engine : EngineState D) (trace : List Line)

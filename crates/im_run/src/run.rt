@@ -195,8 +195,9 @@ pub(crate) fn run_server<
 /// under that number. What a glance tells was seen by its element's reader.
 ///
 /// If the run is planned, the plan is of all requests of the script's parts. It fits the memory after the setup. At the
-/// end the entry that is kept for a request has its result by the plan, or it waits. Once all were served, the memory
-/// after the setup and the plan alone say what is kept. If the requests make no plan that fits, none is served.
+/// end the entry that is kept for a request has its result by the plan, or it waits. If the status is 0, all requests
+/// were served, and the memory after the setup and the plan alone say what is kept for them. If the requests make no
+/// plan that fits, none is served.
 ///
 /// If the status is 0 or 3, each file that a crash may leave at the return means one memory. If it is 0, all lines are
 /// written. The elements' lines tell the entries that this memory keeps, or what a server was told of an entry that it
