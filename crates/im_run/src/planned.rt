@@ -12,7 +12,7 @@ use im_memory::Memory;
 use im_planning::Plan;
 use im_serving::Intent;
 use im_text::Reason;
-use im_types::{Cell, Kind, Op, Refusal, Request};
+use im_types::{Cell, Kind, Op, Refusal, Request, WINDOW};
 use std::alloc::Global;
 use std::collections::BTreeSet;
 use std::sync::Wait;
@@ -187,6 +187,18 @@ fn begin_free<D: Disk + Drop, R: Wait>(
     }
 }
 
+// How many lines the trace has room for: as many as servers leave at most. A request leaves one line when it is asked
+// for and one when it is found answered. If its window is full, there are two more before it: a confirmation, and an
+// entry that still waits. Each entry that an element's window had before leaves one line when it is found answered.
+// Glances leave none, but are counted too.
+fn trace_room(orders: &[Order], elements: u16) -> usize {
+    let mut room = (elements as usize).saturating_mul(WINDOW as usize);
+    for order in orders {
+        room = room.saturating_add(order.intents.len().saturating_mul(4));
+    }
+    room
+}
+
 /// Makes room for what the elements ask for, before any thread starts. Returns `NoElement` if one of the elements
 /// doesn't exist.
 ///
@@ -198,7 +210,6 @@ pub fn begin<D: Disk + Drop, R: Wait>(
     alloc: Global,
     engine: Engine<D>,
     orders: &[Order],
-    room: usize,
     planned: bool,
 ) -> Result<Opening<D>, (Reason, Engine<D>)>
     ensures found { IfOk result (λ o. o.engine ≡ engine) }
@@ -209,6 +220,7 @@ pub fn begin<D: Disk + Drop, R: Wait>(
     if let Some(element) = missing_element(engine.memory(), orders) {
         return Err((Reason::Request(element, Refusal::NoElement), engine));
     }
+    let room = trace_room(orders, engine.memory().elements());
     if planned {
         return begin_planned(rt, alloc, engine, orders, room);
     }

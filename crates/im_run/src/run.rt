@@ -18,7 +18,7 @@ use im_script::Script;
 use im_serial::{Desk, Paper, Server};
 use im_serving::{Gate, Watcher};
 use im_text::{Observer, Reason, diagnose, end};
-use im_types::{Refusal, WINDOW};
+use im_types::Refusal;
 use std::alloc::Global;
 use std::io::Write;
 use std::marker::Brand;
@@ -27,18 +27,6 @@ use std::thread::Threads;
 
 /// The status of a run in which servers waited for each other and nothing else was refused.
 pub const STALLED: u8 = 3;
-
-// How many lines the trace has room for: as many as servers leave at most. A request leaves one line when it is asked
-// for and one when it is found answered. If its window is full, there are two more before it: a confirmation, and an
-// entry that still waits. Each entry that an element's window had before leaves one line when it is found answered.
-// Glances leave none, but are counted too.
-fn trace_room(orders: &[Order], elements: u16) -> usize {
-    let mut room = (elements as usize).saturating_mul(WINDOW as usize);
-    for order in orders {
-        room = room.saturating_add(order.intents.len().saturating_mul(4));
-    }
-    room
-}
 
 // Returns the refusal of the servers as a reason, if there is one.
 fn reason_of(refused: Option<(u16, Refusal)>) -> Result<(), Reason>
@@ -77,8 +65,7 @@ fn serve_on<
     ensures honest { D.honest result.1 → D.honest engine.disk }
 {
     let none = Vec::new(alloc);
-    let room = trace_room(orders.as_slice(), engine.memory().elements());
-    match begin(rt, alloc, engine, orders.as_slice(), room, planned) {
+    match begin(rt, alloc, engine, orders.as_slice(), planned) {
         Ok(opening) => {
             let Outcome {
                 engine,
