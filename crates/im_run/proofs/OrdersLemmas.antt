@@ -50,6 +50,9 @@ ok_if P (Err e) it = tt
 pub if_ok_at : {T E : Type 0} (P : T → Type 0) (r : Result T E) (x : T) → r ≡ Ok x → IfOk r P → P x
 if_ok_at P r x is it = subst (λ (s : Result _ _). IfOk s P) is it
 
+pub match_ok : {T E : Type 0} (P : Type 0) (r : Result T E) (x : T) → r ≡ Ok x → OnOk r P → P
+match_ok P r x is it = subst (λ (s : Result _ _). OnOk s P) is it
+
 pub if_ok_map : {T E : Type 0} (P Q : T → Type 0) (r : Result T E) → IfOk r P → ((x : T) → P x → Q x) → IfOk r Q
 if_ok_map P Q (Ok x) it f = f x it
 if_ok_map P Q (Err e) it f = tt
@@ -236,9 +239,6 @@ heard_glance had bases known h glancer place old new is known_is adds =
 pub prefix_same : (xs ys : List ℕ) → ys ≡ xs → IsPrefix xs ys
 prefix_same xs ys same = ([], append-nil xs ∙ sym same)
 
-pub prefix_on : (xs ys zs : List ℕ) → ys ≡ xs → IsPrefix ys zs → IsPrefix xs zs
-prefix_on xs ys zs same it = subst (λ (l : List ℕ). IsPrefix l zs) same it
-
 -- of orders that are the same
 pub heard_from : (had : List ℕ) (h : Heard) (before bases : List ℕ) (old mid new : List Order) (left : List ℕ)
     → mid ≡ old → HasHeard had h before bases mid new left → HasHeard had h before bases old new left
@@ -262,6 +262,15 @@ heard_behind : (d : Draft) (behind : Option (Bor (List ℕ)))
 heard_behind d (Some rest) = refl
 heard_behind d None = refl
 
+-- what a line says stands in front
+pub line_heard : (d next : Draft) (h : Heard) (text line : List ℕ) (behind : Option (Bor (List ℕ)))
+    → lines_of text ≡ line ∷ option_map_or (λ rest. lines_of rest.now) behind [] → heard true d line ≡ Some (next, h)
+    → lines_heard d (lines_of text) ≡ h ∷ option_map_or (λ r. lines_heard next (lines_of r.now)) behind []
+line_heard d next h text line behind lines read = ap (lines_heard d) lines
+    ∙ ap (λ (o : Option (Draft × Heard)). option_map_or (λ r. r.1 ∷ lines_heard r.0
+    (option_map_or (λ rest. lines_of rest.now) behind [])) o []) read
+    ∙ ap (λ (l : List Heard). h ∷ l) (heard_behind next behind)
+
 module _ (had : List ℕ) (all : List Heard) (old mid new : List Order) (before left : List ℕ) (d next : Draft)
     (h : Heard) (text line : List ℕ) (behind : Option (Bor (List ℕ))) (bases later : List ℕ)
     (lines : lines_of text ≡ line ∷ option_map_or (λ rest. lines_of rest.now) behind [])
@@ -272,10 +281,7 @@ module _ (had : List ℕ) (all : List Heard) (old mid new : List Order) (before 
   others = option_map_or (λ r. lines_heard next (lines_of r.now)) behind []
 
   lines_are : lines_heard d (lines_of text) ≡ h ∷ others
-  lines_are = ap (lines_heard d) lines
-      ∙ ap (λ (o : Option (Draft × Heard)). option_map_or (λ r. r.1 ∷ lines_heard r.0
-      (option_map_or (λ rest. lines_of rest.now) behind [])) o []) read
-      ∙ ap (λ (l : List Heard). h ∷ l) (heard_behind next behind)
+  lines_are = line_heard d next h text line behind lines read
 
   bases_are : (more : List ℕ) → bases ++ (it.longer.0 ++ more) ≡ later ++ more
   bases_are more = sym (append_assoc bases it.longer.0 more) ∙ ap (λ (l : List ℕ). l ++ more) it.longer.1

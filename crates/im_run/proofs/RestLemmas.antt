@@ -1,7 +1,9 @@
 -- A script that is run once: what is known at its end. (Own.)
-use Rattle.std.proofs.Common.{◌≡◌, ◌∙◌, inl, inr, ⊎_elim, ℕ, true, List, [], ◌++◌, refl, sym, ap, subst}
+use Rattle.std.proofs.Common.{◌≡◌, ◌∙◌, inl, inr, ⊎_elim, ℕ, false, true, List, [], ◌++◌, length, refl, sym, ap}
+use Rattle.std.proofs.Common.{subst}
 use Rattle.std.specs.Prelude.{◌⊎◌, Option}
 use Rattle.std.specs.Io.KnownBytes.{Appends}
+use Rattle.im_types.specs.Memory.{IsMemory}
 use Rattle.im_disk.specs.declared.disk.Disk.{Ghosts}
 use Rattle.im_disk.specs.Moment.{Left}
 use Rattle.im_disk.specs.Since.{Leaves, LeavesNow}
@@ -12,11 +14,12 @@ use Rattle.im_text.specs.Printing.{Begins, IsLast, Prints}
 use Rattle.im_text.proofs.PrintingLemmas.{prints_none}
 use Rattle.im_serial.specs.Asked.{Wanted, wanted_of}
 use Rattle.im_serial.specs.Fitting.{FitsScript}
-use Rattle.im_serial.specs.Had.{numbers_had}
+use Rattle.im_serial.specs.Had.{bases_had, numbers_had}
 use Rattle.im_serial.specs.Once.{Breaks, HasMade, HasServedNothing, HasShown, IsPrefix, lines_had}
-use Rattle.im_serial.specs.Serving.{ScriptServer, at}
+use Rattle.im_serial.specs.Serving.{ScriptServer, server_of}
 use Rattle.im_serial.proofs.OnceLemmas.{met_start, shown_written}
 use Rattle.im_run.specs.Once.{IsRest, IsUnrun, NotRun, RanRest}
+use Rattle.im_run.specs.Orders.{bases_first}
 use Rattle.im_run.specs.Running.{RunOn}
 use Rattle.im_run.specs.Setup.{CanServe}
 use Rattle.im_run.specs.Tracing.{TraceState}
@@ -63,19 +66,29 @@ module _ {D : Type 0} (disk : Ghosts D) where
 
       module _ (known : List ℕ) (it : HasShown script bases known old mid) where
         -- the run can begin
-        pub ready_rest : (waited : List Waited) → waited ≡ [] → CanServe disk (at mid.engine mid.held mid.lines waited)
+        pub ready_rest : (waited : List Waited) → waited ≡ []
+            → CanServe disk (server_of mid.engine mid.held mid.lines waited mid.marks)
         ready_rest waited none = record {
           works = ap (λ (e : EngineState D). e.failed) it.engine ∙ ready.works;
           means = subst (λ (e : EngineState D). disk.honest e.disk → LeavesNow (disk.now e.disk) (MeansState e))
               (sym it.engine) ready.means;
+          memory = subst (λ (e : EngineState D). IsMemory (length e.memory.cells) (length e.memory.windows) e.memory)
+              (sym it.engine) ready.memory;
           pending = it.pending;
           waited = none;
         }
 
+        -- it knows the bases of the blocks that the memory has
+        pub bases_rest : (text : List ℕ) → script ≡ wanted_of text → known ≡ bases_first true mid.engine.memory text
+        bases_rest text same = it.names
+            ∙ ap (λ (b : List ℕ). b ++ bases_had (numbers_had old.engine.memory) 0 script) ready.bases_is
+            ∙ ap (λ (e : EngineState D). bases_had (numbers_had e.memory) 0 script) (sym it.engine)
+            ∙ ap (bases_had (numbers_had mid.engine.memory) 0) same
+
         -- it ran
         pub rest_by : (text : List ℕ) → script ≡ wanted_of text → FitsScript old.engine.memory script → (new : D)
             (is : Option (List ℕ)) (calls : TraceState) (status : ℕ)
-            → RunOn disk.now disk.past disk.failures true text mid.engine new mid.held is calls status
+            → RunOn disk.now disk.past disk.failures true false text mid.engine new mid.held is calls status
             → IsRest disk text old.engine new old.held is calls status
         rest_by text same fit new is calls status run = record {
           fit = subst (FitsScript old.engine.memory) same fit;
@@ -83,7 +96,7 @@ module _ {D : Type 0} (disk : Ghosts D) where
           mid = mid.held;
           shown = subst (λ (s : List Wanted). Appends old.held mid.held (lines_had old.engine.memory
               (numbers_had old.engine.memory) s)) same (shown_written disk script bases known old mid it fit ready);
-          run = subst (λ (e : EngineState D). RunOn disk.now disk.past disk.failures true text e new mid.held is calls
+          run = subst (λ (e : EngineState D). RunOn disk.now disk.past disk.failures true false text e new mid.held is calls
               status) it.engine run;
         }
 
@@ -113,7 +126,7 @@ module _ {D : Type 0} (disk : Ghosts D) where
   })
   opened_rest text old start new was is calls status opened means same (inr rest) = inr (record {
     mid = rest.mid;
-    ran = ran_on disk true text old start new rest.mid is calls status opened means same rest.run;
+    ran = ran_on disk true false text old start new rest.mid is calls status opened means same rest.run;
     fit = rest.fit;
     made = rest.made;
     shown = rest.shown;

@@ -1,6 +1,6 @@
 -- What a run puts on a disk, and what it prints. (Own.)
 use Rattle.std.proofs.Common.{◌≡◌, ◌∙◌, ◌-◌, ◌+◌, ◌≤◌, inl, inr, ⊎_elim, ℕ, zero, suc, Bool, true, false, List, [], ◌++◌, length, refl, sym, ap, subst, take, drop, length-append, append_assoc, arith}
-use Rattle.std.specs.Prelude.{Option, Some, ◌⊎◌, MatchResult, Result, Ok, Err, slice_get}
+use Rattle.std.specs.Prelude.{Option, Some, ◌⊎◌, slice_get}
 use Rattle.std.specs.Io.KnownBytes.{Appends}
 use Rattle.std.proofs.lemmas.List.{append-nil, take_all, take-append-le, take-append-drop, length-take-le}
 use Rattle.im_types.specs.declared.commands.Command.{Command}
@@ -8,6 +8,7 @@ use Rattle.im_types.specs.declared.commands.Line.{Line}
 use Rattle.im_types.specs.declared.operations.Waiter.{Waiter}
 use Rattle.im_types.specs.Contents.{Contents}
 use Rattle.im_types.specs.Meaning.{Means, accept_each}
+use Rattle.im_types.specs.Memory.{IsMemory}
 use Rattle.im_types.specs.Run.{after}
 use Rattle.im_types.specs.Trace.{IsLegal}
 use Rattle.im_laws.proofs.RunLemmas.{after-append}
@@ -26,26 +27,18 @@ use Rattle.im_text.specs.declared.replies.Waited.{Waited}
 use Rattle.im_text.specs.Printing.{Begins, IsLast, Prints, PrintsMore, replies}
 use Rattle.im_text.proofs.PrintingLemmas.{prints_begins, take-prefix}
 use Rattle.im_text.proofs.TextLemmas.{written_none}
-use Rattle.im_serial.specs.Serving.{Going, GoesWith, HaltsWith, HasPut, MeansAtLeast, NotOpened, Server, at}
-use Rattle.im_serial.proofs.ServingLemmas.{going_new}
+use Rattle.im_serial.specs.declared.waits.Mark.{Mark}
+use Rattle.im_serial.specs.Asked.{Wanted}
+use Rattle.im_serial.specs.Serving.{GoesWith, HaltsWith, HasPut, MeansAtLeast, NotOpened, server_of}
 use Rattle.im_run.specs.Setup.{CanServe}
 use Rattle.im_run.specs.declared.run.TheConstants.{STALLED}
 use Rattle.im_run.specs.declared.served.Did.{Did}
 use Rattle.im_run.specs.Tracing.{TraceState}
 use Rattle.im_run.specs.Doing.{AreAllTold}
-use Rattle.im_run.specs.Orders.{Ask, AreOrders, script_heard, settled_when}
+use Rattle.im_run.specs.Orders.{Ask, AreOrders, SetsUp, bases_made, script_heard, settled_when}
+use Rattle.im_run.specs.Planned.{EndsOnPlan}
 use Rattle.im_run.specs.Running.{BeginsFinals, Closes, EndedOn, PrintsFinals, Puts, Ran, RanOn, RunOn, ServedOn}
 use Rattle.im_run.specs.Running.{Settles, final_line, finals}
-
--- ---- what holds of a result
-
-pub match_ok : {T E : Type 0} (P Q : Type 0) (r : Result T E) (x : T) → r ≡ Ok x → MatchResult r (λ _. P) (λ _. Q) → P
-match_ok P Q (Ok y) x is holds = holds
-match_ok P Q (Err e) x is holds = absurd (cc)
-
-pub match_err : {T E : Type 0} (P Q : Type 0) (r : Result T E) (e : E) → r ≡ Err e → MatchResult r (λ _. P) (λ _. Q) → Q
-match_err P Q (Ok y) e is holds = absurd (cc)
-match_err P Q (Err d) e is holds = holds
 
 -- ---- beginnings of lists
 
@@ -216,20 +209,17 @@ none_served {D} now past failures begun engine trace none same alive means =
       kept = kept_start _ _ _ here engine.memory engine refl refl alive means;
     }))
 
--- nothing was served yet
-pub begun : {D : Type 0} (disk : Ghosts D) (s : Server D) → CanServe disk s
-    → Going disk.now disk.past disk.failures disk.honest s.engine s.held s
-begun disk s ready = going_new disk.now disk.past disk.failures disk.honest s.engine s.engine s.held s.lines s.lines
-    s.waited ready.works ready.means ready.pending ready.waited refl refl
-
 -- a server that was just made can serve
 pub ready_new : {D : Type 0} (disk : Ghosts D) (start engine : EngineState D) (held : Option (List ℕ))
-    (before lines : Lines) (waited : List Waited) → start.failed ≡ false
-    → (disk.honest start.disk → LeavesNow (disk.now start.disk) (MeansState start)) → before.pending.items ≡ []
-    → waited ≡ [] → engine ≡ start → lines ≡ before → CanServe disk (at engine held lines waited)
-ready_new {D} disk start engine held before lines waited works means pending none same line = record {
+    (before lines : Lines) (waited : List Waited) (marks : List Mark) → start.failed ≡ false
+    → (disk.honest start.disk → LeavesNow (disk.now start.disk) (MeansState start))
+    → IsMemory (length start.memory.cells) (length start.memory.windows) start.memory → before.pending.items ≡ []
+    → waited ≡ [] → engine ≡ start → lines ≡ before → CanServe disk (server_of engine held lines waited marks)
+ready_new {D} disk start engine held before lines waited marks works means memory pending none same line = record {
   works = ap (λ (e : EngineState D). e.failed) same ∙ works;
   means = subst (λ (e : EngineState D). disk.honest e.disk → LeavesNow (disk.now e.disk) (MeansState e)) (sym same) means;
+  memory = subst (λ (e : EngineState D). IsMemory (length e.memory.cells) (length e.memory.windows) e.memory) (sym same)
+      memory;
   pending = ap (λ (l : Lines). l.pending.items) line ∙ pending;
   waited = none;
 }
@@ -268,12 +258,13 @@ module _ {D : Type 0} (now : D → Moment) (past : D → List Moment) (failures 
       no_finals (suc many) few = absurd (omega arith)
 
   -- the setup was ended
-  pub halted_run : (once : Bool) (script : List ℕ) (start engine : EngineState D) (put : List Command) (text : List ℕ) (names : List Waiter) (was mid is : Option (List ℕ)) (lines : Lines) (did : List Did) (disk : D) (calls : TraceState) (status : ℕ) → HaltsWith now past failures start engine put text names
+  pub halted_run : (once planned : Bool) (script : List ℕ) (start engine : EngineState D) (put : List Command) (text : List ℕ) (names : List Waiter) (was mid is : Option (List ℕ)) (lines : Lines) (did : List Did) (disk : D) (calls : TraceState) (status : ℕ) → HaltsWith now past failures start engine put text names
       → Prints was mid lines text → did ≡ [] → disk ≡ engine.disk → ((status ≡ 0) ⊎ (status ≡ STALLED) → engine.failed ≡ false) → (engine.failed ≡ false → LeavesNow (now disk) (MeansState engine)) → (status ≡ 0 → ⊥)
       → Closes mid lines is engine.memory did status → calls.served ≡ []
-      → RunOn now past failures once script start disk was is calls status
-  halted_run once script start engine put text names was mid is lines did disk calls status it prints none at_end works means never
-      closes unserved =
+      → (left : List Wanted) → SetsUp once start.memory script put left
+      → RunOn now past failures once planned script start disk was is calls status
+  halted_run once planned script start engine put text names was mid is lines did disk calls status it prints none at_end
+      works means never closes unserved left set_up =
       let on = put_on now past failures start engine put it.has in
       let whole = on.whole ∙ append-nil put in
       record {
@@ -293,17 +284,18 @@ module _ {D : Type 0} (now : D → Moment) (past : D → List Moment) (failures 
           whole = λ zero. absurd (never zero);
         };
         traced = record { legal = subst (IsLegal (after start.memory put)) (sym unserved) tt; accepted = inl unserved };
-        tells = inr (none, never);
+        tells = inr (left, (set_up, (none, never)));
       }
 
   -- the elements' servers ended
-  pub ended_run : (once : Bool) (script bases : List ℕ) (orders : List Ask) (start mid : EngineState D) (setup : List Command) (text : List ℕ) (names : List Waiter) (was held is : Option (List ℕ)) (lines : Lines) (disk : D) (calls : TraceState) (status : ℕ) → GoesWith now past failures start mid setup text names
-      → Prints was held lines text → EndedOn now past failures orders mid disk held lines is calls.served status
+  pub ended_run : (once planned : Bool) (script bases : List ℕ) (orders : List Ask) (start mid : EngineState D) (setup : List Command) (text : List ℕ) (names : List Waiter) (was held is : Option (List ℕ)) (lines : Lines) (disk : D) (calls : TraceState) (status : ℕ) → GoesWith now past failures start mid setup text names
+      → Prints was held lines text → EndedOn now past failures planned orders mid disk held lines is calls.served status
       → AreOrders once mid.memory (settled_when once start.memory) bases (script_heard script) orders
-      → RunOn now past failures once script start disk was is calls status
+      → SetsUp once start.memory script setup [] → bases ≡ bases_made once start.memory script setup
+      → RunOn now past failures once planned script start disk was is calls status
   unfolding puts_on
-  ended_run once script bases orders start mid setup text names was held is lines disk calls status it prints ended
-      of_script =
+  ended_run once planned script bases orders start mid setup text names was held is lines disk calls status it prints
+      ended of_script set_up named =
       let served = ended.served in
       let trace = calls.served in
       let begun = it.has.memory it.works in
@@ -333,20 +325,48 @@ module _ {D : Type 0} (now : D → Moment) (past : D → List Moment) (failures 
           accepted = inr (ap (λ (m : Contents). setup ++ accepted_in m trace) begun);
         };
         tells = inl (record {
-          bases = bases;
+          made = set_up;
           orders = orders;
-          of_script = subst (λ (m : Contents). AreOrders once m (settled_when once start.memory) bases
-              (script_heard script) orders) begun of_script;
+          of_script = subst (λ (b : List ℕ). AreOrders once (after start.memory setup) (settled_when once start.memory) b
+              (script_heard script) orders) named
+              (subst (λ (m : Contents). AreOrders once m (settled_when once start.memory) bases (script_heard script)
+              orders) begun of_script);
           all = subst (λ (m : Contents). AreAllTold m trace (status ≡ 0) orders ended.did) begun ended.told;
+          as_planned = λ is. subst (λ (m : Contents). EndsOnPlan m orders trace (after start.memory on.told)
+              (status ≡ 0)) begun
+              (subst (λ (end : Contents). EndsOnPlan mid.memory orders trace end (status ≡ 0)) told_is
+              (ended.as_planned is));
         });
       }
 
+  -- a run of which nothing is said of a plan
+  pub unplanned : (once planned : Bool) (script : List ℕ) (start : EngineState D) (disk : D)
+      (was is : Option (List ℕ)) (calls : TraceState) (status : ℕ)
+      → RunOn now past failures once planned script start disk was is calls status
+      → RunOn now past failures once false script start disk was is calls status
+  unplanned once planned script start disk was is calls status it = record {
+    setup = it.setup;
+    told = it.told;
+    doubt = it.doubt;
+    puts = it.puts;
+    settles = it.settles;
+    printed = it.printed;
+    traced = it.traced;
+    tells = ⊎_elim (λ t. inl (record {
+      made = t.made;
+      orders = t.orders;
+      of_script = t.of_script;
+      all = t.all;
+      as_planned = λ no. absurd (true_false (sym no));
+    })) (λ ended. inr ended) it.tells;
+  }
+
 module _ {D : Type 0} (disk : Ghosts D) where
   -- an opening leaves nothing new, and what it found was there
-  unfoldable pub ran_on : (once : Bool) (script : List ℕ) (old : D) (start : EngineState D) (new : D) (was is : Option (List ℕ)) (calls : TraceState) (status : ℕ) → Leaves (disk.now old) (disk.now start.disk) (disk.past old) (disk.past start.disk) (Left (disk.now old)) → LeavesNow (disk.now start.disk) (MeansState start) → disk.failures start.disk ≡ disk.failures old
-      → RunOn disk.now disk.past disk.failures once script start new was is calls status
-      → RanOn disk.now disk.past disk.failures once script old new was is calls status
-  ran_on once script old start new was is calls status opened means same it =
+  unfoldable pub ran_on : (once planned : Bool) (script : List ℕ) (old : D) (start : EngineState D) (new : D) (was is : Option (List ℕ)) (calls : TraceState) (status : ℕ) → Leaves (disk.now old) (disk.now start.disk) (disk.past old) (disk.past start.disk) (Left (disk.now old)) → LeavesNow (disk.now start.disk) (MeansState start) → disk.failures start.disk ≡ disk.failures old
+      → RunOn disk.now disk.past disk.failures once planned script start new was is calls status
+      → RanOn disk.now disk.past disk.failures once planned script old new was is calls status
+  ran_on once planned script old start new was is calls status opened means same it =
       let file = (disk.now start.disk).bytes in
       let here = left_now (disk.now start.disk) in
       record {
@@ -371,16 +391,16 @@ module _ {D : Type 0} (disk : Ghosts D) where
       }
 
   -- a run by what is known at its end
-  pub ran : (once : Bool) (script : List ℕ) (old new : D) (was is : Option (List ℕ)) (calls : TraceState) (status : ℕ)
+  pub ran : (once planned : Bool) (script : List ℕ) (old new : D) (was is : Option (List ℕ)) (calls : TraceState) (status : ℕ)
       → (status ≡ 0) ⊎ (status ≡ STALLED) → NotOpened disk.now disk.past old new was is status
-      ⊎ RanOn disk.now disk.past disk.failures once script old new was is calls status
+      ⊎ RanOn disk.now disk.past disk.failures once planned script old new was is calls status
       → Ran disk.now new was is status
-  ran once script old new was is calls status ends (inl none) = absurd (no_end status none.status_is ends)
+  ran once planned script old new was is calls status ends (inl none) = absurd (no_end status none.status_is ends)
     where
       no_end : (n : ℕ) → n ≡ 1 → (n ≡ 0) ⊎ (n ≡ STALLED) → ⊥
       no_end n is (inl none) = omega (arith, is, none)
       no_end n is (inr stalled) = omega (arith, is, stalled)
-  ran once script old new was is calls status ends (inr it) =
+  ran once planned script old new was is calls status ends (inr it) =
       let settled = it.settles ends in
       record {
         memory = after it.start.memory it.told;

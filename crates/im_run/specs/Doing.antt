@@ -1,6 +1,6 @@
 -- What was done of the orders of a script. (Own.)
 use Rattle.std.specs.Prelude.{◌≡◌, ◌⊎◌, ℕ, suc, Bool, List, [], ◌∷◌, ◌++◌, map, length, nat_le, Option, None, IsOk}
-use Rattle.std.specs.Prelude.{if◌then◌else◌}
+use Rattle.std.specs.Prelude.{true, if◌then◌else◌}
 use Rattle.std.specs.List.{All, AllByRecursion}
 use mathlib.Core.List.{IsPrefix}
 use Rattle.im_types.specs.declared.operations.Entry.{Entry}
@@ -17,7 +17,8 @@ use Rattle.im_serving.specs.Elements.{Asked, End}
 use Rattle.im_serving.specs.Serving.{AreDone, AreGlanced, HasAnswers, IsGlanced, ops_of, requests, sites}
 use Rattle.im_run.specs.declared.served.Did.{Did}
 use Rattle.im_run.specs.declared.served.Did.TheVariants as did
-use Rattle.im_run.specs.Orders.{AreOrders, Ask, script_heard, settled_when}
+use Rattle.im_run.specs.Orders.{AreOrders, Ask, SetsUp, bases_made, script_heard, settled_when}
+use Rattle.im_run.specs.Planned.{EndsOnPlan}
 
 -- ---- what is told of it
 
@@ -55,14 +56,17 @@ AreAllTold m trace none (order ∷ orders) told =
     (mine : List Did) × ((others : List Did) × ((told ≡ mine ++ others)
     × (IsOrderTold m trace none order mine × AreAllTold m trace none orders others)))
 
--- The setup of a script was served on this memory, and the names stand for these bases. Then its parts were served,
--- with this trace, and this is told of them. It is told of all that they ask for if nothing was refused.
-pub record HasToldScript (once : Bool) (start : Contents) (text : List ℕ) (setup : List Command) (trace : List Line)
-    (none : Type 0) (told : List Did) : Type 0 where
-  pub bases : List ℕ
+-- The setup of a script was served whole on this memory, by these commands, and the names stand for the bases that they
+-- made. Then its parts were served, with this trace, which ends in that memory, and this is told of them. It is told of
+-- all that they ask for if nothing was refused. If the run was planned, it ended as its plan says.
+pub record HasToldScript (once planned : Bool) (start : Contents) (text : List ℕ) (setup : List Command)
+    (trace : List Line) (end : Contents) (none : Type 0) (told : List Did) : Type 0 where
+  pub made : SetsUp once start text setup []
   pub orders : List Ask
-  pub of_script : AreOrders once (after start setup) (settled_when once start) bases (script_heard text) orders
+  pub of_script : AreOrders once (after start setup) (settled_when once start) (bases_made once start text setup)
+      (script_heard text) orders
   pub all : AreAllTold (after start setup) trace none orders told
+  pub as_planned : planned ≡ true → EndsOnPlan (after start setup) orders trace end none
 
 -- ---- while it is noted
 

@@ -1,6 +1,7 @@
 pub mod Doing
 pub mod Once
 pub mod Orders
+pub mod Planned
 pub mod Running
 pub mod Setup
 pub mod Tracing

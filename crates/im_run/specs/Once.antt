@@ -1,5 +1,5 @@
 -- A script that is run once, whatever stopped it before. (Own.)
-use Rattle.std.specs.Prelude.{◌≡◌, ◌⊎◌, ℕ, true, List, [], ◌++◌, Option}
+use Rattle.std.specs.Prelude.{◌≡◌, ◌⊎◌, ℕ, false, true, List, [], ◌++◌, Option}
 use Rattle.std.specs.Io.KnownBytes.{Appends}
 use Rattle.im_disk.specs.declared.disk.Disk.{Ghosts}
 use Rattle.im_disk.specs.Moment.{Moment, Left}
@@ -39,7 +39,7 @@ pub record IsRest {D : Type 0} (disk : Ghosts D) (text : List ℕ) (start : Engi
   pub made : HasMade start.memory (wanted_of text)
   pub mid : Option (List ℕ)
   pub shown : Appends was mid (lines_had start.memory (numbers_had start.memory) (wanted_of text))
-  pub run : RunOn disk.now disk.past disk.failures true text start new mid is calls status
+  pub run : RunOn disk.now disk.past disk.failures true false text start new mid is calls status
 
 -- the one or the other, of a disk that is honest at the end
 abbrev pub EndsOnce : {D : Type 0} → Ghosts D → List ℕ → EngineState D → D → Option (List ℕ) → Option (List ℕ)
@@ -64,7 +64,7 @@ pub record NotRun {D : Type 0} (now : D → Moment) (past : D → List Moment) (
 pub record RanRest {D : Type 0} (now : D → Moment) (past : D → List Moment) (failures : D → ℕ) (text : List ℕ)
     (old new : D) (was is : Option (List ℕ)) (calls : TraceState) (status : ℕ) : Type 0 where
   pub mid : Option (List ℕ)
-  pub ran : RanOn now past failures true text old new mid is calls status
+  pub ran : RanOn now past failures true false text old new mid is calls status
   pub fit : FitsScript ran.start.memory (wanted_of text)
   pub made : HasMade ran.start.memory (wanted_of text)
   pub shown : Appends was mid (lines_had ran.start.memory (numbers_had ran.start.memory) (wanted_of text))

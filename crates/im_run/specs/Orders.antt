@@ -3,6 +3,7 @@ use Rattle.std.specs.Prelude.{◌≡◌, ◌≤◌, ℕ, zero, suc, ◌==◌, �
 use Rattle.std.specs.Prelude.{Option, IsSome, slice_get, if◌then◌else◌}
 use Rattle.std.specs.Option.{option_map_or}
 use mathlib.Core.List.{IsPrefix}
+use Rattle.im_types.specs.declared.commands.Command.{Command}
 use Rattle.im_types.specs.Contents.{Contents}
 use Rattle.im_types.specs.Window.{next_number}
 use Rattle.im_script.specs.declared.places.Place.{Place}
@@ -11,8 +12,8 @@ use Rattle.im_script.specs.declared.script.Heard.TheVariants.{Says, Glances}
 use Rattle.im_script.specs.Places.{address_of, op_of}
 use Rattle.im_script.specs.Script.{Draft, heard, lines_of, new_draft}
 use Rattle.im_serial.specs.declared.past.Past.{Past}
-use Rattle.im_serial.specs.Asked.{Wanted, said_by, wanted_by}
-use Rattle.im_serial.specs.Had.{first_open, met_all, news, numbers_settled}
+use Rattle.im_serial.specs.Asked.{Leads, Wanted, bases_after, said_by, wanted_by, wanted_of}
+use Rattle.im_serial.specs.Had.{bases_had, first_open, met_all, news, numbers_had, numbers_settled}
 use Rattle.im_serving.specs.declared.intent.Intent.{Intent}
 use Rattle.im_serving.specs.declared.intent.Intent.TheVariants.{Request, Glance}
 use Rattle.im_run.specs.declared.sheet.Order.{Order}
@@ -99,6 +100,39 @@ abbrev pub ArePlaced : List ℕ → List ℕ → List Heard → Type 0
 ArePlaced bases had [] = Unit {0}
 ArePlaced bases had (h ∷ lines) = IsPlaced bases had h × ArePlaced bases (settled_past had h) lines
 
+-- ---- what it asks of the setup
+
+-- those of these requests that make blocks of the setup
+abbrev pub blocks_among : List Wanted → List Wanted
+blocks_among [] = []
+blocks_among (w ∷ wanted) = (if w.named then w ∷ [] else []) ++ blocks_among wanted
+
+-- the block that a line asks for, if it isn't settled
+abbrev pub line_blocks : List ℕ → Heard → List Wanted
+line_blocks had h = blocks_among (news had (wanted_by (said_by h)))
+
+-- the blocks that these lines ask for, in their order, but for those that are settled
+abbrev pub blocks_of : List ℕ → List Heard → List Wanted
+blocks_of had [] = []
+blocks_of had (h ∷ lines) = line_blocks had h ++ blocks_of (settled_past had h) lines
+
+-- the same of a script
+abbrev pub blocks_asked : Bool → Contents → List ℕ → List Wanted
+blocks_asked once m text = blocks_of (settled_when once m) (script_heard text)
+
+-- the bases of the blocks that the memory has of a script, if it is done once
+abbrev pub bases_first : Bool → Contents → List ℕ → List ℕ
+bases_first once m text = if once then bases_had (numbers_had m) 0 (wanted_of text) else []
+
+-- These commands are, confirmations aside, the first of those blocks' requests: element 0's, in their order, each with
+-- its next number. The others are left. Nothing comes behind a block that wasn't made.
+abbrev pub SetsUp : Bool → Contents → List ℕ → List Command → List Wanted → Type 0
+SetsUp once m text put left = Leads m (bases_first once m text) (blocks_asked once m text) put left
+
+-- the bases that the script's names stand for then: behind those first ones come those in the blocks' answers
+abbrev pub bases_made : Bool → Contents → List ℕ → List Command → List ℕ
+bases_made once m text put = bases_after m (bases_first once m text) (blocks_asked once m text) put
+
 -- ---- orders
 
 -- an order as contracts see it: what an element asks for, and the number of its first request
@@ -132,10 +166,11 @@ pub record AreOrders (once : Bool) (m : Contents) (had bases : List ℕ) (script
   pub none : (element : ℕ) → many ≤ element → part_of bases had element script ≡ []
   pub placed : ArePlaced bases had script
 
--- The setup of a script led from the one memory to the other. These are its orders then, for some bases of its names.
-abbrev pub HasOrders : Bool → Contents → Contents → List ℕ → List Order → Type 0
-HasOrders once old new text orders = (bases : List ℕ)
-    × AreOrders once new (settled_when once old) bases (script_heard text) (map ask_of orders)
+-- The setup of a script led from the one memory to the other, and its names stand for these bases. These are its orders
+-- then.
+abbrev pub HasOrders : Bool → Contents → Contents → List ℕ → List ℕ → List Order → Type 0
+HasOrders once old new bases text orders =
+    AreOrders once new (settled_when once old) bases (script_heard text) (map ask_of orders)
 
 -- ---- while it is read
 

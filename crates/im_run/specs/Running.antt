@@ -14,6 +14,7 @@ use Rattle.std.specs.Prelude.{
   codes,
   decimal,
   false,
+  true,
   length,
   Option,
   None,
@@ -41,6 +42,7 @@ use Rattle.im_disk.specs.Since.{Leaves, LeavesNow}
 use Rattle.im_engine.specs.State.{EngineState, MeansState}
 use Rattle.im_engine.specs.Run.{MeansBeginning, MeansWithOrWithout}
 use Rattle.im_controller.specs.Kept.{Begun, HasKept, accepted_in, begun_in}
+use Rattle.im_serial.specs.Asked.{Wanted}
 use Rattle.im_serial.specs.Serving.{MeansAtLeast, NotOpened}
 use Rattle.im_text.specs.declared.lines.Lines.{Lines}
 use Rattle.im_text.specs.declared.reasons.Reason.{Reason}
@@ -53,7 +55,8 @@ use Rattle.im_run.specs.declared.run.TheConstants.{STALLED}
 use Rattle.im_run.specs.declared.served.Did.{Did}
 use Rattle.im_run.specs.declared.served.Did.TheVariants.{Sent, Glanced}
 use Rattle.im_run.specs.Doing.{AreAllTold, HasToldScript}
-use Rattle.im_run.specs.Orders.{Ask}
+use Rattle.im_run.specs.Orders.{Ask, SetsUp}
+use Rattle.im_run.specs.Planned.{EndsOnPlan}
 use Rattle.im_run.specs.Tracing.{IsTraced, TraceState}
 
 -- the reason that a call of the disk failed
@@ -126,9 +129,9 @@ pub record ServedOn {D : Type 0} (now : D → Moment) (past : D → List Moment)
   pub kept : HasKept now past failures b m (accepted_in m trace) engine
 
 -- an engine's servers of these orders ended with this trace, the engine was closed, and this status was given
-pub record EndedOn {D : Type 0} (now : D → Moment) (past : D → List Moment) (failures : D → ℕ) (orders : List Ask)
-    (begun : EngineState D) (disk : D) (was : Option (List ℕ)) (before : Lines) (is : Option (List ℕ))
-    (trace : List Line) (status : ℕ) : Type 0 where
+pub record EndedOn {D : Type 0} (now : D → Moment) (past : D → List Moment) (failures : D → ℕ) (planned : Bool)
+    (orders : List Ask) (begun : EngineState D) (disk : D) (was : Option (List ℕ)) (before : Lines)
+    (is : Option (List ℕ)) (trace : List Line) (status : ℕ) : Type 0 where
   pub engine : EngineState D
   pub disk_is : disk ≡ engine.disk
   pub served : ServedOn now past failures (begun_in now past failures begun) begun.memory trace engine
@@ -136,7 +139,14 @@ pub record EndedOn {D : Type 0} (now : D → Moment) (past : D → List Moment) 
   pub means : engine.failed ≡ false → LeavesNow (now disk) (MeansState engine)
   pub did : List Did
   pub told : AreAllTold begun.memory trace (status ≡ 0) orders did
+  pub as_planned : planned ≡ true → EndsOnPlan begun.memory orders trace engine.memory (status ≡ 0)
   pub printed : Closes was before is engine.memory did status
+
+-- the same of an engine that works, and of a disk that is honest at the end
+abbrev pub EndsServing : {D : Type 0} → Ghosts D → Bool → List Ask → EngineState D → D → Option (List ℕ) → Lines
+    → Option (List ℕ) → List Line → ℕ → Type 0
+EndsServing disk planned orders begun new was before is trace status = disk.honest new → begun.failed ≡ false
+    → EndedOn disk.now disk.past disk.failures planned orders begun new was before is trace status
 
 -- Since the image was opened these commands were put on it: those of the setup, then those of the elements' servers.
 -- Each was accepted in its turn. All were acknowledged but those in doubt. There are commands in doubt only if a call
@@ -171,14 +181,16 @@ pub record Says {D : Type 0} (now : D → Moment) (start : EngineState D) (new :
   pub whole : status ≡ 0
       → Appends was is (replies start.memory setup ++ finals (after start.memory told) did (length did))
 
--- This is told of a script. It is told of all that its parts ask for, if the status is 0. Nothing is told of it if its
--- setup wasn't served, and then the status isn't 0.
-abbrev pub TellsScript : Bool → Contents → List ℕ → List Command → List Line → ℕ → List Did → Type 0
-TellsScript once start text setup trace status did = HasToldScript once start text setup trace (status ≡ 0) did
-    ⊎ ((did ≡ []) × (status ≡ 0 → ⊥))
+-- This is told of a script, of all that its parts ask for if the status is 0: its setup was served whole, and its parts
+-- with this trace, up to that memory. Or its setup was ended, at some block: nothing is told of it, and the status is
+-- not 0.
+abbrev pub TellsScript : Bool → Bool → Contents → List ℕ → List Command → List Line → Contents → ℕ → List Did → Type 0
+TellsScript once planned start text setup trace end status did =
+    HasToldScript once planned start text setup trace end (status ≡ 0) did
+    ⊎ ((left : List Wanted) × SetsUp once start text setup left × (did ≡ []) × (status ≡ 0 → ⊥))
 
 -- An engine was closed, and this status was given, after a run of a script on it with these calls.
-pub record RunOn {D : Type 0} (now : D → Moment) (past : D → List Moment) (failures : D → ℕ) (once : Bool)
+pub record RunOn {D : Type 0} (now : D → Moment) (past : D → List Moment) (failures : D → ℕ) (once planned : Bool)
     (text : List ℕ) (start : EngineState D) (disk : D) (was is : Option (List ℕ)) (calls : TraceState)
     (status : ℕ) : Type 0 where
   pub setup : List Command
@@ -188,11 +200,18 @@ pub record RunOn {D : Type 0} (now : D → Moment) (past : D → List Moment) (f
   pub settles : Settles now start disk told doubt status
   pub printed : Says now start disk setup told doubt was is status
   pub traced : IsTraced start.memory setup told calls
-  pub tells : TellsScript once start.memory text setup calls.served status printed.did
+  pub tells : TellsScript once planned start.memory text setup calls.served (after start.memory told) status
+      printed.did
+
+-- the same of a disk that is honest at the end
+abbrev pub EndsRun : {D : Type 0} → Ghosts D → Bool → Bool → List ℕ → EngineState D → D → Option (List ℕ)
+    → Option (List ℕ) → TraceState → ℕ → Type 0
+EndsRun disk once planned text start new was is calls status = disk.honest new
+    → RunOn disk.now disk.past disk.failures once planned text start new was is calls status
 
 -- The image was opened, with the meaning of a file that a crash could leave then, and a script was run on it, once or
--- anew.
-pub record RanOn {D : Type 0} (now : D → Moment) (past : D → List Moment) (failures : D → ℕ) (once : Bool)
+-- anew, by a plan or freely.
+pub record RanOn {D : Type 0} (now : D → Moment) (past : D → List Moment) (failures : D → ℕ) (once planned : Bool)
     (text : List ℕ) (old new : D) (was is : Option (List ℕ)) (calls : TraceState) (status : ℕ) : Type 0 where
   pub start : EngineState D
   pub found : (file : List ℕ) × Left (now old) file × MeansState start file
@@ -203,13 +222,22 @@ pub record RanOn {D : Type 0} (now : D → Moment) (past : D → List Moment) (f
   pub settles : Settles now start new told doubt status
   pub printed : Says now start new setup told doubt was is status
   pub traced : IsTraced start.memory setup told calls
-  pub tells : TellsScript once start.memory text setup calls.served status printed.did
+  pub tells : TellsScript once planned start.memory text setup calls.served (after start.memory told) status
+      printed.did
 
--- A script was run on the image of a disk, or the image was not opened.
+-- A script was run on the image of a disk that is honest at the end, or the image was not opened. Nothing is said of a
+-- plan.
 abbrev pub RunsOn : {D : Type 0} → Ghosts D → List ℕ → D → D → Option (List ℕ) → Option (List ℕ) → TraceState → ℕ
     → Type 0
-RunsOn disk text old new was is calls status = NotOpened disk.now disk.past old new was is status
-    ⊎ RanOn disk.now disk.past disk.failures false text old new was is calls status
+RunsOn disk text old new was is calls status = disk.honest new → NotOpened disk.now disk.past old new was is status
+    ⊎ RanOn disk.now disk.past disk.failures false false text old new was is calls status
+
+-- If it was planned, it was run by the plan of the script's requests.
+abbrev pub RunsOnPlan : {D : Type 0} → Ghosts D → Bool → List ℕ → D → D → Option (List ℕ) → Option (List ℕ)
+    → TraceState → ℕ → Type 0
+RunsOnPlan disk planned text old new was is calls status = planned ≡ true → disk.honest new
+    → NotOpened disk.now disk.past old new was is status
+    ⊎ RanOn disk.now disk.past disk.failures false true text old new was is calls status
 
 -- The same of some script, and of a disk that is at this moment, and has no moment before it; or the image was not
 -- opened.
@@ -219,7 +247,8 @@ pub record RanFrom {D : Type 0} (now : D → Moment) (past : D → List Moment) 
   pub begins : now old ≡ first
   pub none : past old ≡ []
   pub text : List ℕ
-  pub run : NotOpened now past old new was is status ⊎ RanOn now past failures false text old new was is calls status
+  pub run : NotOpened now past old new was is status
+      ⊎ RanOn now past failures false false text old new was is calls status
 
 -- At the end each file that a crash may leave means one memory. If the status is 0, what was printed is the setup's
 -- lines, then the lines of what was done: of the requests that were sent, each with its final entry in that memory, and

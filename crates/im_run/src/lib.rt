@@ -3,6 +3,7 @@
 //! The crate stands on `im_serving`. The setup is served first, through the engine.
 #![tactic(auto)]
 
+mod closing;
 mod deeds;
 mod noting;
 mod numbering;

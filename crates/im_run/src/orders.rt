@@ -2,9 +2,10 @@
 ghost use Rattle.std.specs.Prelude.{◌≡◌, ◌==◌, ◌++◌, ◌∷◌, [], OnOk, IfOk, false, if◌then◌else◌};
 ghost use mathlib.Core.List.{IsPrefix};
 ghost use Rattle.im_script.specs.declared.script.Heard.TheVariants.{Says};
-ghost use Rattle.im_serial.specs.Serving.{ServesOrEnds, at};
+ghost use Rattle.im_serial.specs.Asked.{wanted_by};
+ghost use Rattle.im_serial.specs.Serving.{ServedBy};
 ghost use Rattle.im_run.specs.Orders.{AddsGlance, AddsRequest, HasAdded, HasHeard, HasOrders, HasReadTo};
-ghost use Rattle.im_run.specs.Orders.{script_heard, settled_by};
+ghost use Rattle.im_run.specs.Orders.{blocks_asked, blocks_of, line_blocks, script_heard, settled_by};
 
 use crate::noting::note_block;
 use crate::numbering::number_orders;
@@ -72,22 +73,7 @@ fn add_glance(
     }
 }
 
-// Keeps the last of these bases, for the names of the parts.
-fn keep_base(sheet: &mut Sheet, bases: &[u32]) -> Result<(), Reason>
-    ensures orders { sheet.new.orders.items ≡ sheet.old.orders.items }
-    ensures past { settled_by sheet.new.past ≡ settled_by sheet.old.past }
-    ensures longer { IsPrefix sheet.old.bases.items sheet.new.bases.items }
-{
-    let Some(base) = bases.last() else {
-        return Ok(());
-    };
-    match sheet.bases.push(*base) {
-        Ok(()) => Ok(()),
-        Err(_) => Err(Reason::Memory),
-    }
-}
-
-// Makes a block of the setup, notes what was served for it, and keeps its base.
+// Makes a block of the setup, and notes what was served for it.
 fn make_block<D: Disk, W: Write, N: Observer>(
     server: &mut Server<D>,
     sheet: &mut Sheet,
@@ -95,12 +81,11 @@ fn make_block<D: Disk, W: Write, N: Observer>(
     out: &mut W,
     observer: &mut N,
 ) -> Result<(), Reason>
-    ensures serves { ServesOrEnds D.Disk result
-        (at server.old.engine (W.contents out.old) server.old.lines server.old.waited.items)
-        (at server.new.engine (W.contents out.new) server.new.lines server.new.waited.items) }
+    ensures served { ServedBy D.Disk (wanted_by (Said.Block block)) result server.old (W.contents out.old) server.new
+        (W.contents out.new) }
     ensures orders { sheet.new.orders.items ≡ sheet.old.orders.items }
     ensures past { settled_by sheet.new.past ≡ settled_by sheet.old.past }
-    ensures longer { IsPrefix sheet.old.bases.items sheet.new.bases.items }
+    ensures longer { OnOk result (IsPrefix server.old.bases.items server.new.bases.items) }
 {
     if sheet.setup.reserve(2).is_err() {
         return Err(Reason::Memory);
@@ -108,10 +93,7 @@ fn make_block<D: Disk, W: Write, N: Observer>(
     let window = server.engine.memory().window(0);
     let made = server.make_block(block, out, observer);
     note_block(&mut sheet.setup, server.engine.memory(), window);
-    match made {
-        Ok(()) => keep_base(sheet, server.bases.as_slice()),
-        Err(reason) => Err(reason),
-    }
+    made
 }
 
 // Does what a line says, but for a glance.
@@ -122,11 +104,10 @@ fn take_said<D: Disk, W: Write, N: Observer>(
     out: &mut W,
     observer: &mut N,
 ) -> Result<(), Reason>
-    ensures serves { ServesOrEnds D.Disk result
-        (at server.old.engine (W.contents out.old) server.old.lines server.old.waited.items)
-        (at server.new.engine (W.contents out.new) server.new.lines server.new.waited.items) }
-    ensures heard { OnOk result (HasHeard (settled_by sheet.old.past) (Says said) sheet.old.bases.items
-        sheet.new.bases.items sheet.old.orders.items sheet.new.orders.items (settled_by sheet.new.past)) }
+    ensures served { ServedBy D.Disk (line_blocks (settled_by sheet.old.past) (Says said)) result server.old
+        (W.contents out.old) server.new (W.contents out.new) }
+    ensures heard { OnOk result (HasHeard (settled_by sheet.old.past) (Says said) server.old.bases.items
+        server.new.bases.items sheet.old.orders.items sheet.new.orders.items (settled_by sheet.new.past)) }
 {
     if sheet.has(said) {
         return Ok(());
@@ -135,7 +116,7 @@ fn take_said<D: Disk, W: Write, N: Observer>(
         Said::Nothing => Ok(()),
         Said::Begins(_element) => Ok(()),
         Said::Block(block) => make_block(server, sheet, block, out, observer),
-        Said::Asks(line) => add_line(&mut sheet.orders, sheet.bases.as_slice(), line),
+        Said::Asks(line) => add_line(&mut sheet.orders, server.bases.as_slice(), line),
     }
 }
 
@@ -147,16 +128,15 @@ fn take_heard<D: Disk, W: Write, N: Observer>(
     out: &mut W,
     observer: &mut N,
 ) -> Result<(), Reason>
-    ensures serves { ServesOrEnds D.Disk result
-        (at server.old.engine (W.contents out.old) server.old.lines server.old.waited.items)
-        (at server.new.engine (W.contents out.new) server.new.lines server.new.waited.items) }
-    ensures heard { OnOk result (HasHeard (settled_by sheet.old.past) heard sheet.old.bases.items
-        sheet.new.bases.items sheet.old.orders.items sheet.new.orders.items (settled_by sheet.new.past)) }
+    ensures served { ServedBy D.Disk (line_blocks (settled_by sheet.old.past) heard) result server.old
+        (W.contents out.old) server.new (W.contents out.new) }
+    ensures heard { OnOk result (HasHeard (settled_by sheet.old.past) heard server.old.bases.items
+        server.new.bases.items sheet.old.orders.items sheet.new.orders.items (settled_by sheet.new.past)) }
 {
     match heard {
         Heard::Says(said) => take_said(server, sheet, said, out, observer),
         Heard::Glances(element, place) => {
-            add_glance(&mut sheet.orders, sheet.bases.as_slice(), element, place)
+            add_glance(&mut sheet.orders, server.bases.as_slice(), element, place)
         }
     }
 }
@@ -169,11 +149,10 @@ fn take_lines<D: Disk, W: Write, N: Observer>(
     out: &mut W,
     observer: &mut N,
 ) -> Result<(), Reason>
-    ensures serves { ServesOrEnds D.Disk result
-        (at server.old.engine (W.contents out.old) server.old.lines server.old.waited.items)
-        (at server.new.engine (W.contents out.new) server.new.lines server.new.waited.items) }
+    ensures served { ServedBy D.Disk (blocks_of (settled_by sheet.old.past) (script_heard script.now)) result
+        server.old (W.contents out.old) server.new (W.contents out.new) }
     ensures read { OnOk result (HasReadTo (settled_by sheet.old.past) (script_heard script.now) sheet.old.orders.items
-        (settled_by sheet.new.past) [] sheet.new.bases.items sheet.new.orders.items) }
+        (settled_by sheet.new.past) [] server.new.bases.items sheet.new.orders.items) }
 {
     let alloc = sheet.alloc;
     let mut reader = Reader::new(alloc);
@@ -205,11 +184,10 @@ fn set_up<D: Disk, W: Write, N: Observer>(
     out: &mut W,
     observer: &mut N,
 ) -> Result<(), Reason>
-    ensures serves { ServesOrEnds D.Disk result
-        (at server.old.engine (W.contents out.old) server.old.lines server.old.waited.items)
-        (at server.new.engine (W.contents out.new) server.new.lines server.new.waited.items) }
+    ensures served { ServedBy D.Disk (blocks_of (settled_by sheet.old.past) (script_heard script.now)) result
+        server.old (W.contents out.old) server.new (W.contents out.new) }
     ensures read { OnOk result (HasReadTo (settled_by sheet.old.past) (script_heard script.now) sheet.old.orders.items
-        (settled_by sheet.new.past) [] sheet.new.bases.items sheet.new.orders.items) }
+        (settled_by sheet.new.past) [] server.new.bases.items sheet.new.orders.items) }
 {
     match take_lines(server, sheet, script, out, observer) {
         Ok(()) => server.lines.flush(out),
@@ -218,8 +196,9 @@ fn set_up<D: Disk, W: Write, N: Observer>(
 }
 
 /// Serves the setup of a script, and prints its lines at once. Returns what each element asks for in the script's
-/// lines, from the least element, and the setup's calls with their answers. Nothing after the setup is served. A name
-/// stands for its block's base; no clause says which one that is.
+/// lines, from the least element, and the setup's calls with their answers. Nothing after the setup is served. The
+/// blocks of the setup are element 0's next requests, in their order; a name stands for the base in its block's answer,
+/// and for the one that the server knew.
 ///
 /// If the script is done once, a block that the memory has isn't made again, and an element doesn't ask for what is
 /// settled: its requests before the first that waits. Those from that one on are asked for again, under their numbers.
@@ -233,14 +212,13 @@ pub fn read_orders<D: Disk, W: Write, N: Observer>(
     out: &mut W,
     observer: &mut N,
 ) -> (Result<Vec<Order>, Reason>, Vec<Line>)
-    ensures serves { ServesOrEnds D.Disk result.0
-        (at server.old.engine (W.contents out.old) server.old.lines server.old.waited.items)
-        (at server.new.engine (W.contents out.new) server.new.lines server.new.waited.items) }
+    ensures served { ServedBy D.Disk
+        (blocks_asked asked.entry.once server.old.engine.memory asked.entry.script.now) result.0 server.old
+        (W.contents out.old) server.new (W.contents out.new) }
     ensures orders { IfOk result.0 (λ orders. HasOrders asked.entry.once server.old.engine.memory
-        server.new.engine.memory asked.entry.script.now orders.items) }
+        server.new.engine.memory server.new.bases.items asked.entry.script.now orders.items) }
 {
-    let known = server.bases.as_slice();
-    let Ok(mut sheet) = Sheet::new(alloc, server.engine.memory(), asked.once, known) else {
+    let Ok(mut sheet) = Sheet::new(alloc, server.engine.memory(), asked.once) else {
         return (Err(Reason::Memory), Vec::new(alloc));
     };
     match set_up(server, &mut sheet, asked.script, out, observer) {

@@ -1,5 +1,7 @@
 //! A script's requests as a plan.
-ghost use Rattle.std.specs.Prelude.{◌≡◌, ◌≤◌, IfOk, IfErr, IfSome, IsSome, IfNone, length, true};
+ghost use Rattle.std.specs.Prelude.{◌≡◌, ◌≤◌, ◌++◌, IfOk, IfErr, IfSome, IfNone, OnOk, Some, length, map, true};
+ghost use Rattle.im_run.specs.Orders.{ask_of};
+ghost use Rattle.im_run.specs.Planned.{number_behind, plan_of, request_by, requests_from};
 ghost use Rattle.im_run.specs.Running.{AreThere};
 
 use crate::sheet::Order;
@@ -10,8 +12,8 @@ use im_memory::Memory;
 use im_planning::Plan;
 use im_serving::Intent;
 use im_text::Reason;
-use im_types::{Cell, Kind, Op, Refusal, Request};
-use std::alloc::{AllocError, Global};
+use im_types::{Cell, Kind, Op, Refusal, Request, WINDOW};
+use std::alloc::Global;
 use std::collections::BTreeSet;
 use std::sync::Wait;
 
@@ -28,27 +30,62 @@ fn missing_element(memory: &Memory, orders: &[Order]) -> Option<u16>
     None
 }
 
-// Adds an element's requests, from its next number on. Glances aren't among them.
-fn add_requests(requests: &mut Vec<Request>, order: &Order) -> Result<(), AllocError> {
+// Adds what an element asks for under a number, if it is a request. Returns the number of its next request. Returns
+// `BadPlan` if there is none, and `NoMemory`.
+fn add_request(
+    requests: &mut Vec<Request>,
+    element: u16,
+    number: u64,
+    intent: Intent,
+) -> Result<u64, Refusal>
+    ensures added { OnOk result (requests.new.items ≡ requests.old.items ++ request_by element number intent) }
+    ensures next { IfOk result (λ next. next ≡ number_behind number intent) }
+{
+    let op = match intent {
+        Intent::Request(op) => op,
+        Intent::Glance(_address) => return Ok(number),
+    };
+    let Some(next) = number.checked_add(1) else {
+        return Err(Refusal::BadPlan); // No plan has the last number.
+    };
+    let request = Request {
+        element,
+        number,
+        op,
+    };
+    match requests.push(request) {
+        Ok(()) => Ok(next),
+        Err(_) => Err(Refusal::NoMemory),
+    }
+}
+
+// Adds an element's requests, from its first number on. Glances aren't among them.
+fn add_requests(requests: &mut Vec<Request>, order: &Order) -> Result<(), Refusal>
+    ensures { OnOk result (requests.new.items
+        ≡ requests.old.items ++ requests_from order.now.element order.now.next order.now.intents.items) }
+{
+    let element = order.element;
+    let intents = order.intents.as_slice();
     let mut number = order.next;
-    for intent in order.intents.as_slice() {
-        if let Intent::Request(op) = *intent {
-            requests.push(Request {
-                element: order.element,
-                number,
-                op,
-            })?;
-            number = number.saturating_add(1);
+    for intent in intents {
+        match add_request(requests, element, number, *intent) {
+            Ok(next) => number = next,
+            Err(refusal) => return Err(refusal),
         }
     }
     Ok(())
 }
 
 // Returns the requests of all elements, under the numbers that they will have.
-fn requests_of(alloc: Global, orders: &[Order]) -> Result<Vec<Request>, AllocError> {
+fn requests_of(alloc: Global, orders: &[Order]) -> Result<Vec<Request>, Refusal>
+    ensures { IfOk result (λ requests. requests.items ≡ plan_of (map ask_of orders.now)) }
+{
     let mut requests = Vec::new(alloc);
     for order in orders {
-        add_requests(&mut requests, order)?;
+        match add_requests(&mut requests, order) {
+            Ok(()) => {}
+            Err(refusal) => return Err(refusal),
+        }
     }
     Ok(requests)
 }
@@ -89,15 +126,21 @@ fn bad_plan(alloc: Global, memory: &Memory, orders: &[Order]) -> Reason {
     Reason::Request(element, Refusal::BadPlan) // Its numbers reach the last that there is.
 }
 
-// Makes the plan of these orders.
-fn plan_of(alloc: Global, memory: &Memory, orders: &[Order]) -> Result<Plan, Reason> {
-    let Ok(requests) = requests_of(alloc, orders) else {
-        return Err(Reason::Memory);
-    };
-    match Plan::new(alloc, requests) {
-        Ok(plan) => Ok(plan),
-        Err(Refusal::BadPlan) => Err(bad_plan(alloc, memory, orders)),
-        Err(_) => Err(Reason::Memory),
+// Makes the plan of these orders: all their requests.
+fn make_plan(alloc: Global, orders: &[Order]) -> Result<Plan, Refusal>
+    ensures { IfOk result (λ plan. plan ≡ plan_of (map ask_of orders.now)) }
+{
+    match requests_of(alloc, orders) {
+        Ok(requests) => Plan::new(alloc, requests),
+        Err(refusal) => Err(refusal),
+    }
+}
+
+// Returns why a run under the plan of these orders doesn't begin.
+fn plan_fault(alloc: Global, memory: &Memory, orders: &[Order], refusal: Refusal) -> Reason {
+    match refusal {
+        Refusal::BadPlan => bad_plan(alloc, memory, orders),
+        _ => Reason::Memory,
     }
 }
 
@@ -109,17 +152,22 @@ fn begin_planned<D: Disk + Drop, R: Wait>(
     orders: &[Order],
     room: usize,
 ) -> Result<Opening<D>, (Reason, Engine<D>)>
-    ensures found { IfOk result (λ o. (o.engine ≡ engine) × IsSome o.plan) }
+    ensures found { IfOk result (λ o. (o.engine ≡ engine) × (o.plan ≡ Some (plan_of (map ask_of orders.now)))) }
     ensures same { IfErr result (λ e. e.1 ≡ engine) }
 {
-    let plan = match plan_of(alloc, engine.memory(), orders) {
+    let plan = match make_plan(alloc, orders) {
         Ok(plan) => plan,
-        Err(reason) => return Err((reason, engine)),
+        Err(refusal) => {
+            let reason = plan_fault(alloc, engine.memory(), orders, refusal);
+            return Err((reason, engine));
+        }
     };
     match start_planned(rt, alloc, engine, plan, room) {
         Ok(opening) => Ok(opening),
-        Err((Refusal::BadPlan, engine)) => Err((bad_plan(alloc, engine.memory(), orders), engine)),
-        Err((_, engine)) => Err((Reason::Memory, engine)),
+        Err((refusal, engine)) => {
+            let reason = plan_fault(alloc, engine.memory(), orders, refusal);
+            Err((reason, engine))
+        }
     }
 }
 
@@ -139,27 +187,40 @@ fn begin_free<D: Disk + Drop, R: Wait>(
     }
 }
 
+// How many lines the trace has room for: as many as servers leave at most. A request leaves one line when it is asked
+// for and one when it is found answered. If its window is full, there are two more before it: a confirmation, and an
+// entry that still waits. Each entry that an element's window had before leaves one line when it is found answered.
+// Glances leave none, but are counted too.
+fn trace_room(orders: &[Order], elements: u16) -> usize {
+    let mut room = (elements as usize).saturating_mul(WINDOW as usize);
+    for order in orders {
+        room = room.saturating_add(order.intents.len().saturating_mul(4));
+    }
+    room
+}
+
 /// Makes room for what the elements ask for, before any thread starts. Returns `NoElement` if one of the elements
 /// doesn't exist.
 ///
-/// If the run is planned, it then returns `BadPlan` if the requests make no plan. They make none if a request is no
-/// fetch or store, or two requests store to one address. They also make none if a cell that a request names isn't empty
-/// or has a waiter, or a number lies past the last one.
+/// If the run is planned, its plan is of all requests of the orders. It then returns `BadPlan` if they make no plan:
+/// a request is no fetch or store, two requests store to one address, a cell that a request names isn't empty or has a
+/// waiter, or a number lies past the last one.
 pub fn begin<D: Disk + Drop, R: Wait>(
     rt: &R,
     alloc: Global,
     engine: Engine<D>,
     orders: &[Order],
-    room: usize,
     planned: bool,
 ) -> Result<Opening<D>, (Reason, Engine<D>)>
-    ensures found { IfOk result (λ o. (o.engine ≡ engine) × (planned ≡ true → IsSome o.plan)) }
+    ensures found { IfOk result (λ o. o.engine ≡ engine) }
+    ensures plan { IfOk result (λ o. planned ≡ true → o.plan ≡ Some (plan_of (map ask_of orders.now))) }
     ensures there { IfOk result (λ _. AreThere engine.memory orders.now) }
     ensures same { IfErr result (λ e. e.1 ≡ engine) }
 {
     if let Some(element) = missing_element(engine.memory(), orders) {
         return Err((Reason::Request(element, Refusal::NoElement), engine));
     }
+    let room = trace_room(orders, engine.memory().elements());
     if planned {
         return begin_planned(rt, alloc, engine, orders, room);
     }

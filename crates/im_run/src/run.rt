@@ -1,27 +1,24 @@
 //! A script on the image of a disk, from opening to end.
-ghost use Rattle.std.specs.Prelude.{◌≡◌, ◌⊎◌, ◌≤◌, [], None, false, map, IsOk};
-ghost use Rattle.im_disk.specs.Since.{LeavesNow};
-ghost use Rattle.im_engine.specs.State.{MeansState};
-ghost use Rattle.im_serial.specs.Serving.{at};
-ghost use Rattle.im_run.specs.Orders.{ask_of};
-ghost use Rattle.im_run.specs.Running.{Closes, EndedOn, Ran, RunOn, RunsOn, disk_failed, told_as};
+ghost use Rattle.std.specs.Prelude.{◌≡◌, ◌⊎◌, ◌≤◌, None, false, map, IsOk};
+ghost use Rattle.im_serial.specs.Serving.{seen_by};
+ghost use Rattle.im_run.specs.Orders.{ask_of, bases_first};
+ghost use Rattle.im_run.specs.Running.{EndsRun, EndsServing, Ran, RunsOn, RunsOnPlan};
 ghost use Rattle.im_run.specs.Setup.{CanServe};
 
+use crate::closing::close;
 use crate::orders::read_orders;
 use crate::planned::begin;
-use crate::served::{Did, Outcome, serve_orders};
+use crate::served::{Outcome, serve_orders};
 use crate::sheet::{Commission, Order};
-use crate::telling::print_finals;
 use crate::tracing::Trace;
 use im_controller::Traced;
-use im_damage::Damage;
 use im_disk::Disk;
 use im_engine::Engine;
 use im_script::Script;
 use im_serial::{Desk, Paper, Server};
 use im_serving::{Gate, Watcher};
-use im_text::{Observer, Progress, Reason, diagnose, end, finish};
-use im_types::{Entry, Refusal, WINDOW};
+use im_text::{Observer, Reason, diagnose, end};
+use im_types::Refusal;
 use std::alloc::Global;
 use std::io::Write;
 use std::marker::Brand;
@@ -31,18 +28,6 @@ use std::thread::Threads;
 /// The status of a run in which servers waited for each other and nothing else was refused.
 pub const STALLED: u8 = 3;
 
-// How many lines the trace has room for: as many as servers leave at most. A request leaves one line when it is asked
-// for and one when it is found answered. If its window is full, there are two more before it: a confirmation, and an
-// entry that still waits. Each entry that an element's window had before leaves one line when it is found answered.
-// Glances leave none, but are counted too.
-fn trace_room(orders: &[Order], elements: u16) -> usize {
-    let mut room = (elements as usize).saturating_mul(WINDOW as usize);
-    for order in orders {
-        room = room.saturating_add(order.intents.len().saturating_mul(4));
-    }
-    room
-}
-
 // Returns the refusal of the servers as a reason, if there is one.
 fn reason_of(refused: Option<(u16, Refusal)>) -> Result<(), Reason>
     ensures none { IsOk result → refused ≡ None }
@@ -51,125 +36,6 @@ fn reason_of(refused: Option<(u16, Refusal)>) -> Result<(), Reason>
         None => Ok(()),
         Some((element, refusal)) => Err(Reason::Request(element, refusal)),
     }
-}
-
-// Returns whether the run ended only because servers wait for each other.
-fn is_stalled(done: &Result<(), Reason>) -> bool {
-    matches!(done, Err(Reason::Request(_, Refusal::Stalled)))
-}
-
-// The reason that a call of the disk failed.
-fn disk_failed() -> Reason
-    ensures { result ≡ disk_failed }
-{
-    Reason::Image(Refusal::Device, Damage::Unknown)
-}
-
-// Returns the reason that the run ended. If the disk failed, and there is no other reason or only a wait, the disk's
-// failure is the reason.
-fn with_disk(done: Result<(), Reason>, failed: bool) -> Result<(), Reason>
-    ensures done { IsOk result → IsOk done }
-{
-    if failed && (done.is_ok() || is_stalled(&done)) {
-        return Err(disk_failed());
-    }
-    done
-}
-
-/// An observer in front of another one. It tells that a call of the disk failed if a request is refused because it came
-/// after that call.
-#[derive(Drop)]
-struct Behind<'a, N> {
-    observer: &'a mut N,
-}
-
-impl<N: Observer> Observer for Behind<'_, N> {
-    fn answered(&mut self, element: u16, number: u64, entry: Entry) {
-        self.observer.answered(element, number, entry);
-    }
-
-    fn progressed(&mut self, progress: Progress) {
-        self.observer.progressed(progress);
-    }
-
-    fn refused(&mut self, reason: Reason) {
-        self.observer.refused(told_as(reason));
-    }
-}
-
-// Returns the reason that the observer is told.
-fn told_as(reason: Reason) -> Reason
-    ensures { result ≡ told_as reason }
-{
-    match reason {
-        Reason::Request(_, Refusal::Failed) => disk_failed(),
-        other => other,
-    }
-}
-
-// Returns the first refusal, if there is one.
-fn both(served: Result<(), Reason>, told: Result<(), Reason>) -> Result<(), Reason>
-    ensures served { IsOk result → IsOk served }
-    ensures told { IsOk result → IsOk told }
-{
-    match served {
-        Ok(()) => told,
-        Err(reason) => Err(reason),
-    }
-}
-
-// Returns the status. It is 1 if the disk failed.
-fn status_of(failed: bool, stalled: bool, status: u8) -> u8
-    requires { status ≤ 1 }
-    ensures status { (result ≤ 1) ⊎ (result ≡ STALLED) }
-    ensures works { (result ≡ 0) ⊎ (result ≡ STALLED) → failed ≡ false }
-    ensures done { result ≡ 0 → status ≡ 0 }
-{
-    if failed {
-        1
-    } else if stalled {
-        STALLED
-    } else {
-        status
-    }
-}
-
-/// Prints the lines of what was done, and the refusal. Returns the status and the engine's disk.
-pub(crate) fn close<D: Disk, W: Write, N: Observer>(
-    alloc: Global,
-    engine: Engine<D>,
-    did: Vec<Did>,
-    done: Result<(), Reason>,
-    mut paper: Paper,
-    out: &mut W,
-    observer: &mut N,
-) -> (u8, D)
-    ensures status { (result.0 ≤ 1) ⊎ (result.0 ≡ STALLED) }
-    ensures disk { result.1 ≡ engine.disk }
-    ensures works { (result.0 ≡ 0) ⊎ (result.0 ≡ STALLED) → engine.failed ≡ false }
-    ensures means { D.honest result.1 → engine.failed ≡ false → LeavesNow (D.now result.1) (MeansState engine) }
-    ensures done { result.0 ≡ 0 → IsOk done }
-    ensures printed { Closes (W.contents out.old) paper.lines (W.contents out.new) engine.memory did.items result.0 }
-{
-    let failed = engine.failed();
-    let ended = with_disk(done, failed);
-    let told = print_finals(
-        engine.memory(),
-        did.as_slice(),
-        &mut paper.line,
-        &mut paper.lines,
-        out,
-    );
-    let stalled = is_stalled(&ended);
-    let status = finish(
-        alloc,
-        both(ended, told),
-        &mut paper.lines,
-        &mut paper.line,
-        out,
-        &mut Behind { observer },
-    );
-    (status_of(failed, stalled, status), engine.close())
 }
 
 // Serves what each element asks for on an engine. Returns the status, the engine's disk, and the calls in the order of
@@ -194,14 +60,12 @@ fn serve_on<
     planned: bool,
 ) -> (u8, D, Vec<Traced>)
     ensures status { (result.0 ≤ 1) ⊎ (result.0 ≡ STALLED) }
-    ensures ended { D.honest result.1 → engine.failed ≡ false
-        → EndedOn D.now D.past D.failures (map ask_of orders.items) engine result.1 (W.contents out.old) paper.lines
-        (W.contents out.new) result.2.items result.0 }
+    ensures ended { EndsServing D.Disk planned (map ask_of orders.items) engine result.1 (W.contents out.old)
+        paper.lines (W.contents out.new) result.2.items result.0 }
     ensures honest { D.honest result.1 → D.honest engine.disk }
 {
     let none = Vec::new(alloc);
-    let room = trace_room(orders.as_slice(), engine.memory().elements());
-    match begin(rt, alloc, engine, orders.as_slice(), room, planned) {
+    match begin(rt, alloc, engine, orders.as_slice(), planned) {
         Ok(opening) => {
             let Outcome {
                 engine,
@@ -240,10 +104,11 @@ pub(crate) fn run_server<
     observer: &mut N,
     planned: bool,
 ) -> (u8, D, Trace)
-    requires ready { CanServe D.Disk (at server.engine (W.contents out.old) server.lines server.waited.items) }
+    requires ready { CanServe D.Disk (seen_by server (W.contents out.old)) }
+    requires bases { server.bases.items
+        ≡ bases_first asked.entry.once server.engine.memory asked.entry.script.now }
     ensures status { (result.0 ≤ 1) ⊎ (result.0 ≡ STALLED) }
-    ensures run { D.honest result.1
-        → RunOn D.now D.past D.failures asked.entry.once asked.entry.script.now server.engine result.1
+    ensures run { EndsRun D.Disk asked.entry.once planned asked.entry.script.now server.engine result.1
         (W.contents out.old) (W.contents out.new) result.2 result.0 }
     ensures honest { D.honest result.1 → D.honest server.engine.disk }
 {
@@ -307,11 +172,19 @@ pub(crate) fn run_server<
 /// in the order of the lock. What the servers were answered is legal from the memory after the setup, and the commands
 /// that were accepted are those that were put on the image behind the setup's.
 ///
+/// The setup's commands are, confirmations aside, the requests of the script's blocks: element 0's, in their order,
+/// each with its next number. They are the first ones, and all if the status is 0. A name stands for the base in its
+/// block's answer. Nothing comes behind a block that isn't made.
+///
 /// What the elements' lines tell is of the script: of each element, from the least, a prefix of what its lines ask for,
 /// in their order, and all of it if the status is 0. Its requests have the numbers from its next one on. A request's
 /// line with its number and its operation stands in the trace: its entry is the answer there, or what was found later
-/// under that number. What a glance tells was seen by its element's reader. No clause says which bases the names stand
-/// for.
+/// under that number. What a glance tells was seen by its element's reader.
+///
+/// If the run is planned, the plan is of all requests of the script's parts. It fits the memory after the setup. At the
+/// end the entry that is kept for a request has its result by the plan, or it waits. If the status is 0, all requests
+/// were served, and the memory after the setup and the plan alone say what is kept for them. If the requests make no
+/// plan that fits, none is served.
 ///
 /// If the status is 0 or 3, each file that a crash may leave at the return means one memory. If it is 0, all lines are
 /// written. The elements' lines tell the entries that this memory keeps, or what a server was told of an entry that it
@@ -337,8 +210,9 @@ pub fn run_on<
     ensures status { (result.0 ≤ 1) ⊎ (result.0 ≡ STALLED) }
     ensures ran { D.honest result.1 → (result.0 ≡ 0) ⊎ (result.0 ≡ STALLED)
         → Ran D.now result.1 (W.contents out.old) (W.contents out.new) result.0 }
-    ensures run { D.honest result.1
-        → RunsOn D.Disk script.now disk result.1 (W.contents out.old) (W.contents out.new) result.2 result.0 }
+    ensures run { RunsOn D.Disk script.now disk result.1 (W.contents out.old) (W.contents out.new) result.2 result.0 }
+    ensures planned { RunsOnPlan D.Disk planned script.now disk result.1 (W.contents out.old) (W.contents out.new)
+        result.2 result.0 }
     ensures honest { D.honest result.1 → D.honest disk }
 {
     let Ok(desk) = Desk::new(alloc) else {

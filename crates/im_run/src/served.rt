@@ -3,6 +3,7 @@ ghost use Rattle.std.specs.Prelude.{◌≡◌, ◌∷◌, [], ℕ, List, IfOk, I
 ghost use Rattle.im_types.specs.Trace.{IsLegal, end_of};
 ghost use Rattle.im_types.specs.declared.commands.Line.{Line};
 ghost use Rattle.im_controller.specs.Kept.{begun_in};
+ghost use Rattle.im_controller.specs.Planned.{EndsBy};
 ghost use Rattle.im_run.specs.Doing.{AddsLines, AreAllNoted, AreAllTold, HaveSeen, NotesEnd, elements_at_end};
 ghost use Rattle.im_run.specs.Orders.{ask_of};
 ghost use Rattle.im_run.specs.Running.{ServedOn};
@@ -199,6 +200,7 @@ fn note_all<K: Name>(
 ///
 /// What is told is, for each order in its turn, a prefix of what it asks for, and all of it if nothing was refused.
 /// Each request has its own number. Its entry is its answer in the trace, or what was found later under that number.
+/// Under a plan, the memory at the end is as the plan says.
 pub fn serve_orders<
     D: Disk + Drop + Send,
     K: Name + Send + Sync,
@@ -223,6 +225,7 @@ pub fn serve_orders<
     requires honest { D.honest opening.engine.disk → K.honest }
     ensures legal { IsLegal K.memory result.trace.items }
     ensures end { end_of K.memory result.trace.items ≡ result.engine.memory }
+    ensures planned { EndsBy K.memory K.plan result.engine.memory }
     ensures kept { D.honest result.engine.disk → K.begun.failed ≡ false
         → ServedOn D.now D.past D.failures K.begun K.memory result.trace.items result.engine }
     ensures honest { D.honest result.engine.disk → K.honest }

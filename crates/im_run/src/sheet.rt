@@ -39,8 +39,6 @@ pub struct Sheet {
     pub orders: Vec<Order>,
     /// The calls of the setup.
     pub setup: Vec<Line>,
-    /// The base of each block of the setup that has a name so far.
-    pub bases: Vec<u32>,
     /// What is settled of the lines that weren't read yet, if the script is done once.
     pub past: Option<Past>,
 }
@@ -51,26 +49,18 @@ impl Sheet {
     ghost use Rattle.im_serial.specs.Had.{met_all, news};
     ghost use Rattle.im_run.specs.Orders.{AreInTurn, intents_at, settled_by, settled_when};
 
-    /// Starts with nothing read. These bases are known already.
-    pub fn new(
-        alloc: Global,
-        memory: &Memory,
-        once: bool,
-        known: &[u32],
-    ) -> Result<Sheet, AllocError>
+    /// Starts with nothing read.
+    pub fn new(alloc: Global, memory: &Memory, once: bool) -> Result<Sheet, AllocError>
         ensures settled { IfOk result (λ sheet. settled_by sheet.past ≡ settled_when once memory.now.contents) }
         ensures places { IfOk result (λ sheet. AreInTurn 0 sheet.orders.items) }
         ensures none { IfOk result (λ sheet. (element : ℕ) → intents_at sheet.orders.items element ≡ []) }
     {
         let past = settled(alloc, memory, once)?;
         let orders = no_orders(alloc)?;
-        let mut bases = Vec::new(alloc);
-        bases.extend_from_slice(known)?;
         Ok(Sheet {
             alloc,
             orders,
             setup: Vec::new(alloc),
-            bases,
             past,
         })
     }
@@ -79,7 +69,6 @@ impl Sheet {
     pub fn has(&mut self, said: Said) -> bool
         ensures setup { self.new.setup ≡ self.old.setup }
         ensures orders { self.new.orders.items ≡ self.old.orders.items }
-        ensures bases { self.new.bases.items ≡ self.old.bases.items }
         ensures new { result ≡ false → news (settled_by self.old.past) (wanted_by said) ≡ wanted_by said }
         ensures had { result ≡ true → news (settled_by self.old.past) (wanted_by said) ≡ [] }
         ensures left { settled_by self.new.past ≡ met_all (settled_by self.old.past) (wanted_by said) }

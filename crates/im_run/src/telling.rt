@@ -1,7 +1,7 @@
 //! Prints what was done.
-ghost use Rattle.std.specs.Prelude.{◌≡◌, ◌++◌, ℕ, OnOk, MatchResult, length, slice_get, string_bytes};
+ghost use Rattle.std.specs.Prelude.{◌≡◌, ◌++◌, OnOk, length, slice_get, string_bytes};
 ghost use Rattle.std.specs.Prelude.{Some};
-ghost use Rattle.im_text.specs.Printing.{PrintsMore, PrintsOn};
+ghost use Rattle.im_text.specs.Printing.{PrintsMore, Pushes};
 ghost use Rattle.im_run.specs.declared.served.Did.TheVariants.{Sent};
 ghost use Rattle.im_run.specs.Running.{PrintsFinals, final, final_line, finals, glance_line, seen_text};
 
@@ -85,10 +85,8 @@ fn print_final<W: Write>(
     lines: &mut Lines,
     out: &mut W,
 ) -> Result<(), Reason>
-    ensures more { MatchResult result
-        (λ _. PrintsMore (W.contents out.old) lines.old (W.contents out.new) lines.new
-        (final_line memory.now.contents did))
-        (λ _. PrintsOn (W.contents out.old) lines.old (W.contents out.new) lines.new) }
+    ensures more { Pushes result (W.contents out.old) lines.old (W.contents out.new) lines.new
+        (final_line memory.now.contents did) }
 {
     match make_final(line, memory, did) {
         Ok(()) => lines.push(out, line.as_str()),

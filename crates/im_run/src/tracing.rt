@@ -1,7 +1,7 @@
 //! The trace of a run: its calls in the order that was kept, each with its answer.
-ghost use Rattle.std.specs.Prelude.{◌≡◌, ◌++◌, [], OnOk, MatchResult, Some, length, slice_get, string_bytes};
+ghost use Rattle.std.specs.Prelude.{◌≡◌, ◌++◌, [], OnOk, Some, length, slice_get, string_bytes};
 ghost use Rattle.std.specs.Io.KnownBytes.{Appends};
-ghost use Rattle.im_text.specs.Printing.{Begins, PrintsMore, PrintsOn};
+ghost use Rattle.im_text.specs.Printing.{Begins, PrintsMore, Pushes};
 ghost use Rattle.im_run.specs.Tracing.{PrintsBeginning, call_text, lines_text, outcome_text, refusal_text};
 ghost use Rattle.im_run.specs.Tracing.{request_text, trace_line, trace_text};
 
@@ -110,9 +110,7 @@ fn print_call<W: Write>(
     lines: &mut Lines,
     out: &mut W,
 ) -> Result<(), Reason>
-    ensures more { MatchResult result
-        (λ _. PrintsMore (W.contents out.old) lines.old (W.contents out.new) lines.new (trace_line line))
-        (λ _. PrintsOn (W.contents out.old) lines.old (W.contents out.new) lines.new) }
+    ensures more { Pushes result (W.contents out.old) lines.old (W.contents out.new) lines.new (trace_line line) }
 {
     let Ok(()) = make_call(text, line) else {
         return Err(Reason::Memory);

@@ -16,7 +16,8 @@ use Rattle.im_script.specs.declared.script.Said.{Said}
 use Rattle.im_script.specs.Places.{op_of}
 use Rattle.im_script.specs.Script.{Draft}
 use Rattle.im_text.proofs.WindowLemmas.{bounds_found}
-use Rattle.im_serial.specs.Asked.{Course, Wanted, Leads, LeadsIf, Standing, HasReached, bases_by, number_next}
+use Rattle.im_serial.specs.Asked.{Course, HasNamed, HasReached, Leads, LeadsIf, NamesIf, Standing, Wanted}
+use Rattle.im_serial.specs.Asked.{bases_after, bases_by, number_next}
 use Rattle.im_serial.specs.Asked.{request_in, said_at, standing, wanted_by, wanted_in}
 
 -- ---- one request
@@ -94,10 +95,39 @@ stands_last m script bases w left put r it is = by_made (bases_by w (step (after
 pub stands_first : (m : Contents) (c : Course) → HasReached m (standing (Some c) c.first c.wanted) []
 stands_first m c = λ more last leads. leads
 
--- nothing is said of it
-pub stands_anywhere : (m : Contents) (bases : List ℕ) (left : List Wanted) (put : List Command) → HasReached m
-    (standing None bases left) put
-stands_anywhere m bases left put = λ more last leads. tt
+-- ---- for which bases its names stand
+
+-- a confirmation more
+pub named_confirmed : (m : Contents) (s : Standing) (put : List Command) (element upto : ℕ) → HasNamed m s put
+    → HasNamed m s (put ++ Confirm element upto ∷ [])
+named_confirmed m s put element upto it = λ more.
+    let c = Confirm element upto in
+    subst (λ (l : List Command). NamesIf m s.script l
+    (bases_after (after m (put ++ c ∷ [])) s.bases s.left more)) (sym (append_assoc put (c ∷ []) more))
+    (subst (λ (n : Contents). NamesIf m s.script (put ++ c ∷ more) (bases_after n s.bases s.left more))
+    (sym (after-append m put (c ∷ []))) (it (c ∷ more)))
+
+-- a request more
+pub named_asked : (m : Contents) (script : Option Course) (bases added : List ℕ) (w : Wanted) (left : List Wanted)
+    (put : List Command) (r : Request) → HasNamed m (standing script bases (w ∷ left)) put
+    → bases_by w (step (after m put) (Asks r)).answer ≡ Some added
+    → HasNamed m (standing script (bases ++ added) left) (put ++ Asks r ∷ [])
+named_asked m script bases added w left put r it made = λ more.
+    let c = Asks r in
+    subst (λ (l : List Command). NamesIf m script l
+    (bases_after (after m (put ++ c ∷ [])) (bases ++ added) left more)) (sym (append_assoc put (c ∷ []) more))
+    (subst (λ (n : Contents). NamesIf m script (put ++ c ∷ more) (bases_after n (bases ++ added) left more))
+    (sym (after-append m put (c ∷ [])))
+    (subst (λ (o : Option (List ℕ)). NamesIf m script (put ++ c ∷ more) (bases_after
+    (step (after m put) c).contents (bases ++ option_map_or (λ (b : List ℕ). b) o []) left more)) made (it (c ∷ more))))
+
+-- nothing more comes
+pub named_here : (m : Contents) (s : Standing) (put : List Command) → HasNamed m s put → NamesIf m s.script put s.bases
+named_here m s put it = subst (λ (l : List Command). NamesIf m s.script l s.bases) (append-nil put) (it [])
+
+-- nothing of a script was put
+pub named_first : (m : Contents) (c : Course) → HasNamed m (standing (Some c) c.first c.wanted) []
+named_first m c = λ more. refl
 
 -- what may have been put was put, or not
 pub put_or_not : (P : List Command → Type 0) (c : Command) (b : Bool) → P [] → P (c ∷ []) → P (if b then c ∷ [] else

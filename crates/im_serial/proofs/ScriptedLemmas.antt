@@ -2,7 +2,7 @@
 use Rattle.std.proofs.Common.{◌≡◌, ◌∙◌, ℕ, zero, suc, ◌⊎◌, inl, inr, Bool, true, false, ◌&&◌, List, [], ◌∷◌, ◌++◌}
 use Rattle.std.proofs.Common.{length, refl, sym, ap, ap₂, subst}
 use Rattle.std.proofs.Common.{append_assoc, append-nil, arith, ◌≤◌}
-use Rattle.std.specs.Prelude.{Option, Some, None, Result, Ok, Err, IsOk, IfOk, IfSome, OnOk, MatchResult, map}
+use Rattle.std.specs.Prelude.{Option, Some, None, Result, Ok, Err, IsOk, IfOk, IfSome, OnOk, map}
 use Rattle.std.specs.Prelude.{slice_get, if◌then◌else◌}
 use Rattle.std.specs.Borrow.{Bor}
 use Rattle.std.specs.Io.KnownBytes.{Appends}
@@ -42,14 +42,15 @@ use Rattle.im_text.proofs.PrintingLemmas.{prints_begins, prints_none, true_false
 use Rattle.im_serial.specs.declared.waits.Mark.{Mark}
 use Rattle.im_serial.specs.declared.waits.Mark.TheVariants.{Here}
 use Rattle.im_serial.specs.Noted.{AreKnown, AreLast, AreNoted, Notes, learnt, noted_if, notes, mark_place}
-use Rattle.im_serial.specs.Asked.{Course, Wanted, LeadsIf, Standing, HasReached, bases_by, earlier_in, standing}
-use Rattle.im_serial.specs.Asked.{said_at, wanted_by, wanted_in, wanted_of, whole_course}
+use Rattle.im_serial.specs.Asked.{Course, HasNamed, HasReached, LeadsIf, Standing, Wanted, bases_by, earlier_in}
+use Rattle.im_serial.specs.Asked.{said_at, standing, wanted_by, wanted_in, wanted_of, whole_course}
 use Rattle.im_serial.specs.Serving.{GoesWith, HaltsWith, GoesAt, HaltsAt, GoesOn, Halts, Keeps, Drops, Prepares}
-use Rattle.im_serial.specs.Serving.{at, ScriptServer, server_of, Going, Serves, Ends}
+use Rattle.im_serial.specs.Serving.{ScriptServer, server_of}
 use Rattle.im_serial.specs.Serving.{AreWaited, IsOver, IsRecorded, IsServing}
 use Rattle.im_serial.specs.Serving.{GoingAt, EndedAt, Passes, EndsAt, HasAsked, HasServed, Closed}
-use Rattle.im_serial.proofs.AskedLemmas.{put_or_not, request_is, stands_anywhere, stands_asked, stands_confirmed}
-use Rattle.im_serial.proofs.AskedLemmas.{stands_first, stands_here, stands_last, wanted_line}
+use Rattle.im_serial.proofs.AskedLemmas.{named_asked, named_confirmed, named_first, put_or_not, request_is}
+use Rattle.im_serial.proofs.AskedLemmas.{stands_asked, stands_confirmed, stands_first, stands_here, stands_last}
+use Rattle.im_serial.proofs.AskedLemmas.{wanted_line}
 use Rattle.im_serial.proofs.NotedLemmas.{known_asked, noted_asked, noted_confirmed, noted_known, noted_same}
 use Rattle.im_serial.proofs.NotedLemmas.{noted_waits}
 use Rattle.im_serial.proofs.ServingLemmas.{answered, asked, closed_by, confirmed, goes_none, halts, next_is_new}
@@ -345,6 +346,10 @@ module _ {D : Type 0} (disk : Ghosts D) where
                       (is_accepted m c && is_put a)
                       (subst (HasReached start.memory s) (sym (append-nil put)) u.reached)
                       (stands_confirmed start.memory s put element upto u.reached);
+                  named = put_or_not (λ (more : List Command). HasNamed start.memory s (put ++ more)) c
+                      (is_accepted m c && is_put a)
+                      (subst (HasNamed start.memory s) (sym (append-nil put)) u.named)
+                      (named_confirmed start.memory s put element upto u.named);
                   recorded = if_any s.script (IsRecorded start.memory put (learnt waited marks element upto))
                       (IsRecorded start.memory (put ++ put_by_command m c a) (notes waited marks))
                       (confirm_recorded start.memory put element upto waited marks a o is answer) u.recorded;
@@ -466,6 +471,7 @@ module _ {D : Type 0} (disk : Ghosts D) where
                 g,
                 record {
                   reached = u.reached;
+                  named = u.named;
                   recorded = if_any s.script (IsRecorded start.memory put (notes waited marks))
                       (IsRecorded start.memory put (learnt learned later element upto))
                       (λ r. record {
@@ -583,79 +589,6 @@ module _ {D : Type 0} (disk : Ghosts D) where
       by_result (Ok x) later = λ start held script rest going. later start held script rest (first start held script
           rest going)
       by_result (Err e) later = tt
-
-  -- whatever the script is, or if there is none
-  pub any_script : {T E : Type 0} (r : Result T E) (wanted : List Wanted) (before after : List ℕ) (old new : ScriptServer D)
-      → HasServed disk wanted before after r old new
-      → MatchResult r (λ x. Serves disk.now disk.past disk.failures disk.honest (at old.engine old.held old.lines
-      old.waited) (at new.engine new.held new.lines new.waited))
-      (λ e. Ends disk.now disk.past disk.failures disk.honest (at old.engine old.held old.lines old.waited) (at
-      new.engine new.held new.lines new.waited))
-  any_script r wanted before after old new it = by_result r it.serves
-    where
-      any : (start : EngineState D) (held : Option (List ℕ)) → Going disk.now disk.past disk.failures disk.honest start
-          held (at old.engine old.held old.lines old.waited) → GoingAt disk start held (standing None before (wanted ++
-          [])) old
-      any start held going = (
-        going.0,
-        (
-          (λ h. let g = going.1.0 h in (
-            g.0,
-            (
-              g.1.0,
-              (
-                map who_of old.waited,
-                (
-                  refl,
-                  (
-                    g.1.1,
-                    record {
-                      reached = stands_anywhere start.memory before
-                          (wanted ++ []) g.1.0;
-                      recorded = tt;
-                    },
-                  ),
-                ),
-              ),
-            ),
-          )),
-          going.1.1,
-        ),
-      )
-
-      by_result : {T E : Type 0} (r : Result T E) → OnOk r (Passes disk wanted before [] after old new)
-          → MatchResult r (λ x. Serves disk.now disk.past disk.failures disk.honest (at old.engine old.held old.lines
-          old.waited) (at new.engine new.held new.lines new.waited))
-          (λ e. Ends disk.now disk.past disk.failures disk.honest (at old.engine old.held old.lines old.waited) (at
-          new.engine new.held new.lines new.waited))
-      by_result (Ok x) serves = λ start held going. let g = serves start held None [] (any start held going) in (
-        g.0,
-        (
-          (λ h. let i = g.1.0 h in (
-            i.0,
-            (
-              i.1.0,
-              subst (GoesWith disk.now disk.past disk.failures start new.engine i.1.0
-                  g.0) (sym i.1.1.1.0) i.1.1.1.1.0,
-            ),
-          )),
-          g.1.1,
-        ),
-      )
-      by_result (Err e) serves = λ start held going. let g = it.ends start held None [] (any start held going) in (
-        g.0,
-        (
-          (λ h. let i = g.1.0 h in (
-            i.0,
-            (
-              i.1.0,
-              subst (HaltsWith disk.now disk.past disk.failures start new.engine i.1.0
-                  g.0) (sym i.1.1.1.0) i.1.1.1.1.0,
-            ),
-          )),
-          g.1.1,
-        ),
-      )
 
   -- what is kept back is written
   pub prints_on : (bases : List ℕ) (engine : EngineState D) (held later : Option (List ℕ)) (before last : Lines)
@@ -881,6 +814,8 @@ module _ {D : Type 0} (disk : Ghosts D) where
                               reached = stands_asked start.memory script bases added w rest t.1.put r t.1.under_way.reached
                                   (request_is (after start.memory t.1.put) bases w r t.1.base element op t.1.next_is) (ap
                                   (bases_by w) t.1.answer ∙ made);
+                              named = named_asked start.memory script bases added w rest t.1.put r
+                                  t.1.under_way.named (ap (bases_by w) t.1.answer ∙ made);
                               recorded = recorded start s going.0 t.1;
                             },
                           ),
@@ -990,6 +925,8 @@ module _ {D : Type 0} (disk : Ghosts D) where
                 record {
                   reached = subst (λ (l : List Wanted). HasReached start.memory (standing (Some c) c.first l) []) (sym
                       (append-nil c.wanted)) (stands_first start.memory c);
+                  named = subst (λ (l : List Wanted). HasNamed start.memory (standing (Some c) c.first l) []) (sym
+                      (append-nil c.wanted)) (named_first start.memory c);
                   recorded = recorded;
                 },
               ),

@@ -1,6 +1,6 @@
 -- Commands put on a disk while a script is served. (Own.)
 use Rattle.std.proofs.Common.{◌≡◌, ◌∙◌, ◌≤◌, ◌-◌, inl, inr, ⊎_elim, ℕ, zero, suc, Bool, true, false, ◌&&◌, List, [], ◌∷◌, ◌++◌, length, refl, sym, ap, ap₂, subst, take, length-append, arith, if◌then◌else◌}
-use Rattle.std.specs.Prelude.{Option, Some, None, Result, Ok, Err, MatchResult, map, nat_lt, ◌||◌, slice_get, ◌⊎◌}
+use Rattle.std.specs.Prelude.{Option, Some, None, Result, Ok, Err, map, nat_lt, ◌||◌, slice_get, ◌⊎◌}
 use Rattle.std.specs.Io.KnownBytes.{Appends}
 use Rattle.std.proofs.lemmas.List.{append-nil}
 use Rattle.im_types.specs.declared.commands.Command.{Command}
@@ -27,13 +27,12 @@ use Rattle.im_types.specs.declared.refusals.Refusal.{Refusal}
 use Rattle.im_engine.specs.State.{EngineState, MeansState, MeansEither, with_command}
 use Rattle.im_engine.specs.Run.{Answered, TurnAnswered, TurnTaken, is_put, put_by_command, HasRun, MeansAfter, MeansBeginning, MeansAllOrInDoubt}
 use Rattle.im_engine.proofs.Running.{far_on, leaves_on, now_on, now_start, far_turned, leaves_turned, now_turned, means_all, all_or_in_doubt, or_less, doubt_by, Failures, failures_more, failures_turned, fails_by_device}
-use Rattle.im_text.specs.declared.lines.Lines.{Lines}
 use Rattle.im_text.specs.declared.replies.Waited.{Waited}
-use Rattle.im_text.specs.Printing.{Begins, IsLast, PrintsOn, nows, replies, reply_line, told_line, waits, waits_by, waits_if, who_of}
+use Rattle.im_text.specs.Printing.{Begins, IsLast, nows, replies, reply_line, told_line, waits, waits_by, waits_if, who_of}
 use Rattle.im_serial.specs.Asked.{IsAsked, wanted_of}
 use Rattle.im_serial.specs.Noted.{AreLast}
-use Rattle.im_serial.specs.Serving.{HasPut, MeansAtLeast, GoesWith, HaltsWith, Goes, Halted, Server, at, Going, Ended, Serves, Ends, Told, Closed, Served}
-use Rattle.im_text.proofs.PrintingLemmas.{all-append, replies_more, waits_more, prints_none, take-all, take-prefix, true_false}
+use Rattle.im_serial.specs.Serving.{HasPut, MeansAtLeast, GoesWith, HaltsWith, Told, Closed, Served}
+use Rattle.im_text.proofs.PrintingLemmas.{all-append, replies_more, waits_more, take-all, take-prefix, true_false}
 use Rattle.im_text.proofs.WindowLemmas.{bounds_found, HasBounds, not_below}
 
 -- ---- accepted commands
@@ -374,49 +373,3 @@ module _ {D : Type 0} (now : D → Moment) (past : D → List Moment) (failures 
     begins = subst (λ (t : List ℕ). Begins was is ((t ++ nows waited many) ++ last)) it.lines begins;
     whole = λ zero. let w = whole zero in (w.0, same ∙ w.1, w.2);
   }
-
-  -- ---- servers, one after another, whatever is asked
-
-  module _ (honest : D → Type 0) where
-    halted : (start engine : EngineState D) (text : List ℕ) (names : List Waiter) → Goes now past failures honest start engine text names → Halted now past failures honest start engine text names
-    halted start engine text names goes = λ h. let it = goes h in (it.0, (it.1.0, halts start engine it.1.0 text names it.1.1))
-
-    pub serves_refl : (s : Server D) → Serves now past failures honest s s
-    serves_refl s = λ start held going. going
-
-    ended : (start : EngineState D) (held : Option (List ℕ)) (s : Server D) → Going now past failures honest start held s → Ended now past failures honest start held s
-    ended start held s going = (going.0, (halted start s.engine going.0 (map who_of s.waited) going.1.0, going.1.1))
-
-    pub end_here : (old new : Server D) → Serves now past failures honest old new → Ends now past failures honest old new
-    end_here old new serves = λ start held going. ended start held new (serves start held going)
-
-    -- whatever was answered, nothing was served
-    pub rests : {T E : Type 0} (r : Result T E) (old new : Server D) → Serves now past failures honest old new → MatchResult r (λ x. Serves now past failures honest old new) (λ e. Ends now past failures honest old new)
-    rests (Ok x) old new it = it
-    rests (Err e) old new it = end_here old new it
-
-    -- what is kept back is written
-    pub serves_on : (old : Server D) (engine : EngineState D) (held later : Option (List ℕ)) (before after : Lines) (waited : List Waited) → Serves now past failures honest old (at engine held before waited) → PrintsOn held before later after
-        → Serves now past failures honest old (at engine later after waited)
-    serves_on old engine held later before after waited it prints = λ start from going. let next = it start from going in (next.0, (next.1.0, prints from next.0 next.1.1))
-
-    pub ended_as : (start : EngineState D) (from held : Option (List ℕ)) (engine same : EngineState D) (lines kept : Lines) (waited : List Waited) → same ≡ engine → kept ≡ lines
-        → Ended now past failures honest start from (at engine held lines waited) → Ended now past failures honest start from (at same held kept waited)
-    ended_as start from held engine same lines kept waited engines line it =
-        subst (λ (e : EngineState D). Ended now past failures honest start from (at e held kept waited)) (sym engines) (subst (λ (l : Lines). Ended now past failures honest start from (at engine held l waited)) (sym line) it)
-
-    pub going_as : (start : EngineState D) (from held : Option (List ℕ)) (engine same : EngineState D) (lines kept : Lines) (waited : List Waited) → same ≡ engine → kept ≡ lines
-        → Going now past failures honest start from (at engine held lines waited) → Going now past failures honest start from (at same held kept waited)
-    going_as start from held engine same lines kept waited engines line it =
-        subst (λ (e : EngineState D). Going now past failures honest start from (at e held kept waited)) (sym engines) (subst (λ (l : Lines). Going now past failures honest start from (at engine held l waited)) (sym line) it)
-
-    -- nothing is served yet
-    going_none : (start : EngineState D) (held : Option (List ℕ)) (lines : Lines) (waited : List Waited) → start.failed ≡ false → (honest start.disk → LeavesNow (now start.disk) (MeansState start)) → lines.pending.items ≡ [] → waited ≡ []
-        → Going now past failures honest start held (at start held lines waited)
-    going_none start held lines waited works means pending none =
-        ([], (subst (λ (l : List Waited). Goes now past failures honest start start [] (map who_of l)) (sym none) (λ h. (h, ([], goes_none start works (means h)))), prints_none held lines pending))
-
-    -- the same of a server that was made of it
-    pub going_new : (start engine : EngineState D) (held : Option (List ℕ)) (before lines : Lines) (waited : List Waited) → start.failed ≡ false → (honest start.disk → LeavesNow (now start.disk) (MeansState start)) → before.pending.items ≡ [] → waited ≡ [] → engine ≡ start → lines ≡ before
-        → Going now past failures honest start held (at engine held lines waited)
-    going_new start engine held before lines waited works means pending none engines line = going_as start held held start engine before lines waited engines line (going_none start held before waited works means pending none)

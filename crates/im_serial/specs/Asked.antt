@@ -101,6 +101,16 @@ pub record IsAsked (m : Contents) (bases : List ℕ) (wanted : List Wanted) (put
   pub leads : Leads m bases wanted put left
   pub all : status ≡ 0 → left ≡ []
 
+-- the bases that the names stand for after these commands, which are the first of these requests, and confirmations:
+-- those at first, and the base in the answer to each block with a name
+abbrev pub bases_after : Contents → List ℕ → List Wanted → List Command → List ℕ
+bases_after m bases wanted [] = bases
+bases_after m bases wanted (Confirm element upto ∷ put) =
+    bases_after (step m (Confirm element upto)).contents bases wanted put
+bases_after m bases [] (Asks r ∷ put) = bases
+bases_after m bases (w ∷ wanted) (Asks r ∷ put) = bases_after (step m (Asks r)).contents
+    (bases ++ option_map_or (λ more. more) (bases_by w (step m (Asks r)).answer) []) wanted put
+
 -- ---- where a script stands
 
 -- what a script had to do when it began: the bases that were known, its requests, and those that waited already
@@ -138,3 +148,13 @@ LeadsIf m (Some c) put left = Leads m c.first c.wanted put left
 abbrev pub HasReached : Contents → Standing → List Command → Type 0
 HasReached m s put = (more : List Command) (last : List Wanted) → Leads (after m put) s.bases s.left more last →
     LeadsIf m s.script (put ++ more) last
+
+-- if there is a script, its names stand for these bases after these commands
+abbrev pub NamesIf : Contents → Option Course → List Command → List ℕ → Type 0
+NamesIf m None put bases = Unit {0}
+NamesIf m (Some c) put bases = bases_after m c.first c.wanted put ≡ bases
+
+-- the names of the script stand for the bases of its standing: so whatever comes of the rest
+abbrev pub HasNamed : Contents → Standing → List Command → Type 0
+HasNamed m s put = (more : List Command)
+    → NamesIf m s.script (put ++ more) (bases_after (after m put) s.bases s.left more)

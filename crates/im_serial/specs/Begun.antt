@@ -5,9 +5,10 @@ use Rattle.im_types.specs.declared.sizes.Limits.{Limits}
 use Rattle.im_types.specs.Contents.{Contents, empty_contents}
 use Rattle.im_types.specs.Meaning.{Means, accept_each}
 use Rattle.im_types.specs.Run.{after}
+use Rattle.im_disk.specs.declared.disk.Disk.{Ghosts}
 use Rattle.im_disk.specs.Moment.{Moment}
 use Rattle.im_disk.specs.Since.{Leaves, LeavesNow}
-use Rattle.im_serial.specs.Asked.{IsAsked, Leads, Wanted}
+use Rattle.im_serial.specs.Asked.{IsAsked, Leads, Wanted, wanted_of}
 
 -- the memory of a new image
 abbrev pub new_memory : Limits → Contents
@@ -47,3 +48,9 @@ pub record KeepsBegun {D : Type 0} (now : D → Moment) (past : D → List Momen
   pub within : Leaves (now old) (now new) (past old) (past new) (MeansBegun limits script)
   pub after : LeavesNow (now new) (MeansBegun limits script)
   pub done : status ≡ 0 → LeavesNow (now new) (MeansDone limits script)
+
+-- the same of a script of any sizes, on a disk that is honest at the end, if each file was left by runs of the script
+abbrev pub KeepsOnce : {D : Type 0} → Ghosts D → List ℕ → D → D → ℕ → Type 0
+KeepsOnce disk text old new status = disk.honest new → (limits : Limits)
+    → LeavesNow (disk.now old) (MeansBegun limits (wanted_of text))
+    → KeepsBegun disk.now disk.past limits (wanted_of text) old new status

@@ -23,8 +23,8 @@ use Rattle.im_script.specs.Places.{op_of}
 use Rattle.im_serial.specs.declared.server.Server.{Server as Whole}
 use Rattle.im_serial.specs.declared.waits.Mark.{Mark}
 use Rattle.im_serial.specs.Noted.{AreKnown, AreLast, AreNoted, Notes, learnt, notes}
-use Rattle.im_serial.specs.Asked.{Course, IsAsked, LeadsIf, Standing, HasReached, Wanted, bases_by, earlier_in}
-use Rattle.im_serial.specs.Asked.{standing, wanted_of}
+use Rattle.im_serial.specs.Asked.{Course, HasNamed, HasReached, IsAsked, LeadsIf, Standing, Wanted, bases_by}
+use Rattle.im_serial.specs.Asked.{earlier_in, standing, wanted_of}
 
 -- ---- while it is served
 
@@ -70,67 +70,6 @@ pub record HaltsWith {D : Type 0} (now : D → Moment) (past : D → List Moment
   pub many : ℕ
   pub waiting : names ≡ take many (waits start.memory told)
 
--- a disk that is honest now was honest at the start, and some commands were put on it since
-abbrev pub Goes : {D : Type 0} → (D → Moment) → (D → List Moment) → (D → ℕ) → (D → Type 0) → EngineState D
-    → EngineState D → List ℕ → List Waiter → Type 0
-Goes now past failures honest start engine text names =
-    honest engine.disk → honest start.disk
-    × ((put : List Command) × GoesWith now past failures start engine put text names)
-
--- the same, or it was ended
-abbrev pub Halted : {D : Type 0} → (D → Moment) → (D → List Moment) → (D → ℕ) → (D → Type 0) → EngineState D
-    → EngineState D → List ℕ → List Waiter → Type 0
-Halted now past failures honest start engine text names =
-    honest engine.disk → honest start.disk
-    × ((put : List Command) × HaltsWith now past failures start engine put text names)
-
--- ---- and printed
-
--- a server at work: its engine, what the writer holds, the lines on their way to it, and the requests that had to wait
-pub record Server (D : Type 0) : Type 0 where
-  pub engine : EngineState D
-  pub held : Option (List ℕ)
-  pub lines : Lines
-  pub waited : List Waited
-
--- a server of these
-abbrev pub at : {D : Type 0} → EngineState D → Option (List ℕ) → Lines → List Waited → Server D
-at engine held lines waited = record { engine = engine; held = held; lines = lines; waited = waited }
-
--- since the writer held this, the lines of what was put were printed
-abbrev pub Going : {D : Type 0} → (D → Moment) → (D → List Moment) → (D → ℕ) → (D → Type 0) → EngineState D
-    → Option (List ℕ) → Server D → Type 0
-Going now past failures honest start held s =
-    (text : List ℕ) × (Goes now past failures honest start s.engine text (map who_of s.waited)
-    × Prints held s.held s.lines text)
-
--- the same, or it was ended
-abbrev pub Ended : {D : Type 0} → (D → Moment) → (D → List Moment) → (D → ℕ) → (D → Type 0) → EngineState D
-    → Option (List ℕ) → Server D → Type 0
-Ended now past failures honest start held s =
-    (text : List ℕ) × (Halted now past failures honest start s.engine text (map who_of s.waited)
-    × Prints held s.held s.lines text)
-
--- between the two servers nothing was put on the disk but commands, and their lines were printed
-abbrev pub Serves : {D : Type 0} → (D → Moment) → (D → List Moment) → (D → ℕ) → (D → Type 0) → Server D → Server D
-    → Type 0
-Serves {D} now past failures honest old new =
-    (start : EngineState D) (held : Option (List ℕ)) → Going now past failures honest start held old
-    → Going now past failures honest start held new
-
--- the same, and there it was ended
-abbrev pub Ends : {D : Type 0} → (D → Moment) → (D → List Moment) → (D → ℕ) → (D → Type 0) → Server D → Server D
-    → Type 0
-Ends {D} now past failures honest old new =
-    (start : EngineState D) (held : Option (List ℕ)) → Going now past failures honest start held old
-    → Ended now past failures honest start held new
-
--- commands were put and their lines printed; if there is a refusal, it was ended there
-abbrev pub ServesOrEnds : {D T E : Type 0} → Ghosts D → Result T E → Server D → Server D → Type 0
-ServesOrEnds disk result old new = MatchResult result
-    (λ _. Serves disk.now disk.past disk.failures disk.honest old new)
-    (λ _. Ends disk.now disk.past disk.failures disk.honest old new)
-
 -- ---- by a script
 
 -- the notes of the requests that had to wait are right, on a memory after these commands
@@ -138,10 +77,11 @@ pub record IsRecorded (m : Contents) (put : List Command) (n : Notes) : Type 0 w
   pub memory : IsMemory (length m.cells) (length m.windows) m
   pub noted : AreNoted m put n.element n.upto n.marks n.waited
 
--- What is known while it goes on: where the script stands after the commands that were put, and, if there is a script,
--- that the notes are right.
+-- What is known while it goes on: where the script stands after the commands that were put, with its names, and, if
+-- there is a script, that the notes are right.
 pub record IsServing (m : Contents) (s : Standing) (put : List Command) (n : Notes) : Type 0 where
   pub reached : HasReached m s put
+  pub named : HasNamed m s put
   pub recorded : IfSome s.script (λ _. IsRecorded m put n)
 
 -- What is known when it has ended. The commands that were put are the first requests of the script, and confirmations.
@@ -269,6 +209,12 @@ module _ {D : Type 0} (disk : Ghosts D) where
     pub serves : OnOk result (Passes wanted before [] after old new)
     pub ends : EndsAt wanted before old new
 
+  -- the same by a server of the program, which knows the bases, with what the writer held and holds
+  abbrev pub ServedBy : {T E : Type 0} → List Wanted → Result T E → Whole D → Option (List ℕ) → Whole D
+      → Option (List ℕ) → Type 0
+  ServedBy wanted result old was new is =
+      HasServed wanted old.bases.items new.bases.items result (seen_by old was) (seen_by new is)
+
 -- ---- at its end
 
 -- What was printed of the commands that were put, at the end: a prefix of this text, and all of it if the status is 0.
@@ -307,6 +253,12 @@ pub record Closed {D : Type 0} (now : D → Moment) (past : D → List Moment) (
   pub done : status ≡ 0 → LeavesNow (now disk) (MeansAfter start put (length put))
   pub printed : Told now start put disk was is status
 
+-- The same of a disk that is honest at the end.
+abbrev pub ClosesScript : {D : Type 0} → Ghosts D → List ℕ → EngineState D → D → Option (List ℕ) → Option (List ℕ) → ℕ
+    → Type 0
+ClosesScript disk text start new was is status = disk.honest new
+    → Closed disk.now disk.past disk.failures text start new was is status
+
 -- The image was opened, with the meaning of a file that a crash could leave then, and these commands were put on it:
 -- the requests of this script, in their order, and confirmations. With status 0 they are all its requests. From then on
 -- a crash leaves the memory after a prefix of them. At the end it leaves the memory after all of them, or after all but
@@ -335,6 +287,10 @@ pub record NotOpened {D : Type 0} (now : D → Moment) (past : D → List Moment
 abbrev pub SerialOn : {D : Type 0} → Ghosts D → List ℕ → D → D → Option (List ℕ) → Option (List ℕ) → ℕ → Type 0
 SerialOn disk text old new was is status = NotOpened disk.now disk.past old new was is status
     ⊎ Served disk.now disk.past disk.failures text old new was is status
+
+-- The same of a disk that is honest at the end.
+abbrev pub ServesOn : {D : Type 0} → Ghosts D → List ℕ → D → D → Option (List ℕ) → Option (List ℕ) → ℕ → Type 0
+ServesOn disk text old new was is status = disk.honest new → SerialOn disk text old new was is status
 
 -- The same of some script, and of a disk that is at this moment, and has no moment before it.
 pub record ServedFrom {D : Type 0} (now : D → Moment) (past : D → List Moment) (failures : D → ℕ) (first : Moment)

@@ -1,6 +1,7 @@
 //! Serves a script's requests one after another on the image of a disk.
 #![tactic(auto)]
 
+mod asking;
 mod comparing;
 mod hearing;
 mod meeting;
@@ -13,6 +14,6 @@ mod stops;
 mod waits;
 
 pub use past::{Past, first_open};
-pub use serial::{serial_on, serial_once_on};
+pub use serial::{both, serial_on, serial_once_on};
 pub use server::{Desk, Paper, Server};
 pub use stops::{Interrupted, Stop, new_images_have_begun, serial_over_stops};

@@ -3,7 +3,7 @@ ghost use Rattle.std.specs.Prelude.{◌≡◌};
 ghost use Rattle.im_serial.specs.Asked.{wanted_by, wanted_of};
 ghost use Rattle.im_serial.specs.Had.{met_all, news};
 ghost use Rattle.im_serial.specs.Once.{FitsOrStays, HasServedOnce, ShowsOrBreaks};
-ghost use Rattle.im_serial.specs.Serving.{HasServed, seen_by};
+ghost use Rattle.im_serial.specs.Serving.{ServedBy, seen_by};
 
 use crate::comparing::compare_script;
 use crate::hearing::hear;
@@ -25,9 +25,8 @@ impl<D: Disk> Server<D> {
         observer: &mut N,
     ) -> Result<(), Reason>
         ensures many { past.new.many.items ≡ met_all past.old.many.items (wanted_by said) }
-        ensures served { HasServed D.Disk (news past.old.many.items (wanted_by said)) self.old.bases.items
-            self.new.bases.items result
-            (seen_by self.old (W.contents out.old)) (seen_by self.new (W.contents out.new)) }
+        ensures served { ServedBy D.Disk (news past.old.many.items (wanted_by said)) result self.old
+            (W.contents out.old) self.new (W.contents out.new) }
     {
         if past.has(said) {
             Ok(())
@@ -45,9 +44,8 @@ impl<D: Disk> Server<D> {
         out: &mut W,
         observer: &mut N,
     ) -> Result<(), Reason>
-        ensures served { HasServed D.Disk (news past.old.many.items (wanted_of script.now)) self.old.bases.items
-            self.new.bases.items result
-            (seen_by self.old (W.contents out.old)) (seen_by self.new (W.contents out.new)) }
+        ensures served { ServedBy D.Disk (news past.old.many.items (wanted_of script.now)) result self.old
+            (W.contents out.old) self.new (W.contents out.new) }
     {
         let mut reader = Reader::new(alloc);
         let mut rest = Some(script.text());

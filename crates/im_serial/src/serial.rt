@@ -2,11 +2,9 @@
 ghost use Rattle.std.specs.Prelude.{◌≡◌, ◌≤◌, [], false, IsOk};
 ghost use Rattle.im_disk.specs.Since.{LeavesNow};
 ghost use Rattle.im_engine.specs.State.{MeansState};
-ghost use Rattle.im_types.specs.declared.sizes.Limits.{Limits};
-ghost use Rattle.im_serial.specs.Asked.{wanted_of};
-ghost use Rattle.im_serial.specs.Begun.{KeepsBegun, MeansBegun};
-ghost use Rattle.im_serial.specs.Once.{ClosesOnce, HasServedNothing, SerialOnceOn, ServesOnceOn};
-ghost use Rattle.im_serial.specs.Serving.{Closed, SerialOn, seen_by};
+ghost use Rattle.im_serial.specs.Begun.{KeepsOnce};
+ghost use Rattle.im_serial.specs.Once.{ClosesOnce, HasServedNothing, ServesOnceOn};
+ghost use Rattle.im_serial.specs.Serving.{ClosesScript, ServesOn, seen_by};
 
 use crate::server::{Desk, Server};
 use im_disk::Disk;
@@ -55,8 +53,7 @@ pub fn serial_on<D: Disk, W: Write, N: Observer>(
     observer: &mut N,
 ) -> (u8, D)
     ensures status { result.0 ≤ 1 }
-    ensures served { D.honest result.1
-        → SerialOn D.Disk script.now disk result.1 (W.contents out.old) (W.contents out.new) result.0 }
+    ensures served { ServesOn D.Disk script.now disk result.1 (W.contents out.old) (W.contents out.new) result.0 }
     ensures honest { D.honest result.1 → D.honest disk }
 {
     let desk = match Desk::new(alloc) {
@@ -85,8 +82,7 @@ fn serve_on<D: Disk, W: Write, N: Observer>(
     requires means { D.honest engine.disk → LeavesNow (D.now engine.disk) (MeansState engine) }
     requires pending { desk.lines.pending.items ≡ [] }
     ensures status { result.0 ≤ 1 }
-    ensures closed { D.honest result.1
-        → Closed D.now D.past D.failures script.now engine result.1 (W.contents out.old) (W.contents out.new) result.0 }
+    ensures closed { ClosesScript D.Disk script.now engine result.1 (W.contents out.old) (W.contents out.new) result.0 }
     ensures honest { D.honest result.1 → D.honest engine.disk }
 {
     let mut server = Server::new(alloc, engine, desk);
@@ -140,11 +136,8 @@ pub fn serial_once_on<D: Disk, W: Write, N: Observer>(
     observer: &mut N,
 ) -> (u8, D)
     ensures status { result.0 ≤ 1 }
-    ensures served { D.honest result.1
-        → SerialOnceOn D.Disk script.now disk result.1 (W.contents out.old) (W.contents out.new) result.0 }
-    ensures keeps { D.honest result.1 → (limits : Limits)
-        → LeavesNow (D.now disk) (MeansBegun limits (wanted_of script.now))
-        → KeepsBegun D.now D.past limits (wanted_of script.now) disk result.1 result.0 }
+    ensures served { ServesOnceOn D.Disk script.now disk result.1 (W.contents out.old) (W.contents out.new) result.0 }
+    ensures keeps { KeepsOnce D.Disk script.now disk result.1 result.0 }
     ensures honest { D.honest result.1 → D.honest disk }
 {
     open_and_serve_once(alloc, disk, script, out, observer)
@@ -209,8 +202,8 @@ fn serve_once_on<D: Disk, W: Write, N: Observer>(
     (status_at(failed, status), engine.close())
 }
 
-// Returns the first refusal, if there is one.
-fn both(served: Result<(), Reason>, told: Result<(), Reason>) -> Result<(), Reason>
+/// Returns the first refusal, if there is one: that of what was served, or that of telling it.
+pub fn both(served: Result<(), Reason>, told: Result<(), Reason>) -> Result<(), Reason>
     ensures served { IsOk result → IsOk served }
     ensures told { IsOk result → IsOk told }
 {

@@ -171,20 +171,20 @@ fn learn_one<N: Observer>(
     }
 }
 
-/// Learns the answers under an element's numbers from `base` on and before `upto`, before they are confirmed.
+/// Learns the answers under an element's numbers, before they are confirmed. `numbers` are the element, the first of
+/// them, and the one behind the last.
 pub fn learn<N: Observer>(
     waited: &mut [Waited],
     places: &mut Places,
     memory: &Memory,
-    element: u16,
-    numbers: (u64, u64),
+    numbers: (u16, u64, u64),
     observer: &mut N,
 )
     ensures names { map who_of waited.new ≡ map who_of waited.old }
-    ensures learnt { numbers.0 ≤ numbers.1 → Learns memory.now.contents element numbers.0 numbers.1
+    ensures learnt { numbers.1 ≤ numbers.2 → Learns memory.now.contents numbers.0 numbers.1 numbers.2
         places.old.marks.items waited.old places.new.marks.items waited.new }
 {
-    let (base, upto) = numbers;
+    let (element, base, upto) = numbers;
     for number in base..upto {
         learn_one(waited, places, memory, (element, number), observer);
     }

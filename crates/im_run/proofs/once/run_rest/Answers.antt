@@ -2,7 +2,7 @@ use Rattle.std.proofs.Common.{◌∙◌, inl, inr, ap, refl, subst}
 use Rattle.im_engine.specs.State.{EngineState}
 use Rattle.im_serial.specs.Asked.{wanted_of}
 use Rattle.im_serial.specs.Serving.{server_of}
-use Rattle.im_run.proofs.RestLemmas.{ready_rest, rest_by, unrun_by}
+use Rattle.im_run.proofs.RestLemmas.{bases_rest, ready_rest, rest_by, unrun_by}
 use Rattle.im_run.proofs.once.run_rest.Goals as goal
 
 pub run_server-requires-clause-ready : goal.run_server-requires-clause-ready
@@ -14,6 +14,16 @@ run_server-requires-clause-ready g c κs within =
     let mid = server_of s.engine (g.W.Write.contents c.show_past.new.out) s.lines s.waited.items s.places.marks.items in
     ready_rest g.D.Disk (wanted_of c.args.script.now) old mid was.bases.items c.requires.ready s.bases.items
     c.in-Ok.ensures.shown c.new-none.result.items c.new-none.ensures.items
+
+pub run_server-requires-clause-bases : goal.run_server-requires-clause-bases
+run_server-requires-clause-bases g c κs within =
+    let was = c.args.server in
+    let old = server_of was.engine (g.W.Write.contents c.args.out.now) was.lines was.waited.items was.places.marks.items
+    in
+    let s = c.show_past.new.self in
+    let mid = server_of s.engine (g.W.Write.contents c.show_past.new.out) s.lines s.waited.items s.places.marks.items in
+    bases_rest g.D.Disk (wanted_of c.args.script.now) old mid was.bases.items c.requires.ready s.bases.items
+    c.in-Ok.ensures.shown c.args.script.now refl
 
 pub returns-in-Ok-clause-ends : goal.returns-in-Ok-clause-ends
 returns-in-Ok-clause-ends g c = λ honest.

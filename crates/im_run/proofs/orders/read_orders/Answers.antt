@@ -1,34 +1,46 @@
 use Rattle.std.proofs.Common.{◌≡◌, ◌∙◌, List, [], ℕ, ap, map, subst}
 use Rattle.im_types.specs.Contents.{Contents}
-use Rattle.im_serial.proofs.ServingLemmas.{end_here, rests, serves_refl}
+use Rattle.im_serial.proofs.ScriptedLemmas.{has_served, unserved}
 use Rattle.im_run.specs.Orders.{HasReadTo, ask_of, asks_among, first_asked, script_heard, settled_by, settled_when}
+use Rattle.im_run.proofs.BlocksLemmas.{ends_as, passes_as}
 use Rattle.im_run.proofs.OrdersLemmas.{if_ok_map, orders_read}
 use Rattle.im_run.proofs.orders.read_orders.Goals as goal
 
-pub returns-in_default-clause-serves : goal.returns-in_default-clause-serves
-returns-in_default-clause-serves g c = end_here g.D.Disk.now g.D.Disk.past g.D.Disk.failures g.D.Disk.honest _ _
-    (serves_refl g.D.Disk.now g.D.Disk.past g.D.Disk.failures g.D.Disk.honest _)
+pub returns-in_default-clause-served : goal.returns-in_default-clause-served
+returns-in_default-clause-served g c = unserved g.D.Disk _ _ _ _ _
 
-pub returns-in-Ok-set_up-clause-serves : goal.returns-in-Ok-set_up-clause-serves
-returns-in-Ok-set_up-clause-serves g c = rests g.D.Disk.now g.D.Disk.past g.D.Disk.failures g.D.Disk.honest
-    c.number_orders.result _ _ c.in-Ok-set_up.ensures.serves
+pub returns-in-Ok-set_up-clause-served : goal.returns-in-Ok-set_up-clause-served
+returns-in-Ok-set_up-clause-served g c =
+    let once = c.args.asked.once in
+    has_served g.D.Disk c.number_orders.result _ _ _ _ _
+    (passes_as g.D.Disk (settled_by c.in-Ok.sheet.past) (settled_when once c.args.server.now.engine.memory)
+    (script_heard c.args.asked.script.now) _ _ _ _
+    (c.in-Ok.ensures.settled ∙ ap (settled_when once) c.memory.ensures) c.in-Ok-set_up.ensures.served.serves)
+
+pub returns-in-Err-clause-served : goal.returns-in-Err-clause-served
+returns-in-Err-clause-served g c =
+    let once = c.args.asked.once in
+    record {
+      serves = tt;
+      ends = ends_as g.D.Disk (settled_by c.in-Ok.sheet.past) (settled_when once c.args.server.now.engine.memory)
+          (script_heard c.args.asked.script.now) _ _ _
+          (c.in-Ok.ensures.settled ∙ ap (settled_when once) c.memory.ensures) c.in-Err.ensures.served.ends;
+    }
 
 pub returns-in-Ok-set_up-clause-orders : goal.returns-in-Ok-set_up-clause-orders
 returns-in-Ok-set_up-clause-orders g c =
     let once = c.args.asked.once in
     let s = c.set_up.new.sheet in
+    let bases = c.set_up.new.server.bases.items in
     let first = c.in-Ok.sheet in
-    let bases = s.bases.items in
     let script = script_heard c.args.asked.script.now in
     let was : settled_by first.past ≡ settled_when once c.args.server.now.engine.memory =
     c.in-Ok.ensures.settled ∙ ap (settled_when once) c.memory.ensures in
-    if_ok_map _ _ c.number_orders.result c.number_orders.ensures.asked (λ numbered asked. (
-      bases,
-      orders_read once c.set_up.new.server.engine.memory (settled_when once c.args.server.now.engine.memory)
-          (settled_by s.past) bases script first.orders.items s.orders.items numbered.items
-          c.in-Ok.ensures.places c.in-Ok.ensures.none
-          (subst (λ (h : List ℕ). HasReadTo h script first.orders.items (settled_by s.past) [] bases s.orders.items) was
-          c.in-Ok-set_up.ensures.read)
-          (subst (λ (m : Contents). map ask_of numbered.items ≡ asks_among (first_asked once m) s.orders.items)
-          c.memory-memory.ensures asked),
-    ))
+    if_ok_map _ _ c.number_orders.result c.number_orders.ensures.asked (λ numbered asked.
+    orders_read once c.set_up.new.server.engine.memory (settled_when once c.args.server.now.engine.memory)
+    (settled_by s.past) bases script first.orders.items s.orders.items numbered.items c.in-Ok.ensures.places
+    c.in-Ok.ensures.none
+    (subst (λ (h : List ℕ). HasReadTo h script first.orders.items (settled_by s.past) [] bases s.orders.items) was
+    c.in-Ok-set_up.ensures.read)
+    (subst (λ (m : Contents). map ask_of numbered.items ≡ asks_among (first_asked once m) s.orders.items)
+    c.memory-memory.ensures asked))

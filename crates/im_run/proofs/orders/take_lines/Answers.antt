@@ -1,49 +1,120 @@
-use Rattle.std.proofs.Common.{List, ℕ, ap₂}
+use Rattle.std.proofs.Common.{[], List, ℕ, ap₂, refl}
+use Rattle.std.specs.Option.{option_map_or}
 use Rattle.im_script.specs.Script.{Draft, draft_of, lines_of}
-use Rattle.im_serial.proofs.ServingLemmas.{end_here, serves_refl}
-use Rattle.im_run.specs.Orders.{lines_heard, script_heard, settled_by}
+use Rattle.im_serial.specs.Serving.{server_of}
+use Rattle.im_serial.proofs.OnceLemmas.{part_ends, part_serves}
+use Rattle.im_serial.proofs.ScriptedLemmas.{ends_here, has_served}
+use Rattle.im_run.specs.Orders.{blocks_of, lines_heard, script_heard, settled_by}
+use Rattle.im_run.proofs.BlocksLemmas.{blocks_line, blocks_none, blocks_some, blocks_start}
 use Rattle.im_run.proofs.OrdersLemmas.{read_line, read_none, rest_none, rest_some}
 use Rattle.im_run.proofs.orders.take_lines.Goals as goal
 
 pub loop-number-init : goal.loop-number-init
-loop-number-init g c = record {
-  serves = serves_refl g.D.Disk.now g.D.Disk.past g.D.Disk.failures g.D.Disk.honest _;
-  read = read_none (settled_by c.args.sheet.now.past) c.args.sheet.now.bases.items (script_heard c.args.script.now) _
-      c.args.sheet.now.orders.items
-      (ap₂ (λ (d : Draft) (t : List ℕ). lines_heard d (lines_of t)) c.new-reader.ensures c.text.ensures);
-}
+loop-number-init g c =
+    let had = settled_by c.args.sheet.now.past in
+    let all = script_heard c.args.script.now in
+    let bases = c.args.server.now.bases.items in
+    let same = ap₂ (λ (d : Draft) (t : List ℕ). lines_heard d (lines_of t)) c.new-reader.ensures c.text.ensures in
+    record {
+      served = blocks_start g.D.Disk had all _ bases _ same;
+      read = read_none had bases all _ c.args.sheet.now.orders.items same;
+    }
 
 pub loop-number-preserved : goal.loop-number-preserved
 loop-number-preserved g c =
     let it = c.loop-number.invariant in
+    let was = c.args.server.now in
+    let old = server_of was.engine (g.W.Write.contents c.args.out.now) was.lines was.waited.items was.places.marks.items
+    in
+    let now = c.loop-number.server in
+    let mid = server_of now.engine (g.W.Write.contents c.loop-number.out) now.lines now.waited.items
+    now.places.marks.items in
+    let n = c.take_heard.new.server in
+    let new = server_of n.engine (g.W.Write.contents c.take_heard.new.out) n.lines n.waited.items n.places.marks.items
+    in
     let s = c.loop-number.sheet in
     let d = draft_of c.loop-number.reader in
+    let next = draft_of c.read_with_glances.new.self in
     let all = script_heard c.args.script.now in
     let first = c.args.sheet.now in
+    let had = settled_by first.past in
+    let before = settled_by s.past in
+    let left = settled_by c.take_heard.new.sheet.past in
+    let text = c.in-Some.text in
+    let heard = c.in-Ok-take_heard.ensures.heard in
     record {
-      serves = λ start held going. c.in-Ok-take_heard.ensures.serves start held (it.serves start held going);
-      read = read_line (settled_by first.past) all first.orders.items s.orders.items
-          c.take_heard.new.sheet.orders.items (settled_by s.past) (settled_by c.take_heard.new.sheet.past) d
-          (draft_of c.read_with_glances.new.self) c.in-Ok.heard c.in-Some.text.now c.split_line.result.0.now
-          c.split_line.result.1 c.loop-number.sheet.bases.items c.take_heard.new.sheet.bases.items
+      served = part_serves g.D.Disk _ _ _ _ (blocks_line before left d next c.in-Ok.heard text.now
+          c.split_line.result.0.now c.split_line.result.1 c.split_line.ensures c.in-Ok.ensures.ok heard.settled)
+          was.bases.items now.bases.items old mid
+          (blocks_some g.D.Disk (blocks_of had all) before was.bases.items now.bases.items old mid d
+          c.loop-number.rest text c.in-Some.is it.served) n.bases.items new
+          c.in-Ok-take_heard.ensures.served.serves;
+      read = read_line had all first.orders.items s.orders.items c.take_heard.new.sheet.orders.items before left d
+          next c.in-Ok.heard text.now c.split_line.result.0.now c.split_line.result.1 now.bases.items n.bases.items
           c.split_line.ensures c.in-Ok.ensures.ok
-          (rest_some (settled_by first.past) all first.orders.items s.orders.items (settled_by s.past)
-          c.loop-number.sheet.bases.items d c.loop-number.rest c.in-Some.text c.in-Some.is it.read)
-          c.in-Ok-take_heard.ensures.heard;
+          (rest_some had all first.orders.items s.orders.items before now.bases.items d c.loop-number.rest text
+          c.in-Some.is it.read) heard;
     }
+
+pub returns-in-None-clause-served : goal.returns-in-None-clause-served
+returns-in-None-clause-served g c =
+    let had = settled_by c.args.sheet.now.past in
+    let all = blocks_of had (script_heard c.args.script.now) in
+    has_served g.D.Disk _ all _ _ _ _ (blocks_none g.D.Disk all (settled_by c.loop-number.sheet.past)
+    c.args.server.now.bases.items c.loop-number.server.bases.items _ _ (draft_of c.loop-number.reader)
+    c.loop-number.rest c.in-None.is c.loop-number.invariant.served)
 
 pub returns-in-None-clause-read : goal.returns-in-None-clause-read
 returns-in-None-clause-read g c =
     let first = c.args.sheet.now in
     let s = c.loop-number.sheet in
     rest_none (settled_by first.past) (script_heard c.args.script.now) first.orders.items s.orders.items
-    (settled_by s.past) c.loop-number.sheet.bases.items (draft_of c.loop-number.reader) c.loop-number.rest
+    (settled_by s.past) c.loop-number.server.bases.items (draft_of c.loop-number.reader) c.loop-number.rest
     c.in-None.is c.loop-number.invariant.read
 
-pub returns-in-Err-clause-serves : goal.returns-in-Err-clause-serves
-returns-in-Err-clause-serves g c = end_here g.D.Disk.now g.D.Disk.past g.D.Disk.failures g.D.Disk.honest _ _
-    c.loop-number.invariant.serves
+pub returns-in-Err-clause-served : goal.returns-in-Err-clause-served
+returns-in-Err-clause-served g c =
+    let had = settled_by c.args.sheet.now.past in
+    record {
+      serves = tt;
+      ends = ends_here g.D.Disk (blocks_of had (script_heard c.args.script.now))
+          (blocks_of (settled_by c.loop-number.sheet.past) (option_map_or (λ text.
+          lines_heard (draft_of c.loop-number.reader) (lines_of text.now)) c.loop-number.rest []))
+          c.args.server.now.bases.items c.loop-number.server.bases.items _ _ c.loop-number.invariant.served;
+    }
 
-pub returns-clause-serves : goal.returns-clause-serves
-returns-clause-serves g c = end_here g.D.Disk.now g.D.Disk.past g.D.Disk.failures g.D.Disk.honest _ _
-    c.loop-number.invariant.serves
+pub returns-in-Err-take_heard-clause-served : goal.returns-in-Err-take_heard-clause-served
+returns-in-Err-take_heard-clause-served g c =
+    let was = c.args.server.now in
+    let old = server_of was.engine (g.W.Write.contents c.args.out.now) was.lines was.waited.items was.places.marks.items
+    in
+    let now = c.loop-number.server in
+    let mid = server_of now.engine (g.W.Write.contents c.loop-number.out) now.lines now.waited.items
+    now.places.marks.items in
+    let n = c.take_heard.new.server in
+    let new = server_of n.engine (g.W.Write.contents c.take_heard.new.out) n.lines n.waited.items n.places.marks.items
+    in
+    let had = settled_by c.args.sheet.now.past in
+    let all = blocks_of had (script_heard c.args.script.now) in
+    let before = settled_by c.loop-number.sheet.past in
+    let d = draft_of c.loop-number.reader in
+    let text = c.in-Some.text in
+    record {
+      serves = tt;
+      ends = part_ends g.D.Disk _ _ _ _ (blocks_line before _ d (draft_of c.read_with_glances.new.self)
+          c.in-Ok.heard text.now c.split_line.result.0.now c.split_line.result.1 c.split_line.ensures
+          c.in-Ok.ensures.ok refl) was.bases.items now.bases.items old mid
+          (blocks_some g.D.Disk all before was.bases.items now.bases.items old mid d c.loop-number.rest text
+          c.in-Some.is c.loop-number.invariant.served) new c.in-Err-take_heard.ensures.served.ends;
+    }
+
+pub returns-clause-served : goal.returns-clause-served
+returns-clause-served g c =
+    let had = settled_by c.args.sheet.now.past in
+    record {
+      serves = tt;
+      ends = ends_here g.D.Disk (blocks_of had (script_heard c.args.script.now))
+          (blocks_of (settled_by c.loop-number.sheet.past) (option_map_or (λ text.
+          lines_heard (draft_of c.loop-number.reader) (lines_of text.now)) c.loop-number.rest []))
+          c.args.server.now.bases.items c.loop-number.server.bases.items _ _ c.loop-number.invariant.served;
+    }

@@ -1,4 +1,4 @@
-use Rattle.std.proofs.Common.{◌≡◌, ◌∙◌, ap, map, subst, sym}
+use Rattle.std.proofs.Common.{◌≡◌, ◌∙◌, ap, inr, map, subst, sym}
 use Rattle.std.specs.Prelude.{None}
 use Rattle.im_disk.specs.Since.{LeavesNow}
 use Rattle.im_engine.specs.State.{EngineState, MeansState}
@@ -6,8 +6,10 @@ use Rattle.im_controller.specs.Kept.{begun_in}
 use Rattle.im_laws.proofs.Tests.{true_false}
 use Rattle.im_run.specs.Doing.{AreAllTold}
 use Rattle.im_run.specs.Orders.{ask_of}
+use Rattle.im_run.specs.Planned.{plan_of}
 use Rattle.im_run.specs.Running.{ServedOn}
 use Rattle.im_run.proofs.DoingLemmas.{none_of_all, told_weaker}
+use Rattle.im_run.proofs.PlannedLemmas.{ends_on_plan, plan_ends}
 use Rattle.im_run.proofs.RunningLemmas.{none_served}
 use Rattle.im_run.proofs.run.serve_on.Goals as goal
 
@@ -16,28 +18,36 @@ returns-in-Ok-clause-ended g c = λ honest alive.
     let d = g.D.Disk in
     let s = c.serve_orders-engine in
     let k = c.close-status in
-    let same = c.in-Ok.ensures.found.0 in
+    let same = c.in-Ok.ensures.found in
     let works = ap (λ (e : EngineState g.row.D.Denot). e.failed) same ∙ alive in
     let orders = map ask_of c.args.orders.items in
+    let m = c.args.engine.memory in
+    let trace = s.result.trace.items in
+    let end = s.result.engine.memory in
+    let served = subst (λ (e : EngineState g.row.D.Denot). ServedOn d.now d.past d.failures
+    (begun_in d.now d.past d.failures e) e.memory trace s.result.engine) same
+    (s.ensures.kept (subst g.D.Disk.honest k.ensures.disk honest) works) in
+    let told = told_weaker m trace (s.result.refused ≡ None) (k.result.0 ≡ 0) orders s.result.did.items
+    (λ zero. c.reason_of-reason.ensures.none (k.ensures.done zero))
+    (subst (λ (e : EngineState g.row.D.Denot). AreAllTold e.memory trace (s.result.refused ≡ None) orders
+    s.result.did.items) same s.ensures.told) in
     record {
       engine = s.result.engine;
       disk_is = k.ensures.disk;
-      served = subst (λ (e : EngineState g.row.D.Denot). ServedOn d.now d.past d.failures
-          (begun_in d.now d.past d.failures e) e.memory s.result.trace.items s.result.engine) same
-          (s.ensures.kept (subst g.D.Disk.honest k.ensures.disk honest) works);
+      served = served;
       works = k.ensures.works;
       means = k.ensures.means honest;
       did = s.result.did.items;
-      told = told_weaker c.args.engine.memory s.result.trace.items (s.result.refused ≡ None) (k.result.0 ≡ 0) orders
-          s.result.did.items (λ zero. c.reason_of-reason.ensures.none (k.ensures.done zero))
-          (subst (λ (e : EngineState g.row.D.Denot). AreAllTold e.memory s.result.trace.items (s.result.refused ≡ None)
-          orders s.result.did.items) same s.ensures.told);
+      told = told;
+      as_planned = λ planned. ends_on_plan m trace orders s.result.did.items end (k.result.0 ≡ 0) served.legal
+          served.ends told (plan_ends c.in-Ok.opening.engine.memory m (plan_of orders) c.in-Ok.opening.plan end
+          (ap (λ (e : EngineState g.row.D.Denot). e.memory) same) (c.in-Ok.ensures.plan planned) s.ensures.planned);
       printed = k.ensures.printed;
     }
 
 pub returns-in-Ok-clause-honest : goal.returns-in-Ok-clause-honest
 returns-in-Ok-clause-honest g c = λ honest.
-    subst (λ (e : EngineState g.row.D.Denot). g.D.Disk.honest e.disk) c.in-Ok.ensures.found.0 (c.serve_orders-engine.ensures.honest (subst g.D.Disk.honest c.close-status.ensures.disk honest))
+    subst (λ (e : EngineState g.row.D.Denot). g.D.Disk.honest e.disk) c.in-Ok.ensures.found (c.serve_orders-engine.ensures.honest (subst g.D.Disk.honest c.close-status.ensures.disk honest))
 
 pub returns-in-Err-clause-ended : goal.returns-in-Err-clause-ended
 returns-in-Err-clause-ended g c = λ honest alive.
@@ -57,5 +67,6 @@ returns-in-Err-clause-ended g c = λ honest alive.
       told = none_of_all c.args.engine.memory c.new-trace.result.items (k.result.0 ≡ 0)
           (map ask_of c.args.orders.items) c.new-none.result.items c.new-none.ensures.items
           (λ zero. true_false (sym (k.ensures.done zero)));
+      as_planned = λ planned. inr (c.new-trace.ensures.items, λ zero. true_false (sym (k.ensures.done zero)));
       printed = k.ensures.printed;
     }

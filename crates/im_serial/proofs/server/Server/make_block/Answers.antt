@@ -1,5 +1,50 @@
-use Rattle.im_serial.proofs.ScriptedLemmas.{any_script}
+use Rattle.std.proofs.Common.{◌∙◌, ◌++◌, [], ◌∷◌, List, ℕ, ap, refl}
+use Rattle.std.specs.Prelude.{Ok, true}
+use Rattle.im_types.specs.declared.commands.Outcome.TheVariants.{Entry as Tells}
+use Rattle.im_types.specs.declared.operations.Entry.{Entry}
+use Rattle.im_types.specs.declared.operations.Entry.TheVariants.{Answered}
+use Rattle.im_script.specs.declared.places.Action.TheVariants.{Alloc}
+use Rattle.im_serial.specs.Asked.{base_told}
+use Rattle.im_serial.proofs.ScriptedLemmas.{asked_ends, asked_serves, served_with}
 use Rattle.im_serial.proofs.server.Server.make_block.Goals as goal
 
-pub returns : goal.returns
-returns g c = record { serves = any_script g.D.Disk c.name_block.result _ _ _ _ _ c.name_block.ensures.served }
+pub returns-in-Err-clause-served : goal.returns-in-Err-clause-served
+returns-in-Err-clause-served g c = asked_ends g.D.Disk _ (record {
+  element = 0;
+  action = Alloc c.args.block.kind c.args.block.length;
+  named = true;
+}) _ _ _ _ _ _ refl c.in-Err.ensures.serves
+
+pub returns-in_default-clause-served : goal.returns-in_default-clause-served
+returns-in_default-clause-served g c = asked_ends g.D.Disk _ (record {
+  element = 0;
+  action = Alloc c.args.block.kind c.args.block.length;
+  named = true;
+}) _ _ _ _ _ _ refl c.in-Ok.ensures.serves
+
+pub returns-in-Err-push-clause-served : goal.returns-in-Err-push-clause-served
+returns-in-Err-push-clause-served g c = asked_ends g.D.Disk _ (record {
+  element = 0;
+  action = Alloc c.args.block.kind c.args.block.length;
+  named = true;
+}) _ _ _ _ _ _ refl c.in-Ok.ensures.serves
+
+pub returns-in-Ok-push-clause-served : goal.returns-in-Ok-push-clause-served
+returns-in-Ok-push-clause-served g c =
+    let told = rw c.in-Answered-Base.is at c.in-Answered-Base.field-0-is in
+    let bases = c.args.self.now.bases.items in
+    let base = c.in-Answered-Base.base in
+    served_with g.D.Disk _ _ bases (bases ++ base ∷ []) _ _ _ (c.in-Ok-push.ensures.items
+    ∙ ap (λ (l : List ℕ). l ++ base ∷ []) c.request.ensures.bases)
+    (asked_serves g.D.Disk _ (record {
+      element = 0;
+      action = Alloc c.args.block.kind c.args.block.length;
+      named = true;
+    }) bases (base ∷ []) _ c.in-Ok.entry _ _ refl (ap (λ
+    (e : Entry). base_told (Ok (Tells e))) (c.in-Answered-Base.is ∙ ap Answered told)) c.in-Ok.ensures.serves)
+
+pub returns-in-Ok-push-clause-named : goal.returns-in-Ok-push-clause-named
+returns-in-Ok-push-clause-named g c = (
+  c.in-Answered-Base.base,
+  c.in-Ok-push.ensures.items ∙ ap (λ (l : List ℕ). l ++ c.in-Answered-Base.base ∷ []) c.request.ensures.bases,
+)

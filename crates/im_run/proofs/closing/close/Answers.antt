@@ -4,7 +4,7 @@ use Rattle.im_text.proofs.PrintingLemmas.{on_ok_by}
 use Rattle.im_run.specs.declared.served.Did.{Did}
 use Rattle.im_run.specs.Running.{Closes}
 use Rattle.im_run.proofs.RunningLemmas.{closed_by}
-use Rattle.im_run.proofs.run.close.Goals as goal
+use Rattle.im_run.proofs.closing.close.Goals as goal
 
 pub returns-clause-means : goal.returns-clause-means
 returns-clause-means g c = λ honest works. c.close.ensures.means honest works

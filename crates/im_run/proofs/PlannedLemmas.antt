@@ -1,0 +1,138 @@
+-- A planned run whose requests were all told: each of them was served. (Own.)
+use Rattle.std.proofs.Common.{◌≡◌, ◌∙◌, ◌⊎◌, inl, inr, ⊎_elim, ℕ, zero, suc, List, [], ◌∷◌, ◌++◌, length, refl, sym}
+use Rattle.std.proofs.Common.{ap, subst, append_assoc, arith}
+use Rattle.std.specs.Prelude.{Option, Some, slice_get}
+use Rattle.im_types.specs.declared.operations.Entry.{Entry}
+use Rattle.im_types.specs.declared.operations.Waiter.{Waiter}
+use Rattle.im_types.specs.declared.commands.Call.{Call}
+use Rattle.im_types.specs.declared.commands.Call.TheVariants.{Command as Commands, Collect}
+use Rattle.im_types.specs.declared.commands.Command.TheVariants.{Request as Asks}
+use Rattle.im_types.specs.declared.commands.Line.{Line}
+use Rattle.im_types.specs.declared.commands.Request.{Request}
+use Rattle.im_types.specs.Agreement.{WaitingAgrees}
+use Rattle.im_types.specs.Contents.{Contents}
+use Rattle.im_types.specs.Step.{asker, step}
+use Rattle.im_types.specs.Trace.{IsLegal, contents_after, end_of}
+use Rattle.im_laws.proofs.EntryLemmas.{told-kept}
+use Rattle.im_laws.proofs.RunAgrees.{step-agrees}
+use Rattle.im_laws.proofs.Tests.{some_same}
+use Rattle.im_plans.specs.Runs.{HasServed, IsInPlan, IsTaken}
+use Rattle.im_plans.proofs.Taken.{kept-taken, step-taken}
+use Rattle.im_controller.specs.Planned.{EndsAsPlanned, EndsBy}
+use Rattle.im_serving.specs.declared.intent.Intent.{Intent}
+use Rattle.im_serving.specs.declared.intent.Intent.TheVariants as intent_kinds
+use Rattle.im_serving.specs.Serving.{StandIn, asked_line, asked_lines, ops_of}
+use Rattle.im_run.specs.declared.served.Did.{Did}
+use Rattle.im_run.specs.Doing.{AreAllTold}
+use Rattle.im_run.specs.Orders.{Ask}
+use Rattle.im_run.specs.Planned.{EndsOnPlan, plan_of, requests_from}
+
+-- ---- the plan of the controller
+
+pub plan_ends : (m begun : Contents) (plan : List Request) (found : Option (List Request)) (end : Contents)
+    → m ≡ begun → found ≡ Some plan → EndsBy m found end → EndsAsPlanned begun plan end
+plan_ends m begun plan found end same is it = subst (λ (n : Contents). EndsAsPlanned n plan end) same
+    (subst (λ (o : Option (List Request)). EndsBy m o end) is it)
+
+-- ---- a number that was asked stays taken
+
+agrees_behind : (m : Contents) (call : Call) → WaitingAgrees m → WaitingAgrees (contents_after m call)
+agrees_behind m (Commands command) it = step-agrees m command it
+agrees_behind m (Collect element number) it = it
+
+taken_behind : (m : Contents) (call : Call) (who : Waiter) → IsTaken m.windows who
+    → IsTaken (contents_after m call).windows who
+taken_behind m (Commands command) who it = step-taken m command who it
+taken_behind m (Collect element number) who it = it
+
+taken_on : (m : Contents) (trace : List Line) (who : Waiter) → IsTaken m.windows who
+    → IsTaken (end_of m trace).windows who
+taken_on m [] who it = it
+taken_on m (line ∷ trace) who it = taken_on (contents_after m line.call) trace who (taken_behind m line.call who it)
+
+taken_in : (m : Contents) (before after : List Line) (r : Request) (entry : Entry) → WaitingAgrees m
+    → IsLegal m (before ++ asked_line r.element r.number r.op entry ∷ after)
+    → IsTaken (end_of m (before ++ asked_line r.element r.number r.op entry ∷ after)).windows (asker r)
+taken_in m [] after r entry agrees legal = taken_on (step m (Asks r)).contents after (asker r)
+    (kept-taken (step m (Asks r)).contents.windows (asker r) (record { op = r.op; entry = entry })
+    (told-kept m r entry agrees (sym legal.0)))
+taken_in m (line ∷ before) after r entry agrees legal =
+    taken_in (contents_after m line.call) before after r entry (agrees_behind m line.call agrees) legal.1
+
+-- ---- all requests of an order
+
+module _ (m : Contents) (trace : List Line) (agrees : WaitingAgrees m) (legal : IsLegal m trace) where
+  taken_at : (before after : List Line) (r : Request) (entry : Entry)
+      → trace ≡ before ++ asked_line r.element r.number r.op entry ∷ after
+      → IsTaken (end_of m trace).windows (asker r)
+  taken_at before after r entry is =
+      subst (λ (t : List Line). IsLegal m t → IsTaken (end_of m t).windows (asker r)) (sym is)
+      (taken_in m before after r entry agrees) legal
+
+  taken_all : (front rest : List Line) (element number : ℕ) (intents : List Intent) (firsts : List Entry)
+      → trace ≡ front ++ rest → length firsts ≡ length (ops_of intents)
+      → StandIn (asked_lines element number (ops_of intents) firsts) rest
+      → (i : ℕ) (r : Request) → slice_get (requests_from element number intents) i ≡ Some r
+      → IsTaken (end_of m trace).windows (asker r)
+  taken_all front rest element number [] firsts is count stand i r there = absurd (cc)
+  taken_all front rest element number (intent_kinds.Glance a ∷ intents) firsts is count stand i r there =
+      taken_all front rest element number intents firsts is count stand i r there
+  taken_all front rest element number (intent_kinds.Request op ∷ intents) [] is count stand i r there =
+      absurd (omega (arith, count))
+  taken_all front rest element number (intent_kinds.Request op ∷ intents) (first ∷ firsts) is count stand zero r there =
+      let asked : Request = record { element = element; number = number; op = op } in
+      subst (λ (q : Request). IsTaken (end_of m trace).windows (asker q)) (some_same asked r there)
+      (taken_at (front ++ stand.0) stand.1.0 asked first
+      (is ∙ ap (λ (l : List Line). front ++ l) stand.1.1.0
+      ∙ sym (append_assoc front stand.0 (asked_line element number op first ∷ stand.1.0))))
+  taken_all front rest element number (intent_kinds.Request op ∷ intents) (first ∷ firsts) is count stand (suc i) r
+      there =
+      let line = asked_line element number op first in
+      let before = stand.0 in
+      let after = stand.1.0 in
+      let split : front ++ rest ≡ (front ++ before ++ line ∷ []) ++ after =
+      ap (λ (l : List Line). front ++ l) stand.1.1.0
+      ∙ sym (append_assoc front before (line ∷ after))
+      ∙ sym (append_assoc (front ++ before) (line ∷ []) after) in
+      taken_all (front ++ before ++ line ∷ []) after element (suc number) intents firsts (is ∙ split)
+      (omega (arith, count)) stand.1.1.1 i r there
+
+  in_either : (xs ys : List Request) (i : ℕ) (r : Request) → slice_get (xs ++ ys) i ≡ Some r
+      → IsInPlan xs r ⊎ IsInPlan ys r
+  in_either [] ys i r is = inr (i, is)
+  in_either (x ∷ xs) ys zero r is = inl (zero, is)
+  in_either (x ∷ xs) ys (suc i) r is = ⊎_elim (λ h. inl (suc h.0, h.1)) (λ h. inr h) (in_either xs ys i r is)
+
+  -- of all orders
+  orders_taken : (none : Type 0) (orders : List Ask) (told : List Did) → AreAllTold m trace none orders told → none
+      → (r : Request) → IsInPlan (plan_of orders) r → IsTaken (end_of m trace).windows (asker r)
+  orders_taken none [] told it yes r in_plan = absurd (no_place in_plan.0 r in_plan.1)
+    where
+      no_place : (i : ℕ) (r : Request) → ◌≡◌ {A = Option Request} (slice_get [] i) (Some r) → ⊥
+      no_place i r e = cc
+  orders_taken none (order ∷ orders) told it yes r in_plan = ⊎_elim here
+      (orders_taken none orders it.1.0 it.1.1.1.1 yes r)
+      (in_either (requests_from order.element order.first order.intents) (plan_of orders) in_plan.0 r in_plan.1)
+    where
+      here : IsInPlan (requests_from order.element order.first order.intents) r
+          → IsTaken (end_of m trace).windows (asker r)
+      here place =
+          let o = it.1.1.1.0 in
+          let a = o.answered in
+          let whole = o.all yes in
+          taken_all [] trace order.element order.first order.intents a.firsts refl
+          (subst (λ (l : List Intent). length a.firsts ≡ length (ops_of l)) whole a.count)
+          (subst (λ (l : List Intent). StandIn (asked_lines order.element order.first (ops_of l) a.firsts) trace) whole
+          a.asked) place.0 r place.1
+
+-- ---- a planned run
+
+-- it ended as planned, and if all was told, all was served
+pub ends_on_plan : (m : Contents) (trace : List Line) (orders : List Ask) (told : List Did) (end : Contents)
+    (none : Type 0) → IsLegal m trace → end_of m trace ≡ end → AreAllTold m trace none orders told
+    → EndsAsPlanned m (plan_of orders) end → EndsOnPlan m orders trace end none
+ends_on_plan m trace orders told end none legal ends it planned = inl (
+  planned,
+  λ yes. subst (λ (e : Contents). HasServed e.windows (plan_of orders)) ends
+      (orders_taken m trace planned.starts.agrees legal none orders told it yes),
+)

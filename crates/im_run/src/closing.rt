@@ -1,0 +1,125 @@
+//! The end of a run: its lines, its status, and why it ended.
+ghost use Rattle.std.specs.Prelude.{◌≡◌, ◌⊎◌, ◌≤◌, false, IsOk};
+ghost use Rattle.im_disk.specs.Since.{LeavesNow};
+ghost use Rattle.im_engine.specs.State.{MeansState};
+ghost use Rattle.im_run.specs.Running.{Closes, disk_failed, told_as};
+
+use crate::run::STALLED;
+use crate::served::Did;
+use crate::telling::print_finals;
+use im_damage::Damage;
+use im_disk::Disk;
+use im_engine::Engine;
+use im_serial::{Paper, both};
+use im_text::{Observer, Progress, Reason, finish};
+use im_types::{Entry, Refusal};
+use std::alloc::Global;
+use std::io::Write;
+
+// Returns whether the run ended only because servers wait for each other.
+fn is_stalled(done: &Result<(), Reason>) -> bool {
+    matches!(done, Err(Reason::Request(_, Refusal::Stalled)))
+}
+
+// The reason that a call of the disk failed.
+fn disk_failed() -> Reason
+    ensures { result ≡ disk_failed }
+{
+    Reason::Image(Refusal::Device, Damage::Unknown)
+}
+
+// Returns the reason that the run ended. If the disk failed, and there is no other reason or only a wait, the disk's
+// failure is the reason.
+fn with_disk(done: Result<(), Reason>, failed: bool) -> Result<(), Reason>
+    ensures done { IsOk result → IsOk done }
+{
+    if failed && (done.is_ok() || is_stalled(&done)) {
+        return Err(disk_failed());
+    }
+    done
+}
+
+/// An observer in front of another one. It tells that a call of the disk failed if a request is refused because it came
+/// after that call.
+#[derive(Drop)]
+struct Behind<'a, N> {
+    observer: &'a mut N,
+}
+
+impl<N: Observer> Observer for Behind<'_, N> {
+    fn answered(&mut self, element: u16, number: u64, entry: Entry) {
+        self.observer.answered(element, number, entry);
+    }
+
+    fn progressed(&mut self, progress: Progress) {
+        self.observer.progressed(progress);
+    }
+
+    fn refused(&mut self, reason: Reason) {
+        self.observer.refused(told_as(reason));
+    }
+}
+
+// Returns the reason that the observer is told.
+fn told_as(reason: Reason) -> Reason
+    ensures { result ≡ told_as reason }
+{
+    match reason {
+        Reason::Request(_, Refusal::Failed) => disk_failed(),
+        other => other,
+    }
+}
+
+// Returns the status. It is 1 if the disk failed.
+fn status_of(failed: bool, stalled: bool, status: u8) -> u8
+    requires { status ≤ 1 }
+    ensures status { (result ≤ 1) ⊎ (result ≡ STALLED) }
+    ensures works { (result ≡ 0) ⊎ (result ≡ STALLED) → failed ≡ false }
+    ensures done { result ≡ 0 → status ≡ 0 }
+{
+    if failed {
+        1
+    } else if stalled {
+        STALLED
+    } else {
+        status
+    }
+}
+
+/// Prints the lines of what was done, and the refusal. Returns the status and the engine's disk.
+pub fn close<D: Disk, W: Write, N: Observer>(
+    alloc: Global,
+    engine: Engine<D>,
+    did: Vec<Did>,
+    done: Result<(), Reason>,
+    mut paper: Paper,
+    out: &mut W,
+    observer: &mut N,
+) -> (u8, D)
+    ensures status { (result.0 ≤ 1) ⊎ (result.0 ≡ STALLED) }
+    ensures disk { result.1 ≡ engine.disk }
+    ensures works { (result.0 ≡ 0) ⊎ (result.0 ≡ STALLED) → engine.failed ≡ false }
+    ensures means { D.honest result.1 → engine.failed ≡ false → LeavesNow (D.now result.1) (MeansState engine) }
+    ensures done { result.0 ≡ 0 → IsOk done }
+    ensures printed { Closes (W.contents out.old) paper.lines (W.contents out.new) engine.memory did.items result.0 }
+{
+    let failed = engine.failed();
+    let ended = with_disk(done, failed);
+    let told = print_finals(
+        engine.memory(),
+        did.as_slice(),
+        &mut paper.line,
+        &mut paper.lines,
+        out,
+    );
+    let stalled = is_stalled(&ended);
+    let status = finish(
+        alloc,
+        both(ended, told),
+        &mut paper.lines,
+        &mut paper.line,
+        out,
+        &mut Behind { observer },
+    );
+    (status_of(failed, stalled, status), engine.close())
+}
