@@ -1,7 +1,7 @@
 //! What an engine tells of itself and of its memory, and the bytes of its file.
 
 use crate::engines::Engines;
-use crate::texts::{add_block, add_bytes, add_cell};
+use crate::texts::add_bytes;
 use im_disk::FuseDisk;
 use im_engine::Engine;
 use im_image::journal_at;
@@ -12,8 +12,8 @@ fn tell_cell(engine: &Engine<FuseDisk>, a: u32, said: &mut Saying) {
     let memory = engine.memory();
     match (memory.cell(a), memory.block(a)) {
         (Some(presence), Some(block)) => {
-            add_cell(said, presence);
-            add_block(said, block)
+            said.cell(presence);
+            said.within(block)
         }
         _ => said.text("in no block"),
     }
@@ -50,7 +50,7 @@ pub fn tell(engine: &Engine<FuseDisk>, call: &Call, said: &mut Saying) -> bool {
 
 /// Tells the given number of bytes of the file, from a place on.
 pub fn tell_bytes(engines: &Engines, at: usize, length: usize, said: &mut Saying) {
-    match engines.bytes().get(at..at.saturating_add(length)) {
+    match engines.place.bytes().get(at..at.saturating_add(length)) {
         Some(bytes) => add_bytes(said, bytes),
         None => said.fail("past the end of the file"),
     }

@@ -1,24 +1,13 @@
 //! Makes and changes a file in memory.
 
-use crate::place::Place;
-use crate::words::{crash, hex, mode};
-use im_image::image_length;
-use im_story::{Call, Saying, old_image};
-use im_types::Limits;
+use im_story::{Call, Saying, bytes, hex, old_image};
+use im_story_disk::{Place, crash, mode};
 
 // Tells the length of a file that was made anew.
 fn add_length(place: &Place, is_laid: bool, said: &mut Saying) {
     said.so(is_laid, "");
     said.number(place.bytes().len() as u64);
     said.text(" bytes")
-}
-
-// Makes an image of the version in use, with no command.
-fn lay_current(place: &mut Place, limits: Limits) -> bool {
-    let mut started = Saying::new(place.alloc);
-    let is_laid = place.lay(b"".as_slice(), image_length(limits));
-    place.start(Some(limits), &mut started);
-    is_laid && started.said().starts_with("count")
 }
 
 // Makes an image with no command, of the first version or of the version in use.
@@ -32,7 +21,7 @@ fn lay_image(place: &mut Place, call: &Call, said: &mut Saying) {
             Err(_) => false,
         }
     } else {
-        lay_current(place, limits)
+        place.renew(limits)
     };
     add_length(place, is_laid, said)
 }
@@ -63,13 +52,9 @@ fn add_bytes(place: &Place, at: usize, count: usize, said: &mut Saying) {
 
 // Puts bytes in their places, and tells them as they stand then.
 fn write(place: &mut Place, call: &Call, said: &mut Saying) {
-    let mut bytes = Vec::new(place.alloc);
-    for word in call.rest(3) {
-        match hex(word) {
-            Some(byte) => said.so(bytes.push(byte).is_ok(), ""),
-            None => said.fail("that is no byte"),
-        }
-    }
+    let Some(bytes) = bytes(place.alloc, call.rest(3)) else {
+        return said.fail("that is no byte");
+    };
     said.so(place.put(call.place(0), bytes.as_slice()), "");
     add_bytes(place, call.place(0), bytes.len(), said)
 }
@@ -101,7 +86,7 @@ pub fn tell(place: &mut Place, call: &Call, said: &mut Saying) {
         "cut" => cut(place, call, said),
         "write" => write(place, call, said),
         "as" => said.either(place.is_as_marked(), "yes", "no"),
-        "open" => place.start(None, said),
+        "open" => place.tell_opening(said),
         "crash" => leave(place, call, said),
         _ => set_fuse(place, call, said),
     }

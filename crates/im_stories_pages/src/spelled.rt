@@ -16,18 +16,20 @@
 //! ```
 
 use crate::areas::{area, page_with, pages};
-use crate::bytes::{add_bytes, bytes};
 use crate::rows::{Rows, clashing};
-use crate::texts::{add_cell, add_kept, add_node, cell, kept, node};
+use crate::texts::{add_cell, add_node, cell, kept, node};
 use crate::values::Sizes;
 use crate::verdicts::{Form, Verdict, add_run, add_verdict, form_of, grown, look};
 use im_records::{
     AreaRecords, WindowRecord, read_cell, read_node, read_place, read_session, spell_cell,
     spell_node, spell_place, spell_session,
 };
-use im_story::{Call, Saying};
+use im_story::{Call, Saying, bytes};
 use im_types::{CellRecord, Kept, NodeRecord};
 use std::alloc::{AllocError, Global};
+
+// The fewest equal bytes that are told as one.
+const RUN: usize = 3;
 
 fn add_window_or(said: &mut Saying, window: Option<&WindowRecord>, none: &str) {
     let Some(window) = window else {
@@ -54,7 +56,7 @@ fn add_node_or(said: &mut Saying, node: Option<NodeRecord>, none: &str) {
 // Adds an entry that was read, if one was.
 fn add_place(said: &mut Saying, place: Option<Option<Kept>>) {
     match place {
-        Some(entry) => add_kept(said, entry),
+        Some(entry) => said.kept(entry),
         None => said.text("refused"),
     }
 }
@@ -92,7 +94,7 @@ fn tell_kept(window: &WindowRecord, sent: u64, said: &mut Saying) {
         return said.fail("the number lies below the window");
     };
     let place = usize::try_from(past).unwrap_or(usize::MAX);
-    add_kept(said, window.kept().get(place).copied())
+    said.kept(window.kept().get(place).copied())
 }
 
 // Tells how many of the first entries are of stores of 0, 1, .. in cell 0 that clashed.
@@ -152,7 +154,7 @@ impl Spelled {
 
     fn spell(&mut self, words: &[&str], said: &mut Saying) {
         match self.lay_record(words) {
-            Some(true) => add_bytes(said, &self.bytes),
+            Some(true) => said.bytes(&self.bytes, RUN),
             _ => said.fail("no record"),
         }
     }
@@ -182,7 +184,7 @@ impl Spelled {
 
     fn tell_bytes(&self, at: usize, count: usize, said: &mut Saying) {
         match self.bytes.get(at..at.saturating_add(count)) {
-            Some(some) => add_bytes(said, some),
+            Some(some) => said.bytes(some, RUN),
             None => said.fail("there aren't so many bytes"),
         }
     }
