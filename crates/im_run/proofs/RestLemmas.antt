@@ -35,7 +35,7 @@ module _ {D : Type 0} (disk : Ghosts D) where
           → FitsScript old.engine.memory script ⊎ (mid ≡ old) → (new : D) (is : Option (List ℕ)) (calls : TraceState)
           (status : ℕ) → status ≡ 1 → new ≡ mid.engine.disk → ((start : Option (List ℕ)) (text : List ℕ)
           → Prints start mid.held mid.lines text → (last : List ℕ) × (IsLast last × Begins start is (text ++ last)))
-          → calls ≡ record { setup = []; served = [] } → IsUnrun script old.engine new old.held is calls status
+          → calls ≡ record { setup = []; served = []; recorded = true } → IsUnrun script old.engine new old.held is calls status
       unrun_by same breaks fit new is calls status one at_disk last none = ⊎_elim by_fit by_same fit
         where
           make : (had : List ℕ) → IsPrefix had (lines_had old.engine.memory (numbers_had old.engine.memory) script)

@@ -29,7 +29,7 @@ pub record IsUnrun {D : Type 0} (script : List Wanted) (start : EngineState D) (
   pub last : List ℕ
   pub last_is : IsLast last
   pub begins : Begins was is (had ++ last)
-  pub unserved : calls ≡ record { setup = []; served = [] }
+  pub unserved : calls ≡ record { setup = []; served = []; recorded = true }
 
 -- The lines of what the memory has of the script were printed and written out; it fits the script, and each block of
 -- the setup that it has was made. From then on it is a run of the rest.

@@ -1,5 +1,5 @@
 -- The lines of a trace, and what a run's trace is. (Own.)
-use Rattle.std.specs.Prelude.{◌≡◌, ◌⊎◌, ℕ, List, [], ◌++◌}
+use Rattle.std.specs.Prelude.{◌≡◌, ◌⊎◌, ℕ, Bool, true, List, [], ◌++◌, if◌then◌else◌}
 use Rattle.std.specs.Prelude.{length, codes, decimal, Option, None, Some, Result, Ok, Err, slice_get}
 use Rattle.im_types.specs.declared.commands.Command.{Command}
 use Rattle.im_types.specs.declared.commands.Command.TheVariants.{Request as Asks, Confirm}
@@ -14,6 +14,7 @@ use Rattle.im_types.specs.Refusals.{number_of}
 use Rattle.im_types.specs.Contents.{Contents}
 use Rattle.im_types.specs.Trace.{IsLegal}
 use Rattle.im_types.specs.Run.{after}
+use Rattle.im_trace.specs.Ends.{RecordingState}
 use Rattle.im_controller.specs.Kept.{accepted_in}
 use Rattle.im_text.specs.declared.lines.Lines.{Lines}
 use Rattle.im_text.specs.Printing.{PrintsMore}
@@ -52,14 +53,21 @@ first_lines lines many = texts_below (λ i. trace_line (slice_get lines i)) many
 abbrev pub lines_text : List Line → List ℕ
 lines_text lines = first_lines lines (length lines)
 
--- a run's calls, each with its answer: those of the setup, and those of the elements' servers
+-- the calls of the elements' servers, if any started
+abbrev pub calls_in : Option RecordingState → RecordingState
+calls_in None = record { items = []; recorded = true }
+calls_in (Some recording) = recording
+
+-- a run's calls, each with its answer: those of the setup, and those of the elements' servers; and whether the latter
+-- were recorded
 pub record TraceState : Type 0 where
   pub setup : List Line
   pub served : List Line
+  pub recorded : Bool
 
--- all lines
+-- all lines that were recorded
 abbrev pub trace_text : TraceState → List ℕ
-trace_text t = lines_text (t.setup ++ t.served)
+trace_text t = lines_text (t.setup ++ (if t.recorded then t.served else []))
 
 -- What is known of the calls of a run, given the memory at its start, the commands of its setup, and all that were
 -- acknowledged. Those of the servers are legal from the memory after the setup. Their accepted commands are those that

@@ -3,6 +3,7 @@
 //! The crate stands on `im_serving`. The setup is served first, through the engine.
 #![tactic(auto)]
 
+mod calls;
 mod closing;
 mod deeds;
 mod noting;
@@ -19,4 +20,5 @@ mod tracing;
 
 pub use once::run_once_on;
 pub use run::{STALLED, run_on};
+pub use sheet::Mode;
 pub use tracing::{Trace, write_trace};

@@ -1,12 +1,12 @@
 //! A script that is run once, whatever stopped it before.
-ghost use Rattle.std.specs.Prelude.{◌≡◌, ◌⊎◌, ◌≤◌, ◌++◌, ℕ, List, Option};
+ghost use Rattle.std.specs.Prelude.{◌≡◌, ◌⊎◌, ◌≤◌, ◌++◌, ℕ, true, List, Option};
 ghost use Rattle.im_text.specs.Printing.{Begins, IsLast, Prints};
 ghost use Rattle.im_serial.specs.Once.{HasServedNothing};
 ghost use Rattle.im_serial.specs.Serving.{seen_by};
 ghost use Rattle.im_run.specs.Once.{EndsOnce, RunsOnceOn};
 
 use crate::run::{STALLED, run_server};
-use crate::sheet::Commission;
+use crate::sheet::{Commission, Mode};
 use crate::tracing::Trace;
 use im_disk::Disk;
 use im_engine::Engine;
@@ -62,11 +62,13 @@ fn run_rest<
     watcher: &V,
     out: &mut W,
     observer: &mut N,
+    recorded: bool,
 ) -> (u8, D, Trace)
     requires ready { HasServedNothing D.Disk (seen_by server (W.contents out.old)) server.bases.items }
     ensures status { (result.0 ≤ 1) ⊎ (result.0 ≡ STALLED) }
     ensures ends { EndsOnce D.Disk script.now server.engine result.1 (W.contents out.old) (W.contents out.new)
         result.2 result.0 }
+    ensures recorded { recorded ≡ true → result.2.recorded ≡ true }
 {
     let mut server = server;
     match server.show_past(alloc, script, out) {
@@ -74,9 +76,11 @@ fn run_rest<
             let none = Vec::new(alloc);
             server.waited = none; // Those that wait are sent again.
             let asked = Commission { script, once: true };
-            run_server(
-                rt, alloc, server, asked, gate, watcher, out, observer, false,
-            )
+            let mode = Mode {
+                planned: false,
+                recorded,
+            };
+            run_server(rt, alloc, server, asked, gate, watcher, out, observer, mode)
         }
         Err(reason) => {
             let (status, disk) = refuse_rest(alloc, server, reason, out, observer);
@@ -119,10 +123,12 @@ pub fn run_once_on<
     watcher: &V,
     out: &mut W,
     observer: &mut N,
+    recorded: bool,
 ) -> (u8, D, Trace)
     ensures status { (result.0 ≤ 1) ⊎ (result.0 ≡ STALLED) }
     ensures run { RunsOnceOn D.Disk script.now disk result.1 (W.contents out.old) (W.contents out.new) result.2
         result.0 }
+    ensures recorded { recorded ≡ true → result.2.recorded ≡ true }
 {
     let Ok(desk) = Desk::new(alloc) else {
         let status = end(alloc, Err(Reason::Memory), out, observer);
@@ -131,7 +137,9 @@ pub fn run_once_on<
     match Engine::open(alloc, disk) {
         Ok(engine) => {
             let server = Server::new(alloc, engine, desk);
-            run_rest(rt, alloc, server, script, gate, watcher, out, observer)
+            run_rest(
+                rt, alloc, server, script, gate, watcher, out, observer, recorded,
+            )
         }
         Err((refusal, mut disk)) => {
             let reason = diagnose(alloc, &mut disk, refusal);

@@ -1,11 +1,12 @@
 //! A script's requests as a plan.
 ghost use Rattle.std.specs.Prelude.{◌≡◌, ◌≤◌, ◌++◌, IfOk, IfErr, IfSome, IfNone, OnOk, Some, length, map, true};
+ghost use Rattle.im_controller.specs.State.{is_recorded};
 ghost use Rattle.im_run.specs.Orders.{ask_of};
 ghost use Rattle.im_run.specs.Planned.{number_behind, plan_of, request_by, requests_from};
 ghost use Rattle.im_run.specs.Running.{AreThere};
 
-use crate::sheet::Order;
-use im_controller::{Opening, start, start_planned};
+use crate::sheet::{Mode, Order};
+use im_controller::{Opening, start, start_planned, start_planned_unrecorded, start_unrecorded};
 use im_disk::Disk;
 use im_engine::Engine;
 use im_memory::Memory;
@@ -144,15 +145,51 @@ fn plan_fault(alloc: Global, memory: &Memory, orders: &[Order], refusal: Refusal
     }
 }
 
+// Starts under a plan, with room for a trace or without a record of one.
+fn start_by<D: Disk + Drop, R: Wait>(
+    rt: &R,
+    alloc: Global,
+    engine: Engine<D>,
+    plan: Plan,
+    room: Option<usize>,
+) -> Result<Opening<D>, (Refusal, Engine<D>)>
+    ensures found { IfOk result (λ o. (o.engine ≡ engine) × (o.plan ≡ Some plan)) }
+    ensures recorded { IfOk result (λ o. o.book.recorded ≡ is_recorded room) }
+    ensures same { IfErr result (λ e. e.1 ≡ engine) }
+{
+    match room {
+        Some(room) => start_planned(rt, alloc, engine, plan, room),
+        None => start_planned_unrecorded(rt, alloc, engine, plan),
+    }
+}
+
+// The same without a plan.
+fn start_freely<D: Disk + Drop, R: Wait>(
+    rt: &R,
+    alloc: Global,
+    engine: Engine<D>,
+    room: Option<usize>,
+) -> Result<Opening<D>, (Refusal, Engine<D>)>
+    ensures found { IfOk result (λ o. o.engine ≡ engine) }
+    ensures recorded { IfOk result (λ o. o.book.recorded ≡ is_recorded room) }
+    ensures same { IfErr result (λ e. e.1 ≡ engine) }
+{
+    match room {
+        Some(room) => start(rt, alloc, engine, room),
+        None => start_unrecorded(rt, alloc, engine),
+    }
+}
+
 // Opens for a run under the plan of these orders.
 fn begin_planned<D: Disk + Drop, R: Wait>(
     rt: &R,
     alloc: Global,
     engine: Engine<D>,
     orders: &[Order],
-    room: usize,
+    room: Option<usize>,
 ) -> Result<Opening<D>, (Reason, Engine<D>)>
     ensures found { IfOk result (λ o. (o.engine ≡ engine) × (o.plan ≡ Some (plan_of (map ask_of orders.now)))) }
+    ensures recorded { IfOk result (λ o. o.book.recorded ≡ is_recorded room) }
     ensures same { IfErr result (λ e. e.1 ≡ engine) }
 {
     let plan = match make_plan(alloc, orders) {
@@ -162,7 +199,7 @@ fn begin_planned<D: Disk + Drop, R: Wait>(
             return Err((reason, engine));
         }
     };
-    match start_planned(rt, alloc, engine, plan, room) {
+    match start_by(rt, alloc, engine, plan, room) {
         Ok(opening) => Ok(opening),
         Err((refusal, engine)) => {
             let reason = plan_fault(alloc, engine.memory(), orders, refusal);
@@ -176,12 +213,13 @@ fn begin_free<D: Disk + Drop, R: Wait>(
     rt: &R,
     alloc: Global,
     engine: Engine<D>,
-    room: usize,
+    room: Option<usize>,
 ) -> Result<Opening<D>, (Reason, Engine<D>)>
     ensures found { IfOk result (λ o. o.engine ≡ engine) }
+    ensures recorded { IfOk result (λ o. o.book.recorded ≡ is_recorded room) }
     ensures same { IfErr result (λ e. e.1 ≡ engine) }
 {
-    match start(rt, alloc, engine, room) {
+    match start_freely(rt, alloc, engine, room) {
         Ok(opening) => Ok(opening),
         Err((_, engine)) => Err((Reason::Memory, engine)),
     }
@@ -199,7 +237,18 @@ fn trace_room(orders: &[Order], elements: u16) -> usize {
     room
 }
 
-/// Makes room for what the elements ask for, before any thread starts. Returns `NoElement` if one of the elements
+// Returns the room for a trace, if it is recorded.
+fn room_if(recorded: bool, orders: &[Order], elements: u16) -> Option<usize>
+    ensures { is_recorded result ≡ recorded }
+{
+    if recorded {
+        Some(trace_room(orders, elements))
+    } else {
+        None
+    }
+}
+
+/// Makes room for what the elements ask for, and for the trace if it is recorded, before any thread starts. Returns `NoElement` if one of the elements
 /// doesn't exist.
 ///
 /// If the run is planned, its plan is of all requests of the orders. It then returns `BadPlan` if they make no plan:
@@ -210,18 +259,19 @@ pub fn begin<D: Disk + Drop, R: Wait>(
     alloc: Global,
     engine: Engine<D>,
     orders: &[Order],
-    planned: bool,
+    mode: Mode,
 ) -> Result<Opening<D>, (Reason, Engine<D>)>
     ensures found { IfOk result (λ o. o.engine ≡ engine) }
-    ensures plan { IfOk result (λ o. planned ≡ true → o.plan ≡ Some (plan_of (map ask_of orders.now))) }
+    ensures plan { IfOk result (λ o. mode.planned ≡ true → o.plan ≡ Some (plan_of (map ask_of orders.now))) }
+    ensures recorded { IfOk result (λ o. o.book.recorded ≡ mode.recorded) }
     ensures there { IfOk result (λ _. AreThere engine.memory orders.now) }
     ensures same { IfErr result (λ e. e.1 ≡ engine) }
 {
     if let Some(element) = missing_element(engine.memory(), orders) {
         return Err((Reason::Request(element, Refusal::NoElement), engine));
     }
-    let room = trace_room(orders, engine.memory().elements());
-    if planned {
+    let room = room_if(mode.recorded, orders, engine.memory().elements());
+    if mode.planned {
         return begin_planned(rt, alloc, engine, orders, room);
     }
     begin_free(rt, alloc, engine, room)

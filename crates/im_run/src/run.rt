@@ -1,17 +1,17 @@
 //! A script on the image of a disk, from opening to end.
-ghost use Rattle.std.specs.Prelude.{◌≡◌, ◌⊎◌, ◌≤◌, None, false, map, IsOk};
+ghost use Rattle.std.specs.Prelude.{◌≡◌, ◌⊎◌, ◌≤◌, None, false, true, map, IsOk};
 ghost use Rattle.im_serial.specs.Serving.{seen_by};
 ghost use Rattle.im_run.specs.Orders.{ask_of, bases_first};
 ghost use Rattle.im_run.specs.Running.{EndsRun, EndsServing, Ran, RunsOn, RunsOnPlan};
 ghost use Rattle.im_run.specs.Setup.{CanServe};
 
+use crate::calls::Calls;
 use crate::closing::close;
 use crate::orders::read_orders;
 use crate::planned::begin;
 use crate::served::{Outcome, serve_orders};
-use crate::sheet::{Commission, Order};
+use crate::sheet::{Commission, Mode, Order};
 use crate::tracing::Trace;
-use im_controller::Traced;
 use im_disk::Disk;
 use im_engine::Engine;
 use im_script::Script;
@@ -57,15 +57,16 @@ fn serve_on<
     watcher: &V,
     out: &mut W,
     observer: &mut N,
-    planned: bool,
-) -> (u8, D, Vec<Traced>)
+    mode: Mode,
+) -> (u8, D, Calls)
     ensures status { (result.0 ≤ 1) ⊎ (result.0 ≡ STALLED) }
-    ensures ended { EndsServing D.Disk planned (map ask_of orders.items) engine result.1 (W.contents out.old)
+    ensures ended { EndsServing D.Disk mode.planned (map ask_of orders.items) engine result.1 (W.contents out.old)
         paper.lines (W.contents out.new) result.2.items result.0 }
+    ensures recorded { mode.recorded ≡ true → result.2.recorded ≡ true }
     ensures honest { D.honest result.1 → D.honest engine.disk }
 {
     let none = Vec::new(alloc);
-    match begin(rt, alloc, engine, orders.as_slice(), planned) {
+    match begin(rt, alloc, engine, orders.as_slice(), mode) {
         Ok(opening) => {
             let Outcome {
                 engine,
@@ -78,7 +79,7 @@ fn serve_on<
             (status, disk, trace)
         }
         Err((reason, engine)) => {
-            let trace = Vec::new(alloc);
+            let trace = Calls::new();
             let (status, disk) = close(alloc, engine, none, Err(reason), paper, out, observer);
             (status, disk, trace)
         }
@@ -102,14 +103,15 @@ pub(crate) fn run_server<
     watcher: &V,
     out: &mut W,
     observer: &mut N,
-    planned: bool,
+    mode: Mode,
 ) -> (u8, D, Trace)
     requires ready { CanServe D.Disk (seen_by server (W.contents out.old)) }
     requires bases { server.bases.items
         ≡ bases_first asked.entry.once server.engine.memory asked.entry.script.now }
     ensures status { (result.0 ≤ 1) ⊎ (result.0 ≡ STALLED) }
-    ensures run { EndsRun D.Disk asked.entry.once planned asked.entry.script.now server.engine result.1
+    ensures run { EndsRun D.Disk asked.entry.once mode.planned asked.entry.script.now server.engine result.1
         (W.contents out.old) (W.contents out.new) result.2 result.0 }
+    ensures recorded { mode.recorded ≡ true → result.2.recorded ≡ true }
     ensures honest { D.honest result.1 → D.honest server.engine.disk }
 {
     let none = Vec::new(alloc);
@@ -119,12 +121,12 @@ pub(crate) fn run_server<
     match read {
         Ok(orders) => {
             let (status, disk, served) = serve_on(
-                rt, alloc, engine, orders, paper, gate, watcher, out, observer, planned,
+                rt, alloc, engine, orders, paper, gate, watcher, out, observer, mode,
             );
             (status, disk, Trace { setup, served })
         }
         Err(reason) => {
-            let served = Vec::new(alloc);
+            let served = Calls::new();
             let (status, disk) = close(alloc, engine, none, Err(reason), paper, out, observer);
             (status, disk, Trace { setup, served })
         }
@@ -170,7 +172,8 @@ pub(crate) fn run_server<
 ///
 /// The trace has each call that the setup and the servers made, with its answer: the setup's, then those of all servers
 /// in the order of the lock. What the servers were answered is legal from the memory after the setup, and the commands
-/// that were accepted are those that were put on the image behind the setup's.
+/// that were accepted are those that were put on the image behind the setup's. The servers' calls are recorded only if
+/// `mode` says so; else no memory is held for them.
 ///
 /// The setup's commands are, confirmations aside, the requests of the script's blocks: element 0's, in their order,
 /// each with its next number. They are the first ones, and all if the status is 0. A name stands for the base in its
@@ -205,14 +208,15 @@ pub fn run_on<
     watcher: &V,
     out: &mut W,
     observer: &mut N,
-    planned: bool,
+    mode: Mode,
 ) -> (u8, D, Trace)
     ensures status { (result.0 ≤ 1) ⊎ (result.0 ≡ STALLED) }
     ensures ran { D.honest result.1 → (result.0 ≡ 0) ⊎ (result.0 ≡ STALLED)
         → Ran D.now result.1 (W.contents out.old) (W.contents out.new) result.0 }
     ensures run { RunsOn D.Disk script.now disk result.1 (W.contents out.old) (W.contents out.new) result.2 result.0 }
-    ensures planned { RunsOnPlan D.Disk planned script.now disk result.1 (W.contents out.old) (W.contents out.new)
+    ensures planned { RunsOnPlan D.Disk mode.planned script.now disk result.1 (W.contents out.old) (W.contents out.new)
         result.2 result.0 }
+    ensures recorded { mode.recorded ≡ true → result.2.recorded ≡ true }
     ensures honest { D.honest result.1 → D.honest disk }
 {
     let Ok(desk) = Desk::new(alloc) else {
@@ -226,9 +230,7 @@ pub fn run_on<
                 script,
                 once: false,
             };
-            run_server(
-                rt, alloc, server, asked, gate, watcher, out, observer, planned,
-            )
+            run_server(rt, alloc, server, asked, gate, watcher, out, observer, mode)
         }
         Err((refusal, mut disk)) => {
             let reason = diagnose(alloc, &mut disk, refusal);

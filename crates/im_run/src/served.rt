@@ -8,10 +8,11 @@ ghost use Rattle.im_run.specs.Doing.{AddsLines, AreAllNoted, AreAllTold, HaveSee
 ghost use Rattle.im_run.specs.Orders.{ask_of};
 ghost use Rattle.im_run.specs.Running.{ServedOn};
 
+use crate::calls::Calls;
 use crate::deeds::told_at;
 use crate::parts::{Parts, first_refusal, make_parts};
 use crate::sheet::Order;
-use im_controller::{Finished, Name, Opening, Port, Traced, finish};
+use im_controller::{Finished, Name, Opening, Port, finish};
 use im_disk::Disk;
 use im_engine::Engine;
 use im_serving::{Done, Gate, Watcher, serve_elements};
@@ -32,13 +33,13 @@ pub enum Did {
 
 /// What the servers did.
 #[derive(Drop)]
-pub struct Outcome<D: Disk> {
+pub(crate) struct Outcome<D: Disk> {
     /// The engine.
     pub engine: Engine<D>,
     /// What was done, by elements, and for each element in order.
     pub did: Vec<Did>,
     /// Each call with its answer, in the order of the lock.
-    pub trace: Vec<Traced>,
+    pub trace: Calls,
     /// The refusal of the least element that has one. It is `Stalled` only if there is no other.
     pub refused: Option<(u16, Refusal)>,
 }
@@ -201,7 +202,7 @@ fn note_all<K: Name>(
 /// What is told is, for each order in its turn, a prefix of what it asks for, and all of it if nothing was refused.
 /// Each request has its own number. Its entry is its answer in the trace, or what was found later under that number.
 /// Under a plan, the memory at the end is as the plan says.
-pub fn serve_orders<
+pub(crate) fn serve_orders<
     D: Disk + Drop + Send,
     K: Name + Send + Sync,
     G: Gate + Sync,
@@ -225,6 +226,7 @@ pub fn serve_orders<
     requires honest { D.honest opening.engine.disk → K.honest }
     ensures legal { IsLegal K.memory result.trace.items }
     ensures end { end_of K.memory result.trace.items ≡ result.engine.memory }
+    ensures recorded { result.trace.recorded ≡ opening.book.recorded }
     ensures planned { EndsBy K.memory K.plan result.engine.memory }
     ensures kept { D.honest result.engine.disk → K.begun.failed ≡ false
         → ServedOn D.now D.past D.failures K.begun K.memory result.trace.items result.engine }
@@ -256,7 +258,7 @@ pub fn serve_orders<
     Outcome {
         engine,
         did,
-        trace,
+        trace: Calls::of(trace),
         refused,
     }
 }

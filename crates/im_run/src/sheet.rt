@@ -21,6 +21,15 @@ pub struct Order {
     pub intents: Vec<Intent>,
 }
 
+/// How a script is run.
+#[derive(Clone, Copy, Debug, PartialEq, Eq)]
+pub struct Mode {
+    /// Whether its requests are a plan.
+    pub planned: bool,
+    /// Whether the servers' calls are recorded, so that they can be written as a trace: 48 bytes for each.
+    pub recorded: bool,
+}
+
 /// A script that is to be run, and whether it is done once: then what is settled of it isn't asked for anew.
 #[derive(Clone, Copy)]
 pub struct Commission<'s, 'a> {

@@ -1,10 +1,11 @@
 //! The trace of a run: its calls in the order that was kept, each with its answer.
-ghost use Rattle.std.specs.Prelude.{◌≡◌, ◌++◌, [], OnOk, Some, length, slice_get, string_bytes};
+ghost use Rattle.std.specs.Prelude.{◌≡◌, ◌++◌, [], OnOk, Some, length, slice_get, string_bytes, true};
 ghost use Rattle.std.specs.Io.KnownBytes.{Appends};
 ghost use Rattle.im_text.specs.Printing.{Begins, PrintsMore, Pushes};
 ghost use Rattle.im_run.specs.Tracing.{PrintsBeginning, call_text, lines_text, outcome_text, refusal_text};
 ghost use Rattle.im_run.specs.Tracing.{request_text, trace_line, trace_text};
 
+use crate::calls::Calls;
 use im_controller::Traced;
 use im_text::{Lines, Reason, add_entry, add_op};
 use im_types::{Call, Command, Line, Outcome, Refusal, Request};
@@ -13,11 +14,11 @@ use std::io::Write;
 use std::marker::Model;
 
 /// The calls of a run with their answers, in the order in which they were served: those of the setup, then those of the
-/// elements' servers, as the lock kept them. Contracts see these two lists.
+/// elements' servers, as the lock kept them. Contracts see these two lists, and whether the second was recorded.
 #[derive(Drop)]
 pub struct Trace {
     pub(crate) setup: Vec<Line>,
-    pub(crate) served: Vec<Traced>,
+    pub(crate) served: Calls,
 }
 
 impl Model for Trace {
@@ -25,17 +26,21 @@ impl Model for Trace {
 
     ghost Value = { TraceState };
 
-    ghost view = { λ t. record { setup = t.setup.items; served = t.served.items } };
+    ghost view = { λ t. record {
+      setup = t.setup.items;
+      served = t.served.items;
+      recorded = t.served.recorded;
+    } };
 }
 
 impl Trace {
     // Makes the trace of a run that served nothing.
     pub(crate) fn new(alloc: Global) -> Trace
-        ensures { result ≡ record { setup = []; served = [] } }
+        ensures { result ≡ record { setup = []; served = []; recorded = true } }
     {
         Trace {
             setup: Vec::new(alloc),
-            served: Vec::new(alloc),
+            served: Calls::new(),
         }
     }
 }
@@ -175,7 +180,8 @@ fn print_lines<W: Write>(
 }
 
 /// Writes a trace, a line for each call: what a line of a dialogue asks, ` -> `, and the reply. A dialogue that is
-/// asked the same on the image as it was before the run gives the same replies.
+/// asked the same on the image as it was before the run gives the same replies. If the servers' calls weren't recorded,
+/// those of the setup are written alone.
 ///
 /// Returns `Output` if a write fails, and `Memory` if there is not enough memory. What was written is then a prefix of
 /// the lines.

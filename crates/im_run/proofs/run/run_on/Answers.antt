@@ -24,11 +24,11 @@ returns-in-Ok-open-clause-run g c = λ honest.
     let same = c.new-server.ensures.engine in
     let before = subst (λ (x : EngineState g.row.D.Denot). d.honest x.disk) same (r.ensures.honest honest) in
     let e = c.in-Ok-open.ensures in
-    let run = subst (λ (x : EngineState g.row.D.Denot). RunOn d.now d.past d.failures false c.args.planned
+    let run = subst (λ (x : EngineState g.row.D.Denot). RunOn d.now d.past d.failures false c.args.mode.planned
     c.args.script.now x r.result.1 was is r.result.2 r.result.0) same (r.ensures.run honest) in
     inr (ran_on d false false c.args.script.now c.args.disk c.in-Ok-open.engine r.result.1 was is r.result.2 r.result.0
     (e.leaves before) (e.means before) e.faults
-    (unplanned d.now d.past d.failures false c.args.planned c.args.script.now c.in-Ok-open.engine r.result.1 was is
+    (unplanned d.now d.past d.failures false c.args.mode.planned c.args.script.now c.in-Ok-open.engine r.result.1 was is
     r.result.2 r.result.0 run))
 
 pub returns-in-Ok-open-clause-planned : goal.returns-in-Ok-open-clause-planned
@@ -40,7 +40,7 @@ returns-in-Ok-open-clause-planned g c = λ planned honest.
     let same = c.new-server.ensures.engine in
     let before = subst (λ (x : EngineState g.row.D.Denot). d.honest x.disk) same (r.ensures.honest honest) in
     let e = c.in-Ok-open.ensures in
-    let run = subst (λ (x : EngineState g.row.D.Denot). RunOn d.now d.past d.failures false c.args.planned
+    let run = subst (λ (x : EngineState g.row.D.Denot). RunOn d.now d.past d.failures false c.args.mode.planned
     c.args.script.now x r.result.1 was is r.result.2 r.result.0) same (r.ensures.run honest) in
     inr (ran_on d false true c.args.script.now c.args.disk c.in-Ok-open.engine r.result.1 was is r.result.2 r.result.0
     (e.leaves before) (e.means before) e.faults
@@ -54,10 +54,10 @@ returns-in-Ok-open-clause-ran g c = λ honest is.
     let same = c.new-server.ensures.engine in
     let was = subst (λ (x : EngineState g.row.D.Denot). d.honest x.disk) same (r.ensures.honest honest) in
     let e = c.in-Ok-open.ensures in
-    let run = subst (λ (x : EngineState g.row.D.Denot). RunOn d.now d.past d.failures false c.args.planned
+    let run = subst (λ (x : EngineState g.row.D.Denot). RunOn d.now d.past d.failures false c.args.mode.planned
     c.args.script.now x r.result.1
     (g.W.Write.contents c.args.out.now) (g.W.Write.contents r.new.out) r.result.2 r.result.0) same
     (r.ensures.run honest) in
-    ran d false c.args.planned c.args.script.now c.args.disk r.result.1 _ _ r.result.2 r.result.0 is
-    (inr (ran_on d false c.args.planned c.args.script.now c.args.disk c.in-Ok-open.engine r.result.1 _ _ r.result.2
+    ran d false c.args.mode.planned c.args.script.now c.args.disk r.result.1 _ _ r.result.2 r.result.0 is
+    (inr (ran_on d false c.args.mode.planned c.args.script.now c.args.disk c.in-Ok-open.engine r.result.1 _ _ r.result.2
     r.result.0 (e.leaves was) (e.means was) e.faults run))

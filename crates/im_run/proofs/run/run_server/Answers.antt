@@ -42,9 +42,9 @@ returns-in-Ok-clause-run g c = λ honest.
     let there = standing (Some course) bases [] in
     let orders = map ask_of c.in-Ok.orders.items in
     let s = c.serve_on-status in
-    ended_run d.now d.past d.failures once c.args.planned script bases orders start v.result.0 put going.0 it.1.1.0 held
+    ended_run d.now d.past d.failures once c.args.mode.planned script bases orders start v.result.0 put going.0 it.1.1.0 held
     from (g.W.Write.contents s.new.out) v.result.1.lines s.result.1
-    (record { setup = r.result.1.items; served = s.result.2.items }) s.result.0 goes going.1.1
+    (record { setup = r.result.1.items; served = s.result.2.items; recorded = s.result.2.recorded }) s.result.0 goes going.1.1
     (s.ensures.ended honest goes.works)
     (subst (λ (e : EngineState g.row.D.Denot). AreOrders once e.memory (settled_when once start.memory) bases
     (script_heard script) orders) (sym v.ensures.engine)
@@ -94,9 +94,9 @@ returns-in-Err-clause-run g c = λ honest.
     v.ensures.lines (r.ensures.served.ends start held (Some course) [] first) in
     let it = ended.1.0 (subst d.honest k.ensures.disk honest) in
     let over = it.1.1.1.1.1 in
-    halted_run d.now d.past d.failures once c.args.planned script start v.result.0 it.1.0 ended.0 it.1.1.0 held from
+    halted_run d.now d.past d.failures once c.args.mode.planned script start v.result.0 it.1.0 ended.0 it.1.1.0 held from
     (g.W.Write.contents k.new.out) v.result.1.lines c.new-none.result.items k.result.1
-    (record { setup = r.result.1.items; served = c.new-served.result.items }) k.result.0
+    (record { setup = r.result.1.items; served = c.new-served.result.items; recorded = c.new-served.result.recorded }) k.result.0
     it.1.1.1.1.0 ended.1.1 c.new-none.ensures.items k.ensures.disk k.ensures.works (k.ensures.means honest)
     (λ zero. true_false (sym (k.ensures.done zero))) k.ensures.printed c.new-served.ensures.items over.left
     (sets_up once start.memory script server.bases.items known it.1.0 over.left over.leads)

@@ -15,7 +15,7 @@ returns-in-Ok-print_lines-clause-whole g c =
     let was = g.W.Write.contents c.args.out.now in
     let is = g.W.Write.contents f.new.out in
     let same = ap trace_text (sym c.trace.view_is)
-    ∙ ap₂ (λ (one two : List Line). lines_text (one ++ two)) (sym a.ensures.value) (sym b.ensures.value) in
+    ∙ ap₂ (λ (one two : List Line). lines_text (one ++ two)) (sym a.ensures.value) (sym b.ensures) in
     on_ok_both f.result (λ works flushed. subst (Appends was is) (sym same)
     (written_all was (g.W.Write.contents p.new.out) is c.in-Ok.lines p.new.lines f.new.self
     (lines_text (a.result.now ++ b.result.now)) c.in-Ok.ensures.pending c.in-Ok-print_lines.ensures.all f.ensures.on
@@ -30,7 +30,7 @@ returns-in-Ok-print_lines-clause-begins g c =
     let was = g.W.Write.contents c.args.out.now in
     let is = g.W.Write.contents f.new.out in
     let same = ap trace_text (sym c.trace.view_is)
-    ∙ ap₂ (λ (one two : List Line). lines_text (one ++ two)) (sym a.ensures.value) (sym b.ensures.value) in
+    ∙ ap₂ (λ (one two : List Line). lines_text (one ++ two)) (sym a.ensures.value) (sym b.ensures) in
     subst (Begins was is) (sym same)
     (written_some was (g.W.Write.contents p.new.out) is c.in-Ok.lines p.new.lines f.new.self
     (lines_text (a.result.now ++ b.result.now)) c.in-Ok.ensures.pending p.ensures.some f.ensures.on)
@@ -44,7 +44,7 @@ returns-clause-begins g c =
     let was = g.W.Write.contents c.args.out.now in
     let is = g.W.Write.contents f.new.out in
     let same = ap trace_text (sym c.trace.view_is)
-    ∙ ap₂ (λ (one two : List Line). lines_text (one ++ two)) (sym a.ensures.value) (sym b.ensures.value) in
+    ∙ ap₂ (λ (one two : List Line). lines_text (one ++ two)) (sym a.ensures.value) (sym b.ensures) in
     subst (Begins was is) (sym same)
     (written_some was (g.W.Write.contents p.new.out) is c.in-Ok.lines p.new.lines f.new.self
     (lines_text (a.result.now ++ b.result.now)) c.in-Ok.ensures.pending p.ensures.some f.ensures.on)
