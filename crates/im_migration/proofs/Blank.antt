@@ -1,5 +1,6 @@
 -- What the calls of a migration leave of a file in which no header is open.
 use Rattle.std.proofs.Common.{◌⊎◌, inl, inr, ⊎_elim, ℕ, ◌+◌, ◌<◌, ◌≤◌, List, length, sym, ◌∙◌, subst, arith}
+use Rattle.im_disk.specs.declared.disk.Disk.{Ghosts}
 use Rattle.im_disk.specs.Moment.{Moment, Left, Torn, MayTick}
 use Rattle.im_disk.specs.Since.{Leaves, LeavesOnly, SameBut}
 use Rattle.im_disk.proofs.SinceLemmas.{left_torn, leaves_start, leaves_step, leaves_then}
@@ -21,33 +22,34 @@ beside_blank at n c d beside but blank = (
     second (inl before) = inr before.1
     second (inr behind) = inl (omega (arith, behind))
 
-module _ {D : Type 0} (now : D → Moment) (past : D → List Moment) where
-  pub blank_write : (at n : ℕ) (old new : D) → IsBeside at n → at + n ≤ length (now old).bytes
-      → MayTick (Torn at n) (now old) (now new) (past old) (past new) → StaysBlank now past old new
+module _ {D : Type 0} (disk : Ghosts D) where
+  pub blank_write : (at n : ℕ) (old new : D) → IsBeside at n → at + n ≤ length (disk.now old).bytes
+      → MayTick (Torn at n) (disk.now old) (disk.now new) (disk.past old) (disk.past new) → StaysBlank disk old new
   blank_write at n old new beside fits tick blank =
       record {
-        within = leaves_step (now old) (now old) (now new) (past old) (past old) (past new) IsBlank (Torn at n)
-            (leaves_start (now old) (past old) IsBlank) tick (λ c left. by_tick c tick left);
+        within = leaves_step (disk.now old) (disk.now old) (disk.now new) (disk.past old) (disk.past old)
+            (disk.past new) IsBlank (Torn at n)
+            (leaves_start (disk.now old) (disk.past old) IsBlank) tick (λ c left. by_tick c tick left);
         after = λ c left. by_tick c tick left;
       }
     where
       -- the write is torn, or nothing has happened
-      by_tick : (c : List ℕ) → MayTick (Torn at n) (now old) (now new) (past old) (past new) → Left (now new) c
-          → IsBlank c
+      by_tick : (c : List ℕ) → MayTick (Torn at n) (disk.now old) (disk.now new) (disk.past old) (disk.past new)
+          → Left (disk.now new) c → IsBlank c
       by_tick c (inl same) left = blank c (subst (λ (x : Moment). Left x c) same.0 left)
       by_tick c (inr torn) left =
-          let from : (d : List ℕ) × Left (now old) d
-          × SameBut at n d c = left_torn at n (now old) (now new) fits torn.now c left in
+          let from : (d : List ℕ) × Left (disk.now old) d
+          × SameBut at n d c = left_torn at n (disk.now old) (disk.now new) fits torn.now c left in
           beside_blank at n from.0 c beside from.2 (blank from.0 from.1)
 
-  pub blank_then : (old mid new : D) → StaysBlank now past old mid → StaysBlank now past mid new
-      → StaysBlank now past old new
+  pub blank_then : (old mid new : D) → StaysBlank disk old mid → StaysBlank disk mid new
+      → StaysBlank disk old new
   blank_then old mid new first second blank =
-      let a : LeavesOnly now past old mid IsBlank = first blank in
-      let b : LeavesOnly now past mid new IsBlank = second a.after in
+      let a : LeavesOnly disk.now disk.past old mid IsBlank = first blank in
+      let b : LeavesOnly disk.now disk.past mid new IsBlank = second a.after in
       record {
-        within = leaves_then (now old) (now mid) (now new) (past old) (past mid)
-            (past new) IsBlank IsBlank IsBlank a.within b.within (λ c is. is) (λ c is. is);
+        within = leaves_then (disk.now old) (disk.now mid) (disk.now new) (disk.past old) (disk.past mid)
+            (disk.past new) IsBlank IsBlank IsBlank a.within b.within (λ c is. is) (λ c is. is);
         after = b.after;
       }
 

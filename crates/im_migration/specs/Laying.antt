@@ -3,7 +3,7 @@ use Rattle.std.specs.Prelude.{◌≡◌, ◌≢◌, ◌⊎◌, ℕ, ◌+◌, ◌
 use Rattle.im_types.specs.Bytes.{open_gate}
 use Rattle.im_types.specs.Layout.{Sizes, layout_in_use, image_length, area_pages, journal_at, record_at, page_bytes}
 use Rattle.im_types.specs.Pages.{Records}
-use Rattle.im_disk.specs.Moment.{Moment}
+use Rattle.im_disk.specs.declared.disk.Disk.{Ghosts}
 use Rattle.im_disk.specs.Since.{LeavesNow, LeavesOnly}
 use Rattle.im_image.specs.Encoding.{IsAreaPage}
 use Rattle.im_migration.specs.Migration.{IsBlank}
@@ -21,8 +21,8 @@ abbrev pub AreCleared : ℕ → ℕ → List ℕ → Type 0
 AreCleared pages size file = (i : ℕ) → 1 ≤ i → i < 4096 * pages → i < size → i ≢ 4096 → slice_index file i ≡ 0
 
 -- if no header was open, none is open in any file left
-abbrev pub StaysBlank : {D : Type 0} → (D → Moment) → (D → List Moment) → D → D → Type 0
-StaysBlank now past old new = LeavesNow (now old) IsBlank → LeavesOnly now past old new IsBlank
+abbrev pub StaysBlank : {D : Type 0} → Ghosts D → D → D → Type 0
+StaysBlank disk old new = LeavesNow (disk.now old) IsBlank → LeavesOnly disk.now disk.past old new IsBlank
 
 -- A file of the length of an image has this many pages of records in its first area, which begins behind two pages.
 -- This many gates of the journal's slots are closed.

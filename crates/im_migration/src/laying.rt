@@ -5,11 +5,11 @@ ghost use Rattle.im_types.specs.Header.{header_body};
 ghost use Rattle.im_types.specs.Layout as layout;
 ghost use Rattle.im_types.specs.Layout.{layout_in_use, sizes_of};
 ghost use Rattle.im_disk.specs.Moment.{overlaid};
-ghost use Rattle.im_disk.specs.Since.{LeavesNow, LeavesOnly};
+ghost use Rattle.im_disk.specs.Since.{LeavesNow};
 ghost use Rattle.im_disk.specs.Runs.{Obeys};
 ghost use Rattle.im_image.specs.Headers.{seen};
 ghost use Rattle.im_image.specs.Reading.{HasSizes};
-ghost use Rattle.im_migration.specs.Migration.{IsBlank, IsLaidDown, moved_header};
+ghost use Rattle.im_migration.specs.Migration.{IsBlank, IsLaidDown, LeavesOnlyBlankOrLaid, moved_header};
 ghost use Rattle.im_migration.specs.Laying.{AreCleared, ClosesSlots, IsBeside, IsCleared, IsLaid, StaysBlank};
 
 use crate::follower::Follower;
@@ -25,7 +25,7 @@ fn write_beside<N: Disk>(new: &mut N, at: usize, bytes: &[u8]) -> Result<(), Dev
     requires inside { N.honest new.old → at + length bytes.now ≤ length (N.now new.old).bytes }
     ensures written { OnOk result (N.honest new.new
         → (N.now new.new).bytes ≡ overlaid (N.now new.old).bytes at bytes.now) }
-    ensures runs { Obeys N.Disk new.old new.new result (StaysBlank N.now N.past new.old new.new) }
+    ensures runs { Obeys N.Disk new.old new.new result (StaysBlank N.Disk new.old new.new) }
 {
     new.write_at(at, bytes) // Where both gates were closed a stop leaves them so: they aren't in the range.
 }
@@ -59,7 +59,7 @@ fn clear_page<N: Disk>(new: &mut N, page: usize, whole: usize) -> Result<(), Dev
     ensures cleared { OnOk result (N.honest new.new → AreCleared page whole (N.now new.old).bytes
         → AreCleared (page + 1) whole (N.now new.new).bytes) }
     ensures size { OnOk result (N.honest new.new → length (N.now new.new).bytes ≡ whole) }
-    ensures runs { Obeys N.Disk new.old new.new result (StaysBlank N.now N.past new.old new.new) }
+    ensures runs { Obeys N.Disk new.old new.new result (StaysBlank N.Disk new.old new.new) }
 {
     let (from, end) = piece(page, whole);
     let zeros = [0; PAGE];
@@ -75,7 +75,7 @@ fn clear<N: Disk>(new: &mut N, limits: Limits) -> Result<(), DeviceFault>
         → IsCleared (layout.image_length layout_in_use (sizes_of limits)) (N.now new.new).bytes) }
     ensures size { OnOk result (N.honest new.new
         → length (N.now new.new).bytes ≡ layout.image_length layout_in_use (sizes_of limits)) }
-    ensures runs { Obeys N.Disk new.old new.new result (StaysBlank N.now N.past new.old new.new) }
+    ensures runs { Obeys N.Disk new.old new.new result (StaysBlank N.Disk new.old new.new) }
 {
     let whole = image_length(limits);
     let mut page = 0;
@@ -101,7 +101,7 @@ fn write_pages<N: Disk, F: Follower>(
     ensures laid { OnOk result (N.honest new.new
         → IsLaid (sizes_of limits) memory.now.records (layout.area_pages layout_in_use (sizes_of limits)) 0
         (N.now new.new).bytes) }
-    ensures runs { Obeys N.Disk new.old new.new result (StaysBlank N.now N.past new.old new.new) }
+    ensures runs { Obeys N.Disk new.old new.new result (StaysBlank N.Disk new.old new.new) }
 {
     let mut page = [0; PAGE];
     for i in 0..area_pages(limits) {
@@ -125,7 +125,7 @@ fn close_slots<N: Disk, F: Follower>(
         → ClosesSlots (sizes_of limits) limits.slots (N.now new.old).bytes (N.now new.new).bytes) }
     ensures size { OnOk result (N.honest new.new
         → length (N.now new.new).bytes ≡ layout.image_length layout_in_use (sizes_of limits)) }
-    ensures runs { Obeys N.Disk new.old new.new result (StaysBlank N.now N.past new.old new.new) }
+    ensures runs { Obeys N.Disk new.old new.new result (StaysBlank N.Disk new.old new.new) }
 {
     let at = journal_at(limits);
     let pages = area_pages(limits);
@@ -141,7 +141,7 @@ fn write_header<N: Disk>(new: &mut N, header: &Header) -> Result<(), DeviceFault
     requires { N.honest new.old → 64 ≤ length (N.now new.old).bytes }
     ensures written { OnOk result (N.honest new.new
         → (N.now new.new).bytes ≡ overlaid (N.now new.old).bytes 1 (header_body (seen header.now))) }
-    ensures runs { Obeys N.Disk new.old new.new result (StaysBlank N.now N.past new.old new.new) }
+    ensures runs { Obeys N.Disk new.old new.new result (StaysBlank N.Disk new.old new.new) }
 {
     let bytes = header.spell();
     write_beside(new, 1, &bytes[1..]) // The gate is closed, whatever a stop leaves behind it.
@@ -164,8 +164,8 @@ pub(crate) fn lay_down<N: Disk, F: Follower>(
     requires blank { N.honest new.old → LeavesNow (N.now new.old) IsBlank }
     ensures laid { OnOk result (N.honest new.new
         → LeavesNow (N.now new.new) (IsLaidDown (seen header.now) memory.now.contents)) }
-    ensures runs { Obeys N.Disk new.old new.new result (LeavesOnly N.now N.past new.old new.new
-        (λ file. IsBlank file ⊎ IsLaidDown (seen header.now) memory.now.contents file)) }
+    ensures runs { Obeys N.Disk new.old new.new result
+        (LeavesOnlyBlankOrLaid N.Disk new.old new.new (seen header.now) memory.now.contents) }
 {
     let _records = memory.records();
     clear(new, header.limits)?; // A stop in it leaves no header open, and so in the next three.

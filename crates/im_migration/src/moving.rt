@@ -1,16 +1,15 @@
 //! The migration of an image.
-ghost use Rattle.std.specs.Prelude.{◌≡◌, ◌⊎◌, Err, IfOk, IfErr, OnOk, MatchResult};
-ghost use Rattle.im_types.specs.declared.refusals.Refusal.TheVariants.{Device, NoMemory, NotBlank, WrongLength};
+ghost use Rattle.std.specs.Prelude.{◌≡◌, ◌⊎◌, Err, IfOk, IfErr, MatchResult};
+ghost use Rattle.im_types.specs.declared.refusals.Refusal.TheVariants.{Device, NoMemory};
 ghost use Rattle.im_types.specs.Header.{header_of};
 ghost use Rattle.im_types.specs.Layout as layout;
 ghost use Rattle.im_types.specs.Layout.{layout_1, layout_in_use, sizes_of};
 ghost use Rattle.im_types.specs.Meaning.{Reads};
-ghost use Rattle.im_disk.specs.Moment.{Faults};
-ghost use Rattle.im_disk.specs.Since.{LeavesNow, OnlyReads};
+ghost use Rattle.im_disk.specs.Runs.{ReadsAlone, ReadsOrRefuses};
+ghost use Rattle.im_disk.specs.Since.{LeavesNow};
 ghost use Rattle.im_image.specs.Headers.{seen, MayRefuseImage};
-ghost use Rattle.im_migration.specs.Migration.{FaultsOfTwo, HasCount, IsBlank, IsNoPlace, IsPlace, IsRefused};
-ghost use Rattle.im_migration.specs.Migration.{LeavesBlankOrSame};
-ghost use Rattle.im_migration.specs.Migration.{IsUnwritten, MayRefuseMigration, MeansSame, moved_header};
+ghost use Rattle.im_migration.specs.Migration.{FaultsOfTwo, HasCount, HasPlaceOrReason, LeavesBlankOrSame, MeansSame};
+ghost use Rattle.im_migration.specs.Migration.{MayRefuseMigration, UnwrittenOrDevice, moved_header};
 
 use crate::follower::Follower;
 use crate::putting::put_image;
@@ -61,18 +60,13 @@ pub fn migrate<O: Disk, N: Disk, F: Follower>(
     ensures moved { IfOk result (λ r. O.honest old.new → N.honest r.0
         → LeavesNow (N.now r.0) (MeansSame (O.now old.old).bytes)) }
     ensures count { IfOk result (λ r. O.honest old.new → HasCount (O.now old.old).bytes r.1) }
-    // The new file had the length, and no header in it was open.
-    ensures place { IfOk result (λ r. O.honest old.new → N.honest r.0
-        → IsPlace (header_of (O.now old.old).bytes).sizes (N.now new).bytes) }
-    ensures refused { IfErr result (λ e. (e.0 ≡ NoMemory) ⊎ (e.0 ≡ Device)
-        ⊎ (O.honest old.new → N.honest e.1 → IsRefused e.0 (O.now old.old).bytes (N.now new).bytes)) }
-    ensures unwritten { IfErr result (λ e. (e.0 ≡ Device)
-        ⊎ (N.honest e.1 → IsUnwritten N.now N.past new e.1)) }
+    // The new file had the length, and no header in it was open; or why it isn't the image.
+    ensures place { HasPlaceOrReason N.Disk new result (O.honest old.new) (O.now old.old).bytes }
+    ensures unwritten { IfErr result (λ e. UnwrittenOrDevice N.Disk new e.1 e.0) }
     ensures faults { FaultsOfTwo N.failures MayRefuseMigration result (O.failures old.old) (O.failures old.new) new }
     // The old file is only read.
-    ensures reads { O.honest old.new → OnlyReads O.now O.past old.old old.new }
-    ensures honest { (O.honest old.new → O.honest old.old)
-        × MatchResult result (λ r. N.honest r.0 → N.honest new) (λ e. N.honest e.1 → N.honest new) }
+    ensures reads { ReadsAlone O.Disk old.old old.new }
+    ensures honest { MatchResult result (λ r. N.honest r.0 → N.honest new) (λ e. N.honest e.1 → N.honest new) }
 {
     match read_old(alloc, old) {
         Ok(image) => {
@@ -94,9 +88,7 @@ pub fn length_for<O: Disk>(alloc: Global, old: &mut O) -> Result<usize, Refusal>
         → n ≡ layout.image_length layout_in_use (header_of (O.now old.old).bytes).sizes) }
     ensures fault { IfErr result (λ e. (e ≡ NoMemory) ⊎ (e ≡ Device)
         ⊎ (O.honest old.new → Reads layout_1 (O.now old.old).bytes (Err e))) }
-    ensures reads { O.honest old.new → OnlyReads O.now O.past old.old old.new }
-    ensures honest { O.honest old.new → O.honest old.old }
-    ensures faults { Faults MayRefuseImage result (O.failures old.old) (O.failures old.new) }
+    ensures reads { ReadsOrRefuses O.Disk old.old old.new result MayRefuseImage }
 {
     match read_old(alloc, old) {
         Ok(image) => Ok(image_length(image.header.limits)),

@@ -2,10 +2,9 @@
 ghost use Rattle.std.specs.Prelude.{◌≡◌, ◌⊎◌, ◌≤◌, false, true, length, IfOk, IfErr, OnOk};
 ghost use Rattle.im_types.specs.declared.refusals.Refusal.TheVariants.{Device, NotBlank, WrongLength};
 ghost use Rattle.im_types.specs.Layout.{sizes_of};
-ghost use Rattle.im_disk.specs.Moment.{Left, synced};
-ghost use Rattle.im_disk.specs.Since.{LeavesWithin};
+ghost use Rattle.im_disk.specs.Moment.{synced};
 ghost use Rattle.im_disk.specs.Runs.{Obeys, ObeysOrRefuses};
-ghost use Rattle.im_migration.specs.Migration.{IsBlank, IsNoPlace, IsPlace};
+ghost use Rattle.im_migration.specs.Migration.{IsBlank, IsNoPlace, IsPlace, LeavesAsAtStart};
 
 use im_disk::{DeviceFault, Disk};
 use im_types::layout::{OPEN, PAGE, image_length};
@@ -17,8 +16,7 @@ fn is_blank<N: Disk>(new: &mut N) -> Result<bool, DeviceFault>
     ensures yes { IfOk result (λ b. N.honest new.new → b ≡ true → IsBlank (N.now new.old).bytes) }
     ensures no { IfOk result (λ b. N.honest new.new → b ≡ false → IsBlank (N.now new.old).bytes → ⊥) }
     ensures calm { OnOk result (N.honest new.new → N.now new.new ≡ synced (N.now new.old)) }
-    ensures runs { Obeys N.Disk new.old new.new result
-        (LeavesWithin N.now N.past new.old new.new (Left (N.now new.old))) }
+    ensures runs { Obeys N.Disk new.old new.new result (LeavesAsAtStart N.Disk new.old new.new) }
 {
     // After a write without a sync, a crash may leave a gate open that reads closed. The sync makes sure. A stop in it,
     // or in the reads behind it, leaves what a stop before it leaves.
@@ -41,7 +39,7 @@ pub(crate) fn find_place<N: Disk>(new: &mut N, limits: Limits) -> Result<(), Ref
         → (N.now new.new).bytes ≡ (N.now new.old).bytes)) }
     ensures runs { ObeysOrRefuses N.Disk new.old new.new result
         (λ e. (e ≡ WrongLength) ⊎ (e ≡ NotBlank) ⊎ (e ≡ Device))
-        (LeavesWithin N.now N.past new.old new.new (Left (N.now new.old))) }
+        (LeavesAsAtStart N.Disk new.old new.new) }
 {
     let Ok(length) = new.len() else {
         return Err(Refusal::Device);

@@ -1,12 +1,12 @@
 //! Prepares a memory for a new image, in other sizes if they are asked for.
-ghost use Rattle.std.specs.Prelude.{◌≡◌, ◌⊎◌, ◌≤◌, ◌<◌, IfOk, IfErr, MatchResult};
+ghost use Rattle.std.specs.Prelude.{◌≡◌, ◌⊎◌, ◌≤◌, ◌<◌, IfOk, IfErr};
 ghost use Rattle.im_types.specs.declared.TheConstants.{LAST};
 ghost use Rattle.im_types.specs.declared.refusals.Refusal.TheVariants.{BadLimits, Device, NoMemory};
 ghost use Rattle.im_types.specs.Layout.{sizes_of};
 ghost use Rattle.im_image.specs.Headers.{seen};
 ghost use Rattle.im_image.specs.Reading.{HasSizes};
 ghost use Rattle.im_disk.specs.Since.{LeavesNow};
-ghost use Rattle.im_migration.specs.Migration.{IsLaidDown, IsNoPlace, LeavesBlankOrLaid, MayRefusePlace};
+ghost use Rattle.im_migration.specs.Migration.{GivesBackBlankOrLaid, IsLaidDown, IsNoPlace, MayRefusePlace};
 ghost use Rattle.im_migration.specs.Migration.{LeavesLaid, PlaceFails, UnwrittenOrDevice, moved_header};
 ghost use Rattle.im_migration.specs.Resizing.{Fits, HasNoCopy, IsResized, sizes_asked};
 ghost use Rattle.im_migration.specs.Copying.{IsWhole};
@@ -126,9 +126,8 @@ pub fn put_new<N: Disk, F: Follower>(
     follower: &F,
 ) -> Result<N, (Refusal, N)>
     requires { IsWhole source.now }
-    ensures leaves { MatchResult result
-        (λ to. LeavesBlankOrLaid N.Disk new to (seen source.now.header) source.now.memory.contents)
-        (λ e. LeavesBlankOrLaid N.Disk new e.1 (seen source.now.header) source.now.memory.contents) }
+    ensures leaves { GivesBackBlankOrLaid N.Disk new result
+        (seen source.now.header) source.now.memory.contents }
     ensures laid { IfOk result (λ to. N.honest to
         → LeavesNow (N.now to) (IsLaidDown (seen source.now.header) source.now.memory.contents)) }
     ensures refused { IfErr result (λ e. (e.0 ≡ Device) ⊎ (N.honest e.1
@@ -151,9 +150,8 @@ pub fn put_memory<N: Disk, F: Follower>(
 ) -> Result<N, (Refusal, N)>
     requires sizes { HasSizes (sizes_of original.now.limits) original.now.memory.now.contents }
     requires last { original.now.count ≤ LAST }
-    ensures leaves { let h = moved_header (sizes_of original.now.limits) original.now.count in MatchResult result
-        (λ to. LeavesBlankOrLaid N.Disk new to h original.now.memory.now.contents)
-        (λ e. LeavesBlankOrLaid N.Disk new e.1 h original.now.memory.now.contents) }
+    ensures leaves { GivesBackBlankOrLaid N.Disk new result
+        (moved_header (sizes_of original.now.limits) original.now.count) original.now.memory.now.contents }
     ensures laid { let h = moved_header (sizes_of original.now.limits) original.now.count in IfOk result
         (λ to. LeavesLaid N.Disk to h original.now.memory.now.contents) }
     ensures refused { IfErr result (λ e. PlaceFails N.Disk new e.1 e.0 (sizes_of original.now.limits)) }

@@ -3,11 +3,11 @@ ghost use Rattle.std.specs.Prelude.{◌≡◌, ◌⊎◌, ◌≤◌, IfErr, OnOk
 ghost use Rattle.im_types.specs.declared.TheConstants.{LAST};
 ghost use Rattle.im_types.specs.declared.refusals.Refusal.TheVariants.{Device};
 ghost use Rattle.im_types.specs.Layout.{sizes_of};
-ghost use Rattle.im_disk.specs.Since.{LeavesNow, LeavesWithin};
+ghost use Rattle.im_disk.specs.Since.{LeavesNow};
 ghost use Rattle.im_disk.specs.Runs.{ObeysOrRefuses};
 ghost use Rattle.im_image.specs.Headers.{seen};
 ghost use Rattle.im_image.specs.Reading.{HasSizes};
-ghost use Rattle.im_migration.specs.Migration.{BlankOrLaid, IsLaidDown, IsNoPlace, IsPlace, MayRefusePlace};
+ghost use Rattle.im_migration.specs.Migration.{IsLaidDown, IsNoPlace, IsPlace, LeavesBlankOrLaidSince, MayRefusePlace};
 ghost use Rattle.im_migration.specs.Migration.{UnwrittenOrDevice, moved_header};
 
 use crate::follower::Follower;
@@ -36,7 +36,7 @@ pub(crate) fn put_image<N: Disk, F: Follower>(
         ⊎ (N.honest new.new → IsNoPlace e (sizes_of header.now.limits) (N.now new.old).bytes)) }
     ensures unwritten { IfErr result (λ e. UnwrittenOrDevice N.Disk new.old new.new e) }
     ensures runs { ObeysOrRefuses N.Disk new.old new.new result MayRefusePlace
-        (LeavesWithin N.now N.past new.old new.new (BlankOrLaid (seen header.now) memory.now.contents)) }
+        (LeavesBlankOrLaidSince N.Disk new.old new.new (seen header.now) memory.now.contents) }
 {
     find_place(new, header.limits)?;
     match lay_down(new, header, memory, follower) {

@@ -11,7 +11,7 @@ loop-page-preserved g c = record {
   cleared = λ h. c.in_ok-clear_page.ensures.cleared h (c.loop-page.invariant.cleared (c.clear_page.ensures.runs.honest h));
   size = λ h. c.in_ok-clear_page.ensures.size h;
   blank = λ h.
-      blank_then g.N.Disk.now g.N.Disk.past c.args.new.now c.loop-page.new c.clear_page.new.new
+      blank_then g.N.Disk c.args.new.now c.loop-page.new c.clear_page.new.new
       (c.loop-page.invariant.blank (c.clear_page.ensures.runs.honest h)) (c.clear_page.ensures.runs.kept h);
   failures = c.in_ok-clear_page.ensures.runs.failures ∙ c.loop-page.invariant.failures;
 }

@@ -11,7 +11,7 @@ invariant-loop-page g l = record {
   honest : g.N.Disk.honest l.new → g.N.Disk.honest l.fn.new;
   cleared : g.N.Disk.honest l.new → AreCleared l.page l.whole (g.N.Disk.now l.new).bytes;
   size : g.N.Disk.honest l.new → length (g.N.Disk.now l.new).bytes ≡ l.whole;
-  blank : g.N.Disk.honest l.new → StaysBlank g.N.Disk.now g.N.Disk.past l.fn.new l.new;
+  blank : g.N.Disk.honest l.new → StaysBlank g.N.Disk l.fn.new l.new;
   failures : g.N.Disk.failures l.new ≡ g.N.Disk.failures l.fn.new;
 }
 

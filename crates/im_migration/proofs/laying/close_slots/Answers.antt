@@ -29,7 +29,7 @@ loop-slot-preserved g c = record {
             (sizes_of c.args.limits),
       )) ∙ c.loop-slot.invariant.size before;
   blank = λ h.
-      blank_then g.N.Disk.now g.N.Disk.past c.args.new.now c.loop-slot.new c.write_beside.new.new
+      blank_then g.N.Disk c.args.new.now c.loop-slot.new c.write_beside.new.new
       (c.loop-slot.invariant.blank (c.write_beside.ensures.runs.honest h)) (c.write_beside.ensures.runs.kept h);
   failures = c.in_ok-write_beside.ensures.runs.failures ∙ c.loop-slot.invariant.failures;
 }

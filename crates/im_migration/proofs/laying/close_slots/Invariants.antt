@@ -13,6 +13,6 @@ invariant-loop-slot g l = record {
       → IsLaid (sizes_of l.fn.limits) r (area_pages layout_in_use (sizes_of l.fn.limits)) l.slot
       (g.N.Disk.now l.new).bytes;
   size : g.N.Disk.honest l.new → length (g.N.Disk.now l.new).bytes ≡ image_length layout_in_use (sizes_of l.fn.limits);
-  blank : g.N.Disk.honest l.new → StaysBlank g.N.Disk.now g.N.Disk.past l.fn.new l.new;
+  blank : g.N.Disk.honest l.new → StaysBlank g.N.Disk l.fn.new l.new;
   failures : g.N.Disk.failures l.new ≡ g.N.Disk.failures l.fn.new;
 }

@@ -35,7 +35,7 @@ returns-in_err-write_pages-clause-runs g c = record {
       let h0 = c.clear.ensures.runs.honest h in
       only_weaker g.N.Disk.now g.N.Disk.past c.args.new.now c.write_pages.new.new IsBlank
       (λ file. IsBlank file ⊎ IsLaidDown (seen c.args.header.now) c.args.memory.now.contents file)
-      (blank_then g.N.Disk.now g.N.Disk.past c.args.new.now c.clear.new.new c.write_pages.new.new
+      (blank_then g.N.Disk c.args.new.now c.clear.new.new c.write_pages.new.new
       (c.clear.ensures.runs.kept h) (c.write_pages.ensures.runs.kept h1) (c.requires.blank h0)) (λ file blank. inl blank);
   failures = search rules;
 }
@@ -47,11 +47,11 @@ returns-in_err-close_slots-clause-runs g c = record {
       let h1 = c.close_slots.ensures.runs.honest h2 in
       let h = c.write_pages.ensures.runs.honest h1 in
       let h0 = c.clear.ensures.runs.honest h in
-      let begun = blank_then g.N.Disk.now g.N.Disk.past c.args.new.now c.clear.new.new c.write_pages.new.new
+      let begun = blank_then g.N.Disk c.args.new.now c.clear.new.new c.write_pages.new.new
       (c.clear.ensures.runs.kept h) (c.write_pages.ensures.runs.kept h1) in
       only_weaker g.N.Disk.now g.N.Disk.past c.args.new.now c.close_slots.new.new IsBlank
       (λ file. IsBlank file ⊎ IsLaidDown (seen c.args.header.now) c.args.memory.now.contents file)
-      (blank_then g.N.Disk.now g.N.Disk.past c.args.new.now c.write_pages.new.new c.close_slots.new.new begun
+      (blank_then g.N.Disk c.args.new.now c.write_pages.new.new c.close_slots.new.new begun
       (c.close_slots.ensures.runs.kept h2) (c.requires.blank h0)) (λ file blank. inl blank);
   failures = search rules;
 }
@@ -64,12 +64,12 @@ returns-in_err-write_header-clause-runs g c = record {
       let h1 = c.close_slots.ensures.runs.honest h2 in
       let h = c.write_pages.ensures.runs.honest h1 in
       let h0 = c.clear.ensures.runs.honest h in
-      let begun = blank_then g.N.Disk.now g.N.Disk.past c.args.new.now c.clear.new.new c.write_pages.new.new
+      let begun = blank_then g.N.Disk c.args.new.now c.clear.new.new c.write_pages.new.new
       (c.clear.ensures.runs.kept h) (c.write_pages.ensures.runs.kept h1) in
       only_weaker g.N.Disk.now g.N.Disk.past c.args.new.now c.write_header.new.new IsBlank
       (λ file. IsBlank file ⊎ IsLaidDown (seen c.args.header.now) c.args.memory.now.contents file)
-      (blank_then g.N.Disk.now g.N.Disk.past c.args.new.now c.close_slots.new.new c.write_header.new.new
-      (blank_then g.N.Disk.now g.N.Disk.past c.args.new.now c.write_pages.new.new c.close_slots.new.new begun
+      (blank_then g.N.Disk c.args.new.now c.close_slots.new.new c.write_header.new.new
+      (blank_then g.N.Disk c.args.new.now c.write_pages.new.new c.close_slots.new.new begun
       (c.close_slots.ensures.runs.kept h2)) (c.write_header.ensures.runs.kept h3) (c.requires.blank h0))
       (λ file blank. inl blank);
   failures = search rules;
@@ -84,7 +84,7 @@ returns-clause-runs g c = record {
       let h1 = c.close_slots.ensures.runs.honest h2 in
       let h = c.write_pages.ensures.runs.honest h1 in
       let h0 = c.clear.ensures.runs.honest h in
-      let begun = blank_then g.N.Disk.now g.N.Disk.past c.args.new.now c.clear.new.new c.write_pages.new.new
+      let begun = blank_then g.N.Disk c.args.new.now c.clear.new.new c.write_pages.new.new
       (c.clear.ensures.runs.kept h) (c.write_pages.ensures.runs.kept h1) in
       let limits = c.args.header.now.limits in
       let s = sizes_of limits in
@@ -96,10 +96,10 @@ returns-clause-runs g c = record {
       let shows = subst (λ (x : Records). ShowsRecords s x m) view
       (c.records-records.ensures.shows s (sym c.requires.sizes.cells) (sym c.requires.sizes.elements)) in
       let laid = c.in_ok-close_slots.ensures.laid h2 r (c.in_ok-write_pages.ensures.laid h1) in
-      let blank = blank_then g.N.Disk.now g.N.Disk.past c.args.new.now c.write_pages.new.new c.close_slots.new.new begun (c.close_slots.ensures.runs.kept h2) in
+      let blank = blank_then g.N.Disk c.args.new.now c.write_pages.new.new c.close_slots.new.new begun (c.close_slots.ensures.runs.kept h2) in
       let apart = ((blank (c.requires.blank h0)).after (g.N.Disk.now c.close_slots.new.new).bytes
       (left_now (g.N.Disk.now c.close_slots.new.new))).1 in
-      let first = blank_then g.N.Disk.now g.N.Disk.past c.args.new.now c.close_slots.new.new c.write_header.new.new blank (c.write_header.ensures.runs.kept h3) (c.requires.blank h0) in
+      let first = blank_then g.N.Disk c.args.new.now c.close_slots.new.new c.write_header.new.new blank (c.write_header.ensures.runs.kept h3) (c.requires.blank h0) in
       let is = subst (λ (x : Header). (g.N.Disk.now c.write_header.new.new).bytes
       ≡ overlaid (g.N.Disk.now c.close_slots.new.new).bytes 1 (header_body x)) c.requires.header
       (c.in_ok-write_header.ensures.written h3) in
@@ -119,7 +119,7 @@ returns-clause-laid g c = on_ok c.open_gate.result c.open_gate.ensures.opened (�
     let h1 = c.close_slots.ensures.runs.honest h2 in
     let h = c.write_pages.ensures.runs.honest h1 in
     let h0 = c.clear.ensures.runs.honest h in
-    let begun = blank_then g.N.Disk.now g.N.Disk.past c.args.new.now c.clear.new.new c.write_pages.new.new
+    let begun = blank_then g.N.Disk c.args.new.now c.clear.new.new c.write_pages.new.new
     (c.clear.ensures.runs.kept h) (c.write_pages.ensures.runs.kept h1) in
     let limits = c.args.header.now.limits in
     let s = sizes_of limits in
@@ -131,10 +131,10 @@ returns-clause-laid g c = on_ok c.open_gate.result c.open_gate.ensures.opened (�
     let shows = subst (λ (x : Records). ShowsRecords s x m) view
     (c.records-records.ensures.shows s (sym c.requires.sizes.cells) (sym c.requires.sizes.elements)) in
     let laid = c.in_ok-close_slots.ensures.laid h2 r (c.in_ok-write_pages.ensures.laid h1) in
-    let blank = blank_then g.N.Disk.now g.N.Disk.past c.args.new.now c.write_pages.new.new c.close_slots.new.new begun (c.close_slots.ensures.runs.kept h2) in
+    let blank = blank_then g.N.Disk c.args.new.now c.write_pages.new.new c.close_slots.new.new begun (c.close_slots.ensures.runs.kept h2) in
     let apart = ((blank (c.requires.blank h0)).after (g.N.Disk.now c.close_slots.new.new).bytes
     (left_now (g.N.Disk.now c.close_slots.new.new))).1 in
-    let first = blank_then g.N.Disk.now g.N.Disk.past c.args.new.now c.close_slots.new.new c.write_header.new.new blank (c.write_header.ensures.runs.kept h3) (c.requires.blank h0) in
+    let first = blank_then g.N.Disk c.args.new.now c.close_slots.new.new c.write_header.new.new blank (c.write_header.ensures.runs.kept h3) (c.requires.blank h0) in
     let is = subst (λ (x : Header). (g.N.Disk.now c.write_header.new.new).bytes
     ≡ overlaid (g.N.Disk.now c.close_slots.new.new).bytes 1 (header_body x)) c.requires.header
     (c.in_ok-write_header.ensures.written h3) in

@@ -6,7 +6,7 @@ pub returns-clause-runs : goal.returns-clause-runs
 returns-clause-runs g c = record {
   honest = search rules;
   kept = λ h.
-      blank_write g.N.Disk.now g.N.Disk.past c.args.at _ c.args.new.now c.write_at.new.self c.requires.beside
+      blank_write g.N.Disk c.args.at _ c.args.new.now c.write_at.new.self c.requires.beside
       (c.requires.inside (c.write_at.ensures.honest h)) (c.write_at.ensures.moment h);
   failures = search rules;
 }

@@ -19,7 +19,7 @@ loop-i-preserved g c = record {
       (omega (arith, c.loop-i-test.true, c.area_pages-i-end.ensures.pages)) c.encode_page.ensures
       (c.loop-i.invariant.laid before));
   blank = λ h.
-      blank_then g.N.Disk.now g.N.Disk.past c.args.new.now c.loop-i.new c.write_beside.new.new
+      blank_then g.N.Disk c.args.new.now c.loop-i.new c.write_beside.new.new
       (c.loop-i.invariant.blank (c.write_beside.ensures.runs.honest h)) (c.write_beside.ensures.runs.kept h);
   failures = c.in_ok-write_beside.ensures.runs.failures ∙ c.loop-i.invariant.failures;
 }

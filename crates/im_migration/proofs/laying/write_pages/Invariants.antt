@@ -7,6 +7,6 @@ abbrev pub invariant-loop-i : goal.invariant-loop-i
 invariant-loop-i g l = record {
   honest : g.N.Disk.honest l.new → g.N.Disk.honest l.fn.new;
   laid : g.N.Disk.honest l.new → IsLaid (sizes_of l.limits) l.memory.records l.i 0 (g.N.Disk.now l.new).bytes;
-  blank : g.N.Disk.honest l.new → StaysBlank g.N.Disk.now g.N.Disk.past l.fn.new l.new;
+  blank : g.N.Disk.honest l.new → StaysBlank g.N.Disk l.fn.new l.new;
   failures : g.N.Disk.failures l.new ≡ g.N.Disk.failures l.fn.new;
 }

@@ -42,16 +42,16 @@ returns-in-Ok-clause-leaves g c = λ h.
     (g.N.Disk.now c.args.new) (g.N.Disk.now c.put_image.new.new) (g.N.Disk.past c.args.new) (g.N.Disk.past c.put_image.new.new)
     (c.put_image.ensures.runs.kept h)
 
-pub returns-in-Ok-clause-refused : goal.returns-in-Ok-clause-refused
-returns-in-Ok-clause-refused g c =
+pub returns-in-Ok-clause-place : goal.returns-in-Ok-clause-place
+returns-in-Ok-clause-place g c =
     refused_place c.in-Ok.image (g.O.Disk.now c.args.old.now).bytes
     (g.O.Disk.honest c.read_old.new.disk) c.in-Ok.ensures.means c.in-Ok.ensures.header
     (g.N.Disk.honest c.put_image.new.new) (g.N.Disk.now c.args.new).bytes c.in-Err-put_image.refusal
     (sizes_of c.header_for-header.result.limits) (ap sizes_of c.header_for-header.ensures.limits)
     c.in-Err-put_image.ensures.none
 
-pub returns-clause-refused : goal.returns-clause-refused
-returns-clause-refused g c =
+pub returns-clause-place : goal.returns-clause-place
+returns-clause-place g c =
     refused_old (g.O.Disk.honest c.read_old.new.disk) (g.N.Disk.honest c.args.new)
     (g.O.Disk.now c.args.old.now).bytes (g.N.Disk.now c.args.new).bytes c.in-Err.refusal c.in-Err.ensures.fault
 
