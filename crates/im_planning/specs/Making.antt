@@ -1,12 +1,11 @@
 -- What a plan is looked up by. (Own.)
-use Rattle.std.specs.Prelude.{◌≡◌, ℕ, List, [], ◌∷◌, Bool, true, false, Option, None, Some, is_some, if◌then◌else◌}
-use Rattle.std.specs.Prelude.{◌==◌, ◌&&◌, ◌||◌}
+use Rattle.std.specs.Prelude.{ℕ, List, [], ◌∷◌, Bool, false, Option, None, Some, if◌then◌else◌}
+use Rattle.std.specs.Prelude.{◌==◌, ◌&&◌}
 use Rattle.std.specs.Ordering.{nat_cmp, ordering_then}
 use Rattle.std.specs.declared.cmp.Ordering.{Ordering}
 use Rattle.im_types.specs.declared.operations.Op.{Op}
 use Rattle.im_types.specs.declared.commands.Request.{Request}
 use Rattle.im_types.specs.Window.{same_op}
-use Rattle.im_types.specs.Plan.{stored_by}
 
 -- an element and a number
 abbrev pub Key : Type 0
@@ -24,11 +23,6 @@ has_key key r = (key.0 == r.element) && (key.1 == r.number)
 abbrev pub op_under : Key → List Request → Option Op
 op_under key [] = None
 op_under key (r ∷ plan) = if has_key key r then Some r.op else op_under key plan
-
--- some request stores to the address
-abbrev pub is_stored : ℕ → List Request → Bool
-is_stored a [] = false
-is_stored a (r ∷ plan) = is_some (stored_by a r.op) || is_stored a plan
 
 -- this operation, and no other
 abbrev pub is_op : Op → Option Op → Bool

@@ -4,6 +4,9 @@
 
 mod fitting;
 mod plan;
+mod progress;
+mod states;
 
 pub use fitting::fits;
 pub use plan::Plan;
+pub use progress::is_under_way;
