@@ -6,11 +6,16 @@
 //!                                requests of the other of elements 1 and 2 are held until one of N's is answered
 //! held TEXT                      tells the text, and whether the last run held requests back so
 //! report, report windows         the image's cells and entries, or its windows
-//! fault                          a run on an image whose calls fail behind its opening
+//! fault NAME                     a run on an image whose calls fail behind its opening
+//! once NAME                      runs what the image doesn't have of a script
+//! again NAME N, again NAME N by M    the same on new images, stopped behind 0 to N calls of the disk, or each M of
+//!                                them, with each crash, until the script is done. It tells how many ends the plain
+//!                                memory has for it in all orders, and how often it came to one of them and one more
+//!                                run printed that
 //! ```
 
 /// The scenes.
-pub const SCENES: [&str; 86] = [
+pub const SCENES: [&str; 112] = [
     // A server that waits for a store that nobody sends is stalled. The store of a later run answers it.
     "# a fetch without its store",
     "new",
@@ -90,6 +95,37 @@ pub const SCENES: [&str; 86] = [
     "run waits",
     "plan stores",
     "report",
+    // Scripts that are run once. Those that wait are sent again.
+    "# what waited is sent again, and answered since",
+    "new",
+    "once waits",
+    "once waits",
+    "run stores",
+    "once waits",
+    "report windows",
+    "# another script used the image",
+    "new",
+    "run stores",
+    "once both",
+    "report",
+    // Two cells with one store each have one end, and two stores to one cell have two. So have two puts behind each
+    // other: the take comes between them or it doesn't. Of two puts and two takes of four elements each take has one or
+    // the other value, or both puts come first, and one of them clashes. Two blocks lie one behind the other. Behind
+    // the window's end all before it is confirmed.
+    "# plan: stopped and gone on with until its end",
+    "again plan 100",
+    "# two stores to one cell: stopped and gone on with until an end",
+    "again stored twice 60",
+    "# two puts and a take: stopped and gone on with until an end",
+    "again puts 60",
+    "# two puts and two takes: stopped and gone on with until an end",
+    "again crowd 80",
+    "# two blocks: stopped and gone on with until an end",
+    "again blocks 60",
+    "# a reset between two stores: stopped and gone on with until its end",
+    "again round 100",
+    "# more requests than a window has: stopped and gone on with until its end",
+    "again long 600 by 7",
     // Traces, where the order is fixed.
     "# the trace of a fetch that waits",
     "new",

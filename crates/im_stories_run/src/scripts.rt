@@ -1,7 +1,7 @@
 //! The scripts of the scenes.
 
-use im_story::Saying;
-use im_types::WINDOW;
+use im_story::{Saying, request};
+use im_types::{Op, Request, WINDOW};
 use std::alloc::Global;
 
 // Scripts. Each begins with its name, in brackets, and what it is.
@@ -125,7 +125,78 @@ fetch 1
 setup
 alloc x m 2
 alloc y i 0
+# [puts] two puts of one element and a take of another, to one cell
+setup
+alloc x m 1
+element 1
+put x 5
+put x 6
+element 2
+take x
+# [crowd] two takes and two puts of one cell, each of another element
+setup
+alloc x m 1
+element 1
+take x
+element 2
+take x
+element 3
+put x 5
+element 4
+put x 6
+# [blocks] two elements make a block each
+element 1
+alloc i 1
+element 2
+alloc m 2
+# [round] a cell that is emptied and filled again, and a fetch and a store of another block
+setup
+alloc x i 1
+alloc y i 1
+element 1
+store x 5
+reset x
+store x 6
+fetch x
+element 2
+fetch y
+element 3
+store y 7
+# [long] more requests than a window has entries
+setup
+alloc x i 1
+element 1
+store x 5
 ";
+
+// The requests of scripts that are stopped. Blocks lie from address 0 on.
+const REQUESTS: [(&str, &str); 7] = [
+    (
+        "plan",
+        "0.1 alloc i 2, 1.1 fetch 0, 1.2 fetch 1, 2.1 store 0 5, 2.2 store 1 6, 3.1 fetch 0, 3.2 fetch 9",
+    ),
+    (
+        "stored twice",
+        "0.1 alloc i 2, 2.1 store 0 5, 3.1 store 0 7",
+    ),
+    (
+        "puts",
+        "0.1 alloc m 1, 1.1 put 0 5, 1.2 put 0 6, 2.1 take 0",
+    ),
+    (
+        "crowd",
+        "0.1 alloc m 1, 1.1 take 0, 2.1 take 0, 3.1 put 0 5, 4.1 put 0 6",
+    ),
+    ("blocks", "1.1 alloc i 1, 2.1 alloc m 2"),
+    (
+        "round",
+        "0.1 alloc i 1, 0.2 alloc i 1, 1.1 store 0 5, 1.2 reset 0, 1.3 store 0 6, 1.4 fetch 0, 2.1 fetch 1, 3.1 store 1 7",
+    ),
+    ("long", "0.1 alloc i 1, 1.1 store 0 5"),
+];
+
+// The last request of the long one, all others of which are fetches.
+const LONG: u64 = 70;
 
 // Returns the script of this name, or an empty one.
 fn named(name: &str) -> &'static str {
@@ -149,5 +220,42 @@ pub fn script_of(alloc: Global, name: &str) -> Saying {
         }
         text.text(named("reads on"));
     }
+    if name == "long" {
+        for _ in 1..LONG {
+            text.text("fetch x\n");
+        }
+    }
     text
+}
+
+// Adds a request, in the words in which it is asked.
+fn add_request(alloc: Global, requests: &mut Vec<Request>, text: &str) {
+    let Ok(words) = text.split_whitespace().collect::<Vec<&str>>(alloc) else {
+        return;
+    };
+    if let Ok(request) = request(words.as_slice()) {
+        let _kept = requests.push(request);
+    }
+}
+
+/// Returns the requests of the script of this name.
+pub fn requests_of(alloc: Global, name: &str) -> Vec<Request> {
+    let mut requests = Vec::new(alloc);
+    for (other, texts) in REQUESTS {
+        if other == name {
+            for text in texts.split(", ") {
+                add_request(alloc, &mut requests, text);
+            }
+        }
+    }
+    if name == "long" {
+        for before in 1..LONG {
+            let _kept = requests.push(Request {
+                element: 1,
+                number: before.saturating_add(1),
+                op: Op::Fetch(0),
+            });
+        }
+    }
+    requests
 }

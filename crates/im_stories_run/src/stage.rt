@@ -1,23 +1,23 @@
 //! What a scene works with: an image in memory, what was last printed, and what is told.
 
-use crate::writers::{Nobody, Paper};
-use im_disk::{Disk, FuseDisk, MemDisk, Mode};
+use crate::writers::{Paper, Told};
+use im_disk::{Crash, Disk, FuseDisk, MemDisk, Mode};
 use im_engine::Engine;
 use im_report::inspect_on;
 use im_run::{Trace, write_trace};
 use im_story::{Saying, old_image};
-use im_text::Reason;
 use im_types::layout::image_length;
 use im_types::{LAST, Limits, Refusal};
 use std::alloc::Global;
 
-/// How a script is run: as it is, as a plan, for its trace, or on a disk that fails.
+/// How a script is run: as it is, as a plan, for its trace, on a disk that fails behind the opening, or once.
 #[derive(Clone, Copy, PartialEq, Eq)]
 pub enum How {
     Run,
     Plan,
     Trace,
     Fault,
+    Once,
 }
 
 /// An image, what was printed, and what is told.
@@ -26,18 +26,28 @@ pub struct Stage {
     /// The allocator of all that is made.
     pub alloc: Global,
     /// The image, if there is one.
-    pub disk: Option<MemDisk>,
+    disk: Option<MemDisk>,
+    /// How many calls the disk passes when it is used next.
+    pub passes: u64,
+    pub calls: u64,
     /// What was last printed.
     pub out: Paper,
+    /// Why the last run was refused, if it was.
+    pub told: Told,
     /// Whether the last run held requests back until another one was answered.
     pub held: bool,
     /// What is told.
     pub said: Saying,
 }
 
-// Makes an image of the usual limits, with nothing in it.
-fn new_image(alloc: Global) -> Option<MemDisk> {
-    let limits = Limits::new(4_096, 16, 256)?;
+/// Returns the sizes of the images that are stopped.
+pub fn few() -> Option<Limits> {
+    Limits::new(16, 5, 16)
+}
+
+// Makes an image of these sizes, with nothing in it.
+fn new_image(alloc: Global, limits: Option<Limits>) -> Option<MemDisk> {
+    let limits = limits?;
     let disk = MemDisk::new(alloc, image_length(limits)).ok()?;
     match Engine::format(alloc, disk, limits) {
         Ok(engine) => Some(engine.close()),
@@ -55,21 +65,13 @@ fn image_of_old(alloc: Global) -> Option<MemDisk> {
     Some(disk)
 }
 
-/// Returns how many calls an opening makes.
-pub fn opening_calls(alloc: Global) -> Option<u64> {
-    match Engine::open(alloc, FuseDisk::new(new_image(alloc)?, LAST, Mode::Stop)) {
-        Ok(engine) => Some(engine.close().calls()),
-        Err(_) => None,
-    }
-}
-
-// Adds the lines of a report that are of windows, or else those of cells and of entries.
-fn add_lines(said: &mut Saying, text: &str, of_windows: bool) {
+// Adds the lines of a report that are of windows, or else those of cells and of entries. Of all three it adds both.
+fn add_lines(said: &mut Saying, text: &str, of_windows: bool, of_others: bool) {
     for line in text.split('\n') {
-        let is_told = if of_windows {
-            line.starts_with("element")
+        let is_told = if line.starts_with("element") {
+            of_windows
         } else {
-            line.starts_with("cell") || line.starts_with("entry")
+            of_others && (line.starts_with("cell") || line.starts_with("entry"))
         };
         if is_told {
             write!(said, "{line}\n")
@@ -83,50 +85,120 @@ impl Stage {
         Stage {
             alloc,
             disk: None,
+            passes: LAST,
+            calls: 0,
             out: Paper::new(alloc),
+            told: Told { reason: None },
             held: false,
             said: Saying::new(alloc),
         }
     }
 
-    /// Tells what a run printed, and its status, or else its trace.
-    pub fn tell_run(&mut self, status: u8, trace: &Trace, how: How) {
+    /// Makes an image with nothing in it: the usual one, or one of few cells and slots.
+    pub fn renew(&mut self, is_small: bool) {
+        let limits = if is_small {
+            few()
+        } else {
+            Limits::new(4_096, 16, 256)
+        };
+        self.disk = new_image(self.alloc, limits);
+    }
+
+    /// Takes the image's disk, to be used once. It passes as many calls as were said. What was printed is gone.
+    pub fn taken(&mut self) -> Option<FuseDisk> {
+        let disk = self.disk.take()?;
+        let passes = self.passes;
+        self.passes = LAST;
+        self.out = Paper::new(self.alloc);
+        self.told.reason = None;
+        Some(FuseDisk::new(disk, passes, Mode::Stop))
+    }
+
+    /// Keeps the disk behind a run, whose trace is told if that is asked for.
+    pub fn lay_down(&mut self, disk: FuseDisk, trace: &Trace, how: How) {
+        self.calls = disk.calls();
+        self.disk = Some(disk.into_inner());
         if let How::Trace = how {
             self.out = Paper::new(self.alloc);
             let is_written = write_trace(self.alloc, trace, &mut self.out).is_ok();
-            self.said.so(is_written, self.out.text());
-            return;
+            self.said.so(is_written, "")
         }
-        self.said.text(self.out.text());
-        write!(self.said, "status {status}\n")
     }
 
-    /// Tells whether a run was refused for a fault of the disk, and its status.
-    pub fn tell_fault(&mut self, status: u8, reason: Option<Reason>) {
-        let is_told = match reason {
+    /// Lets the disk crash.
+    pub fn crash(&mut self, crash: Crash) {
+        if let Some(disk) = self.disk.take() {
+            self.disk = Some(disk.crash(crash));
+        }
+    }
+
+    /// Returns how many calls an opening of the image makes.
+    pub fn opening_calls(&mut self) -> u64 {
+        let Some(disk) = self.taken() else {
+            return 0;
+        };
+        let (calls, disk) = match Engine::open(self.alloc, disk) {
+            Ok(engine) => {
+                let disk = engine.close();
+                (disk.calls(), disk)
+            }
+            Err((_, disk)) => (0, disk),
+        };
+        self.disk = Some(disk.into_inner());
+        calls
+    }
+
+    /// Tells what a run printed, and its status if it isn't told for its trace.
+    pub fn tell_run(&mut self, status: u8, how: How) {
+        match how {
+            How::Fault => self.tell_fault(),
+            _ => self.said.text(self.out.text()),
+        }
+        if how != How::Trace {
+            write!(self.said, "status {status}\n")
+        }
+    }
+
+    // Tells whether a run was refused for a fault of the disk.
+    fn tell_fault(&mut self) {
+        let is_told = match self.told.reason {
             Some(reason) => reason.refusal() == Some(Refusal::Device),
             None => false,
         };
-        write!(self.said, "told of it: {is_told}\nstatus {status}\n")
+        write!(self.said, "told of it: {is_told}\n")
+    }
+
+    // Prints the image's report. Returns the status.
+    fn inspect(&mut self) -> u8 {
+        let Some(disk) = self.taken() else {
+            return 2;
+        };
+        let (status, disk) = inspect_on(self.alloc, disk, &mut self.out, &mut self.told);
+        self.disk = Some(disk.into_inner());
+        status
+    }
+
+    /// Returns the lines of the image's report that are of cells, windows and entries.
+    pub fn lines(&mut self) -> Saying {
+        let mut lines = Saying::new(self.alloc);
+        let status = self.inspect();
+        lines.so(status == 0, "");
+        add_lines(&mut lines, self.out.text(), true, true);
+        lines
     }
 
     // Tells lines of the image's report.
     fn report(&mut self, of_windows: bool) {
-        let Some(disk) = self.disk.take() else {
-            return self.said.fail("there is no image");
-        };
-        self.out = Paper::new(self.alloc);
-        let (status, disk) = inspect_on(self.alloc, disk, &mut self.out, &mut Nobody);
-        self.disk = Some(disk);
+        let status = self.inspect();
         self.said.text("the report\n");
-        add_lines(&mut self.said, self.out.text(), of_windows);
+        add_lines(&mut self.said, self.out.text(), of_windows, !of_windows);
         write!(self.said, "status {status}\n")
     }
 
     /// Tells a line of the scenes that runs nothing: a call with its words, or a title.
     pub fn tell(&mut self, line: &str, call: &str, words: &str) {
         match call {
-            "new" => self.disk = new_image(self.alloc),
+            "new" => self.renew(false),
             "old" => self.disk = image_of_old(self.alloc),
             "report" => self.report(words == "windows"),
             "held" => write!(self.said, "{words}: {}\n", self.held),

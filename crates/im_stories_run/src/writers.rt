@@ -1,4 +1,4 @@
-//! A writer in memory, and observers that note nothing, or why the work is refused.
+//! A writer in memory, and an observer that notes why the work is refused.
 
 use im_text::{Observer, Progress, Reason};
 use im_types::Entry;
@@ -37,19 +37,7 @@ impl Write for Paper {
     }
 }
 
-/// An observer that keeps nothing of what it is told.
-#[derive(Drop)]
-pub struct Nobody;
-
-impl Observer for Nobody {
-    fn answered(&mut self, _element: u16, _number: u64, _entry: Entry) {}
-
-    fn progressed(&mut self, _progress: Progress) {}
-
-    fn refused(&mut self, _reason: Reason) {}
-}
-
-/// An observer that notes why the work is refused.
+/// An observer that notes why the work is refused, and nothing else.
 #[derive(Drop)]
 pub struct Told {
     /// The reason, if the work is refused.
