@@ -20,8 +20,8 @@ pub fn later(command: Command, more: u64) -> Command {
 /// Reads a command, and how often it is meant, under numbers that follow one another: `16 times 1.1 fetch 0`.
 pub fn times_of(words: &[&str]) -> Option<(u64, Command)> {
     match words {
-        [times, "times", rest @ ..] => Some((times.parse::<u64>().ok()?, command(rest).ok()?)),
-        _ => Some((1, command(words).ok()?)),
+        [times, "times", rest @ ..] => Some((times.parse::<u64>().ok()?, command(rest)?)),
+        _ => Some((1, command(words)?)),
     }
 }
 

@@ -1,10 +1,10 @@
 //! Files that someone has damaged, and the results of opening them.
 
-use crate::disks::{changes, hex};
 use crate::engines::Engines;
 use crate::place::Place;
 use im_image::{PAGE, area_pages, encode};
-use im_story::{Call, Saying};
+use im_story::{Call, Saying, hex};
+use im_story_disk::changes;
 use im_types::{Limits, Refusal};
 
 // Adds the result of an opening: its count and its room, or why it was refused.

@@ -1,11 +1,11 @@
 //! Formats, closes, crashes and opens images.
 
-use crate::disks::{crash, mode};
 use crate::engines::Engines;
 use crate::runs;
 use crate::scripts::Script;
 use im_image::image_length;
 use im_story::{Call, Saying, old_image};
+use im_story_disk::{crash, mode};
 
 // Formats a file of its image's length, or of the length that is told.
 fn format(engines: &mut Engines, call: &Call, said: &mut Saying) {

@@ -11,7 +11,7 @@ use im_types::{Command, Refusal, Served};
 fn commands_of(words: &[&str]) -> Option<ArrayVec<Command, 16>> {
     let mut members = ArrayVec::new();
     for part in words.split(|word| *word == "with") {
-        members.try_push(command(part).ok()?).ok()?;
+        members.try_push(command(part)?).ok()?;
     }
     Some(members)
 }

@@ -34,7 +34,6 @@
 mod alike;
 mod calls;
 mod damage;
-mod disks;
 mod engines;
 mod explorer;
 mod files;
@@ -52,12 +51,14 @@ mod walks;
 mod wanders;
 
 use crate::engines::Engines;
-use anyhow::Result;
-use im_story::{Call, Layer, Saying, Scene, tell_of};
-use std::alloc::Global;
+use im_story::{Call, Saying, Scene};
 use std::process::ExitCode;
 
-impl Layer for Engines {
+impl Scene for Engines {
+    fn begin(&mut self) {
+        *self = Engines::none(self.place.alloc);
+    }
+
     fn make(&mut self, call: &Call, said: &mut Saying) {
         if let Some(engine) = &self.place.engine {
             if states::tell(engine, call, said) {
@@ -68,21 +69,7 @@ impl Layer for Engines {
     }
 }
 
-impl Scene for Engines {
-    fn begin(&mut self) {
-        *self = Engines::none(self.place.alloc);
-    }
-
-    fn tell(&mut self, alloc: Global, words: &[&str], said: &mut String) -> Result<()> {
-        tell_of(self, alloc, words, said)
-    }
-}
-
-fn start(rt: &HostRuntime) -> Result<u8> {
-    let mut engines = Engines::none(rt.alloc());
-    im_story::walk_files(rt, &mut engines)
-}
-
 fn main(rt: HostRuntime) -> ExitCode {
-    ExitCode::from(start(&rt).unwrap_or(1))
+    let mut engines = Engines::none(rt.alloc());
+    ExitCode::from(im_story::walk_files(&rt, &mut engines))
 }

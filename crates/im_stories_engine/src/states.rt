@@ -1,7 +1,7 @@
 //! What an engine tells of itself and of its memory, and the bytes of its file.
 
 use crate::engines::Engines;
-use crate::texts::{add_block, add_bytes, add_cell};
+use crate::texts::add_bytes;
 use im_disk::FuseDisk;
 use im_engine::Engine;
 use im_image::journal_at;
@@ -12,8 +12,8 @@ fn tell_cell(engine: &Engine<FuseDisk>, a: u32, said: &mut Saying) {
     let memory = engine.memory();
     match (memory.cell(a), memory.block(a)) {
         (Some(presence), Some(block)) => {
-            add_cell(said, presence);
-            add_block(said, block)
+            said.cell(presence);
+            said.within(block)
         }
         _ => said.text("in no block"),
     }

@@ -3,7 +3,6 @@
 //! Each test looks at every case. It tells how many commands were found in each, or at which case something is wrong.
 
 use crate::alike::are_alike;
-use crate::disks::{crash, mode};
 use crate::engines::Engines;
 use crate::groups::are_refused;
 use crate::place::{Place, STEADY};
@@ -16,6 +15,7 @@ use im_disk::{Crash, FuseDisk, Mode};
 use im_engine::Engine;
 use im_plain::PlainMemory;
 use im_story::{Call, Saying};
+use im_story_disk::{crash, mode};
 use im_types::Refusal;
 
 /// How a disk fails, the crash after that, and one more crash after an opening. Without a crash the disk is opened as

@@ -1,27 +1,10 @@
-//! The texts of cells, of turns, of runs of answers, and of bytes.
+//! The texts of turns, of runs of answers, and of bytes.
 
 use crate::groups::add_served;
 use im_checkpoint::TurnDone;
 use im_engine::Answer;
 use im_story::Saying;
-use im_types::{Block, Cell, Kind, Refusal};
-
-/// Adds what a cell is.
-pub fn add_cell(said: &mut Saying, cell: Cell) {
-    match cell {
-        Cell::Empty => said.text("empty"),
-        Cell::Waiting => said.text("waiting"),
-        Cell::Full(value) => write!(said, "full {value}"),
-        Cell::Clashed(value) => write!(said, "clashed {value}"),
-    }
-}
-
-/// Adds ` in block BASE of LENGTH KIND`.
-pub fn add_block(said: &mut Saying, block: Block) {
-    let (base, length) = (block.base, block.length);
-    write!(said, " in block {base} of {length} ");
-    said.either(block.kind == Kind::I, "i", "m")
-}
+use im_types::Refusal;
 
 fn word_of(done: TurnDone) -> &'static str {
     match done {

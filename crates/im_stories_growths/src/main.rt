@@ -17,12 +17,12 @@ use crate::disks::Place;
 use crate::engines::{events, run, serve_first, turn};
 use crate::naming::act_on;
 use crate::ports::{begin, begun};
-use anyhow::{Result, anyhow};
 use im_disk::MemDisk;
 use im_pipes::{Inlet, Outlet, Received, pipe};
 use im_story::Saying;
 use im_types::Limits;
 use std::alloc::Global;
+use std::process::ExitCode;
 use std::sync::Wait;
 
 // Room for all that is told, so that none of it grows later.
@@ -153,12 +153,10 @@ fn show<R: Wait>(rt: &R, alloc: Global, said: &mut Saying) {
     show_too_much(rt, &mut place, limits, said)
 }
 
-fn main(rt: HostRuntime) -> Result<()> {
-    let mut said = Saying::with_room(rt.alloc(), ROOM)?;
+fn main(rt: HostRuntime) -> ExitCode {
+    let Ok(mut said) = Saying::with_room(rt.alloc(), ROOM) else {
+        return ExitCode::from(1);
+    };
     show(&rt, rt.alloc(), &mut said);
-    rt.print(said.said())?;
-    if said.is_wrong() {
-        return Err(anyhow!("a call wasn't answered as it has to be"));
-    }
-    Ok(())
+    ExitCode::from(said.print(&rt))
 }

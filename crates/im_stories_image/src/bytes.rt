@@ -1,18 +1,13 @@
 //! Bytes, in words and in answers. A byte is two hex digits; eight or more equal bytes in a row are `00*8`.
 
-use im_story::Saying;
+use im_story::{Saying, hex};
 use std::alloc::Global;
-
-/// Reads a byte: two hex digits.
-pub fn hex_byte(word: &str) -> Option<u8> {
-    u8::from_str_radix(word, 16).ok()
-}
 
 /// Reads bytes: two hex digits each.
 pub fn hex_bytes(alloc: Global, words: &[&str]) -> Option<Vec<u8>> {
     let mut bytes = Vec::new(alloc);
     for word in words {
-        bytes.push(hex_byte(word)?).ok()?;
+        bytes.push(hex(word)?).ok()?;
     }
     Some(bytes)
 }

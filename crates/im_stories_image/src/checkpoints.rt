@@ -94,8 +94,8 @@ fn make(here: &mut Place, call: &Call, said: &mut Saying) {
 
 fn serve(disk: &mut Blind, kept: &mut Kept, words: &[&str], said: &mut Saying) {
     match command(words) {
-        Ok(command) => said.outcome(kept.serve(disk, &command)),
-        Err(_) => said.fail("no command"),
+        Some(command) => said.outcome(kept.serve(disk, &command)),
+        None => said.fail("no command"),
     }
 }
 

@@ -13,11 +13,11 @@
 //! ```
 
 use crate::blind::Blind;
-use crate::bytes::{add_bytes, hex_byte, hex_bytes};
+use crate::bytes::{add_bytes, hex_bytes};
 use crate::journals::tell_of_journal;
 use crate::place::Place;
 use im_disk::{DeviceFault, Disk, MemDisk, Mode, open_gate, write_behind_gate};
-use im_story::{Call, Saying};
+use im_story::{Call, Saying, hex};
 use im_types::layout::OPEN;
 
 /// Adds `ok`, or that the call failed.
@@ -30,7 +30,7 @@ fn mode(how: &str, last: &str) -> Option<Mode> {
     match how {
         "stop" => Some(Mode::Stop),
         "once" => Some(Mode::Once),
-        "scar" => Some(Mode::Scar(hex_byte(last)?)),
+        "scar" => Some(Mode::Scar(hex(last)?)),
         _ => None,
     }
 }
@@ -101,7 +101,7 @@ fn fail_write(here: &mut Place, call: &Call, byte: Option<u8>, said: &mut Saying
 // Makes a write that fails and leaves a byte all over its range.
 fn scar(here: &mut Place, call: &Call, said: &mut Saying) {
     match call.words() {
-        [.., byte] if hex_byte(byte).is_some() => fail_write(here, call, hex_byte(byte), said),
+        [.., byte] if hex(byte).is_some() => fail_write(here, call, hex(byte), said),
         _ => said.fail("that is no byte"),
     }
 }

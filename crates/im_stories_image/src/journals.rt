@@ -15,7 +15,6 @@
 //! ```
 
 use crate::blind::Blind;
-use crate::commands::add_command;
 use crate::disks::add_passed;
 use crate::images::tell_of_image;
 use crate::place::Place;
@@ -38,8 +37,8 @@ fn fresh(here: &mut Place, call: &Call, said: &mut Saying) {
 
 fn append(disk: &mut Blind, journal: &mut Journal, words: &[&str], said: &mut Saying) {
     match command(words) {
-        Ok(command) => said.done(journal.append(disk, &command), "ok"),
-        Err(_) => said.fail("no command"),
+        Some(command) => said.done(journal.append(disk, &command), "ok"),
+        None => said.fail("no command"),
     }
 }
 
@@ -62,7 +61,7 @@ fn append_fetches(disk: &mut Blind, journal: &mut Journal, upto: u64, said: &mut
 fn several(alloc: Global, words: &[&str]) -> Option<Vec<Command>> {
     let mut commands = Vec::new(alloc);
     for part in words.split(|word| *word == "and") {
-        commands.push(command(part).ok()?).ok()?;
+        commands.push(command(part)?).ok()?;
     }
     Some(commands)
 }
@@ -156,7 +155,7 @@ fn slot(call: &Call) -> Option<Numbered> {
     };
     Some(Numbered {
         sequence: call.number(0),
-        command: command(words).ok()?,
+        command: command(words)?,
     })
 }
 
@@ -218,7 +217,7 @@ pub fn tell_of_journal(here: &mut Place, call: &Call, said: &mut Saying) {
             Some(journal) => begin_later(journal, call.number(0), said),
             None => said.fail("there is no journal"),
         },
-        "command _" => add_command(said, command_read(here, call.place(0))),
+        "command _" => said.command(command_read(here, call.place(0))),
         _ => match call.words() {
             ["append" | "group" | "sweep", ..] => tell_of_both(here, call, said),
             _ => tell_of_counts(here, call, said),

@@ -18,15 +18,10 @@ mod tries;
 mod walks;
 
 use crate::scene::Images;
-use anyhow::Result;
 use im_story::walk_files;
 use std::process::ExitCode;
 
-fn start(rt: &HostRuntime) -> Result<u8> {
-    let mut images = Images::new(rt);
-    walk_files(rt, &mut images)
-}
-
 fn main(rt: HostRuntime) -> ExitCode {
-    ExitCode::from(start(&rt).unwrap_or(1))
+    let mut images = Images::new(&rt);
+    ExitCode::from(walk_files(&rt, &mut images))
 }

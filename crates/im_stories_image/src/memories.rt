@@ -38,8 +38,8 @@ fn waiting(memory: &Memory, a: u32, said: &mut Saying) {
 
 fn step(memory: &mut Memory, words: &[&str], said: &mut Saying) {
     match command(words) {
-        Ok(command) => said.outcome(memory.step(&command)),
-        Err(_) => said.fail("no command"),
+        Some(command) => said.outcome(memory.step(&command)),
+        None => said.fail("no command"),
     }
 }
 

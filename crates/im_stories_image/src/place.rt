@@ -75,13 +75,10 @@ impl Place {
 
     // Makes a call while these bytes are on the disk.
     fn tell_with(&mut self, call: &Call, changes: &[&str], words: &[&str], said: &mut Saying) {
-        let Ok(inner) = Call::of(call.alloc(), words) else {
-            return said.fail("no memory is left");
-        };
         let Some(old) = self.change(call, changes) else {
             return said.fail("no changes");
         };
-        tell_of_disk(self, &inner, said);
+        tell_of_disk(self, &Call::of(call.alloc(), words), said);
         self.put_back(old.as_slice(), said)
     }
 

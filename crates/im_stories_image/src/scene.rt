@@ -1,9 +1,8 @@
 //! The scene of the stories: a place in memory, and files of the folder in which the program runs.
 
-use crate::files::{Files, tell_of_files};
+use crate::files::{Files_files};
 use crate::place::Place;
-use anyhow::Result;
-use im_story::{Call, Layer, Saying, Scene, tell_of};
+use im_story::{Call, Saying, Scene};
 use std::alloc::{AllocError, Global};
 
 /// What stories of an image are about.
@@ -33,7 +32,7 @@ impl<'r> Images<'r> {
         let mut said = Saying::new(alloc);
         for line in &self.told {
             let words: Vec<&str> = line.split_whitespace().collect(alloc)?;
-            place.tell(&Call::of(alloc, words.as_slice())?, &mut said);
+            place.tell(&Call::of(alloc, words.as_slice()), &mut said);
         }
         Ok(place)
     }
@@ -51,19 +50,24 @@ impl<'r> Images<'r> {
 
     // Makes a call on another place, after a crash of it.
     fn tell_after(&self, kind: &str, words: &[&str], call: &Call, said: &mut Saying) {
-        let (Ok(mut place), Ok(inner)) = (self.again(call.alloc()), Call::of(call.alloc(), words))
-        else {
+        let Ok(mut place) = self.again(call.alloc()) else {
             return said.fail("no memory is left");
         };
         if place.crash(kind) {
-            place.tell(&inner, said)
+            place.tell(&Call::of(call.alloc(), words), said)
         } else {
             said.fail("no crash of a disk")
         }
     }
 }
 
-impl<'r> Layer for Images<'r> {
+impl<'r> Scene for Images<'r> {
+    fn begin(&mut self) {
+        self.files = Files::new();
+        self.place = Place::new();
+        self.told.clear();
+    }
+
     fn make(&mut self, call: &Call, said: &mut Saying) {
         if let ["if", kind, rest @ ..] = call.words() {
             return self.tell_after(kind, rest, call, said);
@@ -75,17 +79,5 @@ impl<'r> Layer for Images<'r> {
             return said.fail("no memory is left");
         }
         self.place.tell(call, said)
-    }
-}
-
-impl<'r> Scene for Images<'r> {
-    fn begin(&mut self) {
-        self.files = Files::new();
-        self.place = Place::new();
-        self.told.clear();
-    }
-
-    fn tell(&mut self, alloc: Global, words: &[&str], said: &mut String) -> Result<()> {
-        tell_of(self, alloc, words, said)
     }
 }

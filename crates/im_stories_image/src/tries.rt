@@ -1,8 +1,8 @@
 //! Trials: a crash, or other bytes on the disk.
 
 use crate::blind::Blind;
-use crate::bytes::hex_byte;
 use im_disk::{Crash, Disk};
+use im_story::{change, hex};
 use std::alloc::Global;
 
 /// Reads a kind of crash: `kept`, `lost`, or the byte that it puts over each range in doubt.
@@ -10,7 +10,7 @@ pub fn crash_kind(word: &str) -> Option<Crash> {
     match word {
         "kept" => Some(Crash::Kept),
         "lost" => Some(Crash::Lost),
-        _ => Some(Crash::Byte(hex_byte(word)?)),
+        _ => Some(Crash::Byte(hex(word)?)),
     }
 }
 
@@ -38,12 +38,6 @@ pub fn changes_in(words: &[&str]) -> usize {
         count = count.saturating_add(1);
     }
     count
-}
-
-// Reads a place and its byte: `AT:BYTE`.
-fn change(word: &str) -> Option<(usize, u8)> {
-    let (at, byte) = word.split_once(':')?;
-    Some((at.parse::<usize>().ok()?, hex_byte(byte)?))
 }
 
 /// Puts bytes on a disk, one for each word. Returns what stood there before, or nothing if they couldn't be put.

@@ -4,7 +4,6 @@ ghost use Rattle.im_cell.specs.declared.slots.Slot.{Slot};
 ghost use Rattle.im_istore.specs.Agreement.{Agree, AgreeBut};
 
 use crate::random_walks::walk;
-use crate::texts::{add_cell, add_number, add_place, add_waiter};
 use im_arena::Arena;
 use im_cell::CellTable;
 use im_istore::{fetch, look, next_reader, store, store_and_drain};
@@ -155,7 +154,7 @@ impl Accesses {
 // Adds who comes after the last reader.
 fn add_next(said: &mut Saying, next: Option<Waiter>) {
     said.text(", then ");
-    add_waiter(said, next)
+    said.waiter(next)
 }
 
 // Adds the result of a read.
@@ -193,7 +192,7 @@ fn add_drained(said: &mut Saying, answer: Option<(Reply, Vec<Waiter>)>) {
 
 fn add_looked(said: &mut Saying, looked: Result<Cell, Reply>) {
     match looked {
-        Ok(cell) => add_cell(said, cell),
+        Ok(cell) => said.cell(cell),
         Err(reply) => said.reply(reply),
     }
 }
@@ -213,8 +212,8 @@ pub fn tell(accesses: &mut Accesses, call: &Call, said: &mut Saying) {
         "store _ _" => accesses.store_first(a, value, said),
         "store _ _ drained" => add_drained(said, accesses.store(call.alloc(), a, value)),
         "put _ _" => add_put(said, accesses.put(a, value)),
-        "place i _" => add_number(said, accesses.place(Kind::I, a)),
-        "place m _" => add_number(said, accesses.place(Kind::M, a)),
+        "place i _" => said.number_or_none(accesses.place(Kind::I, a)),
+        "place m _" => said.number_or_none(accesses.place(Kind::M, a)),
         "walk _ from _" => walk(accesses, call, said),
         _ => tell_state(accesses, call, said),
     }
@@ -224,12 +223,12 @@ pub fn tell(accesses: &mut Accesses, call: &Call, said: &mut Saying) {
 fn tell_state(accesses: &Accesses, call: &Call, said: &mut Saying) {
     let (table, arena, a) = (&accesses.table, &accesses.arena, call.address(0));
     match call.form() {
-        "cell _" => add_place(said, table.get(a), table.block_of(a)),
+        "cell _" => said.place(table.get(a), table.block_of(a)),
         "look _ i" => add_looked(said, look(table, a, Kind::I)),
         "look _ m" => add_looked(said, look(table, a, Kind::M)),
-        "waiting _" => add_number(said, accesses.waiting(a)),
-        "free" => add_number(said, Some(arena.free_count())),
-        "lists" => add_number(said, Some(arena.list_count())),
+        "waiting _" => said.number_or_none(accesses.waiting(a)),
+        "free" => said.number(u64::from(arena.free_count())),
+        "lists" => said.number(u64::from(arena.list_count())),
         _ => said.fail("no access"),
     }
 }

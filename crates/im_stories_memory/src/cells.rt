@@ -3,7 +3,6 @@ ghost use Rattle.std.specs.Prelude.{◌≡◌, ◌<◌, ◌^◌, length, map, If
 ghost use Rattle.im_cell.specs.Slots.{slot_at, shown_cell, shown_slot, HasBlocks};
 
 use crate::plain_slots::walk;
-use crate::texts::{add_number, add_place, add_truth};
 use im_cell::CellTable;
 use im_story::{Call, Saying};
 use im_types::{Cell, CellRecord, Kind, PresenceTag};
@@ -126,16 +125,16 @@ fn add_blocks(said: &mut Saying, blocks: u32) {
 pub fn tell(table: &mut CellTable, call: &Call, said: &mut Saying) {
     let a = call.address(0);
     match call.form() {
-        "place i _" => add_number(said, place(table, Kind::I, a)),
-        "place m _" => add_number(said, place(table, Kind::M, a)),
-        "release _" => add_truth(said, table.release(a)),
-        "reset _" => add_truth(said, table.reset(a)),
+        "place i _" => said.number_or_none(place(table, Kind::I, a)),
+        "place m _" => said.number_or_none(place(table, Kind::M, a)),
+        "release _" => said.truth(table.release(a)),
+        "reset _" => said.truth(table.reset(a)),
         "set _ empty" => set(table, a, Cell::Empty, said),
         "set _ waiting" => set(table, a, Cell::Waiting, said),
         "set _ full _" => set(table, a, Cell::Full(call.number(1)), said),
         "set _ clashed _" => set(table, a, Cell::Clashed(call.number(1)), said),
-        "cell _" => add_place(said, table.get(a), table.block_of(a)),
-        "cells" => add_number(said, Some(table.cells())),
+        "cell _" => said.place(table.get(a), table.block_of(a)),
+        "cells" => said.number(u64::from(table.cells())),
         _ => tell_many(table, call, said),
     }
 }

@@ -2,7 +2,6 @@
 ghost use Rattle.std.specs.Prelude.{◌<◌, length};
 
 use crate::plain_lists::walk;
-use crate::texts::{add_number, add_truth, add_waiter};
 use im_arena::{Arena, Ends, hand_over};
 use im_story::{Call, Saying};
 
@@ -21,12 +20,12 @@ fn tell_of(arena: &mut Arena, call: &Call, said: &mut Saying) {
         return said.fail("no such list");
     }
     match call.form() {
-        "list _ push _._" => add_truth(said, arena.push_back(list, call.waiter(1))),
-        "list _ pop" => add_waiter(said, arena.pop_front(list)),
-        "list _ front" => add_waiter(said, arena.front(list)),
-        "list _ at _" => add_waiter(said, arena.at(list, call.address(1))),
-        "list _ length" => add_number(said, Some(arena.len(list))),
-        "list _ empty" => add_truth(said, arena.is_empty(list)),
+        "list _ push _._" => said.truth(arena.push_back(list, call.waiter(1))),
+        "list _ pop" => said.waiter(arena.pop_front(list)),
+        "list _ front" => said.waiter(arena.front(list)),
+        "list _ at _" => said.waiter(arena.at(list, call.address(1))),
+        "list _ length" => said.number(u64::from(arena.len(list))),
+        "list _ empty" => said.truth(arena.is_empty(list)),
         "list _ ends" => add_ends(said, arena.ends(list)),
         _ => said.fail("no call of lists"),
     }
@@ -41,17 +40,17 @@ fn tell_handed(arena: &mut Arena, call: &Call, said: &mut Saying) {
     if arena.is_full() {
         return said.fail("no node is free");
     }
-    add_waiter(said, hand_over(arena, from, to, call.waiter(2)))
+    said.waiter(hand_over(arena, from, to, call.waiter(2)))
 }
 
 /// Makes a call of lists.
 pub fn tell(arena: &mut Arena, call: &Call, said: &mut Saying) {
     match call.form() {
         "hand over _ _ _._" => tell_handed(arena, call, said),
-        "lists" => add_number(said, Some(arena.list_count())),
-        "nodes" => add_number(said, Some(arena.node_count())),
-        "free" => add_number(said, Some(arena.free_count())),
-        "full" => add_truth(said, arena.is_full()),
+        "lists" => said.number(u64::from(arena.list_count())),
+        "nodes" => said.number(u64::from(arena.node_count())),
+        "free" => said.number(u64::from(arena.free_count())),
+        "full" => said.truth(arena.is_full()),
         "walk _ from _" => walk(arena, call, said),
         _ => tell_of(arena, call, said),
     }

@@ -18,12 +18,10 @@ mod texts;
 mod windows;
 
 use accesses::Accesses;
-use anyhow::Result;
 use im_arena::Arena;
 use im_cell::CellTable;
-use im_story::{Call, Layer, Saying, Scene, tell_of, walk_files};
+use im_story::{Call, Saying, Scene, walk_files};
 use memories::Memories;
-use std::alloc::Global;
 use std::process::ExitCode;
 use windows::Windows;
 
@@ -55,7 +53,11 @@ fn made(call: &Call) -> Option<Stage> {
     }
 }
 
-impl Layer for Stage {
+impl Scene for Stage {
+    fn begin(&mut self) {
+        *self = Stage::Nothing;
+    }
+
     fn make(&mut self, call: &Call, said: &mut Saying) {
         match self {
             Stage::Nothing => match made(call) {
@@ -74,16 +76,6 @@ impl Layer for Stage {
     }
 }
 
-impl Scene for Stage {
-    fn begin(&mut self) {
-        *self = Stage::Nothing;
-    }
-
-    fn tell(&mut self, alloc: Global, words: &[&str], said: &mut String) -> Result<()> {
-        tell_of(self, alloc, words, said)
-    }
-}
-
 fn main(rt: HostRuntime) -> ExitCode {
-    ExitCode::from(walk_files(&rt, &mut Stage::Nothing).unwrap_or(1))
+    ExitCode::from(walk_files(&rt, &mut Stage::Nothing))
 }

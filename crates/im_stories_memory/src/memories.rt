@@ -2,7 +2,7 @@
 
 use crate::memory_walks::walk;
 use crate::nodes::{add_cell_record, add_node_record, add_nodes, listed};
-use crate::texts::{add_kept, add_number, add_place, add_waiter};
+use crate::texts::add_kept;
 use im_memory::Memory;
 use im_plain::PlainMemory;
 use im_story::{Call, Saying, command};
@@ -62,7 +62,7 @@ fn add_waiting(said: &mut Saying, memories: &Memories, a: u32) -> bool {
             return true;
         }
         said.text(" ");
-        add_waiter(said, waiter);
+        said.waiter(waiter);
     }
     true
 }
@@ -85,7 +85,7 @@ fn fetches(memories: &mut Memories, call: &Call) -> u32 {
 }
 
 fn tell_command(memories: &mut Memories, call: &Call, said: &mut Saying) {
-    let Ok(command) = command(call.words()) else {
+    let Some(command) = command(call.words()) else {
         return said.fail("no command");
     };
     match memories.step(&command) {
@@ -112,20 +112,20 @@ fn tell_same(memories: &Memories, call: &Call, said: &mut Saying) -> bool {
             fast.kept(of, number) == plain.kept(of, number)
         }
         "cell _" => {
-            add_place(said, fast.cell(a), fast.block(a));
+            said.place(fast.cell(a), fast.block(a));
             fast.cell(a) == plain.cell(a) && fast.block(a) == plain.block(a)
         }
         "waiting _" => add_waiting(said, memories, a),
         "waiter _ _" => {
-            add_waiter(said, fast.waiter(a, call.place(1)));
+            said.waiter(fast.waiter(a, call.place(1)));
             fast.waiter(a, call.place(1)) == plain.waiter(a, call.place(1))
         }
         "cells" => {
-            add_number(said, Some(fast.cells()));
+            said.number(u64::from(fast.cells()));
             fast.cells() == plain.cells()
         }
         _ => {
-            add_number(said, Some(u32::from(fast.elements())));
+            said.number(u64::from(fast.elements()));
             fast.elements() == plain.elements()
         }
     }
@@ -146,7 +146,7 @@ pub fn tell(memories: &mut Memories, call: &Call, said: &mut Saying) {
                 said.fail("the two memories differ")
             }
         }
-        "accepted" => add_number(said, Some(memories.accepted)),
+        "accepted" => said.number(u64::from(memories.accepted)),
         "_._ to _ fetch _" => write!(said, "{} wait", fetches(memories, call)),
         "walk _ from _" => walk(memories, call, said),
         "record _" | "node _" | "nodes _" | "listed _" => tell_record(&memories.fast, call, said),
@@ -161,6 +161,6 @@ fn tell_record(memory: &Memory, call: &Call, said: &mut Saying) {
         "record _" => add_cell_record(said, memory, at),
         "node _" => add_node_record(said, memory, at),
         "nodes _" => add_nodes(said, memory, at),
-        _ => add_number(said, Some(listed(memory, at))),
+        _ => said.number_or_none(Some(listed(memory, at))),
     }
 }

@@ -1,6 +1,5 @@
 //! The records of the fast memory.
 
-use crate::texts::{add_place, add_waiter};
 use im_memory::Memory;
 use im_story::Saying;
 use im_types::{Cell, CellRecord, NONE, NodeRecord, PresenceTag};
@@ -30,7 +29,7 @@ pub fn add_cell_record(said: &mut Saying, memory: &Memory, a: u32) {
             write!(said, "free, hole of {hole}");
             add_link(said, next)
         }
-        CellRecord::Held { block, tag } => add_place(said, Some(cell_of(tag)), Some(block)),
+        CellRecord::Held { block, tag } => said.place(Some(cell_of(tag)), Some(block)),
     }
 }
 
@@ -38,7 +37,7 @@ pub fn add_cell_record(said: &mut Saying, memory: &Memory, a: u32) {
 pub fn add_node_record(said: &mut Saying, memory: &Memory, n: u32) {
     match memory.records().node_record(n) {
         NodeRecord::Listed { next, waiter } => {
-            add_waiter(said, Some(waiter));
+            said.waiter(Some(waiter));
             add_link(said, next)
         }
         NodeRecord::Free { next } => {
@@ -82,7 +81,7 @@ pub fn add_nodes(said: &mut Saying, memory: &Memory, a: u32) {
             break;
         };
         said.text(" ");
-        add_waiter(said, Some(waiter));
+        said.waiter(Some(waiter));
         before = at;
         at = next;
     }

@@ -83,8 +83,8 @@ fn add_judged(said: &mut Saying, judged: Result<Judged, Refusal>) {
 // Tells how a request is judged, and keeps a new one with an entry.
 fn keep(sessions: &mut Sessions, entry: Entry, asked: &[&str], said: &mut Saying) {
     match request(asked) {
-        Ok(request) => add_judged(said, ask(sessions, &request, entry)),
-        Err(_) => said.fail("no request"),
+        Some(request) => add_judged(said, ask(sessions, &request, entry)),
+        None => said.fail("no request"),
     }
 }
 
@@ -114,19 +114,19 @@ fn tell_each(
     said: &mut Saying,
 ) {
     match op(asked) {
-        Ok(op) => {
+        Some(op) => {
             let fresh = keep_each(sessions, entry, call.waiter(0), call.number(2), op);
             write!(said, "{fresh} fresh")
         }
-        Err(_) => said.fail("no operation"),
+        None => said.fail("no operation"),
     }
 }
 
 // Adds one more entry that the next window is restored from.
 fn show(shown: &mut Vec<Kept>, entry: Entry, asked: &[&str], said: &mut Saying) {
     match op(asked) {
-        Ok(op) => said.so(shown.push(Kept { op, entry }).is_ok(), "shown"),
-        Err(_) => said.fail("no operation"),
+        Some(op) => said.so(shown.push(Kept { op, entry }).is_ok(), "shown"),
+        None => said.fail("no operation"),
     }
 }
 

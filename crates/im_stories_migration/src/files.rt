@@ -1,24 +1,14 @@
 //! Makes and changes a file in memory.
 
-use crate::place::Place;
-use crate::words::{crash, hex, mode};
-use im_image::image_length;
-use im_story::{Call, Saying, old_image};
-use im_types::Limits;
+use crate::moves::add_opening;
+use im_story::{Call, Saying, hex, old_image};
+use im_story_disk::{Place, crash, mode};
 
 // Tells the length of a file that was made anew.
 fn add_length(place: &Place, is_laid: bool, said: &mut Saying) {
     said.so(is_laid, "");
     said.number(place.bytes().len() as u64);
     said.text(" bytes")
-}
-
-// Makes an image of the version in use, with no command.
-fn lay_current(place: &mut Place, limits: Limits) -> bool {
-    let mut started = Saying::new(place.alloc);
-    let is_laid = place.lay(b"".as_slice(), image_length(limits));
-    place.start(Some(limits), &mut started);
-    is_laid && started.said().starts_with("count")
 }
 
 // Makes an image with no command, of the first version or of the version in use.
@@ -32,7 +22,7 @@ fn lay_image(place: &mut Place, call: &Call, said: &mut Saying) {
             Err(_) => false,
         }
     } else {
-        lay_current(place, limits)
+        place.renew(limits)
     };
     add_length(place, is_laid, said)
 }
@@ -101,7 +91,7 @@ pub fn tell(place: &mut Place, call: &Call, said: &mut Saying) {
         "cut" => cut(place, call, said),
         "write" => write(place, call, said),
         "as" => said.either(place.is_as_marked(), "yes", "no"),
-        "open" => place.start(None, said),
+        "open" => add_opening(place, said),
         "crash" => leave(place, call, said),
         _ => set_fuse(place, call, said),
     }

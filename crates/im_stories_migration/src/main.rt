@@ -31,20 +31,16 @@
 
 mod files;
 mod moves;
-mod place;
 mod programs;
 mod stops;
-mod words;
 mod writers;
 
 use crate::moves::{are_same, move_on, tell_length, tell_with};
-use crate::place::Place;
 use crate::programs::load;
-use crate::writers::{Paper, Told};
-use anyhow::Result;
+use crate::writers::Told;
 use im_program::Descriptors;
-use im_story::{Call, Layer, Saying, Scene, tell_of};
-use std::alloc::Global;
+use im_story::{Call, Paper, Saying, Scene};
+use im_story_disk::Place;
 use std::process::ExitCode;
 
 /// Two files, and what was last printed and told.
@@ -119,7 +115,11 @@ fn tell_by_word(desk: &mut Desk, call: &Call, said: &mut Saying) {
     }
 }
 
-impl<'a> Layer for Desk<'a> {
+impl<'a> Scene for Desk<'a> {
+    fn begin(&mut self) {
+        *self = Desk::new(self.rt, self.held);
+    }
+
     fn make(&mut self, call: &Call, said: &mut Saying) {
         match call.form() {
             "printed _" => add_line(self.out.text(), call.place(0), said),
@@ -134,19 +134,9 @@ impl<'a> Layer for Desk<'a> {
     }
 }
 
-impl<'a> Scene for Desk<'a> {
-    fn begin(&mut self) {
-        *self = Desk::new(self.rt, self.held);
-    }
-
-    fn tell(&mut self, alloc: Global, words: &[&str], said: &mut String) -> Result<()> {
-        tell_of(self, alloc, words, said)
-    }
-}
-
 fn main(rt: HostRuntime) -> ExitCode {
     let status = match Descriptors::hold(&rt, &rt.stdin(), &rt.stdout(), &rt.stderr()) {
-        Some(held) => im_story::walk_files(&rt, &mut Desk::new(&rt, &held)).unwrap_or(1),
+        Some(held) => im_story::walk_files(&rt, &mut Desk::new(&rt, &held)),
         None => 1,
     };
     ExitCode::from(status)

@@ -1,11 +1,10 @@
 //! Migrations, and what the two files mean.
 
-use crate::place::Place;
-use crate::words::hex;
-use crate::writers::{Paper, Told};
+use crate::writers::Told;
 use im_migration::{Unfollowed, length_for, migrate};
 use im_report::inspect_on;
-use im_story::{Call, Saying};
+use im_story::{Call, Paper, Saying, change};
+use im_story_disk::Place;
 
 /// Migrates the image of a file to another file. Tells how many commands it has, or why that is refused.
 pub fn move_on(old: &mut Place, new: &mut Place, said: &mut Saying) {
@@ -31,11 +30,7 @@ pub fn move_on(old: &mut Place, new: &mut Place, said: &mut Saying) {
 /// Tells the result of migrating copies, one of which has a byte at a place: `with [old] PLACE:BYTE`.
 pub fn tell_with(old: &Place, new: &Place, call: &Call, said: &mut Saying) {
     let is_old = call.word(1) == "old";
-    let (at, byte) = call
-        .word(if is_old { 2 } else { 1 })
-        .split_once(':')
-        .unwrap_or(("", ""));
-    let (Ok(at), Some(byte)) = (at.parse::<usize>(), hex(byte)) else {
+    let Some((at, byte)) = change(call.word(if is_old { 2 } else { 1 })) else {
         return said.fail("that is no byte at a place");
     };
     let (mut old, mut new) = (old.copy(), new.copy());
@@ -46,6 +41,14 @@ pub fn tell_with(old: &Place, new: &Place, call: &Call, said: &mut Saying) {
     };
     said.so(is_put, "");
     move_on(&mut old, &mut new, said)
+}
+
+/// Opens an image. Tells its count and its room, or why it is refused.
+pub fn add_opening(place: &mut Place, said: &mut Saying) {
+    match place.start(None) {
+        Ok((count, room)) => write!(said, "count {count} room {room}"),
+        Err(refusal) => said.refusal(refusal),
+    }
 }
 
 /// Tells how long the file has to be to which the image is migrated.

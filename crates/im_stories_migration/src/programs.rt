@@ -1,15 +1,15 @@
 //! The program's work on files, and the folder's files.
 
 use crate::moves::report;
-use crate::place::Place;
-use crate::writers::{Paper, Told};
+use crate::writers::Told;
 use crate::{Desk, files};
 use im_disk::Unknown;
 use im_program::{
     Console, Copying, Job, Paths, Terminals, Work, act_alone, copy_file, migrate_file, read_words,
     refuse,
 };
-use im_story::{Call, Saying};
+use im_story::{Call, Paper, Saying};
+use im_story_disk::Place;
 use std::fs;
 use std::io::ErrorKind;
 

@@ -1,43 +1,9 @@
-//! A writer in memory, and an observer that keeps why work is refused.
+//! An observer that keeps why work is refused.
 
 use im_migration::Follower;
 use im_story::Saying;
 use im_text::{Observer, Progress, Reason};
 use im_types::Entry;
-use std::alloc::Global;
-use std::io;
-use std::io::Write;
-
-/// What was written.
-#[derive(Drop)]
-pub struct Paper {
-    text: Vec<u8>,
-}
-
-impl Paper {
-    /// Starts with nothing written.
-    pub fn new(alloc: Global) -> Paper {
-        Paper {
-            text: Vec::new(alloc),
-        }
-    }
-
-    /// Returns what was written.
-    pub fn text(&self) -> &str {
-        str::from_utf8(self.text.as_slice()).unwrap_or("what was written is no text")
-    }
-}
-
-impl Write for Paper {
-    fn write(&mut self, buf: &[u8]) -> io::Result<usize> {
-        self.text.extend_from_slice(buf)?;
-        Ok(buf.len())
-    }
-
-    fn flush(&mut self) -> io::Result<()> {
-        Ok(())
-    }
-}
 
 /// An observer that keeps why work was last refused.
 #[derive(Drop)]

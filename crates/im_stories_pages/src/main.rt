@@ -18,8 +18,7 @@ use crate::rows::Rows;
 use crate::shown::Shown;
 use crate::spelled::Spelled;
 use crate::values::{Sizes, tell_refusal};
-use anyhow::Result;
-use im_story::{Call, Layer, Saying, Scene, tell_of, walk_files};
+use im_story::{Call, Saying, Scene, walk_files};
 use std::alloc::Global;
 use std::process::ExitCode;
 
@@ -43,7 +42,14 @@ impl Pages {
     }
 }
 
-impl Layer for Pages {
+impl Scene for Pages {
+    fn begin(&mut self) {
+        self.sizes = Sizes::new();
+        self.rows.clear();
+        self.spelled.clear();
+        self.shown.clear();
+    }
+
     fn make(&mut self, call: &Call, said: &mut Saying) {
         match call.words() {
             ["limits" | "version", ..] => self.sizes.tell(call, said),
@@ -60,24 +66,7 @@ impl Layer for Pages {
     }
 }
 
-impl Scene for Pages {
-    fn begin(&mut self) {
-        self.sizes = Sizes::new();
-        self.rows.clear();
-        self.spelled.clear();
-        self.shown.clear();
-    }
-
-    fn tell(&mut self, alloc: Global, words: &[&str], said: &mut String) -> Result<()> {
-        tell_of(self, alloc, words, said)
-    }
-}
-
-fn start(rt: &HostRuntime) -> Result<u8> {
-    let mut pages = Pages::new(rt.alloc());
-    walk_files(rt, &mut pages)
-}
-
 fn main(rt: HostRuntime) -> ExitCode {
-    ExitCode::from(start(&rt).unwrap_or(1))
+    let mut pages = Pages::new(rt.alloc());
+    ExitCode::from(walk_files(&rt, &mut pages))
 }

@@ -18,7 +18,7 @@
 use crate::areas::{area, page_with, pages};
 use crate::bytes::{add_bytes, bytes};
 use crate::rows::{Rows, clashing};
-use crate::texts::{add_cell, add_kept, add_node, cell, kept, node};
+use crate::texts::{add_cell, add_node, cell, kept, node};
 use crate::values::Sizes;
 use crate::verdicts::{Form, Verdict, add_run, add_verdict, form_of, grown, look};
 use im_records::{
@@ -54,7 +54,7 @@ fn add_node_or(said: &mut Saying, node: Option<NodeRecord>, none: &str) {
 // Adds an entry that was read, if one was.
 fn add_place(said: &mut Saying, place: Option<Option<Kept>>) {
     match place {
-        Some(entry) => add_kept(said, entry),
+        Some(entry) => said.kept(entry),
         None => said.text("refused"),
     }
 }
@@ -92,7 +92,7 @@ fn tell_kept(window: &WindowRecord, sent: u64, said: &mut Saying) {
         return said.fail("the number lies below the window");
     };
     let place = usize::try_from(past).unwrap_or(usize::MAX);
-    add_kept(said, window.kept().get(place).copied())
+    said.kept(window.kept().get(place).copied())
 }
 
 // Tells how many of the first entries are of stores of 0, 1, .. in cell 0 that clashed.

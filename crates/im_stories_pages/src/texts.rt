@@ -46,13 +46,6 @@ fn kind(word: &str) -> Option<Kind> {
     }
 }
 
-fn letter(kind: Kind) -> &'static str {
-    match kind {
-        Kind::I => "i",
-        Kind::M => "m",
-    }
-}
-
 fn waiting(first: &str, last: &str) -> Option<PresenceTag> {
     Some(PresenceTag::Waiting {
         first: link(first)?,
@@ -132,15 +125,14 @@ pub fn add_cell(said: &mut Saying, cell: CellRecord) {
             add_link(said, next)
         }
         CellRecord::Held { block, tag } => {
-            let (base, length, kind) = (block.base, block.length, letter(block.kind));
             add_tag(said, tag);
-            write!(said, " in block {base} of {length} {kind}")
+            said.within(block)
         }
     }
 }
 
 fn listed(who: &str, next: &str) -> Option<NodeRecord> {
-    let (element, number) = name(who).ok()?;
+    let (element, number) = name(who)?;
     Some(NodeRecord::Listed {
         next: link(next)?,
         waiter: Waiter { element, number },
@@ -210,19 +202,7 @@ pub fn kept(words: &[&str]) -> Option<Kept> {
     let arrow = words.iter().position(|word| *word == "->")?;
     let (asked, came) = words.split_at_checked(arrow)?;
     Some(Kept {
-        op: op(asked).ok()?,
+        op: op(asked)?,
         entry: entry(came)?,
     })
-}
-
-/// Adds a kept entry, or `none`.
-pub fn add_kept(said: &mut Saying, kept: Option<Kept>) {
-    match kept {
-        Some(kept) => {
-            said.op(kept.op);
-            said.text(" -> ");
-            said.entry(kept.entry)
-        }
-        None => said.text("none"),
-    }
 }

@@ -1,9 +1,8 @@
 //! The image in memory, its bytes, and changes of them.
 
-use crate::place::Place;
-use crate::spelling::hex;
 use crate::{Desk, scripts};
-use im_story::{Call, Saying, old_image};
+use im_story::{Call, Saying, hex, old_image};
+use im_story_disk::Place;
 
 // Tells how many bytes the disk has.
 fn add_length(place: &Place, is_so: bool, said: &mut Saying) {
@@ -18,7 +17,7 @@ fn lay_old(place: &mut Place, call: &Call) -> bool {
         return false;
     };
     match old_image(place.alloc, limits) {
-        Ok(image) => place.lay(image.as_slice()),
+        Ok(image) => place.lay(image.as_slice(), image.len()),
         Err(_) => false,
     }
 }
@@ -35,7 +34,7 @@ fn format(place: &mut Place, call: &Call, said: &mut Saying) {
 // Tells the count of the image's commands, as an opening finds it.
 fn count(place: &mut Place, said: &mut Saying) {
     match place.start(None) {
-        Ok(count) => said.number(count),
+        Ok((count, _)) => said.number(count),
         Err(refusal) => said.refusal(refusal),
     }
 }
@@ -67,7 +66,7 @@ pub fn tell(desk: &mut Desk, call: &Call, said: &mut Saying) {
     let place = &mut desk.place;
     match call.form() {
         "disk _" => {
-            let is_laid = place.blank(call.place(0));
+            let is_laid = place.lay(&[], call.place(0));
             add_length(place, is_laid, said)
         }
         "cut _" => {

@@ -4,8 +4,8 @@
 use crate::ends::{ends_of, has_end, printed_after};
 use crate::runs::serve;
 use crate::scripts::{requests_of, script_of};
-use crate::stage::{How, Stage};
-use im_disk::Crash;
+use crate::stage::{How, Stage, few};
+use im_disk::{Crash, Mode};
 use im_serving::Open;
 use im_story::Saying;
 use std::sync::Wait;
@@ -27,13 +27,14 @@ fn run_to_end<R: Threads + Wait + Sync>(
     passes: u64,
     crash: Crash,
 ) -> Option<u64> {
-    here.renew(true);
+    let is_new = here.place.renew(few()?);
+    here.said.so(is_new, "");
     let mut many = passes;
     for stops in 0..MOST_RUNS {
-        here.passes = many;
+        here.place.fuse = (many, Mode::Stop);
         many = many.saturating_add(passes).saturating_add(MORE);
         let status = serve(rt, here, How::Once, text, &Open);
-        here.crash(crash);
+        let _crashed = here.place.crash(crash);
         if status == 0 {
             return Some(stops);
         }
@@ -86,7 +87,6 @@ fn stop_each<R: Threads + Wait + Sync>(
     }
     let is_whole = run_to_end(rt, here, text, most, Crash::Kept) == Some(0);
     write!(here.said, "{} ends, {right} runs to them, ", ends.len());
-    write!(here.said, "calls {} ", here.calls);
     here.said.either(is_whole, "the last at once\n", "the last stopped\n")
 }
 

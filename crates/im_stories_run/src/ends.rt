@@ -9,10 +9,12 @@ use std::alloc::Global;
 // Adds the line of a cell, if it isn't empty.
 fn add_cell(said: &mut Saying, a: u32, cell: Option<Cell>) {
     match cell {
-        Some(Cell::Full(value)) => write!(said, "cell {a} full {value}\n"),
-        Some(Cell::Clashed(value)) => write!(said, "cell {a} clashed {value}\n"),
-        Some(Cell::Waiting) => write!(said, "cell {a} waiting\n"),
-        _ => {}
+        None | Some(Cell::Empty) => {}
+        Some(cell) => {
+            write!(said, "cell {a} ");
+            said.cell(cell);
+            said.text("\n")
+        }
     }
 }
 
@@ -25,13 +27,9 @@ fn add_element(said: &mut Saying, memory: &PlainMemory, element: u16) {
     let count = next.saturating_sub(base);
     write!(said, "element {element} base {base} kept {count}\n");
     for number in base..next {
-        if let Some(kept) = memory.kept(element, number) {
-            write!(said, "entry {element}.{number} ");
-            said.op(kept.op);
-            said.text(" -> ");
-            said.entry(kept.entry);
-            said.text("\n")
-        }
+        write!(said, "entry {element}.{number} ");
+        said.kept(memory.kept(element, number));
+        said.text("\n")
     }
 }
 

@@ -12,10 +12,10 @@ mod stage;
 mod writers;
 
 use again::run_again;
-use anyhow::Result;
 use runs::run_named;
 use scenes::SCENES;
 use stage::{How, Stage};
+use std::process::ExitCode;
 use std::sync::Wait;
 use std::thread::Threads;
 
@@ -39,11 +39,8 @@ fn tell_all<R: Threads + Wait + Sync>(rt: &R, here: &mut Stage) {
     }
 }
 
-fn main(rt: HostRuntime) -> Result<()> {
+fn main(rt: HostRuntime) -> ExitCode {
     let mut here = Stage::new(rt.alloc());
     tell_all(&rt, &mut here);
-    let mut said = String::new(rt.alloc());
-    let told = here.said.end(&mut said);
-    rt.print(said.as_str())?;
-    told
+    ExitCode::from(here.said.print(&rt))
 }

@@ -3,6 +3,7 @@
 use crate::gates::After;
 use crate::scripts::script_of;
 use crate::stage::{How, Stage};
+use im_disk::Mode;
 use im_run::{run_on, run_once_on};
 use im_script::read_script_with_glances;
 use im_serving::{Gate, Open, Unwatched};
@@ -55,7 +56,8 @@ pub fn run_named<R: Threads + Wait + Sync>(rt: &R, here: &mut Stage, how: How, w
     let (name, first) = words.split_once(" after ").unwrap_or((words, "0"));
     let text = script_of(here.alloc, name);
     if how == How::Fault {
-        here.passes = here.opening_calls();
+        let _opened = here.place.start(None);
+        here.place.fuse = (here.place.calls, Mode::Stop);
     }
     let status = match first {
         "0" => serve(rt, here, how, text.said(), &Open),

@@ -233,7 +233,7 @@ fn add_request(alloc: Global, requests: &mut Vec<Request>, text: &str) {
     let Ok(words) = text.split_whitespace().collect::<Vec<&str>>(alloc) else {
         return;
     };
-    if let Ok(request) = request(words.as_slice()) {
+    if let Some(request) = request(words.as_slice()) {
         let _kept = requests.push(request);
     }
 }

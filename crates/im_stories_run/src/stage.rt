@@ -1,13 +1,12 @@
 //! What a scene works with: an image in memory, what was last printed, and what is told.
 
-use crate::writers::{Paper, Told};
-use im_disk::{Crash, Disk, FuseDisk, MemDisk, Mode};
-use im_engine::Engine;
+use crate::writers::Told;
+use im_disk::FuseDisk;
 use im_report::inspect_on;
 use im_run::{Trace, write_trace};
-use im_story::{Saying, old_image};
-use im_types::layout::image_length;
-use im_types::{LAST, Limits, Refusal};
+use im_story::{Paper, Saying, old_image};
+use im_story_disk::Place;
+use im_types::{Limits, Refusal};
 use std::alloc::Global;
 
 /// How a script is run: as it is, as a plan, for its trace, on a disk that fails behind the opening, or once.
@@ -26,10 +25,7 @@ pub struct Stage {
     /// The allocator of all that is made.
     pub alloc: Global,
     /// The image, if there is one.
-    disk: Option<MemDisk>,
-    /// How many calls the disk passes when it is used next.
-    pub passes: u64,
-    pub calls: u64,
+    pub place: Place,
     /// What was last printed.
     pub out: Paper,
     /// Why the last run was refused, if it was.
@@ -43,26 +39,6 @@ pub struct Stage {
 /// Returns the sizes of the images that are stopped.
 pub fn few() -> Option<Limits> {
     Limits::new(16, 5, 16)
-}
-
-// Makes an image of these sizes, with nothing in it.
-fn new_image(alloc: Global, limits: Option<Limits>) -> Option<MemDisk> {
-    let limits = limits?;
-    let disk = MemDisk::new(alloc, image_length(limits)).ok()?;
-    match Engine::format(alloc, disk, limits) {
-        Ok(engine) => Some(engine.close()),
-        Err(_) => None,
-    }
-}
-
-// Makes an image of the first version.
-fn image_of_old(alloc: Global) -> Option<MemDisk> {
-    let bytes = old_image(alloc, Limits::new(4_096, 16, 256)?).ok()?;
-    let Ok(mut disk) = MemDisk::new(alloc, bytes.len()) else {
-        return None;
-    };
-    disk.write_at(0, bytes.as_slice()).ok()?;
-    Some(disk)
 }
 
 // Adds the lines of a report that are of windows, or else those of cells and of entries. Of all three it adds both.
@@ -84,9 +60,7 @@ impl Stage {
     pub fn new(alloc: Global) -> Stage {
         Stage {
             alloc,
-            disk: None,
-            passes: LAST,
-            calls: 0,
+            place: Place::new(alloc),
             out: Paper::new(alloc),
             told: Told { reason: None },
             held: false,
@@ -94,58 +68,33 @@ impl Stage {
         }
     }
 
-    /// Makes an image with nothing in it: the usual one, or one of few cells and slots.
-    pub fn renew(&mut self, is_small: bool) {
-        let limits = if is_small {
-            few()
-        } else {
-            Limits::new(4_096, 16, 256)
+    // Makes an image of the usual sizes, with nothing in it; or one of the first version.
+    fn lay(&mut self, is_old: bool) {
+        let Some(limits) = Limits::new(4_096, 16, 256) else {
+            return;
         };
-        self.disk = new_image(self.alloc, limits);
+        let is_laid = match old_image(self.alloc, limits) {
+            Ok(image) if is_old => self.place.lay(image.as_slice(), image.len()),
+            _ => self.place.renew(limits),
+        };
+        self.said.so(is_laid, "")
     }
 
-    /// Takes the image's disk, to be used once. It passes as many calls as were said. What was printed is gone.
+    /// Takes the image's disk, to be used once. What was printed is gone.
     pub fn taken(&mut self) -> Option<FuseDisk> {
-        let disk = self.disk.take()?;
-        let passes = self.passes;
-        self.passes = LAST;
         self.out = Paper::new(self.alloc);
         self.told.reason = None;
-        Some(FuseDisk::new(disk, passes, Mode::Stop))
+        self.place.taken()
     }
 
     /// Keeps the disk behind a run, whose trace is told if that is asked for.
     pub fn lay_down(&mut self, disk: FuseDisk, trace: &Trace, how: How) {
-        self.calls = disk.calls();
-        self.disk = Some(disk.into_inner());
+        self.place.lay_down(disk);
         if let How::Trace = how {
             self.out = Paper::new(self.alloc);
             let is_written = write_trace(self.alloc, trace, &mut self.out).is_ok();
             self.said.so(is_written, "")
         }
-    }
-
-    /// Lets the disk crash.
-    pub fn crash(&mut self, crash: Crash) {
-        if let Some(disk) = self.disk.take() {
-            self.disk = Some(disk.crash(crash));
-        }
-    }
-
-    /// Returns how many calls an opening of the image makes.
-    pub fn opening_calls(&mut self) -> u64 {
-        let Some(disk) = self.taken() else {
-            return 0;
-        };
-        let (calls, disk) = match Engine::open(self.alloc, disk) {
-            Ok(engine) => {
-                let disk = engine.close();
-                (disk.calls(), disk)
-            }
-            Err((_, disk)) => (0, disk),
-        };
-        self.disk = Some(disk.into_inner());
-        calls
     }
 
     /// Tells what a run printed, and its status if it isn't told for its trace.
@@ -174,7 +123,7 @@ impl Stage {
             return 2;
         };
         let (status, disk) = inspect_on(self.alloc, disk, &mut self.out, &mut self.told);
-        self.disk = Some(disk.into_inner());
+        self.place.lay_down(disk);
         status
     }
 
@@ -198,8 +147,8 @@ impl Stage {
     /// Tells a line of the scenes that runs nothing: a call with its words, or a title.
     pub fn tell(&mut self, line: &str, call: &str, words: &str) {
         match call {
-            "new" => self.renew(false),
-            "old" => self.disk = image_of_old(self.alloc),
+            "new" => self.lay(false),
+            "old" => self.lay(true),
             "report" => self.report(words == "windows"),
             "held" => write!(self.said, "{words}: {}\n", self.held),
             _ => write!(self.said, "{line}\n"),

@@ -24,12 +24,12 @@ use crate::naming::{Act, act_on};
 use crate::plans::show_plans;
 use crate::scenes::Scene;
 use crate::stops::show_stops;
-use anyhow::Result;
 use im_controller::Opening;
 use im_disk::FuseDisk;
 use im_story::Saying;
 use im_types::Limits;
 use std::alloc::Global;
+use std::process::ExitCode;
 use std::sync::Wait;
 use std::thread::Threads;
 
@@ -55,7 +55,7 @@ fn show_scene<R: Threads + Wait + Sync>(rt: &R, alloc: Global, scene: Scene, sai
     }
 }
 
-fn main(rt: HostRuntime) -> Result<()> {
+fn main(rt: HostRuntime) -> ExitCode {
     let alloc = rt.alloc();
     let mut said = Saying::new(alloc);
     for scene in [
@@ -73,8 +73,5 @@ fn main(rt: HostRuntime) -> Result<()> {
     }
     show_stops(&rt, alloc, &mut said);
     show_plans(&rt, alloc, &mut said);
-    let mut text = String::new(alloc);
-    let told = said.end(&mut text);
-    rt.print(text.as_str())?;
-    told
+    ExitCode::from(said.print(&rt))
 }

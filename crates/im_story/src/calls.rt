@@ -1,59 +1,71 @@
 //! The call of a line, taken apart once.
 
+use crate::says::Saying;
 use im_types::{Limits, Waiter};
-use std::alloc::{AllocError, Global};
+use std::alloc::Global;
 
 /// The words of a call. Its form has `_` for each number and `_._` for each name of a request: that of `1.4 fetch 0` is
 /// `_._ fetch _`, with the numbers 1, 4 and 0.
 #[derive(Drop)]
 pub struct Call<'a> {
-    alloc: Global,
     words: &'a [&'a str],
-    form: String,
+    form: Saying,
     numbers: Vec<u64>,
 }
 
-// Returns the two numbers of a name, `ELEMENT.NUMBER`.
-fn parts(word: &str) -> Option<(u64, u64)> {
-    let (of, sent) = word.split_once('.')?;
-    Some((of.parse::<u64>().ok()?, sent.parse::<u64>().ok()?))
+// Adds a number to those of a call, if there is memory for it.
+fn keep(numbers: &mut Vec<u64>, number: u64) {
+    let _kept = numbers.push(number);
+}
+
+// Adds the two numbers of a name, `ELEMENT.NUMBER`. Returns whether the word is one.
+fn has_named(numbers: &mut Vec<u64>, word: &str) -> bool {
+    let (of, sent) = word.split_once('.').unwrap_or((word, ""));
+    match (of.parse::<u64>(), sent.parse::<u64>()) {
+        (Ok(element), Ok(number)) => {
+            keep(numbers, element);
+            keep(numbers, number);
+            true
+        }
+        _ => false,
+    }
 }
 
 // Adds the numbers of a word. Returns the word as it stands in a form.
-fn numbered<'w>(numbers: &mut Vec<u64>, word: &'w str) -> Result<&'w str, AllocError> {
+fn numbered<'w>(numbers: &mut Vec<u64>, word: &'w str) -> &'w str {
     if let Ok(number) = word.parse::<u64>() {
-        numbers.push(number)?;
-        return Ok("_");
+        keep(numbers, number);
+        "_"
+    } else if has_named(numbers, word) {
+        "_._"
+    } else {
+        word
     }
-    let Some((element, number)) = parts(word) else {
-        return Ok(word);
-    };
-    numbers.push(element)?;
-    numbers.push(number)?;
-    Ok("_._")
+}
+
+// Adds the form and the numbers of these words.
+fn take_apart(words: &[&str], form: &mut Saying, numbers: &mut Vec<u64>) {
+    for word in words {
+        form.either(form.is_empty(), "", " ");
+        form.text(numbered(numbers, word));
+    }
 }
 
 impl<'a> Call<'a> {
-    /// Takes these words apart.
-    pub fn of(alloc: Global, words: &'a [&'a str]) -> Result<Call<'a>, AllocError> {
-        let (mut form, mut numbers) = (String::new(alloc), Vec::new(alloc));
-        for word in words {
-            if !form.is_empty() {
-                form.push_str(" ")?;
-            }
-            form.push_str(numbered(&mut numbers, word)?)?;
-        }
-        Ok(Call {
-            alloc,
+    /// Takes these words apart. Where memory is wanting the form is another one, and numbers are missing.
+    pub fn of(alloc: Global, words: &'a [&'a str]) -> Call<'a> {
+        let (mut form, mut numbers) = (Saying::new(alloc), Vec::new(alloc));
+        take_apart(words, &mut form, &mut numbers);
+        Call {
             words,
             form,
             numbers,
-        })
+        }
     }
 
     /// Returns the allocator of what the call makes.
     pub fn alloc(&self) -> Global {
-        self.alloc
+        self.form.alloc()
     }
 
     /// Returns the words.
@@ -73,7 +85,7 @@ impl<'a> Call<'a> {
 
     /// Returns the form.
     pub fn form(&self) -> &str {
-        self.form.as_str()
+        self.form.said()
     }
 
     /// Returns one of the numbers, or 0 past the last one.

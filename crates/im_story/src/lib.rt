@@ -9,19 +9,18 @@
 //! ```
 //!
 //! A line `# ..` begins a story and says what happens in it. A line `-- ..` is a remark. Each other line that isn't
-//! blank is a call and its answer, with ` = ` between them. The [`Scene`] says what calls there are.
+//! blank is a call and its answer, with ` = ` between them. The [`Scene`] says what calls there are. It gets a call taken
+//! apart, as a [`Call`], and tells its answer to a [`Saying`], which keeps what goes wrong until the end. So no arm of
+//! its interpreter has a way out, which is what its proof would cost.
 //!
-//! A [`Layer`] gets a call taken apart, as a [`Call`], and tells its answer to a [`Saying`], which keeps what goes
-//! wrong until the end. So no arm of its interpreter has a way out, which is what its proof would cost.
-//!
-//! The crate stands on `im_types` and `anyhow`, and the crates that tell stories use it. It promises nothing but that
-//! it ends: a story is a test.
+//! The crate stands on `im_types`, and the crates that tell stories use it. It promises nothing but that it ends: a
+//! story is a test.
 #![tactic(auto)]
 
 mod calls;
 mod files;
-mod layers;
 mod old;
+mod paper;
 mod says;
 mod texts;
 mod walks;
@@ -29,9 +28,8 @@ mod words;
 
 pub use calls::Call;
 pub use files::walk_files;
-pub use layers::{Layer, tell_of};
 pub use old::old_image;
+pub use paper::Paper;
 pub use says::Saying;
-pub use texts::{add_answer, add_entry, add_outcome, add_refusal, add_reply, add_window};
-pub use walks::{Scene, Walked, told, walk};
-pub use words::{address, byte, command, element, name, number, op, place, request};
+pub use walks::Scene;
+pub use words::{change, command, hex, name, op, request};

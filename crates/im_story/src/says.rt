@@ -1,38 +1,21 @@
 //! What a call says. It can be told with no `?`, since what goes wrong is kept until the end.
 
-use anyhow::{Result, anyhow};
-use im_types::{Entry, Kind, Op, Outcome, Refusal, Reply};
 use std::alloc::{AllocError, Global};
 use std::fmt::Display;
 
 /// The answer of a call, as it is put together, or why the call couldn't be made.
 #[derive(Drop)]
 pub struct Saying {
+    alloc: Global,
     text: String,
     is_wrong: bool,
-}
-
-fn word_of(reply: Reply) -> &'static str {
-    match reply {
-        Reply::Base(_) => "base ",
-        Reply::NoSpace => "nospace",
-        Reply::BadLength => "badlength",
-        Reply::Value(_) => "value ",
-        Reply::Stored => "stored",
-        Reply::Clash => "clash",
-        Reply::NoCell => "nocell",
-        Reply::WrongKind => "wrongkind",
-        Reply::Released => "released",
-        Reply::NoBlock => "noblock",
-        Reply::StillWaiting => "stillwaiting",
-        Reply::Cleared => "cleared",
-    }
 }
 
 impl Saying {
     /// Begins with nothing said.
     pub fn new(alloc: Global) -> Saying {
         Saying {
+            alloc,
             text: String::new(alloc),
             is_wrong: false,
         }
@@ -41,9 +24,15 @@ impl Saying {
     /// Begins with nothing said, and with room for so many bytes of it.
     pub fn with_room(alloc: Global, room: usize) -> Result<Saying, AllocError> {
         Ok(Saying {
+            alloc,
             text: String::with_capacity(alloc, room)?,
             is_wrong: false,
         })
+    }
+
+    /// Returns the allocator of the text.
+    pub fn alloc(&self) -> Global {
+        self.alloc
     }
 
     /// Returns whether nothing was said.
@@ -91,62 +80,11 @@ impl Saying {
         self.text(if is_first { first } else { second })
     }
 
-    /// Adds the name of a request.
-    pub fn name(&mut self, element: u16, number: u64) {
-        write!(self, "{element}.{number}")
-    }
-
     /// Says why the call can't be made, in place of all that was said.
     pub fn fail(&mut self, why: &str) {
         self.is_wrong = true;
         self.text.clear();
         self.text(why);
-    }
-
-    /// Adds the text of an answer to an operation.
-    pub fn reply(&mut self, reply: Reply) {
-        self.text(word_of(reply));
-        match reply {
-            Reply::Base(base) => self.number(base as u64),
-            Reply::Value(value) => self.number(value),
-            _ => {}
-        }
-    }
-
-    /// Adds the text of what is kept for a request.
-    pub fn entry(&mut self, entry: Entry) {
-        match entry {
-            Entry::Waiting => self.text("waiting"),
-            Entry::Answered(reply) => self.reply(reply),
-        }
-    }
-
-    /// Adds an operation, in the words in which it is asked.
-    pub fn op(&mut self, op: Op) {
-        match op {
-            Op::Alloc(Kind::I, length) => write!(self, "alloc i {length}"),
-            Op::Alloc(Kind::M, length) => write!(self, "alloc m {length}"),
-            Op::Release(base) => write!(self, "release {base}"),
-            Op::Reset(base) => write!(self, "reset {base}"),
-            Op::Fetch(cell) => write!(self, "fetch {cell}"),
-            Op::Store(cell, value) => write!(self, "store {cell} {value}"),
-            Op::Take(cell) => write!(self, "take {cell}"),
-            Op::Put(cell, value) => write!(self, "put {cell} {value}"),
-        }
-    }
-
-    /// Adds `refused N NAME`.
-    pub fn refusal(&mut self, refusal: Refusal) {
-        let number = refusal.number();
-        write!(self, "refused {number} {refusal}")
-    }
-
-    /// Adds a text, or a refusal.
-    pub fn done(&mut self, answer: Result<(), Refusal>, text: &str) {
-        match answer {
-            Ok(()) => self.text(text),
-            Err(refusal) => self.refusal(refusal),
-        }
     }
 
     /// Adds a text if the call was made, or says that it can't be.
@@ -158,42 +96,9 @@ impl Saying {
         }
     }
 
-    /// Adds what is kept for a request, or why nothing is kept.
-    pub fn answer(&mut self, answer: Result<Entry, Refusal>) {
-        match answer {
-            Ok(entry) => self.entry(entry),
-            Err(refusal) => self.refusal(refusal),
-        }
-    }
-
-    /// Adds the outcome of a command, or why it was refused.
-    pub fn outcome(&mut self, answer: Result<Outcome, Refusal>) {
-        match answer {
-            Ok(Outcome::Entry(entry)) => self.entry(entry),
-            Ok(Outcome::Confirmed) => self.text("confirmed"),
-            Err(refusal) => self.refusal(refusal),
-        }
-    }
-
-    /// Adds a window: the number of its first entry, and that of the next request.
-    pub fn window(&mut self, window: Result<(u64, u64), Refusal>) {
-        match window {
-            Ok((base, next)) => write!(self, "{base} {next}"),
-            Err(refusal) => self.refusal(refusal),
-        }
-    }
-
-    /// Adds all that was said to `said`.
-    ///
-    /// # Errors
-    ///
-    /// That the call couldn't be made, and why.
-    pub fn end(self, said: &mut String) -> Result<()> {
-        let text = self.text.as_str();
-        if self.is_wrong {
-            return Err(anyhow!("{text}"));
-        }
-        said.push_str(text)?;
-        Ok(())
+    /// Prints all that was said. Returns 0 if nothing was wrong, or else 1.
+    pub fn print(&self, rt: &HostRuntime) -> u8 {
+        let is_printed = rt.print(self.text.as_str()).is_ok();
+        u8::from(self.is_wrong || !is_printed)
     }
 }

@@ -1,6 +1,7 @@
 //! Walks through a text of stories.
 
-use anyhow::Result;
+use crate::calls::Call;
+use crate::says::Saying;
 use std::alloc::Global;
 
 /// A layer that stories are about, from its beginning on, and the words for its calls.
@@ -8,12 +9,12 @@ pub trait Scene {
     /// Begins a story: nothing has happened yet.
     fn begin(&mut self);
 
-    /// Makes the call that the words name, and adds its answer to `said`. Returns an error if the words name no call.
-    fn tell(&mut self, alloc: Global, words: &[&str], said: &mut String) -> Result<()>;
+    /// Makes the call, and says its answer, or that there is no such call.
+    fn make(&mut self, call: &Call, said: &mut Saying);
 }
 
 /// What was read of a text, and how much of it was wrong.
-#[derive(Clone, Copy, Debug, PartialEq, Eq)]
+#[derive(Clone, Copy)]
 pub struct Walked {
     /// How many stories there were.
     pub stories: u32,
@@ -37,9 +38,7 @@ impl Walked {
 
     // A story with no call, or a text with no story, counts as wrong.
     fn close(&mut self) {
-        if self.here == 0 {
-            self.wrong = self.wrong.saturating_add(1);
-        }
+        self.wrong = self.wrong.saturating_add(u32::from(self.here == 0));
     }
 
     fn open(&mut self) {
@@ -53,59 +52,44 @@ impl Walked {
     fn count(&mut self, is_so: bool) {
         self.lines = self.lines.saturating_add(1);
         self.here = self.here.saturating_add(1);
-        if !is_so {
-            self.wrong = self.wrong.saturating_add(1);
-        }
+        self.wrong = self.wrong.saturating_add(u32::from(!is_so));
     }
 }
 
-/// Turns the result of a call that the words named and that was made into `true`, or into why it couldn't be made.
-pub fn told(made: Result<()>) -> Result<bool> {
-    match made {
-        Ok(()) => Ok(true),
-        Err(error) => Err(error),
+// Makes a call, and says its answer.
+fn tell<S: Scene>(alloc: Global, asked: &str, scene: &mut S, said: &mut Saying) {
+    match asked.split_whitespace().collect::<Vec<&str>>(alloc) {
+        Ok(words) => scene.make(&Call::of(alloc, words.as_slice()), said),
+        Err(_) => said.fail("no memory is left"),
     }
 }
 
 // Makes a line's call, and adds to `out` if the answer isn't the line's. Returns whether it is.
-fn is_so<S: Scene>(alloc: Global, line: &str, scene: &mut S, out: &mut String) -> Result<bool> {
-    let Some((call, expected)) = line.split_once(" =") else {
-        writeln!(out, "  {line}: no answer is told")?;
-        return Ok(false);
-    };
-    let words: Vec<&str> = call.split_whitespace().collect(alloc)?;
-    let mut said = String::new(alloc);
-    if let Err(error) = scene.tell(alloc, words.as_slice(), &mut said) {
-        write!(said, "error: {error}")?;
+fn is_so<S: Scene>(alloc: Global, line: &str, scene: &mut S, out: &mut Saying) -> bool {
+    let (asked, expected) = line.split_once(" =").unwrap_or((line, "an answer"));
+    let mut said = Saying::new(alloc);
+    tell(alloc, asked, scene, &mut said);
+    let (answer, expected) = (said.said().trim(), expected.trim());
+    let is_so = answer == expected && !said.is_wrong();
+    if !is_so {
+        let how = if said.is_wrong() { "error: " } else { "" };
+        write!(out, "  {asked}: {how}{answer}, in place of {expected}\n")
     }
-    let (said, expected) = (said.as_str().trim(), expected.trim());
-    if said != expected {
-        writeln!(out, "  {call}: {said}, in place of {expected}")?;
-    }
-    Ok(said == expected)
+    is_so
 }
 
 /// Walks the stories of a text, and adds a line to `out` for each call that was answered otherwise. Returns what was
 /// read.
-pub fn walk<S: Scene>(
-    alloc: Global,
-    text: &str,
-    scene: &mut S,
-    out: &mut String,
-) -> Result<Walked> {
+pub fn walk<S: Scene>(alloc: Global, text: &str, scene: &mut S, out: &mut Saying) -> Walked {
     let mut walked = Walked::nothing();
     for line in text.lines() {
-        if line.trim().is_empty() || line.starts_with("-- ") {
-            continue;
-        }
         if line.starts_with("# ") {
             walked.open();
             scene.begin();
-        } else {
-            let is_so = is_so(alloc, line, scene, out)?;
-            walked.count(is_so);
+        } else if !line.trim().is_empty() && !line.starts_with("-- ") {
+            walked.count(is_so(alloc, line, scene, out));
         }
     }
     walked.close();
-    Ok(walked)
+    walked
 }

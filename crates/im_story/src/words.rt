@@ -1,99 +1,103 @@
-//! The words of a call: numbers, names of requests, operations and commands.
+//! The words of a call: names of requests, operations and commands, and bytes.
 
-use anyhow::{Result, anyhow};
 use im_types::{Command, Kind, Op, Request};
 
-/// A number of 64 bits.
-pub fn number(word: &str) -> Result<u64> {
-    match word.parse::<u64>() {
-        Ok(number) => Ok(number),
-        Err(_) => Err(anyhow!("{word} is no number")),
-    }
-}
-
-/// The address of a cell, or a count of cells.
-pub fn address(word: &str) -> Result<u32> {
-    match word.parse::<u32>() {
-        Ok(address) => Ok(address),
-        Err(_) => Err(anyhow!("{word} is no address")),
-    }
-}
-
-/// The number of an element, or a count of elements.
-pub fn element(word: &str) -> Result<u16> {
-    match word.parse::<u16>() {
-        Ok(element) => Ok(element),
-        Err(_) => Err(anyhow!("{word} is no element")),
-    }
-}
-
-/// A place among bytes or in a list, or a count of them.
-pub fn place(word: &str) -> Result<usize> {
-    match word.parse::<usize>() {
-        Ok(place) => Ok(place),
-        Err(_) => Err(anyhow!("{word} is no place")),
-    }
-}
-
-/// A byte, in decimal.
-pub fn byte(word: &str) -> Result<u8> {
-    match word.parse::<u8>() {
-        Ok(byte) => Ok(byte),
-        Err(_) => Err(anyhow!("{word} is no byte")),
-    }
+// Returns the word at a place, or an empty one past the last.
+fn word<'w>(words: &[&'w str], at: usize) -> &'w str {
+    words.get(at).copied().unwrap_or("")
 }
 
 /// The name of a request: `ELEMENT.NUMBER`.
-pub fn name(word: &str) -> Result<(u16, u64)> {
-    let Some((of, sent)) = word.split_once('.') else {
-        return Err(anyhow!("{word} names no request"));
-    };
-    Ok((element(of)?, number(sent)?))
+pub fn name(word: &str) -> Option<(u16, u64)> {
+    let (of, sent) = word.split_once('.').unwrap_or((word, ""));
+    match (of.parse::<u16>(), sent.parse::<u64>()) {
+        (Ok(element), Ok(number)) => Some((element, number)),
+        _ => None,
+    }
 }
 
-fn kind(word: &str) -> Result<Kind> {
-    match word {
-        "i" => Ok(Kind::I),
-        "m" => Ok(Kind::M),
-        _ => Err(anyhow!("{word} is no kind")),
+// A block of this kind that is to be made.
+fn alloc(kind: &str, length: &str) -> Option<Op> {
+    match (kind, length.parse::<u32>()) {
+        ("i", Ok(length)) => Some(Op::Alloc(Kind::I, length)),
+        ("m", Ok(length)) => Some(Op::Alloc(Kind::M, length)),
+        _ => None,
+    }
+}
+
+// An operation on an address, with no value.
+fn op_at(of: &str, a: u32) -> Option<Op> {
+    match of {
+        "release" => Some(Op::Release(a)),
+        "reset" => Some(Op::Reset(a)),
+        "fetch" => Some(Op::Fetch(a)),
+        "take" => Some(Op::Take(a)),
+        _ => None,
+    }
+}
+
+// An operation that brings a value to an address.
+fn op_with(of: &str, a: u32, value: u64) -> Option<Op> {
+    match of {
+        "store" => Some(Op::Store(a, value)),
+        "put" => Some(Op::Put(a, value)),
+        _ => None,
     }
 }
 
 /// An operation: `alloc i N`, `alloc m N`, `release A`, `reset A`, `fetch A`, `store A V`, `take A` or `put A V`.
-pub fn op(words: &[&str]) -> Result<Op> {
-    match words {
-        ["alloc", of, length] => Ok(Op::Alloc(kind(of)?, address(length)?)),
-        ["release", a] => Ok(Op::Release(address(a)?)),
-        ["reset", a] => Ok(Op::Reset(address(a)?)),
-        ["fetch", a] => Ok(Op::Fetch(address(a)?)),
-        ["store", a, value] => Ok(Op::Store(address(a)?, number(value)?)),
-        ["take", a] => Ok(Op::Take(address(a)?)),
-        ["put", a, value] => Ok(Op::Put(address(a)?, number(value)?)),
-        _ => Err(anyhow!("no operation")),
+pub fn op(words: &[&str]) -> Option<Op> {
+    let (of, first, last) = (word(words, 0), word(words, 1), word(words, 2));
+    match (first.parse::<u32>(), last.parse::<u64>()) {
+        (Ok(a), Err(_)) if words.len() == 2 => op_at(of, a),
+        (Ok(a), Ok(value)) if words.len() == 3 => op_with(of, a, value),
+        _ if of == "alloc" && words.len() == 3 => alloc(first, last),
+        _ => None,
     }
 }
 
 /// A request: `ELEMENT.NUMBER`, and an operation.
-pub fn request(words: &[&str]) -> Result<Request> {
-    let [who, rest @ ..] = words else {
-        return Err(anyhow!("no request"));
-    };
-    let (element, number) = name(who)?;
-    let op = op(rest)?;
-    Ok(Request {
-        element,
-        number,
-        op,
-    })
+pub fn request(words: &[&str]) -> Option<Request> {
+    let (who, asked) = words.split_first()?;
+    match (name(who), op(asked)) {
+        (Some((element, number)), Some(op)) => Some(Request {
+            element,
+            number,
+            op,
+        }),
+        _ => None,
+    }
+}
+
+// A confirmation of an element's entries below a number.
+fn confirmation(of: &str, upto: &str) -> Option<Command> {
+    match (of.parse::<u16>(), upto.parse::<u64>()) {
+        (Ok(element), Ok(upto)) => Some(Command::Confirm { element, upto }),
+        _ => None,
+    }
 }
 
 /// A command: a request, or `confirm ELEMENT UPTO`.
-pub fn command(words: &[&str]) -> Result<Command> {
-    match words {
-        ["confirm", of, upto] => Ok(Command::Confirm {
-            element: element(of)?,
-            upto: number(upto)?,
-        }),
-        _ => Ok(Command::Request(request(words)?)),
+pub fn command(words: &[&str]) -> Option<Command> {
+    if word(words, 0) == "confirm" && words.len() == 3 {
+        return confirmation(word(words, 1), word(words, 2));
+    }
+    match request(words) {
+        Some(request) => Some(Command::Request(request)),
+        None => None,
+    }
+}
+
+/// A byte: two hexadecimal digits.
+pub fn hex(word: &str) -> Option<u8> {
+    u8::from_str_radix(word, 16).ok()
+}
+
+/// A place and its byte: `PLACE:BYTE`.
+pub fn change(word: &str) -> Option<(usize, u8)> {
+    let (at, byte) = word.split_once(':').unwrap_or((word, ""));
+    match (at.parse::<usize>(), hex(byte)) {
+        (Ok(at), Some(byte)) => Some((at, byte)),
+        _ => None,
     }
 }

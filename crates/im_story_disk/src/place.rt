@@ -2,12 +2,12 @@
 
 use im_disk::{Crash, Disk, FuseDisk, MemDisk, Mode};
 use im_engine::Engine;
-use im_story::Saying;
-use im_types::{LAST, Limits};
+use im_types::layout::image_length;
+use im_types::{LAST, Limits, Refusal};
 use std::alloc::Global;
 
-// How a disk fails that never does.
-const STEADY: (u64, Mode) = (LAST, Mode::Stop);
+/// How a disk fails that never does.
+pub const STEADY: (u64, Mode) = (LAST, Mode::Stop);
 
 /// A file in memory, or none.
 pub struct Place {
@@ -73,10 +73,7 @@ impl Place {
         let Some(part) = bytes.get(..length.min(bytes.len())) else {
             return false;
         };
-        match MemDisk::new(self.alloc, length) {
-            Ok(disk) => self.disk = Some(disk),
-            Err(_) => return false,
-        }
+        self.disk = MemDisk::new(self.alloc, length).ok();
         self.put(0, part)
     }
 
@@ -125,10 +122,11 @@ impl Place {
         self.disk = Some(disk.into_inner());
     }
 
-    /// Opens the image, or makes a new one of these sizes. Tells its count and its room, or why it is refused.
-    pub fn start(&mut self, new: Option<Limits>, said: &mut Saying) {
+    /// Opens the image, or makes a new one of these sizes. Returns its count and its room, or why it is refused. Without
+    /// a file there is no memory for it.
+    pub fn start(&mut self, new: Option<Limits>) -> Result<(u64, u32), Refusal> {
         let Some(disk) = self.taken() else {
-            return said.fail("there is no such file");
+            return Err(Refusal::NoMemory);
         };
         let made = match new {
             Some(limits) => Engine::format(self.alloc, disk, limits),
@@ -136,15 +134,20 @@ impl Place {
         };
         match made {
             Ok(engine) => {
-                let (count, room) = (engine.count(), engine.room());
-                write!(said, "count {count} room {room}");
-                self.lay_down(engine.close())
+                let found = (engine.count(), engine.room());
+                self.lay_down(engine.close());
+                Ok(found)
             }
             Err((refusal, disk)) => {
-                said.refusal(refusal);
-                self.lay_down(disk)
+                self.lay_down(disk);
+                Err(refusal)
             }
         }
+    }
+
+    /// Makes an image of the version in use, with no command. Returns whether it is there.
+    pub fn renew(&mut self, limits: Limits) -> bool {
+        self.lay(&[], image_length(limits)) && self.start(Some(limits)).is_ok()
     }
 
     /// Lets the disk crash. Returns whether there is one.

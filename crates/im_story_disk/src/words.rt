@@ -1,12 +1,8 @@
 //! How disks fail, what a crash leaves of them, and bytes at their places, in the words of a story.
 
 use im_disk::{Crash, Mode};
+use im_story::{change, hex};
 use std::alloc::Global;
-
-/// Reads a byte: two hexadecimal digits.
-pub fn hex(word: &str) -> Option<u8> {
-    u8::from_str_radix(word, 16).ok()
-}
 
 /// Reads how a disk fails: `stop` for good, `once`, or once with a scar. A scar, `scar:BYTE`, is a byte all over what
 /// was to be written.
@@ -14,7 +10,10 @@ pub fn mode(word: &str) -> Option<Mode> {
     match word {
         "stop" => Some(Mode::Stop),
         "once" => Some(Mode::Once),
-        _ => Some(Mode::Scar(hex(word.strip_prefix("scar:")?)?)),
+        _ => match hex(word.strip_prefix("scar:").unwrap_or("")) {
+            Some(byte) => Some(Mode::Scar(byte)),
+            None => None,
+        },
     }
 }
 
@@ -23,14 +22,11 @@ pub fn crash(word: &str) -> Option<Crash> {
     match word {
         "kept" => Some(Crash::Kept),
         "lost" => Some(Crash::Lost),
-        _ => Some(Crash::Byte(hex(word)?)),
+        _ => match hex(word) {
+            Some(byte) => Some(Crash::Byte(byte)),
+            None => None,
+        },
     }
-}
-
-// Reads a byte and its place: `PLACE:BYTE`.
-fn change(word: &str) -> Option<(usize, u8)> {
-    let (at, byte) = word.split_once(':')?;
-    Some((at.parse::<usize>().ok()?, hex(byte)?))
 }
 
 /// Reads bytes and their places.
