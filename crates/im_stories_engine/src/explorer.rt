@@ -3,18 +3,18 @@
 
 use crate::known::{Known, works};
 use crate::place::Place;
-use crate::walks::Walk;
+use crate::walks::{command, group};
 use arrayvec::ArrayVec;
 use im_disk::{Crash, FuseDisk};
 use im_engine::Engine;
-use im_story::Saying;
+use im_story::{Dice, Saying};
 
 /// The cells of the memory.
 pub const CELLS: u32 = 24;
 
 /// Returns what a crash leaves, chosen at random.
-pub fn a_crash(walk: &mut Walk) -> Crash {
-    match walk.below(4) {
+pub fn a_crash(dice: &mut Dice) -> Crash {
+    match dice.below(4) {
         0 => Crash::Kept,
         1 => Crash::Lost,
         2 => Crash::Byte(0xA5),
@@ -26,10 +26,10 @@ pub fn a_crash(walk: &mut Walk) -> Crash {
 fn serves(
     engine: &mut Engine<FuseDisk>,
     known: &mut Known,
-    walk: &mut Walk,
+    dice: &mut Dice,
     said: &mut Saying,
 ) -> bool {
-    let command = walk.command(&known.plain, &[], CELLS);
+    let command = command(dice, &known.plain, &[], CELLS);
     let answer = engine.serve(&command);
     known.hears(command, answer, engine.room() == 0, said)
 }
@@ -38,10 +38,10 @@ fn serves(
 fn serves_group(
     engine: &mut Engine<FuseDisk>,
     known: &mut Known,
-    walk: &mut Walk,
+    dice: &mut Dice,
     said: &mut Saying,
 ) -> bool {
-    let members = walk.group(&known.plain, CELLS);
+    let members = group(dice, &known.plain, CELLS);
     let room = engine.room() as usize;
     let mut served = ArrayVec::new();
     engine.serve_commands(&members, &mut served);
@@ -53,17 +53,17 @@ fn serves_group(
 fn goes(
     engine: &mut Engine<FuseDisk>,
     known: &mut Known,
-    walk: &mut Walk,
+    dice: &mut Dice,
     said: &mut Saying,
 ) -> bool {
-    if engine.room() == 0 && walk.below(8) > 0 {
+    if engine.room() == 0 && dice.below(8) > 0 {
         return works(engine.turn().err(), said);
     }
-    match walk.below(6) {
+    match dice.below(6) {
         0 => works(engine.turn().err(), said),
-        1 => works(engine.sweep(walk.below(20) as u32).err(), said),
-        2 | 3 => serves_group(engine, known, walk, said),
-        _ => serves(engine, known, walk, said),
+        1 => works(engine.sweep(dice.below(20)).err(), said),
+        2 | 3 => serves_group(engine, known, dice, said),
+        _ => serves(engine, known, dice, said),
     }
 }
 
@@ -72,7 +72,7 @@ fn goes(
 pub fn goes_on(
     place: &mut Place,
     known: &mut Known,
-    walk: &mut Walk,
+    dice: &mut Dice,
     events: u64,
     said: &mut Saying,
 ) -> bool {
@@ -81,7 +81,7 @@ pub fn goes_on(
         return false;
     };
     for _ in 0..events {
-        if !goes(engine, known, walk, said) {
+        if !goes(engine, known, dice, said) {
             return false;
         }
     }

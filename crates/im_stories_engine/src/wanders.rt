@@ -8,11 +8,11 @@ use crate::known::Known;
 use crate::place::{Place, STEADY};
 use crate::texts::is_wrong_at;
 use crate::trials;
-use crate::walks::Walk;
+use crate::walks::command;
 use im_disk::{Crash, Mode};
 use im_memory::Memory;
 use im_plain::PlainMemory;
-use im_story::{Call, Saying};
+use im_story::{Call, Dice, Saying};
 use im_types::{Command, Limits, Refusal};
 
 // The elements of an engine that is stopped again and again.
@@ -63,10 +63,10 @@ fn walk_both(
     call: &Call,
     said: &mut Saying,
 ) -> u64 {
-    let mut walk = Walk::new(call.number(1));
+    let mut dice = Dice::new(call.number(1));
     let mut accepted: u64 = 0;
     for turn in 0..call.number(0) {
-        let command = walk.command(plain, &[], CELLS);
+        let command = command(&mut dice, plain, &[], CELLS);
         accepted = accepted.saturating_add(u64::from(step_both(fast, plain, command, said)));
         if turn % 500 == 0 {
             said.so(are_alike(fast, plain, limits), "");
@@ -88,26 +88,26 @@ fn walk(limits: Limits, call: &Call, said: &mut Saying) -> u64 {
 }
 
 // Opens what a crash left. Now and then that is stopped too, and another crash comes.
-fn open(place: &mut Place, walk: &mut Walk, said: &mut Saying) {
+fn open(place: &mut Place, dice: &mut Dice, said: &mut Saying) {
     for _ in 0..2 {
-        place.fuse = (walk.below(200), Mode::Stop);
+        place.fuse = (u64::from(dice.below(200)), Mode::Stop);
         match place.open() {
             Ok(()) => return,
             Err(refusal) => said.so(refusal == Refusal::Device, ""),
         }
-        place.crash(a_crash(walk));
+        place.crash(a_crash(dice));
     }
     place.fuse = (100, Mode::Stop);
     said.so(place.open().is_ok(), "")
 }
 
 // Opens what a crash left, continues, and crashes.
-fn stop(place: &mut Place, known: &mut Known, walk: &mut Walk, said: &mut Saying) {
-    open(place, walk, said);
+fn stop(place: &mut Place, known: &mut Known, dice: &mut Dice, said: &mut Saying) {
+    open(place, dice, said);
     known.has_all(place, said);
-    let _works = goes_on(place, known, walk, EVENTS, said);
+    let _works = goes_on(place, known, dice, EVENTS, said);
     place.close();
-    place.crash(a_crash(walk))
+    place.crash(a_crash(dice))
 }
 
 // Stops an engine again and again, at any call of any turn, command or opening. The call's first two numbers say how
@@ -117,12 +117,12 @@ fn wander(limits: Limits, call: &Call, said: &mut Saying) -> u64 {
         said.fail("no memory is left");
         return 0;
     };
-    let mut walk = Walk::new(call.number(1));
+    let mut dice = Dice::new(call.number(1));
     let mut place = Place::new(call.alloc());
     said.so(place.begin(limits, STEADY), "");
     place.close();
     for turn in 0..call.number(0) {
-        stop(&mut place, &mut known, &mut walk, said);
+        stop(&mut place, &mut known, &mut dice, said);
         if is_wrong_at(turn, said) {
             return known.count;
         }
@@ -137,11 +137,11 @@ fn stops(place: &mut Place, limits: Limits, call: &Call, crash: Crash, said: &mu
         said.fail("no memory is left");
         return false;
     };
-    let mut walk = Walk::new(call.number(1));
-    let works = goes_on(place, &mut known, &mut walk, call.number(0), said);
+    let mut dice = Dice::new(call.number(1));
+    let works = goes_on(place, &mut known, &mut dice, call.number(0), said);
     said.so(place.reopen(Some(crash)), "");
     known.has_all(place, said);
-    let _works = goes_on(place, &mut known, &mut walk, 8, said);
+    let _works = goes_on(place, &mut known, &mut dice, 8, said);
     known.is_all(place, said);
     !works
 }

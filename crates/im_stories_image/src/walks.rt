@@ -3,50 +3,16 @@
 use crate::images::area_of;
 use im_image::{PAGE, area_pages, decode};
 use im_memory::Memory;
-use im_story::{Call, Saying};
+use im_story::{Call, Dice, Saying};
 use im_types::layout::Version;
-use im_types::{Command, Kind, Limits, Op, Outcome, Request};
+use im_types::{Command, Limits, Outcome};
 use std::alloc::Global;
 
-// Returns the next number, which looks random.
-fn draw(seed: u64) -> u64 {
-    seed.wrapping_mul(6_364_136_223_846_793_005)
-        .wrapping_add(1_442_695_040_888_963_407)
-}
-
-// Returns a random operation, on a cell up to 7.
-fn drawn_op(lot: u64) -> Op {
-    let a = ((lot >> 16) % 8) as u32;
-    match (lot >> 24) % 9 {
-        0 => Op::Alloc(Kind::I, 1 + a % 3),
-        1 => Op::Alloc(Kind::M, 1 + a % 3),
-        2 => Op::Release(a),
-        3 => Op::Store(a, lot),
-        4 => Op::Put(a, lot),
-        5 => Op::Take(a),
-        8 => Op::Reset(a),
-        _ => Op::Fetch(a),
-    }
-}
-
-// Returns a random command of one of four elements: most often its next request, else a confirmation of all.
-fn drawn(memory: &Memory, lot: u64) -> Command {
-    let element = ((lot >> 8) % 4) as u16;
-    let number = match memory.window(element) {
-        Ok((_, next)) => next,
-        Err(_) => 1,
-    };
-    if (lot >> 24) % 9 == 6 {
-        return Command::Confirm {
-            element,
-            upto: number,
-        };
-    }
-    Command::Request(Request {
-        element,
-        number,
-        op: drawn_op(lot),
-    })
+// Returns a random command of one of four elements.
+fn drawn(dice: &mut Dice, memory: &Memory, cells: u32) -> Command {
+    let element = dice.below(4) as u16;
+    let window = memory.window(element).unwrap_or((1, 1));
+    dice.command(element, window, cells)
 }
 
 fn has_same_waiters(memory: &Memory, other: &Memory, a: u32) -> bool {
@@ -119,8 +85,8 @@ struct Walked {
 }
 
 impl Walked {
-    fn step(&mut self, memory: &mut Memory, lot: u64) {
-        let command = drawn(memory, lot);
+    fn step(&mut self, dice: &mut Dice, memory: &mut Memory, cells: u32) {
+        let command = drawn(dice, memory, cells);
         if let Ok(Outcome::Entry(_)) = memory.step(&command) {
             self.accepted = self.accepted.saturating_add(1);
         }
@@ -145,10 +111,9 @@ pub fn walk(memory: &mut Memory, limits: Limits, call: &Call, said: &mut Saying)
         alike: 0,
         others: 0,
     };
-    let mut lot = 1;
+    let mut dice = Dice::new(1);
     for turn in 0..turns {
-        lot = draw(lot);
-        walked.step(memory, lot);
+        walked.step(&mut dice, memory, limits.cells);
         if every != 0 && turn % every == 0 {
             walked.compare(call.alloc(), memory, limits);
         }

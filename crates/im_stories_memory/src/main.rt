@@ -4,7 +4,6 @@
 
 mod accesses;
 mod cells;
-mod dice;
 mod lists;
 mod memories;
 mod memory_walks;

@@ -1,51 +1,19 @@
 //! A random walk of commands over both memories, and what stays true of them.
 
-use crate::dice::Dice;
 use crate::memories::Memories;
 use crate::texts::add_steps;
 use im_memory::Memory;
-use im_story::{Call, Saying};
-use im_types::{Block, Cell, Command, Entry, Kept, Kind, Op, Refusal, Request, Waiter};
+use im_story::{Call, Dice, Saying};
+use im_types::{Block, Cell, Command, Entry, Kept, Kind, Op, Refusal, Waiter};
 
-// Returns an operation on one of eight cells, or just past them.
-fn any_op(dice: &mut Dice) -> Op {
-    let a = dice.below(9);
-    let kind = if dice.below(2) == 0 { Kind::I } else { Kind::M };
-    match dice.below(11) {
-        0 | 1 => Op::Alloc(kind, dice.below(4)),
-        2 => Op::Release(a),
-        3 | 4 => Op::Fetch(a),
-        5 => Op::Store(a, 7),
-        6 | 7 => Op::Take(a),
-        8 => Op::Reset(a),
-        _ => Op::Put(a, 8),
-    }
-}
-
-// Returns a command: mostly the next request of one of three elements. It may also be an earlier request, one too far,
-// one of an element that doesn't exist, or a confirmation.
+// Returns a command of one of three elements, or of one that doesn't exist.
 fn any_command(dice: &mut Dice, memory: &Memory) -> Command {
-    let element = if dice.below(20) == 0 {
-        3
-    } else {
-        dice.below(3) as u16
+    let element = match dice.below(20) {
+        0 => 3,
+        thrown => (thrown % 3) as u16,
     };
-    let (base, next) = memory.window(element).unwrap_or((1, 1));
-    if dice.below(4) == 0 {
-        let upto = base.wrapping_add(dice.below(4) as u64);
-        return Command::Confirm { element, upto };
-    }
-    let number = match dice.below(10) {
-        0 => next.wrapping_add(1),
-        1 => next.saturating_sub(1),
-        _ => next,
-    };
-    let op = any_op(dice);
-    Command::Request(Request {
-        element,
-        number,
-        op,
-    })
+    let window = memory.window(element).unwrap_or((1, 1));
+    dice.command(element, window, memory.cells())
 }
 
 // Returns what a command may change of its element's window.

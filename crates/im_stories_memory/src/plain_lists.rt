@@ -1,10 +1,9 @@
 //! A random walk over the lists of an arena, beside lists that are kept plainly.
 ghost use Rattle.std.specs.Prelude.{◌<◌, length};
 
-use crate::dice::Dice;
 use crate::texts::add_steps;
 use im_arena::Arena;
-use im_story::{Call, Saying};
+use im_story::{Call, Dice, Saying};
 use im_types::{NONE, NodeRecord, Waiter};
 use std::alloc::Global;
 use std::collections::VecDeque;

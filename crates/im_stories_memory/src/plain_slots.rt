@@ -1,10 +1,9 @@
 //! A random walk over a table of cells, beside slots that are kept plainly.
 
 use crate::cells::restore;
-use crate::dice::Dice;
 use crate::texts::add_steps;
 use im_cell::{CellTable, Slot};
-use im_story::{Call, Saying};
+use im_story::{Call, Dice, Saying};
 use im_types::{Block, Cell, Kind};
 
 fn slot_at(slots: &[Option<Slot>], a: u32) -> Option<Slot> {

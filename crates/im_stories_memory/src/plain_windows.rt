@@ -1,10 +1,9 @@
 //! A long run of thrown calls on windows, beside windows that are kept plainly.
 
-use crate::dice::Dice;
 use crate::texts::add_steps;
 use crate::windows::{answer, ask, restore};
 use im_sessions::Sessions;
-use im_story::{Call, Saying};
+use im_story::{Call, Dice, Saying};
 use im_types::{Entry, Judged, Kept, Kind, Op, Refusal, Reply, Request, WINDOW, Waiter};
 use std::alloc::Global;
 

@@ -1,10 +1,9 @@
 //! A random walk of accesses, beside cells by the rules.
 
 use crate::accesses::Accesses;
-use crate::dice::Dice;
 use crate::plain_cells::PlainCell;
 use crate::texts::add_steps;
-use im_story::{Call, Saying};
+use im_story::{Call, Dice, Saying};
 use im_types::{Kind, Reply, Waiter};
 use std::alloc::Global;
 

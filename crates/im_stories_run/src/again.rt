@@ -16,6 +16,7 @@ const CRASHES: [Crash; 3] = [Crash::Kept, Crash::Lost, Crash::Byte(0xA5)];
 
 // How often a script is run at most, and how many calls more than before the disk passes at least each time.
 const MOST_RUNS: u64 = 100;
+
 const MORE: u64 = 16;
 
 // Runs a script once on a new image, with this crash after each run, until it is done. The disk passes so many calls at
@@ -87,7 +88,8 @@ fn stop_each<R: Threads + Wait + Sync>(
     }
     let is_whole = run_to_end(rt, here, text, most, Crash::Kept) == Some(0);
     write!(here.said, "{} ends, {right} runs to them, ", ends.len());
-    here.said.either(is_whole, "the last at once\n", "the last stopped\n")
+    here.said
+        .either(is_whole, "the last at once\n", "the last stopped\n")
 }
 
 // Reads a word as a number.

@@ -190,7 +190,8 @@ const REQUESTS: [(&str, &str); 7] = [
     ("blocks", "1.1 alloc i 1, 2.1 alloc m 2"),
     (
         "round",
-        "0.1 alloc i 1, 0.2 alloc i 1, 1.1 store 0 5, 1.2 reset 0, 1.3 store 0 6, 1.4 fetch 0, 2.1 fetch 1, 3.1 store 1 7",
+        "0.1 alloc i 1, 0.2 alloc i 1, 1.1 store 0 5, 1.2 reset 0, 1.3 store 0 6, 1.4 fetch 0, 2.1 fetch 1, \
+            3.1 store 1 7",
     ),
     ("long", "0.1 alloc i 1, 1.1 store 0 5"),
 ];

@@ -10,7 +10,10 @@ fn walk_text<S: Scene>(file: &str, text: &str, scene: &mut S, said: &mut Saying)
     let mut out = Saying::new(said.alloc());
     let walked = walk(said.alloc(), text, scene, &mut out);
     let (stories, lines, wrong) = (walked.stories, walked.lines, walked.wrong);
-    write!(said, "{file}: {stories} stories, {lines} lines, {wrong} wrong\n");
+    write!(
+        said,
+        "{file}: {stories} stories, {lines} lines, {wrong} wrong\n"
+    );
     said.also(&out);
     wrong == 0
 }

@@ -1,7 +1,9 @@
 //! The texts of replies, of operations and of what a memory has.
 
 use crate::says::Saying;
-use im_types::{Block, Cell, Command, Entry, Kept, Kind, Op, Outcome, Refusal, Reply, Request, Waiter};
+use im_types::{
+    Block, Cell, Command, Entry, Kept, Kind, Op, Outcome, Refusal, Reply, Request, Waiter,
+};
 
 fn word_of(reply: Reply) -> &'static str {
     match reply {

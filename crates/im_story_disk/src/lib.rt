@@ -1,7 +1,7 @@
 //! Files in memory for stories: how their disks fail, what a crash leaves of them, and images on them.
 //!
-//! The crate stands on `im_engine`, by which an image is made and opened. Like `im_story` it promises nothing but that it
-//! ends.
+//! The crate stands on `im_engine`, by which an image is made and opened. Like `im_story` it promises nothing but that
+//! it ends.
 #![tactic(auto)]
 
 mod place;

@@ -122,8 +122,8 @@ impl Place {
         self.disk = Some(disk.into_inner());
     }
 
-    /// Opens the image, or makes a new one of these sizes. Returns its count and its room, or why it is refused. Without
-    /// a file there is no memory for it.
+    /// Opens the image, or makes a new one of these sizes. Returns its count and its room, or why it is refused.
+    /// Without a file there is no memory for it.
     pub fn start(&mut self, new: Option<Limits>) -> Result<(u64, u32), Refusal> {
         let Some(disk) = self.taken() else {
             return Err(Refusal::NoMemory);
