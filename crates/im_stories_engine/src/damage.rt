@@ -1,23 +1,10 @@
 //! Files that someone has damaged, and the results of opening them.
 
 use crate::engines::Engines;
-use crate::place::Place;
 use im_image::{PAGE, area_pages, encode};
 use im_story::{Call, Saying, hex};
-use im_story_disk::changes;
+use im_story_disk::{Place, changes};
 use im_types::{Limits, Refusal};
-
-// Adds the result of an opening: its count and its room, or why it was refused.
-fn add_opening(said: &mut Saying, place: &mut Place) {
-    let opening = place.open();
-    match (&place.engine, opening) {
-        (Some(engine), Ok(())) => {
-            let (count, room) = (engine.count(), engine.room());
-            write!(said, "count {count} room {room}")
-        }
-        (_, opening) => said.done(opening, ""),
-    }
-}
 
 // The results of openings. Those that follow one another and are alike are told once, from the first of them on.
 #[derive(Clone, Copy)]
@@ -28,7 +15,7 @@ struct Rows {
 impl Rows {
     // Opens the disk, and adds the result, and what it is of.
     fn add(&mut self, of: usize, place: &mut Place, said: &mut Saying) {
-        let opening = place.open();
+        let opening = place.start(None);
         let refusal = opening.err();
         if self.last == Some(refusal) {
             return;
@@ -55,7 +42,7 @@ fn tell_at(place: &mut Place, bytes: &[u8], at: usize, words: &[&str], said: &mu
         }
         lay_with(place, bytes, at, hex(word).unwrap_or(0), said);
         said.so(hex(word).is_some(), "");
-        add_opening(said, place);
+        place.tell_opening(said);
     }
 }
 
@@ -71,7 +58,7 @@ fn tell_values(place: &mut Place, bytes: &[u8], at: usize, said: &mut Saying) {
 // Tells the result for a file of this many zeros.
 fn tell_zeros(place: &mut Place, length: usize, said: &mut Saying) {
     said.so(place.lay(&[], length), "");
-    add_opening(said, place)
+    place.tell_opening(said)
 }
 
 // Tells the results at one of the places that the call names, or of one of the lengths.
@@ -87,10 +74,16 @@ fn tell_one(place: &mut Place, bytes: &[u8], at: usize, call: &Call, said: &mut 
 pub fn tell_same(engines: &Engines, call: &Call, said: &mut Saying) {
     let mut place = Place::new(call.alloc());
     let (from, to) = (call.place(0), call.place(1));
-    tell_one(&mut place, engines.bytes(), from, call, said);
+    tell_one(&mut place, engines.place.bytes(), from, call, said);
     for before in from..to {
         let mut next = Saying::new(call.alloc());
-        tell_one(&mut place, engines.bytes(), before + 1, call, &mut next);
+        tell_one(
+            &mut place,
+            engines.place.bytes(),
+            before + 1,
+            call,
+            &mut next,
+        );
         if next.said() != said.said() {
             said.fail("not the same at ");
             return said.number(before as u64 + 1);
@@ -103,7 +96,7 @@ pub fn tell_lengths(engines: &Engines, upto: usize, said: &mut Saying) {
     let mut place = Place::new(engines.place.alloc);
     let mut rows = Rows { last: None };
     for length in 0..upto.saturating_add(1) {
-        said.so(place.lay(engines.bytes(), length), "");
+        said.so(place.lay(engines.place.bytes(), length), "");
         rows.add(length, &mut place, said);
     }
 }
@@ -111,8 +104,8 @@ pub fn tell_lengths(engines: &Engines, upto: usize, said: &mut Saying) {
 /// Tells the result for a copy of this length.
 pub fn tell_length(engines: &Engines, length: usize, said: &mut Saying) {
     let mut place = Place::new(engines.place.alloc);
-    said.so(place.lay(engines.bytes(), length), "");
-    add_opening(said, &mut place)
+    said.so(place.lay(engines.place.bytes(), length), "");
+    place.tell_opening(said)
 }
 
 /// Tells the result for a copy with the bytes that the call names.
@@ -121,9 +114,9 @@ pub fn tell_with(engines: &Engines, call: &Call, said: &mut Saying) {
         return said.fail("these are no bytes at places");
     };
     let mut place = Place::new(call.alloc());
-    let is_laid = place.lay(engines.bytes(), engines.bytes().len());
+    let is_laid = place.lay(engines.place.bytes(), engines.place.bytes().len());
     said.so(is_laid && place.put_each(changes.as_slice()), "");
-    add_opening(said, &mut place)
+    place.tell_opening(said)
 }
 
 /// Keeps the pages that show the engine's memory. Tells how many they are.

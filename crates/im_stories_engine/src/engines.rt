@@ -1,8 +1,8 @@
 //! What a story is about.
 
-use crate::place::Place;
 use crate::scripts::Script;
 use im_engine::{Answer, Event};
+use im_story_disk::Place;
 use std::alloc::Global;
 
 /// An engine and its disk, and what a story has told of them.
@@ -41,14 +41,6 @@ impl Engines {
             events: Vec::new(alloc),
             answers: Vec::new(alloc),
             pages: Vec::new(alloc),
-        }
-    }
-
-    /// Returns the bytes of the disk of a closed engine, or none if there is no disk.
-    pub fn bytes(&self) -> &[u8] {
-        match &self.place.disk {
-            Some(disk) => disk.bytes(),
-            None => &[],
         }
     }
 }

@@ -2,12 +2,12 @@
 //! the disk. Then an opening has to find what was answered.
 
 use crate::known::{Known, works};
-use crate::place::Place;
 use crate::walks::{command, group};
 use arrayvec::ArrayVec;
 use im_disk::{Crash, FuseDisk};
 use im_engine::Engine;
 use im_story::{Dice, Saying};
+use im_story_disk::Place;
 
 /// The cells of the memory.
 pub const CELLS: u32 = 24;

@@ -19,7 +19,7 @@ fn format(engines: &mut Engines, call: &Call, said: &mut Saying) {
     };
     engines.script = Some(Script::none(call.alloc(), limits));
     said.so(engines.place.lay(&[], length), "");
-    said.done(engines.place.format(limits), "formatted")
+    said.done(engines.place.start(Some(limits)), "formatted")
 }
 
 // Lays down a new image of the first version, whose length has to be that which is told.
@@ -35,10 +35,10 @@ fn lay_old(engines: &mut Engines, call: &Call, said: &mut Saying) {
 }
 
 fn open(engines: &mut Engines, said: &mut Saying) {
-    if engines.place.disk.is_none() {
+    if !engines.place.is_closed() {
         return said.fail("no disk");
     }
-    said.done(engines.place.open(), "opened")
+    said.done(engines.place.start(None), "opened")
 }
 
 fn close(engines: &mut Engines, said: &mut Saying) {
@@ -52,8 +52,7 @@ pub fn leave(engines: &mut Engines, call: &Call, said: &mut Saying) {
     let Some(crash) = crash(call.word(1)) else {
         return said.fail("that is no crash");
     };
-    engines.place.crash(crash);
-    said.so(engines.place.disk.is_some(), "crashed")
+    said.so(engines.place.crash(crash), "crashed")
 }
 
 /// Sets how the disk of the next format or opening fails.

@@ -2,13 +2,13 @@
 
 use crate::alike::are_alike;
 use crate::groups::{are_refused, is_answer};
-use crate::place::Place;
 use crate::scripts::Said;
 use arrayvec::ArrayVec;
 use im_disk::FuseDisk;
 use im_engine::Engine;
 use im_plain::PlainMemory;
 use im_story::Saying;
+use im_story_disk::Place;
 use im_types::{Command, Limits, Refusal, Served};
 use std::alloc::Global;
 

@@ -39,7 +39,6 @@ mod explorer;
 mod files;
 mod groups;
 mod known;
-mod place;
 mod runs;
 mod scripts;
 mod states;

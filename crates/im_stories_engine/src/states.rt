@@ -50,7 +50,7 @@ pub fn tell(engine: &Engine<FuseDisk>, call: &Call, said: &mut Saying) -> bool {
 
 /// Tells the given number of bytes of the file, from a place on.
 pub fn tell_bytes(engines: &Engines, at: usize, length: usize, said: &mut Saying) {
-    match engines.bytes().get(at..at.saturating_add(length)) {
+    match engines.place.bytes().get(at..at.saturating_add(length)) {
         Some(bytes) => add_bytes(said, bytes),
         None => said.fail("past the end of the file"),
     }

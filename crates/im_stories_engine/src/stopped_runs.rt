@@ -2,11 +2,11 @@
 
 use crate::engines::Engines;
 use crate::known::{Known, works};
-use crate::place::Place;
 use crate::stops::Way;
 use crate::texts::{Numbers, is_wrong_at};
 use im_engine::{Answer, Event};
 use im_story::Saying;
+use im_story_disk::Place;
 use im_types::{Limits, Refusal};
 
 // Returns why an event was refused. A group isn't run here.

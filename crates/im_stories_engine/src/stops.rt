@@ -5,7 +5,6 @@
 use crate::alike::are_alike;
 use crate::engines::Engines;
 use crate::groups::are_refused;
-use crate::place::{Place, STEADY};
 use crate::scripts::Script;
 use crate::stopped_runs::stop_run;
 use crate::texts::{Numbers, is_wrong_at};
@@ -15,7 +14,7 @@ use im_disk::{Crash, FuseDisk, Mode};
 use im_engine::Engine;
 use im_plain::PlainMemory;
 use im_story::{Call, Saying};
-use im_story_disk::{crash, mode};
+use im_story_disk::{Place, STEADY, crash, mode};
 use im_types::Refusal;
 
 /// How a disk fails, the crash after that, and one more crash after an opening. Without a crash the disk is opened as
@@ -101,7 +100,7 @@ impl Trial<'_> {
     fn does_opening_stop(&self, place: &mut Place, passes: u64, said: &mut Saying) -> bool {
         place.close();
         place.fuse = (passes, self.way.mode);
-        match place.open() {
+        match place.start(None) {
             Ok(()) => false,
             Err(refusal) => {
                 said.so(refusal == Refusal::Device, "");
@@ -144,7 +143,7 @@ impl Trial<'_> {
                 do_turns_stop(place, said)
             }
             "call" => {
-                let bytes = self.engines.bytes();
+                let bytes = self.engines.place.bytes();
                 said.so(place.lay(bytes, bytes.len()), "");
                 self.does_opening_stop(place, passes, said) || do_turns_stop(place, said)
             }

@@ -5,7 +5,6 @@ use crate::alike::are_alike;
 use crate::engines::Engines;
 use crate::explorer::{CELLS, a_crash, goes_on};
 use crate::known::Known;
-use crate::place::{Place, STEADY};
 use crate::texts::is_wrong_at;
 use crate::trials;
 use crate::walks::command;
@@ -13,6 +12,7 @@ use im_disk::{Crash, Mode};
 use im_memory::Memory;
 use im_plain::PlainMemory;
 use im_story::{Call, Dice, Saying};
+use im_story_disk::{Place, STEADY};
 use im_types::{Command, Limits, Refusal};
 
 // The elements of an engine that is stopped again and again.
@@ -91,14 +91,14 @@ fn walk(limits: Limits, call: &Call, said: &mut Saying) -> u64 {
 fn open(place: &mut Place, dice: &mut Dice, said: &mut Saying) {
     for _ in 0..2 {
         place.fuse = (u64::from(dice.below(200)), Mode::Stop);
-        match place.open() {
+        match place.start(None) {
             Ok(()) => return,
             Err(refusal) => said.so(refusal == Refusal::Device, ""),
         }
-        place.crash(a_crash(dice));
+        let _crashed = place.crash(a_crash(dice));
     }
     place.fuse = (100, Mode::Stop);
-    said.so(place.open().is_ok(), "")
+    said.so(place.start(None).is_ok(), "")
 }
 
 // Opens what a crash left, continues, and crashes.
@@ -107,7 +107,7 @@ fn stop(place: &mut Place, known: &mut Known, dice: &mut Dice, said: &mut Saying
     known.has_all(place, said);
     let _works = goes_on(place, known, dice, EVENTS, said);
     place.close();
-    place.crash(a_crash(dice))
+    let _crashed = place.crash(a_crash(dice));
 }
 
 // Stops an engine again and again, at any call of any turn, command or opening. The call's first two numbers say how

@@ -2,10 +2,11 @@
 //! is the disk that fails. Then the same disk is opened again, and has what was answered, or one request more.
 
 use crate::asked::{ALL, add_answer, asked, lacks_memory};
-use crate::disks::Place;
+use crate::disks::{has_answered, open_again, state};
 use im_checkpoint::TurnDone;
 use im_engine::{Answer, Event};
 use im_story::Saying;
+use im_story_disk::Place;
 use im_types::{Command, Outcome, Refusal};
 use std::alloc::Global;
 
@@ -37,13 +38,13 @@ fn serve_from(place: &mut Place, from: usize, upto: usize, said: &mut Saying) ->
 /// Serves the rest of the requests, from one place to another, if the disk has failed. All of them have to be answered
 /// then.
 pub fn serve_rest(place: &mut Place, from: usize, upto: usize, said: &mut Saying) {
-    if place.state().failed {
-        place.open_again(said);
-        let is_there = place.has_first(from) || place.has_first(from.saturating_add(1));
+    if state(place).failed {
+        open_again(place, said);
+        let is_there = has_answered(place, from) || has_answered(place, from.saturating_add(1));
         said.so(is_there, "");
         let _upto = serve_from(place, from, upto, said);
     }
-    said.so(place.has_first(upto), "")
+    said.so(has_answered(place, upto), "")
 }
 
 /// Serves the first of the requests.
@@ -70,11 +71,11 @@ fn take_turns(place: &mut Place) -> bool {
 /// Makes a checkpoint of all requests. Turns that were refused have changed no memory, and are taken again.
 pub fn turn(place: &mut Place, said: &mut Saying) {
     if !take_turns(place) {
-        place.open_again(said);
-        said.so(place.has_first(ALL), "");
+        open_again(place, said);
+        said.so(has_answered(place, ALL), "");
         said.so(take_turns(place), "");
     }
-    said.so(place.has_first(ALL), "")
+    said.so(has_answered(place, ALL), "")
 }
 
 /// Returns all requests as events.
@@ -118,10 +119,10 @@ fn run_once(place: &mut Place, events: &[Event], said: &mut Saying) -> Result<us
 /// Runs all requests on a new image, and again if there was no room for their answers: nothing was done then. If the
 /// disk has failed, the rest of the run is served.
 pub fn run(place: &mut Place, events: &[Event], said: &mut Saying) {
-    let before = place.state();
+    let before = state(place);
     let mut done = run_once(place, events, said);
     if let Err(refusal) = done {
-        let is_same = place.state() == before && place.has_first(0);
+        let is_same = state(place) == before && has_answered(place, 0);
         lacks_memory(refusal, is_same, said);
         done = run_once(place, events, said);
     }

@@ -13,13 +13,14 @@ mod naming;
 mod ports;
 
 use crate::asked::{ALL, FIRST, lacks_memory};
-use crate::disks::Place;
+use crate::disks::{format, look_again, open, state, sum};
 use crate::engines::{events, run, serve_first, turn};
 use crate::naming::act_on;
 use crate::ports::{begin, begun};
 use im_disk::MemDisk;
 use im_pipes::{Inlet, Outlet, Received, pipe};
 use im_story::Saying;
+use im_story_disk::Place;
 use im_types::Limits;
 use std::alloc::Global;
 use std::process::ExitCode;
@@ -33,18 +34,18 @@ const TOO_MUCH: usize = 1 << 60;
 
 // Tells how many commands an engine has.
 fn add_count(said: &mut Saying, place: &Place) {
-    let count = place.state().count;
+    let count = state(place).count;
     write!(said, " count {count}\n")
 }
 
 // Makes a new image and its requests, then a checkpoint of them.
 fn show_turned(place: &mut Place, limits: Limits, said: &mut Saying) {
     said.text("  served:");
-    place.format(limits, said);
+    format(place, limits, said);
     serve_first(place, ALL, said);
     add_count(said, place);
     turn(place, said);
-    let room = place.state().room;
+    let room = state(place).room;
     write!(said, "  turned: room {room}\n")
 }
 
@@ -52,7 +53,7 @@ fn show_turned(place: &mut Place, limits: Limits, said: &mut Saying) {
 fn show_run(place: &mut Place, limits: Limits, said: &mut Saying) {
     said.text("  run:");
     let events = events(place.alloc, said);
-    place.format(limits, said);
+    format(place, limits, said);
     run(place, events.as_slice(), said);
     add_count(said, place)
 }
@@ -60,9 +61,9 @@ fn show_run(place: &mut Place, limits: Limits, said: &mut Saying) {
 // Shows what is found on the disk of an engine, and by an opening.
 fn show_opened(place: &mut Place, said: &mut Saying) {
     place.close();
-    place.inspect(said);
-    place.open(said);
-    let (count, room) = (place.state().count, place.state().room);
+    look_again(place, said);
+    open(place, said);
+    let (count, room) = (state(place).count, state(place).room);
     write!(said, "  opened: count {count}, room {room}\n")
 }
 
@@ -74,9 +75,9 @@ fn show_ports<R: Wait>(
     is_planned: bool,
     said: &mut Saying,
 ) {
-    place.format(limits, said);
+    format(place, limits, said);
     serve_first(place, FIRST, said);
-    let before = place.state();
+    let before = state(place);
     match begun(rt, place, is_planned, said) {
         Ok(opening) => act_on(rt, place, opening, before, said),
         Err(_) => said.fail("refused twice"),
@@ -108,16 +109,16 @@ fn show_pipe<R: Wait>(rt: &R, alloc: Global, said: &mut Saying) {
 // Asks for a trace that can't be made. The engine stays as it was, and so does its disk.
 fn show_no_trace<R: Wait>(rt: &R, place: &mut Place, said: &mut Saying) {
     place.close();
-    let sum = place.sum();
-    place.open(said);
-    let before = place.state();
+    let bytes = sum(place);
+    open(place, said);
+    let before = state(place);
     match begin(rt, place, false, TOO_MUCH) {
         Ok(opening) => act_on(rt, place, opening, before, said),
         Err(refusal) => write!(said, " a trace {refusal}"),
     }
-    let is_same = place.state() == before;
+    let is_same = state(place) == before;
     place.close();
-    let is_same = is_same && place.sum() == sum;
+    let is_same = is_same && sum(place) == bytes;
     write!(said, ", as it was before: {is_same}\n")
 }
 
@@ -130,7 +131,7 @@ fn show_too_much<R: Wait>(rt: &R, place: &mut Place, limits: Limits, said: &mut 
     if let Err(refusal) = pipe::<u64>(place.alloc, TOO_MUCH) {
         write!(said, " a pipe {refusal},")
     }
-    place.format(limits, said);
+    format(place, limits, said);
     show_no_trace(rt, place, said)
 }
 

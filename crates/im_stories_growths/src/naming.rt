@@ -4,11 +4,11 @@ ghost use Rattle.std.specs.Prelude.{◌≡◌};
 ghost use Rattle.im_controller.specs.Kept.{begun_in};
 
 use crate::asked::State;
-use crate::disks::Place;
 use crate::ports::ask;
 use im_controller::{Name, Opening};
 use im_disk::{Disk, FuseDisk};
 use im_story::Saying;
+use im_story_disk::Place;
 use std::marker::Brand;
 use std::sync::Wait;
 

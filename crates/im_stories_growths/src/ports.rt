@@ -1,13 +1,14 @@
 //! What ports ask under the lock, and how a controller begins and ends.
 
 use crate::asked::{ALL, FIRST, State, add_answer, asked, lacks_memory};
-use crate::disks::Place;
+use crate::disks::{has_answered, state};
 use crate::engines::serve_rest;
 use im_controller::{Controller, Name, Opening, Port, finish, start, start_planned};
 use im_disk::FuseDisk;
 use im_engine::Engine;
 use im_planning::Plan;
 use im_story::Saying;
+use im_story_disk::Place;
 use im_types::{Outcome, Refusal};
 use std::alloc::Global;
 use std::sync::Wait;
@@ -176,8 +177,8 @@ fn after(before: State, many: usize) -> State {
 
 // Checks the engine of a controller. If its disk has failed, the same disk is opened again and asked for the rest.
 fn see_engine(place: &mut Place, told: Told, before: State, said: &mut Saying) {
-    let is_after = place.state() == after(before, told.next.saturating_sub(FIRST));
-    said.so(is_after || place.state().failed, "");
+    let is_after = state(place) == after(before, told.next.saturating_sub(FIRST));
+    said.so(is_after || state(place).failed, "");
     serve_rest(place, told.next, ALL, said)
 }
 
@@ -218,11 +219,11 @@ pub fn begun<R: Wait>(
     is_planned: bool,
     said: &mut Saying,
 ) -> Result<Opening<FuseDisk>, Refusal> {
-    let before = place.state();
+    let before = state(place);
     match begin(rt, place, is_planned, LINES) {
         Ok(opening) => Ok(opening),
         Err(refusal) => {
-            let is_same = place.state() == before && place.has_first(FIRST);
+            let is_same = state(place) == before && has_answered(place, FIRST);
             lacks_memory(refusal, is_same, said);
             begin(rt, place, is_planned, LINES)
         }

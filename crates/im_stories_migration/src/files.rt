@@ -1,6 +1,5 @@
 //! Makes and changes a file in memory.
 
-use crate::moves::add_opening;
 use im_story::{Call, Saying, hex, old_image};
 use im_story_disk::{Place, crash, mode};
 
@@ -91,7 +90,7 @@ pub fn tell(place: &mut Place, call: &Call, said: &mut Saying) {
         "cut" => cut(place, call, said),
         "write" => write(place, call, said),
         "as" => said.either(place.is_as_marked(), "yes", "no"),
-        "open" => add_opening(place, said),
+        "open" => place.tell_opening(said),
         "crash" => leave(place, call, said),
         _ => set_fuse(place, call, said),
     }

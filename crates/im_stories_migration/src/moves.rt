@@ -43,14 +43,6 @@ pub fn tell_with(old: &Place, new: &Place, call: &Call, said: &mut Saying) {
     move_on(&mut old, &mut new, said)
 }
 
-/// Opens an image. Tells its count and its room, or why it is refused.
-pub fn add_opening(place: &mut Place, said: &mut Saying) {
-    match place.start(None) {
-        Ok((count, room)) => write!(said, "count {count} room {room}"),
-        Err(refusal) => said.refusal(refusal),
-    }
-}
-
 /// Tells how long the file has to be to which the image is migrated.
 pub fn tell_length(old: &mut Place, said: &mut Saying) {
     let Some(mut disk) = old.taken() else {

@@ -1,6 +1,6 @@
 //! Failures of either disk at each call of a migration, and what is found of the new file then.
 
-use crate::moves::{add_opening, are_same, move_on};
+use crate::moves::{are_same, move_on};
 use im_disk::{Crash, Mode};
 use im_story::{Call, Saying};
 use im_story_disk::{Place, crash, mode};
@@ -83,7 +83,7 @@ fn found(old: &mut Place, new: &mut Place, way: Way) -> Saying {
     if let Some(crash) = way.crash {
         end.so(new.crash(crash), "");
     }
-    add_opening(new, &mut end);
+    new.tell_opening(&mut end);
     let is_so = !end.said().starts_with("count") || are_same(old, new);
     end.so(is_so, " then ");
     move_on(old, new, &mut end);

@@ -25,7 +25,7 @@ fn lay_old(place: &mut Place, call: &Call) -> bool {
 // Makes a new image.
 fn format(place: &mut Place, call: &Call, said: &mut Saying) {
     let limits = call.limits(0);
-    match place.start(limits) {
+    match place.found(limits) {
         Ok(_) => said.so(limits.is_some(), "formatted"),
         Err(refusal) => said.refusal(refusal),
     }
@@ -33,7 +33,7 @@ fn format(place: &mut Place, call: &Call, said: &mut Saying) {
 
 // Tells the count of the image's commands, as an opening finds it.
 fn count(place: &mut Place, said: &mut Saying) {
-    match place.start(None) {
+    match place.found(None) {
         Ok((count, _)) => said.number(count),
         Err(refusal) => said.refusal(refusal),
     }

@@ -14,7 +14,7 @@ const MOST: u64 = 100;
 
 /// Returns how many calls an opening of the image makes.
 pub fn opening_calls(place: &mut Place) -> u64 {
-    let _count = place.start(None);
+    let _count = place.found(None);
     place.calls
 }
 

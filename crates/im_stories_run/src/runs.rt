@@ -56,7 +56,7 @@ pub fn run_named<R: Threads + Wait + Sync>(rt: &R, here: &mut Stage, how: How, w
     let (name, first) = words.split_once(" after ").unwrap_or((words, "0"));
     let text = script_of(here.alloc, name);
     if how == How::Fault {
-        let _opened = here.place.start(None);
+        let _opened = here.place.found(None);
         here.place.fuse = (here.place.calls, Mode::Stop);
     }
     let status = match first {

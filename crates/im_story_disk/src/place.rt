@@ -1,7 +1,8 @@
-//! A file in memory.
+//! A file in memory, or an engine on it.
 
 use im_disk::{Crash, Disk, FuseDisk, MemDisk, Mode};
 use im_engine::Engine;
+use im_story::Saying;
 use im_types::layout::image_length;
 use im_types::{LAST, Limits, Refusal};
 use std::alloc::Global;
@@ -9,10 +10,12 @@ use std::alloc::Global;
 /// How a disk fails that never does.
 pub const STEADY: (u64, Mode) = (LAST, Mode::Stop);
 
-/// A file in memory, or none.
+/// An engine, or the file of one that was closed or couldn't be made, or none.
 pub struct Place {
     /// The allocator of what is made.
     pub alloc: Global,
+    /// The engine, unless it is closed.
+    pub engine: Option<Engine<FuseDisk>>,
     disk: Option<MemDisk>,
     marked: Vec<u8>,
     /// How many calls were made of the file when it was last used.
@@ -26,6 +29,7 @@ impl Drop for Place {
     fn drop(self) {
         let Place {
             alloc: _,
+            engine: _,
             disk: _,
             marked: _,
             calls: _,
@@ -39,6 +43,7 @@ impl Place {
     pub fn new(alloc: Global) -> Place {
         Place {
             alloc,
+            engine: None,
             disk: None,
             marked: Vec::new(alloc),
             calls: 0,
@@ -46,7 +51,12 @@ impl Place {
         }
     }
 
-    /// Returns the file's bytes, or none if there is no file.
+    /// Returns whether there is a file, and no engine on it.
+    pub fn is_closed(&self) -> bool {
+        self.disk.is_some()
+    }
+
+    /// Returns the file's bytes, or none if there is no file that is closed.
     pub fn bytes(&self) -> &[u8] {
         match &self.disk {
             Some(disk) => disk.bytes(),
@@ -67,12 +77,24 @@ impl Place {
         }
     }
 
-    /// Makes a file of `length` bytes. It has these bytes as far as they go, then zeros; all of them are synced.
-    /// Returns whether it is there.
+    /// Puts each byte at its place. Returns whether all are there.
+    pub fn put_each(&mut self, changes: &[(usize, u8)]) -> bool {
+        for (at, byte) in changes {
+            if !self.put(*at, &[*byte]) {
+                return false;
+            }
+        }
+        true
+    }
+
+    /// Closes the engine, and makes a file of `length` bytes in place of its own. It has these bytes as far as they go,
+    /// then zeros; all of them are synced. Returns whether it is there.
     pub fn lay(&mut self, bytes: &[u8], length: usize) -> bool {
+        self.close();
         let Some(part) = bytes.get(..length.min(bytes.len())) else {
             return false;
         };
+        self.calls = 0;
         self.disk = MemDisk::new(self.alloc, length).ok();
         self.put(0, part)
     }
@@ -122,21 +144,12 @@ impl Place {
         self.disk = Some(disk.into_inner());
     }
 
-    /// Opens the image, or makes a new one of these sizes. Returns its count and its room, or why it is refused.
-    /// Without a file there is no memory for it.
-    pub fn start(&mut self, new: Option<Limits>) -> Result<(u64, u32), Refusal> {
-        let Some(disk) = self.taken() else {
-            return Err(Refusal::NoMemory);
-        };
-        let made = match new {
-            Some(limits) => Engine::format(self.alloc, disk, limits),
-            None => Engine::open(self.alloc, disk),
-        };
+    // Keeps an engine, or the file that it was to be on.
+    fn keep(&mut self, made: Result<Engine<FuseDisk>, (Refusal, FuseDisk)>) -> Result<(), Refusal> {
         match made {
             Ok(engine) => {
-                let found = (engine.count(), engine.room());
-                self.lay_down(engine.close());
-                Ok(found)
+                self.engine = Some(engine);
+                Ok(())
             }
             Err((refusal, disk)) => {
                 self.lay_down(disk);
@@ -145,12 +158,58 @@ impl Place {
         }
     }
 
-    /// Makes an image of the version in use, with no command. Returns whether it is there.
-    pub fn renew(&mut self, limits: Limits) -> bool {
-        self.lay(&[], image_length(limits)) && self.start(Some(limits)).is_ok()
+    /// Makes a new image of these sizes in the file, or opens the one that is there. Without a file there is no memory
+    /// for it.
+    pub fn start(&mut self, new: Option<Limits>) -> Result<(), Refusal> {
+        match (self.taken(), new) {
+            (Some(disk), Some(limits)) => self.keep(Engine::format(self.alloc, disk, limits)),
+            (Some(disk), None) => self.keep(Engine::open(self.alloc, disk)),
+            _ => Err(Refusal::NoMemory),
+        }
     }
 
-    /// Lets the disk crash. Returns whether there is one.
+    /// Makes a new image in a new file that fails so. Returns whether it is there.
+    pub fn begin(&mut self, limits: Limits, fuse: (u64, Mode)) -> bool {
+        let is_laid = self.lay(&[], image_length(limits));
+        self.fuse = fuse;
+        is_laid && self.start(Some(limits)).is_ok()
+    }
+
+    /// Closes the engine, and keeps its file.
+    pub fn close(&mut self) {
+        if let Some(engine) = self.engine.take() {
+            self.lay_down(engine.close())
+        }
+    }
+
+    /// Does the same as `start`, and closes the engine again. Returns its count and its room.
+    pub fn found(&mut self, new: Option<Limits>) -> Result<(u64, u32), Refusal> {
+        let made = self.start(new);
+        let found = match (made, &self.engine) {
+            (Ok(()), Some(engine)) => Ok((engine.count(), engine.room())),
+            (Err(refusal), _) => Err(refusal),
+            _ => Err(Refusal::NoMemory),
+        };
+        self.close();
+        found
+    }
+
+    /// Opens the image, and closes it again. Tells its count and its room, or why it is refused.
+    pub fn tell_opening(&mut self, said: &mut Saying) {
+        match self.found(None) {
+            Ok((count, room)) => write!(said, "count {count} room {room}"),
+            Err(refusal) => said.refusal(refusal),
+        }
+    }
+
+    /// Makes a new file with an image that has no command. Returns whether it is there.
+    pub fn renew(&mut self, limits: Limits) -> bool {
+        let is_begun = self.begin(limits, STEADY);
+        self.close();
+        is_begun
+    }
+
+    /// Lets the disk crash. Returns whether there is one, and no engine on it.
     pub fn crash(&mut self, crash: Crash) -> bool {
         match self.disk.take() {
             Some(disk) => {
@@ -158,6 +217,23 @@ impl Place {
                 true
             }
             None => false,
+        }
+    }
+
+    /// Closes the engine, lets its disk crash if a crash is told, and opens what that leaves. Returns whether it opens.
+    pub fn reopen(&mut self, crash: Option<Crash>) -> bool {
+        self.close();
+        if let Some(crash) = crash {
+            let _crashed = self.crash(crash);
+        }
+        self.start(None).is_ok()
+    }
+
+    /// Returns how many commands the engine has.
+    pub fn count(&self) -> u64 {
+        match &self.engine {
+            Some(engine) => engine.count(),
+            None => 0,
         }
     }
 }
