@@ -1,20 +1,18 @@
 //! New memories, and their openings.
 
 use im_controller::{Opening, start};
-use im_disk::{FuseDisk, MemDisk, Mode};
+use im_disk::FuseDisk;
 use im_engine::Engine;
-use im_types::layout::image_length;
-use im_types::{LAST, Limits};
+use im_story_disk::{Place, STEADY};
+use im_types::Limits;
 use std::alloc::Global;
 use std::sync::Wait;
 
 /// Makes a new memory on a disk that never fails.
 pub fn new_memory(alloc: Global, limits: Limits) -> Option<Engine<FuseDisk>> {
-    let disk = MemDisk::new(alloc, image_length(limits)).ok()?;
-    match Engine::format(alloc, FuseDisk::new(disk, LAST, Mode::Stop), limits) {
-        Ok(engine) => Some(engine),
-        Err(_) => None,
-    }
+    let mut place = Place::new(alloc);
+    let _begun = place.begin(limits, STEADY);
+    place.engine.take()
 }
 
 /// Makes room for a trace of this many lines.

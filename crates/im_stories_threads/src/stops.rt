@@ -1,16 +1,17 @@
 //! A server waits for what another one stores, over a disk that stops. Each thread ends, and each answer that was given
 //! is kept, whatever a crash leaves.
 
-use crate::memories::{new_memory, started};
+use crate::memories::started;
 use crate::naming::{Act, act_on};
 use crate::notes::{Notes, Told, keep, outcome_of};
 use crate::servers::{Asked, add_ended, serve};
 use crate::traces::alike;
 use im_controller::{Controller, Finished, Name, Opening, Port};
-use im_disk::{Crash, Disk, FuseDisk, MemDisk, Mode};
+use im_disk::{Crash, FuseDisk, Mode};
 use im_engine::Engine;
 use im_story::Saying;
-use im_types::{Entry, Kind, LAST, Limits, Op, Outcome, Refusal, Reply};
+use im_story_disk::Place;
+use im_types::{Entry, Kind, Limits, Op, Outcome, Refusal, Reply};
 use std::alloc::Global;
 use std::sync::Wait;
 use std::thread::Threads;
@@ -28,36 +29,12 @@ const SIZES: [(u32, u16, u32); 2] = [(4_096, 16, 256), (64, 3, 16)];
 // What the servers ask for, once the cell is made.
 const REQUESTS: [Asked; 2] = [(1, 1, Op::Fetch(0)), (2, 1, Op::Store(0, 5))];
 
-// Makes a copy of a disk, all of it synced.
-fn copy_of(alloc: Global, image: &MemDisk) -> Option<MemDisk> {
-    let mut disk = MemDisk::new(alloc, image.bytes().len()).ok()?;
-    let is_put = disk.write_at(0, image.bytes()).is_ok() && disk.sync().is_ok();
-    if is_put { Some(disk) } else { None }
-}
-
-// Opens an image that has to open, on a disk that passes the given number of calls.
-fn opened(alloc: Global, disk: MemDisk, passes: u64) -> Option<Engine<FuseDisk>> {
-    match Engine::open(alloc, FuseDisk::new(disk, passes, Mode::Stop)) {
-        Ok(engine) => Some(engine),
-        Err(_) => None,
-    }
-}
-
-// Returns how many calls an opening of an image makes.
-fn calls_of_opening(alloc: Global, image: &MemDisk) -> Option<u64> {
-    let engine = opened(alloc, copy_of(alloc, image)?, LAST)?;
-    Some(engine.close().calls())
-}
-
 // Opens a copy of an image. Its disk passes the given number of calls.
-fn opening_of<R: Wait>(
-    rt: &R,
-    alloc: Global,
-    image: &MemDisk,
-    passes: u64,
-) -> Option<Opening<FuseDisk>> {
-    let engine = opened(alloc, copy_of(alloc, image)?, passes)?;
-    started(rt, alloc, engine, 100)
+fn opening_of<R: Wait>(rt: &R, image: &Place, passes: u64) -> Option<Opening<FuseDisk>> {
+    let mut place = image.copy();
+    place.fuse = (passes, Mode::Stop);
+    let _made = place.start(None);
+    started(rt, image.alloc, place.engine.take()?, 100)
 }
 
 // Notes what the request for a cell was told.
@@ -107,13 +84,13 @@ fn is_kept(engine: &Engine<FuseDisk>, told: Told) -> bool {
     }
 }
 
-// Tells what of these isn't kept on a disk.
-fn add_lost(alloc: Global, disk: MemDisk, told: &[Told], said: &mut Saying) {
-    let Some(engine) = opened(alloc, disk, LAST) else {
+// Tells what of these isn't kept in an image.
+fn add_lost(place: &Place, told: &[Told], said: &mut Saying) {
+    let Some(engine) = &place.engine else {
         return said.text("  no image\n");
     };
     for told in told {
-        if !is_kept(&engine, *told) {
+        if !is_kept(engine, *told) {
             writeln!(said, "  what {}.1 was told isn't kept", told.element)
         }
     }
@@ -127,23 +104,24 @@ pub fn tell_stop(crash: Crash, limits: Limits, finished: Finished<FuseDisk>, not
     let is_alike = alike(alloc, limits, trace) == trace.len();
     said.either(is_alike, "", "  the plain memory answers otherwise\n");
     said.either(has_all, "", "  a thread is gone\n");
-    let disk = finished.engine.close().into_inner().crash(crash);
-    add_lost(alloc, disk, notes.told.as_slice(), said)
+    let mut place = Place::new(alloc);
+    place.lay_down(finished.engine.close());
+    let _opens = place.reopen(Some(crash));
+    add_lost(&place, notes.told.as_slice(), said)
 }
 
 // Stops a disk after this number of calls, with each crash after it. Returns how many runs there were.
 fn stop_at<R: Threads + Wait + Sync>(
     rt: &R,
-    alloc: Global,
-    image: &MemDisk,
+    image: &Place,
     passes: u64,
     limits: Limits,
     said: &mut Saying,
 ) -> u64 {
     let mut runs = 0u64;
     for crash in CRASHES {
-        if let Some(opening) = opening_of(rt, alloc, image, passes) {
-            let told = act_on(rt, alloc, Act::Stops(crash), limits, opening);
+        if let Some(opening) = opening_of(rt, image, passes) {
+            let told = act_on(rt, image.alloc, Act::Stops(crash), limits, opening);
             if !told.is_empty() {
                 writeln!(said, "  stopped behind {passes} calls:");
             }
@@ -160,15 +138,17 @@ fn stop_each<R: Threads + Wait + Sync>(
     alloc: Global,
     limits: Limits,
     said: &mut Saying,
-) -> Option<u64> {
-    let image = new_memory(alloc, limits)?.close().into_inner();
-    let calls = calls_of_opening(alloc, &image)?;
+) -> u64 {
+    let mut image = Place::new(alloc);
+    let is_opened = image.renew(limits) && image.found(None).is_ok();
+    said.so(is_opened, "");
+    let calls = image.calls;
     let mut runs = 0u64;
     for more in 0..MOST_PASSED.saturating_add(1) {
         let passes = calls.saturating_add(more);
-        runs = runs.saturating_add(stop_at(rt, alloc, &image, passes, limits, said));
+        runs = runs.saturating_add(stop_at(rt, &image, passes, limits, said));
     }
-    Some(runs)
+    runs
 }
 
 /// Shows that servers that their disk stops all end, and that what they were answered is kept.
@@ -179,7 +159,7 @@ pub fn show_stops<R: Threads + Wait + Sync>(rt: &R, alloc: Global, said: &mut Sa
     );
     for (cells, elements, slots) in SIZES {
         let runs = match Limits::new(cells, elements, slots) {
-            Some(limits) => stop_each(rt, alloc, limits, said).unwrap_or(0),
+            Some(limits) => stop_each(rt, alloc, limits, said),
             None => 0,
         };
         writeln!(said, "  {cells} cells, {slots} slots: {runs} runs");
