@@ -40,7 +40,7 @@ impl Dice {
         u64::from(self.below(bound))
     }
 
-    /// Returns an operation that never waits, on a cell at an address up to `cells`, or for a block of up to five cells.
+    /// Returns an operation that never waits: on a cell at an address up to `cells`, or for a block of up to five.
     pub fn answered_at_once(&mut self, cells: u32) -> Op {
         let a = self.below(cells.saturating_add(1));
         let value = self.few(100);

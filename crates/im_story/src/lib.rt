@@ -10,8 +10,8 @@
 //!
 //! A line `# ..` begins a story and says what happens in it. A line `-- ..` is a remark. Each other line that isn't
 //! blank is a call and its answer, with ` = ` between them. The [`Scene`] says what calls there are. It gets a call
-//! taken apart, as a [`Call`], and tells its answer to a [`Saying`], which keeps what goes wrong until the end. So no arm
-//! of its interpreter has a way out, which is what its proof would cost.
+//! taken apart, as a [`Call`], and tells its answer to a [`Saying`], which keeps what goes wrong until the end. So no
+//! arm of its interpreter has a way out, which is what its proof would cost.
 //!
 //! The crate stands on `im_types`, and the crates that tell stories use it. It promises nothing but that it ends: a
 //! story is a test.
