@@ -1,7 +1,7 @@
 //! Images on disks in memory, and engines over these. If a call is refused, the disk comes back, and its bytes are the
 //! same if memory was wanted.
 
-use crate::asked::{State, asked, has_first, is_refused, state_of, sum_of};
+use crate::asked::{State, asked, has_first, is_refused, lacks_memory, state_of, sum_of};
 use im_image::inspect;
 use im_story::Saying;
 use im_story_disk::Place;
@@ -37,8 +37,9 @@ pub fn sum(place: &Place) -> u64 {
 /// Makes a new image. It is formatted again if that is refused. If memory was wanted, no call of the disk was made.
 pub fn format(place: &mut Place, limits: Limits, said: &mut Saying) {
     let length = image_length(limits);
-    if !place.lay(&[], length) {
-        said.so(place.lay(&[], length), "");
+    if let Err(refusal) = place.blank(length) {
+        lacks_memory(refusal, true, said);
+        said.so(place.blank(length).is_ok(), "");
     }
     if let Err(refusal) = place.start(Some(limits)) {
         let is_blank = place.calls == 0 && sum(place) == 0;

@@ -79,8 +79,9 @@ fn stop_each<R: Threads + Wait + Sync>(
     here: &mut Stage,
     text: &str,
     ends: &[Saying],
-    (most, by): (u64, u64),
+    numbers: (u64, u64),
 ) {
+    let (most, by) = numbers;
     let mut right = 0u64;
     for times in 0..=most / by.max(1) {
         let passes = times.saturating_mul(by);

@@ -66,7 +66,8 @@ impl Dice {
 
     /// Returns a number that an element with these bounds of its window may name: most often its next one, else one in
     /// or near the window.
-    pub fn number(&mut self, (base, next): (u64, u64)) -> u64 {
+    pub fn number(&mut self, window: (u64, u64)) -> u64 {
+        let (base, next) = window;
         match self.below(16) {
             0 => base.saturating_sub(1),
             1 => next.saturating_add(1),

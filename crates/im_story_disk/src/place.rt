@@ -87,16 +87,27 @@ impl Place {
         true
     }
 
-    /// Closes the engine, and makes a file of `length` bytes in place of its own. It has these bytes as far as they go,
-    /// then zeros; all of them are synced. Returns whether it is there.
-    pub fn lay(&mut self, bytes: &[u8], length: usize) -> bool {
+    /// Closes the engine, and makes a file of zeros in place of its own.
+    pub fn blank(&mut self, length: usize) -> Result<(), Refusal> {
         self.close();
-        let Some(part) = bytes.get(..length.min(bytes.len())) else {
-            return false;
-        };
         self.calls = 0;
-        self.disk = MemDisk::new(self.alloc, length).ok();
-        self.put(0, part)
+        self.disk = None;
+        match MemDisk::new(self.alloc, length) {
+            Ok(disk) => {
+                self.disk = Some(disk);
+                Ok(())
+            }
+            Err(refusal) => Err(refusal),
+        }
+    }
+
+    /// Does the same. The file has these bytes as far as they go, then zeros; all of them are synced. Returns whether
+    /// it is there.
+    pub fn lay(&mut self, bytes: &[u8], length: usize) -> bool {
+        match bytes.get(..length.min(bytes.len())) {
+            Some(part) => self.blank(length).is_ok() && self.put(0, part),
+            None => false,
+        }
     }
 
     /// Cuts the file there, or adds zeros. Returns whether there is a file.
