@@ -33,7 +33,7 @@ fn sent(dice: &mut Dice, plain: &PlainMemory, command: Command, cells: u32) -> C
 /// Returns a command of an element of a memory, or of one element more, behind commands that haven't acted yet. One in
 /// five confirms.
 pub fn command(dice: &mut Dice, plain: &PlainMemory, before: &[Command], cells: u32) -> Command {
-    let element = dice.below(u32::from(plain.elements()).saturating_add(1)) as u16;
+    let element = dice.below(plain.elements() as u32 + 1) as u16;
     let window = window_behind(plain, before, element);
     let command = dice.command(element, window, cells);
     sent(dice, plain, command, cells)
