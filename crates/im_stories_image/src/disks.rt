@@ -13,12 +13,14 @@
 //! ```
 
 use crate::blind::Blind;
-use crate::bytes::{add_bytes, hex_bytes};
 use crate::journals::tell_of_journal;
 use crate::place::Place;
 use im_disk::{DeviceFault, Disk, MemDisk, Mode, open_gate, write_behind_gate};
 use im_story::{Call, Saying, hex};
 use im_types::layout::OPEN;
+
+/// The fewest equal bytes that are told as one.
+pub const RUN: usize = 8;
 
 /// Adds `ok`, or that the call failed.
 pub fn add_passed(said: &mut Saying, answer: Result<(), DeviceFault>) {
@@ -78,7 +80,7 @@ fn read(disk: &mut Blind, call: &Call, said: &mut Saying) {
         return said.fail("no memory is left");
     };
     match disk.read(call.place(0), &mut bytes) {
-        Ok(()) => add_bytes(said, &bytes),
+        Ok(()) => said.bytes(&bytes, RUN),
         Err(_) => said.text("fault"),
     }
 }
@@ -121,7 +123,7 @@ fn bytes(here: &mut Place, said: &mut Saying) {
     let Some(disk) = taken(here, said) else {
         return;
     };
-    add_bytes(said, disk.bytes());
+    said.bytes(disk.bytes(), RUN);
     here.disk = Some(Blind::new(disk));
 }
 
@@ -159,7 +161,7 @@ fn write(disk: &mut Blind, call: &Call, said: &mut Saying) {
     let ["write" | "gate", _, rest @ ..] = call.words() else {
         return said.fail("no bytes");
     };
-    let Some(bytes) = hex_bytes(call.alloc(), rest) else {
+    let Some(bytes) = im_story::bytes(call.alloc(), rest) else {
         return said.fail("no bytes");
     };
     match call.words() {

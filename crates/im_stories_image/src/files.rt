@@ -12,10 +12,9 @@
 //! ```
 ghost use Rattle.std.specs.Prelude.{◌≡◌, ◌+◌, ◌≤◌, true, length};
 
-use crate::bytes::{add_bytes, hex_bytes};
-use crate::disks::add_passed;
+use crate::disks::{RUN, add_passed};
 use im_disk::{Disk, Failure, FileDisk, OpenFault, Unknown};
-use im_story::{Call, Saying};
+use im_story::{Call, Saying, bytes};
 use im_types::Refusal;
 use std::alloc::{AllocError, Global};
 use std::fs;
@@ -53,7 +52,7 @@ impl Opened {
             return said.fail("no memory is left");
         };
         match self.disk.read(at, &mut bytes) {
-            Ok(()) => add_bytes(said, &bytes),
+            Ok(()) => said.bytes(&bytes, RUN),
             Err(_) => said.text("fault"),
         }
     }
@@ -159,7 +158,7 @@ fn write(file: &mut Opened, call: &Call, said: &mut Saying) {
     let ["file", "write", _, rest @ ..] = call.words() else {
         return said.fail("that is no call of a file");
     };
-    match hex_bytes(call.alloc(), rest) {
+    match bytes(call.alloc(), rest) {
         Some(bytes) => file.write(call.place(0), &bytes, said),
         None => said.fail("no bytes"),
     }

@@ -3,7 +3,6 @@
 #![tactic(auto)]
 
 mod blind;
-mod bytes;
 mod checkpoints;
 mod commands;
 mod disks;

@@ -1,6 +1,6 @@
 //! Makes and changes a file in memory.
 
-use im_story::{Call, Saying, hex, old_image};
+use im_story::{Call, Saying, bytes, hex, old_image};
 use im_story_disk::{Place, crash, mode};
 
 // Tells the length of a file that was made anew.
@@ -52,13 +52,9 @@ fn add_bytes(place: &Place, at: usize, count: usize, said: &mut Saying) {
 
 // Puts bytes in their places, and tells them as they stand then.
 fn write(place: &mut Place, call: &Call, said: &mut Saying) {
-    let mut bytes = Vec::new(place.alloc);
-    for word in call.rest(3) {
-        match hex(word) {
-            Some(byte) => said.so(bytes.push(byte).is_ok(), ""),
-            None => said.fail("that is no byte"),
-        }
-    }
+    let Some(bytes) = bytes(place.alloc, call.rest(3)) else {
+        return said.fail("that is no byte");
+    };
     said.so(place.put(call.place(0), bytes.as_slice()), "");
     add_bytes(place, call.place(0), bytes.len(), said)
 }

@@ -6,7 +6,6 @@
 #![tactic(auto)]
 
 mod areas;
-mod bytes;
 mod rows;
 mod shown;
 mod spelled;

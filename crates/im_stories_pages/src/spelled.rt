@@ -16,7 +16,6 @@
 //! ```
 
 use crate::areas::{area, page_with, pages};
-use crate::bytes::{add_bytes, bytes};
 use crate::rows::{Rows, clashing};
 use crate::texts::{add_cell, add_node, cell, kept, node};
 use crate::values::Sizes;
@@ -25,9 +24,12 @@ use im_records::{
     AreaRecords, WindowRecord, read_cell, read_node, read_place, read_session, spell_cell,
     spell_node, spell_place, spell_session,
 };
-use im_story::{Call, Saying};
+use im_story::{Call, Saying, bytes};
 use im_types::{CellRecord, Kept, NodeRecord};
 use std::alloc::{AllocError, Global};
+
+// The fewest equal bytes that are told as one.
+const RUN: usize = 3;
 
 fn add_window_or(said: &mut Saying, window: Option<&WindowRecord>, none: &str) {
     let Some(window) = window else {
@@ -152,7 +154,7 @@ impl Spelled {
 
     fn spell(&mut self, words: &[&str], said: &mut Saying) {
         match self.lay_record(words) {
-            Some(true) => add_bytes(said, &self.bytes),
+            Some(true) => said.bytes(&self.bytes, RUN),
             _ => said.fail("no record"),
         }
     }
@@ -182,7 +184,7 @@ impl Spelled {
 
     fn tell_bytes(&self, at: usize, count: usize, said: &mut Saying) {
         match self.bytes.get(at..at.saturating_add(count)) {
-            Some(some) => add_bytes(said, some),
+            Some(some) => said.bytes(some, RUN),
             None => said.fail("there aren't so many bytes"),
         }
     }

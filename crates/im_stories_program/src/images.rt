@@ -1,7 +1,7 @@
 //! The image in memory, its bytes, and changes of them.
 
 use crate::{Desk, scripts};
-use im_story::{Call, Saying, hex, old_image};
+use im_story::{Call, Saying, bytes, old_image};
 use im_story_disk::Place;
 
 // Tells how many bytes the disk has.
@@ -40,23 +40,17 @@ fn count(place: &mut Place, said: &mut Saying) {
 }
 
 fn add_bytes(place: &Place, at: usize, count: usize, said: &mut Saying) {
-    let Some(bytes) = place.bytes().get(at..at.saturating_add(count)) else {
-        return said.fail("the disk is shorter");
-    };
-    for byte in bytes {
-        write!(said, " {byte:02x}");
+    match place.bytes().get(at..at.saturating_add(count)) {
+        Some(bytes) => said.bytes(bytes, usize::MAX),
+        None => said.fail("the disk is shorter"),
     }
 }
 
 // Puts bytes in their places, and tells those that stood there before.
 fn write(place: &mut Place, call: &Call, said: &mut Saying) {
-    let mut bytes = Vec::new(place.alloc);
-    for word in call.rest(2) {
-        match hex(word) {
-            Some(byte) => said.so(bytes.push(byte).is_ok(), ""),
-            None => said.fail("that is no byte"),
-        }
-    }
+    let Some(bytes) = bytes(place.alloc, call.rest(2)) else {
+        return said.fail("that is no byte");
+    };
     add_bytes(place, call.place(0), bytes.len(), said);
     said.so(place.put(call.place(0), bytes.as_slice()), "")
 }

@@ -34,4 +34,4 @@ pub use old::old_image;
 pub use paper::Paper;
 pub use says::Saying;
 pub use walks::Scene;
-pub use words::{change, command, hex, name, op, request};
+pub use words::{bytes, change, command, hex, name, op, request};

@@ -154,6 +154,30 @@ impl Saying {
         }
     }
 
+    // Adds the same byte, `count` times.
+    fn run(&mut self, byte: u8, count: usize, least: usize) {
+        if count >= least {
+            return write!(self, " {byte:02x}*{count}");
+        }
+        for _ in 0..count {
+            write!(self, " {byte:02x}");
+        }
+    }
+
+    /// Adds bytes, as two hexadecimal digits each. At least so many equal ones in a row are added as `00*14`.
+    pub fn bytes(&mut self, bytes: &[u8], least: usize) {
+        let (mut run, mut count) = (0, 0usize);
+        for byte in bytes {
+            if *byte == run {
+                count = count.saturating_add(1);
+            } else {
+                self.run(run, count, least);
+                (run, count) = (*byte, 1);
+            }
+        }
+        self.run(run, count, least)
+    }
+
     /// Adds `refused N NAME`.
     pub fn refusal(&mut self, refusal: Refusal) {
         let number = refusal.number();

@@ -1,6 +1,7 @@
 //! The words of a call: names of requests, operations and commands, and bytes.
 
 use im_types::{Command, Kind, Op, Request};
+use std::alloc::Global;
 
 // Returns the word at a place, or an empty one past the last.
 fn word<'w>(words: &[&'w str], at: usize) -> &'w str {
@@ -91,6 +92,23 @@ pub fn command(words: &[&str]) -> Option<Command> {
 /// A byte: two hexadecimal digits.
 pub fn hex(word: &str) -> Option<u8> {
     u8::from_str_radix(word, 16).ok()
+}
+
+// A byte and how often it comes: `0a`, once, or `0a*3`.
+fn run_of(word: &str) -> (Option<u8>, usize) {
+    let (byte, count) = word.split_once('*').unwrap_or((word, "1"));
+    (hex(byte), count.parse::<usize>().unwrap_or(0))
+}
+
+/// Bytes, each a word, or some equal ones: `0a*3`.
+pub fn bytes(alloc: Global, words: &[&str]) -> Option<Vec<u8>> {
+    let mut bytes = Vec::new(alloc);
+    for word in words {
+        let (run, count) = run_of(word);
+        let length = bytes.len().saturating_add(count);
+        bytes.resize(length, run?).ok()?;
+    }
+    Some(bytes)
 }
 
 /// A place and its byte: `PLACE:BYTE`.
