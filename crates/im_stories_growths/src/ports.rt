@@ -204,7 +204,7 @@ pub fn ask<K: Name, R: Wait>(
     let ended = finish(rt, controller, ports);
     let lines = told.next.saturating_sub(FIRST).saturating_add(told.unused);
     said.so(
-        ended.came && ended.claimed && ended.trace.len() == lines,
+        ended.came && ended.claimed && ended.trace.as_slice().len() == lines,
         "",
     );
     place.engine = Some(ended.engine);

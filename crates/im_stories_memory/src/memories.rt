@@ -94,11 +94,11 @@ fn tell_command(memories: &mut Memories, call: &Call, said: &mut Saying) {
     }
 }
 
-// Tells what the fast memory answers. Returns whether the plain one answers the same.
-fn tell_same(memories: &Memories, call: &Call, said: &mut Saying) -> bool {
+// Tells what the fast memory answers. Returns whether the plain one answers the same, if both are asked.
+fn tell_same(memories: &Memories, call: &Call, said: &mut Saying) -> Option<bool> {
     let (fast, plain) = (&memories.fast, &memories.plain);
     let (of, number, a) = (call.element(0), call.number(1), call.address(0));
-    match call.form() {
+    let is_same = match call.form() {
         "collect _._" => {
             said.answer(fast.collect(of, number));
             fast.collect(of, number) == plain.collect(of, number)
@@ -124,43 +124,34 @@ fn tell_same(memories: &Memories, call: &Call, said: &mut Saying) -> bool {
             said.number(u64::from(fast.cells()));
             fast.cells() == plain.cells()
         }
-        _ => {
+        "elements" => {
             said.number(u64::from(fast.elements()));
             fast.elements() == plain.elements()
         }
-    }
+        _ => return None,
+    };
+    Some(is_same)
 }
 
 /// Makes a call of both memories.
 pub fn tell(memories: &mut Memories, call: &Call, said: &mut Saying) {
-    match call.form() {
-        "collect _._"
-        | "window _"
-        | "kept _._"
-        | "cell _"
-        | "waiting _"
-        | "waiter _ _"
-        | "cells"
-        | "elements" => {
-            if !tell_same(memories, call, said) {
-                said.fail("the two memories differ")
-            }
-        }
-        "accepted" => said.number(u64::from(memories.accepted)),
-        "_._ to _ fetch _" => write!(said, "{} wait", fetches(memories, call)),
-        "walk _ from _" => walk(memories, call, said),
-        "record _" | "node _" | "nodes _" | "listed _" => tell_record(&memories.fast, call, said),
-        _ => tell_command(memories, call, said),
+    match tell_same(memories, call, said) {
+        Some(true) => {}
+        Some(false) => said.fail("the two memories differ"),
+        None => tell_other(memories, call, said),
     }
 }
 
-// Shows records.
-fn tell_record(memory: &Memory, call: &Call, said: &mut Saying) {
-    let at = call.address(0);
+// Makes a call that is a command, or makes many, or shows records.
+fn tell_other(memories: &mut Memories, call: &Call, said: &mut Saying) {
     match call.form() {
-        "record _" => add_cell_record(said, memory, at),
-        "node _" => add_node_record(said, memory, at),
-        "nodes _" => add_nodes(said, memory, at),
-        _ => said.number_or_none(Some(listed(memory, at))),
+        "accepted" => said.number(u64::from(memories.accepted)),
+        "_._ to _ fetch _" => write!(said, "{} wait", fetches(memories, call)),
+        "walk _ from _" => walk(memories, call, said),
+        "record _" => add_cell_record(said, &memories.fast, call.address(0)),
+        "node _" => add_node_record(said, &memories.fast, call.address(0)),
+        "nodes _" => add_nodes(said, &memories.fast, call.address(0)),
+        "listed _" => said.number(u64::from(listed(&memories.fast, call.address(0)))),
+        _ => tell_command(memories, call, said),
     }
 }

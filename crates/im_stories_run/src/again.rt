@@ -88,7 +88,7 @@ fn stop_each<R: Threads + Wait + Sync>(
         right = right.saturating_add(stop_at(rt, here, text, ends, passes));
     }
     let is_whole = run_to_end(rt, here, text, most, Crash::Kept) == Some(0);
-    write!(here.said, "{} ends, {right} runs to them, ", ends.len());
+    write!(here.said, "ends {}, runs to them {right}, ", ends.len());
     here.said
         .either(is_whole, "the last at once\n", "the last stopped\n")
 }
