@@ -1,2 +1,3 @@
 pub mod FittingLemmas
 pub mod MakingLemmas
+pub mod ProgressLemmas

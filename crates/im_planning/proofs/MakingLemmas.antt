@@ -8,11 +8,12 @@ use Rattle.im_types.specs.declared.operations.Op.TheVariants.{Alloc, Release, Re
 use Rattle.im_types.specs.declared.commands.Request.{Request}
 use Rattle.im_types.specs.Window.{same_op}
 use Rattle.im_types.specs.Step.{asker}
-use Rattle.im_types.specs.Plan.{stored_by, is_planned, IsPlan}
+use Rattle.im_types.specs.Plan.{stored_by, planned_value, is_planned, IsPlan}
 use Rattle.im_laws.proofs.Tests.{true_or_false, true_false, and_both, or_left, or_right, test-self, eq_by_test}
 use Rattle.im_laws.proofs.OpLemmas.{same_op-self, same_op-equal}
 use Rattle.im_plans.specs.Runs.{IsInPlan}
-use Rattle.im_planning.specs.Making.{Key, has_key, op_under, is_stored, is_op}
+use Rattle.im_plans.proofs.PlanLemmas.{stored-by_store, planned_value-stored}
+use Rattle.im_planning.specs.Making.{Key, has_key, op_under, is_op}
 use Rattle.im_planning.specs.Begins.{Begins}
 
 abbrev pub key_of : Request → Key
@@ -63,25 +64,23 @@ some_found key (q ∷ plan) i s at own none = by_test (has_key key q) refl none 
     by_test false t none (suc i) at later = later i at none
 
 pub stored_there : (a : ℕ) (plan : List Request) (i : ℕ) (s : Request) → slice_get plan i ≡ Some s
-    → is_some (stored_by a s.op) ≡ true → is_stored a plan ≡ false → ⊥
+    → is_some (stored_by a s.op) ≡ true → planned_value a plan ≡ None → ⊥
 stored_there a [] i s at e none = none-some s at
-stored_there a (q ∷ plan) zero s at e none =
-    true_false (sym e ∙ ap (λ (r : Request). is_some (stored_by a r.op)) (sym (same_Some q s at))
-    ∙ or_left (is_some (stored_by a q.op)) (is_stored a plan) none)
-stored_there a (q ∷ plan) (suc i) s at e none = stored_there a plan i s at e
-    (or_right (is_some (stored_by a q.op)) (is_stored a plan) none)
-
-pub stored_somewhere : (a : ℕ) (plan : List Request) → is_stored a plan ≡ true → (i : ℕ) × (s : Request)
-    × (slice_get plan i ≡ Some s) × (is_some (stored_by a s.op) ≡ true)
-stored_somewhere a [] e = absurd (true_false (sym e))
-stored_somewhere a (q ∷ plan) e = by_test (is_some (stored_by a q.op)) refl e (stored_somewhere a plan)
+stored_there a (q ∷ plan) i s at e none = by_first (stored_by a q.op) refl i at
+    (λ i at none. stored_there a plan i s at e none)
   where
-    by_test : (t : Bool) → is_some (stored_by a q.op) ≡ t → (t || is_stored a plan) ≡ true
-        → (is_stored a plan ≡ true → (i : ℕ) × (s : Request) × (slice_get plan i ≡ Some s)
-        × (is_some (stored_by a s.op) ≡ true))
-        → (i : ℕ) × (s : Request) × (slice_get (q ∷ plan) i ≡ Some s) × (is_some (stored_by a s.op) ≡ true)
-    by_test true t e later = (0, q, refl, t)
-    by_test false t e later = let s = later e in (suc s.0, s.1, s.2, s.3)
+    by_first : (o : Option ℕ) → stored_by a q.op ≡ o → (i : ℕ) → slice_get (q ∷ plan) i ≡ Some s
+        → ((i : ℕ) → slice_get plan i ≡ Some s → planned_value a plan ≡ None → ⊥) → ⊥
+    by_first (Some v) o i at later = none-some v (sym none ∙ here v o)
+      where
+        here : (v : ℕ) → stored_by a q.op ≡ Some v → planned_value a (q ∷ plan) ≡ Some v
+        here v o = rw o refl
+    by_first None o zero at later = true_false
+        (sym e ∙ ap (λ (r : Request). is_some (stored_by a r.op)) (sym (same_Some q s at)) ∙ ap is_some o)
+    by_first None o (suc i) at later = later i at (sym (there o) ∙ none)
+      where
+        there : stored_by a q.op ≡ None → planned_value a (q ∷ plan) ≡ planned_value a plan
+        there o = rw o refl
 
 -- a plan with one request more before it
 pub cons-plan : (r : Request) (plan : List Request) → Begins r plan → IsPlan plan → IsPlan (r ∷ plan)
@@ -139,7 +138,7 @@ plan-begins r plan is = record {
   planned = is.planned 0 r refl;
   own = own
       (op_under (key_of r) plan) refl;
-  alone = alone;
+  alone = λ a e. alone a e (planned_value a plan) refl;
 }
   where
     own : (o : Option Op) → op_under (key_of r) plan ≡ o → op_under (key_of r) plan ≡ None
@@ -147,12 +146,13 @@ plan-begins r plan is = record {
     own (Some op) e = let f = found (key_of r) op plan e in absurd
         (zero_suc f.0 (is.numbered 0 (suc f.0) r f.1 refl f.2 (key-same r f.1 f.3)))
 
-    alone : (a : ℕ) → is_some (stored_by a r.op) ≡ true → is_stored a plan ≡ false
-    alone a e = ⊎_elim
-        (λ stored. let s = stored_somewhere a plan stored in absurd
-        (zero_suc s.0 (is.stored_once 0 (suc s.0) a r s.1 refl s.2 e s.3)))
-        (λ none. none)
-        (true_or_false (is_stored a plan))
+    alone : (a : ℕ) → is_some (stored_by a r.op) ≡ true → (o : Option ℕ) → planned_value a plan ≡ o
+        → planned_value a plan ≡ None
+    alone a e None is_none = is_none
+    alone a e (Some v) value =
+        let s = planned_value-stored plan a v value in absurd
+        (zero_suc s.in_plan.0 (is.stored_once 0 (suc s.in_plan.0) a r s.request refl s.in_plan.1 e
+        (ap is_some (stored-by_store a v s.request.op s.op))))
 
 -- a plan has a request exactly where it is found under its key
 pub in_plan : (r : Request) (plan : List Request) → IsPlan plan

@@ -1,17 +1,17 @@
 -- What may stand before a plan, and an index that follows one.
-use Rattle.std.specs.Prelude.{◌≡◌, ℕ, List, Bool, true, false, Option, None, is_some}
+use Rattle.std.specs.Prelude.{◌≡◌, ℕ, List, true, Option, None, is_some}
 use Rattle.im_types.specs.declared.operations.Op.{Op}
 use Rattle.im_types.specs.declared.commands.Request.{Request}
-use Rattle.im_types.specs.Plan.{stored_by, is_planned}
-use Rattle.im_planning.specs.Making.{Key, op_under, is_stored}
+use Rattle.im_types.specs.Plan.{stored_by, planned_value, is_planned}
+use Rattle.im_planning.specs.Making.{Key, op_under}
 
 -- a request that may stand before those of a plan
 pub record Begins (r : Request) (plan : List Request) : Type 0 where
   pub planned : is_planned r.op ≡ true
   pub own : op_under (r.element, r.number) plan ≡ None
-  pub alone : (a : ℕ) → is_some (stored_by a r.op) ≡ true → is_stored a plan ≡ false
+  pub alone : (a : ℕ) → is_some (stored_by a r.op) ≡ true → planned_value a plan ≡ None
 
--- an index that has each request of a plan, and a set that has each address that one stores to
-pub record Follows (under : Key → Option Op) (stored : ℕ → Bool) (plan : List Request) : Type 0 where
+-- an index that has each request of a plan, and one that has the value that is stored at each address
+pub record Follows (under : Key → Option Op) (stored : ℕ → Option ℕ) (plan : List Request) : Type 0 where
   pub has : (key : Key) → under key ≡ op_under key plan
-  pub stores : (a : ℕ) → stored a ≡ is_stored a plan
+  pub stores : (a : ℕ) → stored a ≡ planned_value a plan

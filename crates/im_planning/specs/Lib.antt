@@ -1,3 +1,4 @@
 pub mod Making
 pub mod Fitting
 pub mod Begins
+pub mod Progress

@@ -25,11 +25,6 @@ abbrev pub op_under : Key → List Request → Option Op
 op_under key [] = None
 op_under key (r ∷ plan) = if has_key key r then Some r.op else op_under key plan
 
--- some request stores to the address
-abbrev pub is_stored : ℕ → List Request → Bool
-is_stored a [] = false
-is_stored a (r ∷ plan) = is_some (stored_by a r.op) || is_stored a plan
-
 -- this operation, and no other
 abbrev pub is_op : Op → Option Op → Bool
 is_op op None = false

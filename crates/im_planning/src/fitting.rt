@@ -65,7 +65,7 @@ fn is_to_come(request: &Request, memory: &Memory) -> bool
 }
 
 // Returns an operation's address, or its length.
-fn address(op: &Op) -> u32
+pub(crate) fn address(op: &Op) -> u32
     ensures { result ≡ address_of op.now }
 {
     match op {

@@ -4,6 +4,8 @@
 
 mod fitting;
 mod plan;
+mod progress;
 
 pub use fitting::fits;
 pub use plan::Plan;
+pub use progress::is_under_way;

@@ -2,18 +2,17 @@
 ghost use Rattle.std.specs.Prelude.{◌≡◌, ◌↔◌, ◌⊎◌, ◌∷◌, [], List, ℕ, IsTrue, IfOk, OnOk, IfErr};
 ghost use Rattle.std.specs.Ordering.{nat_cmp};
 ghost use Rattle.std.specs.BTreeMap.{get};
-ghost use Rattle.std.specs.BTreeSet.{contains};
 ghost use Rattle.im_types.specs.declared.refusals.Refusal.TheVariants.{NoMemory, BadPlan};
 ghost use Rattle.im_types.specs.declared.commands.Request.{Request as Asked};
-ghost use Rattle.im_types.specs.Plan.{is_planned, IsPlan};
+ghost use Rattle.im_types.specs.Plan.{planned_value, is_planned, IsPlan};
 ghost use Rattle.im_types.specs.Window.{same_op};
 ghost use Rattle.im_plans.specs.Runs.{IsInPlan};
-ghost use Rattle.im_planning.specs.Making.{key_cmp, op_under, is_stored, is_op};
+ghost use Rattle.im_planning.specs.Making.{key_cmp, op_under, is_op};
 ghost use Rattle.im_planning.specs.Begins.{Begins, Follows};
 
 use im_types::{Op, Refusal, Request};
 use std::alloc::Global;
-use std::collections::{BTreeMap, BTreeSet};
+use std::collections::BTreeMap;
 use std::marker::Model;
 
 /// The requests of a plan. They are fetches and stores, each under its own element's number, with at most one store to
@@ -22,13 +21,15 @@ use std::marker::Model;
 pub struct Plan {
     requests: Vec<Request>,
     under: BTreeMap<(u16, u64), Op>,
+    stored: BTreeMap<u32, u64>,
 }
 
 impl Model for Plan {
     ghost use Rattle.std.specs.Prelude.{◌≡◌, ℕ, List};
     ghost use Rattle.std.specs.BTreeMap.{get};
+    ghost use Rattle.std.specs.Ordering.{nat_cmp};
     ghost use Rattle.im_types.specs.declared.commands.Request.{Request};
-    ghost use Rattle.im_types.specs.Plan.{IsPlan};
+    ghost use Rattle.im_types.specs.Plan.{planned_value, IsPlan};
     ghost use Rattle.im_planning.specs.Making.{Key, key_cmp, op_under};
 
     ghost Value = { List Request };
@@ -36,7 +37,8 @@ impl Model for Plan {
     ghost view = { λ p. p.requests.items };
 
     ghost invariant = { λ p. IsPlan p.requests.items
-        × ((key : Key) → get key_cmp p.under key ≡ op_under key p.requests.items) };
+        × ((key : Key) → get key_cmp p.under key ≡ op_under key p.requests.items)
+        × ((a : ℕ) → get nat_cmp p.stored a ≡ planned_value a p.requests.items) };
 }
 
 impl Plan {
@@ -49,7 +51,7 @@ impl Plan {
         ensures only { IfErr result (λ e. (e ≡ NoMemory) ⊎ (e ≡ BadPlan)) }
     {
         let mut under = BTreeMap::new(alloc);
-        let mut stored = BTreeSet::new(alloc);
+        let mut stored = BTreeMap::new(alloc);
         let mut at = requests.len();
         while at > 0 {
             at -= 1;
@@ -57,7 +59,11 @@ impl Plan {
                 return Err(refusal);
             }
         }
-        Ok(Plan { requests, under })
+        Ok(Plan {
+            requests,
+            under,
+            stored,
+        })
     }
 
     /// Returns whether the plan has this request, with its operation, under its element's number. It takes logarithmic
@@ -76,6 +82,14 @@ impl Plan {
         ensures plan { IsPlan self.now }
     {
         self.requests.as_slice()
+    }
+
+    /// Returns the value that the plan stores at an address, or `None` if it has no store to it. It takes logarithmic
+    /// time.
+    pub fn stored_at(&self, address: u32) -> Option<u64>
+        ensures { result ≡ planned_value address self.now }
+    {
+        self.stored.get(&address).copied()
     }
 
     // Returns the same by the index.
@@ -97,16 +111,16 @@ fn is_for_plans(op: &Op) -> bool
     matches!(op, Op::Fetch(_) | Op::Store(_, _))
 }
 
-// Puts a request before others, in the index and among the addresses that are stored to.
+// Puts a request before others, in the index and among the values that are stored.
 fn add(
     under: &mut BTreeMap<(u16, u64), Op>,
-    stored: &mut BTreeSet<u32>,
+    stored: &mut BTreeMap<u32, u64>,
     request: &Request,
 ) -> Result<(), Refusal>
-    ensures begins { (plan : List Asked) → Follows (get key_cmp under.old) (contains nat_cmp stored.old) plan
+    ensures begins { (plan : List Asked) → Follows (get key_cmp under.old) (get nat_cmp stored.old) plan
         → IfOk result (λ u. Begins request.now plan
-        × Follows (get key_cmp under.new) (contains nat_cmp stored.new) (request.now ∷ plan)) }
-    ensures bad { (plan : List Asked) → Follows (get key_cmp under.old) (contains nat_cmp stored.old) plan
+        × Follows (get key_cmp under.new) (get nat_cmp stored.new) (request.now ∷ plan)) }
+    ensures bad { (plan : List Asked) → Follows (get key_cmp under.old) (get nat_cmp stored.old) plan
         → IfErr result (λ e. e ≡ BadPlan → Begins request.now plan → ⊥) }
     ensures only { IfErr result (λ e. (e ≡ NoMemory) ⊎ (e ≡ BadPlan)) }
 {
@@ -118,10 +132,10 @@ fn add(
         Ok(Some(_)) => return Err(Refusal::BadPlan),
         Err(_) => return Err(Refusal::NoMemory),
     }
-    if let Op::Store(address, _) = request.op {
-        match stored.insert(address) {
-            Ok(true) => {}
-            Ok(false) => return Err(Refusal::BadPlan),
+    if let Op::Store(address, value) = request.op {
+        match stored.insert(address, value) {
+            Ok(None) => {}
+            Ok(Some(_value)) => return Err(Refusal::BadPlan),
             Err(_) => return Err(Refusal::NoMemory),
         }
     }

@@ -6,13 +6,18 @@ use Rattle.im_types.specs.declared.operations.Op.{Op}
 use Rattle.im_types.specs.declared.operations.Entry.{Entry}
 use Rattle.im_types.specs.declared.operations.Entry.TheVariants.{Waiting, Answered}
 use Rattle.im_types.specs.declared.commands.Request.{Request}
+use Rattle.im_types.specs.declared.commands.Command.{Command}
+use Rattle.im_types.specs.declared.commands.Call.{Call}
+use Rattle.im_types.specs.declared.commands.Call.TheVariants.{Command as Commands}
 use Rattle.im_types.specs.declared.commands.Line.{Line}
 use Rattle.im_types.specs.Contents.{Contents}
 use Rattle.im_types.specs.Window.{ask}
-use Rattle.im_types.specs.Step.{asker}
-use Rattle.im_types.specs.Trace.{IsLegal, end_of}
+use Rattle.im_types.specs.Step.{asker, step}
+use Rattle.im_types.specs.Run.{after}
+use Rattle.im_types.specs.Trace.{answer_to, contents_after, IsLegal, end_of}
 use Rattle.im_types.specs.Plan.{result_of}
-use Rattle.im_plans.specs.Runs.{Starts, IsInPlan, IsPlannedRun, IsResultOrWaits, TellsResults, HasServed, entry_for}
+use Rattle.im_plans.specs.Runs.{Starts, IsInPlan, IsPlannedCall, IsPlannedRun, IsResultOrWaits, TellsResults}
+use Rattle.im_plans.specs.Runs.{HasServed, entry_for}
 use Rattle.im_plans.specs.UnderWay.{GoesOn, end_of_runs, AreLegal, AreRunsOf}
 use Rattle.im_plans.proofs.PlannedRuns.{asked-result, run-tells, served-result}
 use Rattle.im_plans.proofs.UnderWayLemmas.{goes-under, goes-on, result-stays, fits-under_way}
@@ -39,6 +44,18 @@ pub goes-last : (m : Contents) (plan : List Request) (trace : List Line) (line :
     → IsLegal m (trace ++ line ∷ []) → IsPlannedRun plan (trace ++ line ∷ []) → TellsResults m plan line
 goes-last m plan trace line g legal planned = all-last (TellsResults m plan) trace line
     (goes-told m plan (trace ++ line ∷ []) g legal planned)
+
+-- one call, and one command behind the other
+pub call-goes_on : (m : Contents) (plan : List Request) (call : Call) → GoesOn m plan → IsPlannedCall plan call
+    → GoesOn (contents_after m call) plan
+call-goes_on m plan call g planned = goes-on m plan (record { call = call; answer = answer_to m call } ∷ []) g
+    (planned, tt)
+
+pub after-goes_on : (m : Contents) (plan : List Request) (commands : List Command) → GoesOn m plan
+    → AllByRecursion (λ (c : Command). IsPlannedCall plan (Commands c)) commands → GoesOn (after m commands) plan
+after-goes_on m plan [] g planned = g
+after-goes_on m plan (c ∷ commands) g planned = after-goes_on (step m c).contents plan commands
+    (call-goes_on m plan (Commands c) g planned.0) planned.1
 
 -- what is kept now
 now-kept : (m : Contents) (plan : List Request) (r : Request) (entry : Entry) → GoesOn m plan → IsInPlan plan r

@@ -6,21 +6,31 @@ ghost use Rattle.im_types.specs.declared.operations.Op.{Op};
 ghost use Rattle.im_types.specs.declared.operations.Entry.{Entry};
 ghost use Rattle.im_types.specs.declared.operations.Entry.TheVariants.{Waiting};
 ghost use Rattle.im_types.specs.declared.commands.Request.{Request};
+ghost use Rattle.im_types.specs.declared.commands.Command.{Command};
+ghost use Rattle.im_types.specs.declared.commands.Call.{Call};
+ghost use Rattle.im_types.specs.declared.commands.Call.TheVariants.{Command as Commands};
 ghost use Rattle.im_types.specs.declared.commands.Line.{Line};
 ghost use Rattle.im_types.specs.Contents.{Contents, held_at, full_at};
 ghost use Rattle.im_types.specs.Window.{ask};
 ghost use Rattle.im_types.specs.Step.{asker};
+ghost use Rattle.im_types.specs.Run.{after};
+ghost use Rattle.im_types.specs.Trace.{contents_after};
 ghost use Rattle.im_types.specs.Agreement.{WaitingAgrees};
 ghost use Rattle.im_types.specs.Plan.{planned_value, result_of, FitsPlan};
-ghost use Rattle.im_plans.specs.Runs.{IsInPlan, IsResultOrWaits, TellsResults, HasServed, entry_for};
+ghost use Rattle.im_plans.specs.Runs.{IsInPlan, IsPlannedCall, IsResultOrWaits, TellsResults, HasServed, entry_for};
 ghost use Rattle.im_plans.specs.UnderWay.{IsUnderWay, IsUnserved, GoesOn, AreRunsOf, AreLegal, end_of_runs};
 ghost use Rattle.im_plans.specs.UnderWay.{value_in_end};
 
-/// A plan that fits a memory is one that is under way there, with nothing of it served yet. It stays under way in
-/// planned runs, and its results stay as they are.
+/// A plan that fits a memory is one that is under way there, with nothing of it served yet. It stays under way after each
+/// call of a planned run, so in each memory that a stop leaves, and over any number of runs. Its results stay as they
+/// are.
 pub fn plan_stays_under_way()
     ensures begins { (m : Contents) (plan : List Request) → WaitingAgrees m
         → FitsPlan m plan ↔ (IsUnderWay m plan × IsUnserved m.windows plan) }
+    ensures step { (m : Contents) (plan : List Request) (call : Call) → GoesOn m plan → IsPlannedCall plan call
+        → GoesOn (contents_after m call) plan }
+    ensures after { (m : Contents) (plan : List Request) (commands : List Command) → GoesOn m plan
+        → AllByRecursion (λ (c : Command). IsPlannedCall plan (Commands c)) commands → GoesOn (after m commands) plan }
     ensures stays { (m : Contents) (plan : List Request) (runs : List (List Line)) → AreRunsOf plan m runs
         → GoesOn (end_of_runs m runs) plan }
     ensures results { (m : Contents) (plan : List Request) (runs : List (List Line)) (op : Op)

@@ -2,7 +2,6 @@ use Rattle.std.proofs.Common.{◌≡◌, ◌∷◌, ℕ, List, ◌≤◌, ◌<�
 use Rattle.std.specs.Prelude.{drop, slice_index_or}
 use Rattle.std.specs.Ordering.{nat_cmp}
 use Rattle.std.specs.BTreeMap.{get}
-use Rattle.std.specs.BTreeSet.{contains}
 use Rattle.std.proofs.lemmas.List.{drop_more}
 use Rattle.im_types.specs.declared.commands.Request.{Request}
 use Rattle.im_types.specs.Plan.{IsPlan}
@@ -34,5 +33,5 @@ loop-at-preserved c =
       within = omega arith;
       plan = subst IsPlan (sym more)
           (cons-plan c.index.result.now (drop c.loop-at.at c.args.requests.items) b.0 c.loop-at.invariant.plan);
-      follows = subst (Follows (get key_cmp c.add.new.under) (contains nat_cmp c.add.new.stored)) (sym more) b.1;
+      follows = subst (Follows (get key_cmp c.add.new.under) (get nat_cmp c.add.new.stored)) (sym more) b.1;
     }

@@ -1,0 +1,514 @@
+-- The tests of a plan on a memory decide whether it is under way there.
+use Rattle.std.proofs.Common.{◌≡◌, ⊎_elim, ℕ, zero, suc, ◌<◌, ◌≤◌, List, [], ◌∷◌, Some, None, Bool, true, false, cond}
+use Rattle.std.proofs.Common.{refl, sym, ap, ◌∙◌, subst, arith, IsTrue}
+use Rattle.std.specs.Prelude.{Option, ◌↔◌, ◌==◌, slice_get, is_some, nat_lt}
+use Rattle.std.specs.List.{AllByRecursion}
+use Rattle.std.proofs.lemmas.Option.{none-some, same_Some}
+use Rattle.std.proofs.lemmas.Bool.Decides.{nat_tests}
+use Rattle.im_types.specs.declared.TheConstants.{LAST}
+use Rattle.im_types.specs.declared.operations.Op.{Op}
+use Rattle.im_types.specs.declared.operations.Op.TheVariants.{Alloc, Release, Reset, Fetch, Store, Take, Put}
+use Rattle.im_types.specs.declared.operations.Kind.{Kind}
+use Rattle.im_types.specs.declared.operations.Kind.TheVariants.{I, M}
+use Rattle.im_types.specs.declared.operations.Reply.{Reply}
+use Rattle.im_types.specs.declared.operations.Reply.TheVariants.{Base, NoSpace, BadLength, Value, Stored, Clash}
+use Rattle.im_types.specs.declared.operations.Reply.TheVariants.{NoCell, WrongKind, Released, NoBlock, StillWaiting}
+use Rattle.im_types.specs.declared.operations.Reply.TheVariants.{Cleared}
+use Rattle.im_types.specs.declared.operations.Entry.{Entry}
+use Rattle.im_types.specs.declared.operations.Entry.TheVariants.{Waiting, Answered}
+use Rattle.im_types.specs.declared.operations.Waiter.{Waiter}
+use Rattle.im_types.specs.declared.operations.Kept.{Kept}
+use Rattle.im_types.specs.declared.commands.Request.{Request}
+use Rattle.im_types.specs.Contents.{CellState, Empty, Full, Clashed, Held, Window, Contents, held_at, waiters_of}
+use Rattle.im_types.specs.Contents.{waiters_in, waiters_at, kept_for}
+use Rattle.im_types.specs.Presences.{presence_of}
+use Rattle.im_types.specs.Act.{same_kind}
+use Rattle.im_types.specs.Window.{next_number, same_op, bounds, bounds_of}
+use Rattle.im_types.specs.Step.{asker}
+use Rattle.im_types.specs.Agreement.{same_waiter, address_of}
+use Rattle.im_types.specs.Plan.{planned_value, fetched, in_block, result_of, is_planned, IsPlan}
+use Rattle.im_laws.proofs.Tests.{true_or_false, true_false, test-self, eq_by_test}
+use Rattle.im_laws.proofs.OpLemmas.{same_op-self, same_op-equal}
+use Rattle.im_laws.proofs.AgreementLemmas.{same_waiter-self}
+use Rattle.im_plans.specs.Runs.{IsInPlan, IsResultOrWaits, IsTaken}
+use Rattle.im_plans.specs.UnderWay.{fetch_by, IsUnstored, IsCellOf, ToStore, StoredBy, IsUnderWay}
+use Rattle.im_plans.proofs.PlanLemmas.{planned_value-store, planned_value-stored, same_store}
+use Rattle.im_planning.specs.Progress.{number_may_be, was_served, is_no_cell, is_wrong_kind, is_stored_reply, is_value}
+use Rattle.im_planning.specs.Progress.{is_answer, is_result, has_result, kept_fits, is_fetch_in, all_fetch, first_fits}
+use Rattle.im_planning.specs.Progress.{may_be_empty, may_be_full, is_planned_value, empty_fits, full_fits, tag_fits}
+use Rattle.im_planning.specs.Progress.{held_fits, goes_on, all_go_on}
+use Rattle.im_planning.proofs.MakingLemmas.{in_plan}
+
+false_true : false ≡ true → ⊥
+false_true e = cc
+
+-- both tests of two
+cond-both : (b c : Bool) → cond b c false ≡ true → (b ≡ true) × (c ≡ true)
+cond-both true c e = (refl, e)
+cond-both false c e = absurd (false_true e)
+
+both-cond : (b c : Bool) → b ≡ true → c ≡ true → cond b c false ≡ true
+both-cond true c b e = e
+both-cond false c b e = absurd (false_true b)
+
+-- ---- numbers
+
+number-is : (windows : List Window) (element number : ℕ) → number_may_be number (bounds windows element) ≡ true
+    → (is_some (slice_get windows element) ≡ true) × (number ≤ LAST)
+number-is windows element number e = by_window (slice_get windows element) e
+  where
+    by_test : (t : Bool) → nat_lt LAST number ≡ t → cond t false true ≡ true → number ≤ LAST
+    by_test false t e = grind (arith, nat_tests)
+    by_test true t e = absurd (false_true e)
+
+    by_window : (o : Option Window) → number_may_be number (bounds_of o) ≡ true
+        → (is_some o ≡ true) × (number ≤ LAST)
+    by_window None e = absurd (false_true e)
+    by_window (Some w) e = (refl, by_test (nat_lt LAST number) refl e)
+
+is-number : (windows : List Window) (element number : ℕ) → is_some (slice_get windows element) ≡ true → number ≤ LAST
+    → number_may_be number (bounds windows element) ≡ true
+is-number windows element number some last = by_window (slice_get windows element) some
+  where
+    by_window : (o : Option Window) → is_some o ≡ true → number_may_be number (bounds_of o) ≡ true
+    by_window None some = absurd (false_true some)
+    by_window (Some w) some =
+        let u : nat_lt LAST number ≡ false = grind (arith, nat_tests) in ap (λ u. cond u false true) u
+
+served-taken : (m : Contents) (r : Request) → was_served r.number (bounds m.windows r.element) ≡ true
+    → IsTaken m.windows (asker r)
+served-taken m r e = by_window (slice_get m.windows r.element) refl e
+  where
+    by_window : (o : Option Window) → slice_get m.windows r.element ≡ o → was_served r.number (bounds_of o) ≡ true
+        → IsTaken m.windows (asker r)
+    by_window None at e = absurd (false_true e)
+    by_window (Some w) at e = record { window = w; there = at; below = grind (arith, nat_tests) }
+
+taken-served : (m : Contents) (r : Request) → IsTaken m.windows (asker r)
+    → was_served r.number (bounds m.windows r.element) ≡ true
+taken-served m r t =
+    let below : r.number < next_number t.window = t.below in
+    let test : nat_lt r.number (next_number t.window) ≡ true = grind (arith, nat_tests) in
+    ap (λ o. was_served r.number (bounds_of o)) t.there ∙ test
+
+-- ---- replies
+
+no_cell-is : (reply : Reply) → is_no_cell reply ≡ true → NoCell ≡ reply
+no_cell-is (Base b) e = absurd (true_false (sym e))
+no_cell-is NoSpace e = absurd (true_false (sym e))
+no_cell-is BadLength e = absurd (true_false (sym e))
+no_cell-is (Value v) e = absurd (true_false (sym e))
+no_cell-is Stored e = absurd (true_false (sym e))
+no_cell-is Clash e = absurd (true_false (sym e))
+no_cell-is NoCell e = refl
+no_cell-is WrongKind e = absurd (true_false (sym e))
+no_cell-is Released e = absurd (true_false (sym e))
+no_cell-is NoBlock e = absurd (true_false (sym e))
+no_cell-is StillWaiting e = absurd (true_false (sym e))
+no_cell-is Cleared e = absurd (true_false (sym e))
+
+wrong_kind-is : (reply : Reply) → is_wrong_kind reply ≡ true → WrongKind ≡ reply
+wrong_kind-is (Base b) e = absurd (true_false (sym e))
+wrong_kind-is NoSpace e = absurd (true_false (sym e))
+wrong_kind-is BadLength e = absurd (true_false (sym e))
+wrong_kind-is (Value v) e = absurd (true_false (sym e))
+wrong_kind-is Stored e = absurd (true_false (sym e))
+wrong_kind-is Clash e = absurd (true_false (sym e))
+wrong_kind-is NoCell e = absurd (true_false (sym e))
+wrong_kind-is WrongKind e = refl
+wrong_kind-is Released e = absurd (true_false (sym e))
+wrong_kind-is NoBlock e = absurd (true_false (sym e))
+wrong_kind-is StillWaiting e = absurd (true_false (sym e))
+wrong_kind-is Cleared e = absurd (true_false (sym e))
+
+stored-is : (reply : Reply) → is_stored_reply reply ≡ true → Stored ≡ reply
+stored-is (Base b) e = absurd (true_false (sym e))
+stored-is NoSpace e = absurd (true_false (sym e))
+stored-is BadLength e = absurd (true_false (sym e))
+stored-is (Value v) e = absurd (true_false (sym e))
+stored-is Stored e = refl
+stored-is Clash e = absurd (true_false (sym e))
+stored-is NoCell e = absurd (true_false (sym e))
+stored-is WrongKind e = absurd (true_false (sym e))
+stored-is Released e = absurd (true_false (sym e))
+stored-is NoBlock e = absurd (true_false (sym e))
+stored-is StillWaiting e = absurd (true_false (sym e))
+stored-is Cleared e = absurd (true_false (sym e))
+
+value-is : (stored : Option ℕ) (reply : Reply) → is_value stored reply ≡ true → fetched stored ≡ Some reply
+value-is None reply e = absurd (false_true e)
+value-is (Some v) (Base b) e = absurd (false_true e)
+value-is (Some v) NoSpace e = absurd (false_true e)
+value-is (Some v) BadLength e = absurd (false_true e)
+value-is (Some v) (Value w) e = ap (λ v. Some (Value v)) (eq_by_test v w e)
+value-is (Some v) Stored e = absurd (false_true e)
+value-is (Some v) Clash e = absurd (false_true e)
+value-is (Some v) NoCell e = absurd (false_true e)
+value-is (Some v) WrongKind e = absurd (false_true e)
+value-is (Some v) Released e = absurd (false_true e)
+value-is (Some v) NoBlock e = absurd (false_true e)
+value-is (Some v) StillWaiting e = absurd (false_true e)
+value-is (Some v) Cleared e = absurd (false_true e)
+
+is-value : (stored : Option ℕ) (reply : Reply) → fetched stored ≡ Some reply → is_value stored reply ≡ true
+is-value None reply e = absurd (none-some reply e)
+is-value (Some v) reply e = ap (is_value (Some v)) (sym (same_Some (Value v) reply e)) ∙ test-self v
+
+-- the reply to a planned operation on an I cell that the plan stores this value to
+abbrev told_by : Op → Option ℕ → Option Reply
+told_by (Fetch a) stored = fetched stored
+told_by (Store a v) stored = Some Stored
+told_by (Alloc kind n) stored = None
+told_by (Release a) stored = None
+told_by (Reset a) stored = None
+told_by (Take a) stored = None
+told_by (Put a v) stored = None
+
+answer-is : (op : Op) (stored : Option ℕ) (reply : Reply) → is_answer op stored reply ≡ true → told_by op stored
+    ≡ Some reply
+answer-is (Fetch a) stored reply e = value-is stored reply e
+answer-is (Store a v) stored reply e = ap Some (stored-is reply e)
+answer-is (Alloc kind n) stored reply e = absurd (false_true e)
+answer-is (Release a) stored reply e = absurd (false_true e)
+answer-is (Reset a) stored reply e = absurd (false_true e)
+answer-is (Take a) stored reply e = absurd (false_true e)
+answer-is (Put a v) stored reply e = absurd (false_true e)
+
+is-answer : (op : Op) (stored : Option ℕ) (reply : Reply) → told_by op stored ≡ Some reply
+    → is_answer op stored reply ≡ true
+is-answer (Fetch a) stored reply e = is-value stored reply e
+is-answer (Store a v) stored reply e = ap is_stored_reply (sym (same_Some Stored reply e))
+is-answer (Alloc kind n) stored reply e = absurd (none-some reply e)
+is-answer (Release a) stored reply e = absurd (none-some reply e)
+is-answer (Reset a) stored reply e = absurd (none-some reply e)
+is-answer (Take a) stored reply e = absurd (none-some reply e)
+is-answer (Put a v) stored reply e = absurd (none-some reply e)
+
+result-is : (op : Op) (stored : Option ℕ) (held : Option Held) (reply : Reply)
+    → is_result op stored held reply ≡ true → in_block held (told_by op stored) ≡ Some reply
+result-is op stored None reply e = ap Some (no_cell-is reply e)
+result-is op stored (Some held) reply e = by_kind held.block.kind e
+  where
+    by_kind : (k : Kind) → cond (same_kind I k) (is_answer op stored reply) (is_wrong_kind reply) ≡ true
+        → cond (same_kind I k) (told_by op stored) (Some WrongKind) ≡ Some reply
+    by_kind I e = answer-is op stored reply e
+    by_kind M e = ap Some (wrong_kind-is reply e)
+
+is-result : (op : Op) (stored : Option ℕ) (held : Option Held) (reply : Reply)
+    → in_block held (told_by op stored) ≡ Some reply → is_result op stored held reply ≡ true
+is-result op stored None reply e = ap is_no_cell (sym (same_Some NoCell reply e))
+is-result op stored (Some held) reply e = by_kind held.block.kind e
+  where
+    by_kind : (k : Kind) → cond (same_kind I k) (told_by op stored) (Some WrongKind) ≡ Some reply
+        → cond (same_kind I k) (is_answer op stored reply) (is_wrong_kind reply) ≡ true
+    by_kind I e = is-answer op stored reply e
+    by_kind M e = ap is_wrong_kind (sym (same_Some WrongKind reply e))
+
+-- what is told is the plan's result
+told-result : (cells : List (Option Held)) (plan : List Request) (op : Op) → is_planned op ≡ true
+    → in_block (held_at cells (address_of op)) (told_by op (planned_value (address_of op) plan))
+    ≡ result_of cells plan op
+told-result cells plan (Fetch a) e = refl
+told-result cells plan (Store a v) e = refl
+told-result cells plan (Alloc kind n) e = absurd (false_true e)
+told-result cells plan (Release a) e = absurd (false_true e)
+told-result cells plan (Reset a) e = absurd (false_true e)
+told-result cells plan (Take a) e = absurd (false_true e)
+told-result cells plan (Put a v) e = absurd (false_true e)
+
+-- ---- what is kept
+
+entry-is : (op : Op) (stored : Option ℕ) (held : Option Held) (entry : Entry) → has_result op stored held entry ≡ true
+    → IsResultOrWaits (in_block held (told_by op stored)) entry
+entry-is op stored held Waiting e = tt
+entry-is op stored held (Answered reply) e = result-is op stored held reply e
+
+is-entry : (op : Op) (stored : Option ℕ) (held : Option Held) (entry : Entry)
+    → IsResultOrWaits (in_block held (told_by op stored)) entry → has_result op stored held entry ≡ true
+is-entry op stored held Waiting e = refl
+is-entry op stored held (Answered reply) e = is-result op stored held reply e
+
+kept-is : (op : Op) (stored : Option ℕ) (held : Option Held) (o : Option Kept) → kept_fits op stored held o ≡ true
+    → (k : Kept) → o ≡ Some k → (k.op ≡ op) × IsResultOrWaits (in_block held (told_by op stored)) k.entry
+kept-is op stored held None e k at = absurd (none-some k at)
+kept-is op stored held (Some j) e k at =
+    let both = cond-both (same_op j.op op) (has_result op stored held j.entry) e in
+    subst (λ (k : Kept). (k.op ≡ op) × IsResultOrWaits (in_block held (told_by op stored)) k.entry) (same_Some j k at)
+    (same_op-equal j.op op both.0, entry-is op stored held j.entry both.1)
+
+is-kept : (op : Op) (stored : Option ℕ) (held : Option Held) (o : Option Kept)
+    → ((k : Kept) → o ≡ Some k → (k.op ≡ op) × IsResultOrWaits (in_block held (told_by op stored)) k.entry)
+    → kept_fits op stored held o ≡ true
+is-kept op stored held None each = refl
+is-kept op stored held (Some k) each =
+    let is = each k refl in
+    both-cond (same_op k.op op) (has_result op stored held k.entry)
+    (ap (same_op k.op) (sym is.0) ∙ same_op-self k.op) (is-entry op stored held k.entry is.1)
+
+-- ---- those who wait
+
+fetch-is : (plan : List Request) → IsPlan plan → (a : ℕ) (who : Waiter) → is_fetch_in plan a who ≡ true
+    → IsInPlan plan (fetch_by a who)
+fetch-is plan is a who e = (in_plan (fetch_by a who) plan is).0 e
+
+is-fetch : (plan : List Request) → IsPlan plan → (a : ℕ) (who : Waiter) → IsInPlan plan (fetch_by a who)
+    → is_fetch_in plan a who ≡ true
+is-fetch plan is a who h = (in_plan (fetch_by a who) plan is).1 h
+
+fetches-are : (plan : List Request) → IsPlan plan → (a : ℕ) (waiters : List Waiter) → all_fetch plan a waiters ≡ true
+    → AllByRecursion (λ who. IsInPlan plan (fetch_by a who)) waiters
+fetches-are plan is a [] e = tt
+fetches-are plan is a (w ∷ ws) e =
+    let both = cond-both (is_fetch_in plan a w) (all_fetch plan a ws) e in
+    (fetch-is plan is a w both.0, fetches-are plan is a ws both.1)
+
+are-fetches : (plan : List Request) → IsPlan plan → (a : ℕ) (waiters : List Waiter)
+    → AllByRecursion (λ who. IsInPlan plan (fetch_by a who)) waiters → all_fetch plan a waiters ≡ true
+are-fetches plan is a [] all = refl
+are-fetches plan is a (w ∷ ws) all = both-cond (is_fetch_in plan a w) (all_fetch plan a ws)
+    (is-fetch plan is a w all.0) (are-fetches plan is a ws all.1)
+
+-- an empty cell has one test, whoever waits
+empty-tag : (plan : List Request) (r : Request) (s : Bool) (waiters ws : List Waiter)
+    → tag_fits plan r s waiters (presence_of (Empty ws)) ≡ empty_fits plan r s waiters
+empty-tag plan r s waiters [] = refl
+empty-tag plan r s waiters (w ∷ ws) = refl
+
+-- an I cell has the test of its tag
+held-tag : (plan : List Request) (r : Request) (s : Bool) (waiters : List Waiter) (held : Held) → held.block.kind ≡ I
+    → held_fits plan r s waiters (Some held) ≡ tag_fits plan r s waiters (presence_of held.state)
+held-tag plan r s waiters held kind = ap (λ k. cond (same_kind I k) (tag_fits plan r s waiters
+    (presence_of held.state)) true) kind
+
+-- ---- one request
+
+pub record Goes (m : Contents) (plan : List Request) (r : Request) : Type 0 where
+  pub element : is_some (slice_get m.windows r.element) ≡ true
+  pub number : r.number ≤ LAST
+  pub kept : (k : Kept) → kept_for m.windows (asker r) ≡ Some k
+      → (k.op ≡ r.op) × IsResultOrWaits (result_of m.cells plan r.op) k.entry
+  pub cell : held_fits plan r (was_served r.number (bounds m.windows r.element))
+      (waiters_at m.cells (address_of r.op)) (held_at m.cells (address_of r.op)) ≡ true
+
+request-goes : (m : Contents) (plan : List Request) (r : Request) → is_planned r.op ≡ true → goes_on m plan r ≡ true
+    → Goes m plan r
+request-goes m plan r planned e =
+    let first = cond-both (number_may_be r.number (bounds m.windows r.element)) _ e in
+    let rest = cond-both (kept_fits r.op (planned_value (address_of r.op) plan) (held_at m.cells (address_of r.op))
+    (kept_for m.windows (asker r))) _ first.1 in
+    let number = number-is m.windows r.element r.number first.0 in
+    record {
+      element = number.0;
+      number = number.1;
+      kept = λ k at. subst (λ o. (k.op ≡ r.op) × IsResultOrWaits o k.entry) (told-result m.cells plan r.op planned)
+          (kept-is r.op (planned_value (address_of r.op) plan) (held_at m.cells (address_of r.op))
+          (kept_for m.windows (asker r)) rest.0 k at);
+      cell = rest.1;
+    }
+
+goes-request : (m : Contents) (plan : List Request) (r : Request) → is_planned r.op ≡ true → Goes m plan r
+    → goes_on m plan r ≡ true
+goes-request m plan r planned g = both-cond (number_may_be r.number (bounds m.windows r.element)) _
+    (is-number m.windows r.element r.number g.element g.number)
+    (both-cond (kept_fits r.op (planned_value (address_of r.op) plan) (held_at m.cells (address_of r.op))
+    (kept_for m.windows (asker r))) _
+    (is-kept r.op (planned_value (address_of r.op) plan) (held_at m.cells (address_of r.op))
+    (kept_for m.windows (asker r))
+    (λ k at. subst (λ o. (k.op ≡ r.op) × IsResultOrWaits o k.entry) (sym (told-result m.cells plan r.op planned))
+    (g.kept k at)))
+    g.cell)
+
+-- ---- all of them
+
+all-is : (m : Contents) (plan rest : List Request) → all_go_on m plan rest ≡ true → (i : ℕ) (r : Request)
+    → slice_get rest i ≡ Some r → goes_on m plan r ≡ true
+all-is m plan [] e i r at = absurd (none-some r at)
+all-is m plan (first ∷ rest) e zero r at = subst (λ r. goes_on m plan r ≡ true) (same_Some first r at)
+    (cond-both (goes_on m plan first) (all_go_on m plan rest) e).0
+all-is m plan (first ∷ rest) e (suc i) r at = all-is m plan rest
+    (cond-both (goes_on m plan first) (all_go_on m plan rest) e).1 i r at
+
+is-all : (m : Contents) (plan rest : List Request)
+    → ((i : ℕ) (r : Request) → slice_get rest i ≡ Some r → goes_on m plan r ≡ true) → all_go_on m plan rest ≡ true
+is-all m plan [] all = refl
+is-all m plan (first ∷ rest) all = both-cond (goes_on m plan first) (all_go_on m plan rest) (all 0 first refl)
+    (is-all m plan rest (λ i r at. all (suc i) r at))
+
+-- ---- where each goes on, the plan is under way
+
+module _ (m : Contents) (plan : List Request) (is : IsPlan plan)
+    (each : (r : Request) → IsInPlan plan r → Goes m plan r) where
+  -- the tag of a request's own cell
+  own-tag : (q : Request) → IsInPlan plan q → (a : ℕ) → address_of q.op ≡ a → (held : Held)
+      → held_at m.cells a ≡ Some held → held.block.kind ≡ I
+      → tag_fits plan q (was_served q.number (bounds m.windows q.element)) (waiters_at m.cells a)
+      (presence_of held.state) ≡ true
+  own-tag q q_in a same held at kind =
+      let s = was_served q.number (bounds m.windows q.element) in
+      sym (ap (held_fits plan q s (waiters_at m.cells a)) at
+      ∙ held-tag plan q s (waiters_at m.cells a) held kind)
+      ∙ subst (λ b. held_fits plan q s (waiters_at m.cells b) (held_at m.cells b) ≡ true) same (each q q_in).cell
+
+  module _ (a : ℕ) (held : Held) (at : held_at m.cells a ≡ Some held) (kind : held.block.kind ≡ I) where
+    -- an empty cell
+    own-empty : (q : Request) → IsInPlan plan q → address_of q.op ≡ a → (ws : List Waiter) → held.state ≡ Empty ws
+        → (may_be_empty (was_served q.number (bounds m.windows q.element)) q.op ≡ true)
+        × (first_fits plan a (asker q) ws (slice_get ws 0) ≡ true)
+    own-empty q q_in same ws state =
+        let s = was_served q.number (bounds m.windows q.element) in
+        let waiters : waiters_at m.cells a ≡ ws = ap waiters_in at ∙ ap waiters_of state in
+        let fits : empty_fits plan q s ws ≡ true =
+        sym (empty-tag plan q s ws ws) ∙ sym (ap (λ st. tag_fits plan q s ws (presence_of st)) state)
+        ∙ subst (λ ws. tag_fits plan q s ws (presence_of held.state) ≡ true) waiters
+        (own-tag q q_in a same held at kind) in
+        let both = cond-both (may_be_empty s q.op)
+        (first_fits plan (address_of q.op) (asker q) ws (slice_get ws 0)) fits in
+        (both.0, subst (λ b. first_fits plan b (asker q) ws (slice_get ws 0) ≡ true) same both.1)
+
+    unstored : (ws : List Waiter) → held.state ≡ Empty ws → IsUnstored plan m.windows a
+    unstored ws state q v q_in op t =
+        let e = (own-empty q q_in (ap address_of op) ws state).0 in
+        not_served (was_served q.number (bounds m.windows q.element)) (taken-served m q t)
+        (sym (ap (may_be_empty (was_served q.number (bounds m.windows q.element))) op) ∙ e)
+      where
+        not_served : (s : Bool) → s ≡ true → may_be_empty s (Store a v) ≡ true → ⊥
+        not_served true s e = false_true e
+        not_served false s e = false_true s
+
+    waiters-fetch : (r : Request) → IsInPlan plan r → address_of r.op ≡ a → (ws : List Waiter) → held.state ≡ Empty ws
+        → AllByRecursion (λ who. IsInPlan plan (fetch_by a who)) ws
+    waiters-fetch r r_in same [] state = tt
+    waiters-fetch r r_in same (w ∷ ws) state =
+        let first = cond-both (is_fetch_in plan a w) _ (own-empty r r_in same (w ∷ ws) state).1 in
+        let w_in = fetch-is plan is a w first.0 in
+        let own = cond-both (is_fetch_in plan a w) _ (own-empty (fetch_by a w) w_in refl (w ∷ ws) state).1 in
+        fetches-are plan is a (w ∷ ws)
+        (sym (ap (λ b. cond b (all_fetch plan a (w ∷ ws)) true) (same_waiter-self w)) ∙ own.1)
+
+    -- a full one
+    own-full : (q : Request) → IsInPlan plan q → address_of q.op ≡ a → (w : ℕ) → held.state ≡ Full w
+        → (may_be_full (was_served q.number (bounds m.windows q.element)) q.op ≡ true)
+        × (is_planned_value w (planned_value a plan) ≡ true)
+    own-full q q_in same w state =
+        let s = was_served q.number (bounds m.windows q.element) in
+        let both = cond-both (may_be_full s q.op) (is_planned_value w (planned_value (address_of q.op) plan))
+        (sym (ap (λ st. tag_fits plan q s (waiters_at m.cells a) (presence_of st)) state)
+        ∙ own-tag q q_in a same held at kind) in
+        (both.0, subst (λ b. is_planned_value w (planned_value b plan) ≡ true) same both.1)
+
+    value-of : (w : ℕ) (o : Option ℕ) → is_planned_value w o ≡ true → o ≡ Some w
+    value-of w None e = absurd (false_true e)
+    value-of w (Some v) e = ap Some (eq_by_test v w e)
+
+    cell-of : (r : Request) → IsInPlan plan r → address_of r.op ≡ a → (state : CellState) → held.state ≡ state
+        → IsCellOf plan m.windows a state
+    cell-of r r_in same (Empty ws) state = ToStore ws refl (waiters-fetch r r_in same ws state) (unstored ws state)
+    cell-of r r_in same (Full w) state =
+        let s = planned_value-stored plan a w
+        (value-of w (planned_value a plan) (own-full r r_in same w state).1) in
+        let full = (own-full s.request s.in_plan (ap address_of s.op) w state).0 in
+        StoredBy s.request w s.in_plan s.op
+        (served-taken m s.request (sym (ap (may_be_full (was_served s.request.number
+        (bounds m.windows s.request.element))) s.op) ∙ full)) refl
+    cell-of r r_in same (Clashed w) state = absurd (false_true
+        (sym (ap (λ st. tag_fits plan r (was_served r.number (bounds m.windows r.element)) (waiters_at m.cells a)
+        (presence_of st)) state) ∙ own-tag r r_in a same held at kind))
+
+  goes-under_way : IsUnderWay m plan
+  goes-under_way = record {
+    element = λ r r_in. (each r r_in).element;
+    number = λ r r_in. (each r r_in).number;
+    op = λ r k r_in at. ((each r r_in).kept k at).0;
+    result = λ r k r_in at. ((each r r_in).kept k at).1;
+    cell = λ r held r_in at kind. cell-of (address_of r.op) held at kind r r_in refl held.state refl;
+  }
+
+-- ---- where the plan is under way, each goes on
+
+module _ (m : Contents) (plan : List Request) (is : IsPlan plan) (u : IsUnderWay m plan) (r : Request)
+    (r_in : IsInPlan plan r) where
+  abbrev own : Bool
+  own = was_served r.number (bounds m.windows r.element)
+
+  empty-may : IsUnstored plan m.windows (address_of r.op) → may_be_empty own r.op ≡ true
+  empty-may none = by_op r.op refl none
+    where
+      not_taken : (a v : ℕ) → r.op ≡ Store a v → IsUnstored plan m.windows a → (s : Bool) → own ≡ s
+          → may_be_empty s (Store a v) ≡ true
+      not_taken a v op none true s = absurd (none r v r_in op (served-taken m r s))
+      not_taken a v op none false s = refl
+
+      by_op : (op : Op) → r.op ≡ op → IsUnstored plan m.windows (address_of op) → may_be_empty own op ≡ true
+      by_op (Store a v) e none = not_taken a v e none own refl
+      by_op (Fetch a) e none = refl
+      by_op (Alloc kind n) e none = refl
+      by_op (Release a) e none = refl
+      by_op (Reset a) e none = refl
+      by_op (Take a) e none = refl
+      by_op (Put a v) e none = refl
+
+  full-may : (q : Request) (v : ℕ) → IsInPlan plan q → q.op ≡ Store (address_of r.op) v → IsTaken m.windows (asker q)
+      → may_be_full own r.op ≡ true
+  full-may q v q_in op t = by_op r.op refl op
+    where
+      by_op : (o : Op) → r.op ≡ o → q.op ≡ Store (address_of o) v → may_be_full own o ≡ true
+      by_op (Store a w) e op = taken-served m r
+          (subst (λ q. IsTaken m.windows (asker q)) (same_store plan is q r a v w q_in r_in op e) t)
+      by_op (Fetch a) e op = refl
+      by_op (Alloc kind n) e op = refl
+      by_op (Release a) e op = refl
+      by_op (Reset a) e op = refl
+      by_op (Take a) e op = refl
+      by_op (Put a v) e op = refl
+
+  first-may : (a : ℕ) (ws : List Waiter) → AllByRecursion (λ who. IsInPlan plan (fetch_by a who)) ws
+      → first_fits plan a (asker r) ws (slice_get ws 0) ≡ true
+  first-may a [] all = refl
+  first-may a (w ∷ ws) all = both-cond (is_fetch_in plan a w) _ (is-fetch plan is a w all.0)
+      (by_test (same_waiter w (asker r)))
+    where
+      by_test : (b : Bool) → cond b (all_fetch plan a (w ∷ ws)) true ≡ true
+      by_test true = are-fetches plan is a (w ∷ ws) all
+      by_test false = refl
+
+  tag-may : (held : Held) → held_at m.cells (address_of r.op) ≡ Some held
+      → IsCellOf plan m.windows (address_of r.op) held.state
+      → tag_fits plan r own (waiters_at m.cells (address_of r.op)) (presence_of held.state) ≡ true
+  tag-may held at (ToStore ws state all none) =
+      let waiters : waiters_at m.cells (address_of r.op) ≡ ws = ap waiters_in at ∙ ap waiters_of state in
+      ap (λ st. tag_fits plan r own (waiters_at m.cells (address_of r.op)) (presence_of st)) state
+      ∙ empty-tag plan r own (waiters_at m.cells (address_of r.op)) ws
+      ∙ ap (empty_fits plan r own) waiters
+      ∙ both-cond (may_be_empty own r.op) _ (empty-may none) (first-may (address_of r.op) ws all)
+  tag-may held at (StoredBy q v q_in op t state) =
+      ap (λ st. tag_fits plan r own (waiters_at m.cells (address_of r.op)) (presence_of st)) state
+      ∙ both-cond (may_be_full own r.op) _ (full-may q v q_in op t)
+      (ap (is_planned_value v) (planned_value-store plan is q (address_of r.op) v q_in op) ∙ test-self v)
+
+  under_way-goes : Goes m plan r
+  under_way-goes = record {
+    element = u.element r r_in;
+    number = u.number r r_in;
+    kept = λ k at. (u.op r k r_in at, u.result r k r_in at);
+    cell = by_held (held_at m.cells (address_of r.op)) refl;
+  }
+    where
+      by_kind : (held : Held) → held_at m.cells (address_of r.op) ≡ Some held → (k : Kind) → held.block.kind ≡ k
+          → cond (same_kind I k)
+          (tag_fits plan r own (waiters_at m.cells (address_of r.op)) (presence_of held.state)) true ≡ true
+      by_kind held at I kind = tag-may held at (u.cell r held r_in at kind)
+      by_kind held at M kind = refl
+
+      by_held : (o : Option Held) → held_at m.cells (address_of r.op) ≡ o
+          → held_fits plan r own (waiters_at m.cells (address_of r.op)) o ≡ true
+      by_held None at = refl
+      by_held (Some held) at = by_kind held at held.block.kind refl
+
+pub plan_goes_on : (m : Contents) (plan : List Request) → IsPlan plan
+    → IsTrue (all_go_on m plan plan) ↔ IsUnderWay m plan
+plan_goes_on m plan is = (
+  λ e. goes-under_way m plan is (λ r r_in. request-goes m plan r (is.planned r_in.0 r r_in.1)
+      (all-is m plan plan e r_in.0 r r_in.1)),
+  λ u. is-all m plan plan (λ i r at. goes-request m plan r (is.planned i r at)
+      (under_way-goes m plan is u r (i, at))),
+)
