@@ -1,15 +1,14 @@
 -- The index of a plan decides what the plan has, and what makes one.
-use Rattle.std.proofs.Common.{◌≡◌, ⊎_elim, ℕ, zero, suc, List, [], ◌∷◌, Some, None, Bool, true, false, cond, refl}
+use Rattle.std.proofs.Common.{◌≡◌, ℕ, zero, suc, List, [], ◌∷◌, Some, None, Bool, true, false, cond, refl}
 use Rattle.std.proofs.Common.{sym, ap, ◌∙◌, arith, IsTrue}
-use Rattle.std.specs.Prelude.{Option, ◌↔◌, ◌==◌, ◌&&◌, ◌||◌, slice_get, is_some, drop}
+use Rattle.std.specs.Prelude.{Option, ◌↔◌, ◌==◌, ◌&&◌, slice_get, is_some, drop}
 use Rattle.std.proofs.lemmas.Option.{none-some, same_Some}
 use Rattle.im_types.specs.declared.operations.Op.{Op}
-use Rattle.im_types.specs.declared.operations.Op.TheVariants.{Alloc, Release, Reset, Fetch, Store, Take, Put}
 use Rattle.im_types.specs.declared.commands.Request.{Request}
 use Rattle.im_types.specs.Window.{same_op}
 use Rattle.im_types.specs.Step.{asker}
 use Rattle.im_types.specs.Plan.{stored_by, planned_value, is_planned, IsPlan}
-use Rattle.im_laws.proofs.Tests.{true_or_false, true_false, and_both, or_left, or_right, test-self, eq_by_test}
+use Rattle.im_laws.proofs.Tests.{true_false, and_both, test-self, eq_by_test}
 use Rattle.im_laws.proofs.OpLemmas.{same_op-self, same_op-equal}
 use Rattle.im_plans.specs.Runs.{IsInPlan}
 use Rattle.im_plans.proofs.PlanLemmas.{stored-by_store, planned_value-stored}

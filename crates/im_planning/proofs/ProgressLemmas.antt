@@ -1,7 +1,7 @@
 -- The tests of a plan on a memory decide whether it is under way there.
-use Rattle.std.proofs.Common.{◌≡◌, ⊎_elim, ℕ, zero, suc, ◌<◌, ◌≤◌, List, [], ◌∷◌, Some, None, Bool, true, false, cond}
+use Rattle.std.proofs.Common.{◌≡◌, ℕ, zero, suc, ◌<◌, ◌≤◌, List, [], ◌∷◌, Some, None, Bool, true, false, cond}
 use Rattle.std.proofs.Common.{refl, sym, ap, ◌∙◌, subst, arith, IsTrue}
-use Rattle.std.specs.Prelude.{Option, ◌↔◌, ◌==◌, slice_get, is_some, nat_lt}
+use Rattle.std.specs.Prelude.{Option, ◌↔◌, slice_get, is_some, nat_lt}
 use Rattle.std.specs.List.{AllByRecursion}
 use Rattle.std.proofs.lemmas.Option.{none-some, same_Some}
 use Rattle.std.proofs.lemmas.Bool.Decides.{nat_tests}
@@ -27,7 +27,7 @@ use Rattle.im_types.specs.Window.{next_number, same_op, bounds, bounds_of}
 use Rattle.im_types.specs.Step.{asker}
 use Rattle.im_types.specs.Agreement.{same_waiter, address_of}
 use Rattle.im_types.specs.Plan.{planned_value, fetched, in_block, result_of, is_planned, IsPlan}
-use Rattle.im_laws.proofs.Tests.{true_or_false, true_false, test-self, eq_by_test}
+use Rattle.im_laws.proofs.Tests.{true_false, test-self, eq_by_test}
 use Rattle.im_laws.proofs.OpLemmas.{same_op-self, same_op-equal}
 use Rattle.im_laws.proofs.AgreementLemmas.{same_waiter-self}
 use Rattle.im_plans.specs.Runs.{IsInPlan, IsResultOrWaits, IsTaken}
@@ -35,7 +35,7 @@ use Rattle.im_plans.specs.UnderWay.{fetch_by, IsUnstored, IsCellOf, ToStore, Sto
 use Rattle.im_plans.proofs.PlanLemmas.{planned_value-store, planned_value-stored, same_store}
 use Rattle.im_planning.specs.Progress.{number_may_be, was_served, is_no_cell, is_wrong_kind, is_stored_reply, is_value}
 use Rattle.im_planning.specs.Progress.{is_answer, is_result, has_result, kept_fits, is_fetch_in, all_fetch, first_fits}
-use Rattle.im_planning.specs.Progress.{may_be_empty, may_be_full, is_planned_value, empty_fits, full_fits, tag_fits}
+use Rattle.im_planning.specs.Progress.{may_be_empty, may_be_full, is_planned_value, empty_fits, tag_fits}
 use Rattle.im_planning.specs.Progress.{held_fits, goes_on, all_go_on}
 use Rattle.im_planning.proofs.MakingLemmas.{in_plan}
 
