@@ -27,20 +27,18 @@ use Rattle.im_types.specs.Window.{next_number, same_op, bounds, bounds_of}
 use Rattle.im_types.specs.Step.{asker}
 use Rattle.im_types.specs.Agreement.{same_waiter, address_of}
 use Rattle.im_types.specs.Plan.{planned_value, fetched, in_block, result_of, is_planned, IsPlan}
+use Rattle.im_types.proofs.Tests.{false_true}
 use Rattle.im_laws.proofs.Tests.{true_false, test-self, eq_by_test}
 use Rattle.im_laws.proofs.OpLemmas.{same_op-self, same_op-equal}
 use Rattle.im_laws.proofs.AgreementLemmas.{same_waiter-self}
 use Rattle.im_plans.specs.Runs.{IsInPlan, IsResultOrWaits, IsTaken}
-use Rattle.im_plans.specs.UnderWay.{fetch_by, IsUnstored, IsCellOf, ToStore, StoredBy, IsUnderWay}
+use Rattle.im_plans.specs.UnderWay.{fetch_by, IsUnstored, IsCellOf, ToStore, StoredBy, IsPlanUnderWay}
 use Rattle.im_plans.proofs.PlanLemmas.{planned_value-store, planned_value-stored, same_store}
 use Rattle.im_planning.specs.Progress.{number_may_be, was_served, is_no_cell, is_wrong_kind, is_stored_reply, is_value}
 use Rattle.im_planning.specs.Progress.{is_answer, is_result, has_result, kept_fits, is_fetch_in, all_fetch, first_fits}
 use Rattle.im_planning.specs.Progress.{may_be_empty, may_be_full, is_planned_value, empty_fits, tag_fits}
-use Rattle.im_planning.specs.Progress.{held_fits, goes_on, all_go_on}
+use Rattle.im_planning.specs.Progress.{is_done, entry_fits, held_fits, goes_on, all_go_on}
 use Rattle.im_planning.proofs.MakingLemmas.{in_plan}
-
-false_true : false ≡ true → ⊥
-false_true e = cc
 
 -- both tests of two
 cond-both : (b c : Bool) → cond b c false ≡ true → (b ≡ true) × (c ≡ true)
@@ -75,7 +73,7 @@ is-number windows element number some last = by_window (slice_get windows elemen
     by_window (Some w) some =
         let u : nat_lt LAST number ≡ false = grind (arith, nat_tests) in ap (λ u. cond u false true) u
 
-served-taken : (m : Contents) (r : Request) → was_served r.number (bounds m.windows r.element) ≡ true
+served-taken : (m : Contents) (r : Request) → is_done m r ≡ true
     → IsTaken m.windows (asker r)
 served-taken m r e = by_window (slice_get m.windows r.element) refl e
   where
@@ -85,7 +83,7 @@ served-taken m r e = by_window (slice_get m.windows r.element) refl e
     by_window (Some w) at e = record { window = w; there = at; below = grind (arith, nat_tests) }
 
 taken-served : (m : Contents) (r : Request) → IsTaken m.windows (asker r)
-    → was_served r.number (bounds m.windows r.element) ≡ true
+    → is_done m r ≡ true
 taken-served m r t =
     let below : r.number < next_number t.window = t.below in
     let test : nat_lt r.number (next_number t.window) ≡ true = grind (arith, nat_tests) in
@@ -93,47 +91,28 @@ taken-served m r t =
 
 -- ---- replies
 
-no_cell-is : (reply : Reply) → is_no_cell reply ≡ true → NoCell ≡ reply
-no_cell-is (Base b) e = absurd (true_false (sym e))
-no_cell-is NoSpace e = absurd (true_false (sym e))
-no_cell-is BadLength e = absurd (true_false (sym e))
-no_cell-is (Value v) e = absurd (true_false (sym e))
-no_cell-is Stored e = absurd (true_false (sym e))
-no_cell-is Clash e = absurd (true_false (sym e))
-no_cell-is NoCell e = refl
-no_cell-is WrongKind e = absurd (true_false (sym e))
-no_cell-is Released e = absurd (true_false (sym e))
-no_cell-is NoBlock e = absurd (true_false (sym e))
-no_cell-is StillWaiting e = absurd (true_false (sym e))
-no_cell-is Cleared e = absurd (true_false (sym e))
+-- what these tests say of a reply
+record PlainIs (reply : Reply) : Type 0 where
+  pub no_cell : is_no_cell reply ≡ true → NoCell ≡ reply
+  pub wrong_kind : is_wrong_kind reply ≡ true → WrongKind ≡ reply
+  pub stored : is_stored_reply reply ≡ true → Stored ≡ reply
 
-wrong_kind-is : (reply : Reply) → is_wrong_kind reply ≡ true → WrongKind ≡ reply
-wrong_kind-is (Base b) e = absurd (true_false (sym e))
-wrong_kind-is NoSpace e = absurd (true_false (sym e))
-wrong_kind-is BadLength e = absurd (true_false (sym e))
-wrong_kind-is (Value v) e = absurd (true_false (sym e))
-wrong_kind-is Stored e = absurd (true_false (sym e))
-wrong_kind-is Clash e = absurd (true_false (sym e))
-wrong_kind-is NoCell e = absurd (true_false (sym e))
-wrong_kind-is WrongKind e = refl
-wrong_kind-is Released e = absurd (true_false (sym e))
-wrong_kind-is NoBlock e = absurd (true_false (sym e))
-wrong_kind-is StillWaiting e = absurd (true_false (sym e))
-wrong_kind-is Cleared e = absurd (true_false (sym e))
+no : {X : Type 0} → false ≡ true → X
+no e = absurd (false_true e)
 
-stored-is : (reply : Reply) → is_stored_reply reply ≡ true → Stored ≡ reply
-stored-is (Base b) e = absurd (true_false (sym e))
-stored-is NoSpace e = absurd (true_false (sym e))
-stored-is BadLength e = absurd (true_false (sym e))
-stored-is (Value v) e = absurd (true_false (sym e))
-stored-is Stored e = refl
-stored-is Clash e = absurd (true_false (sym e))
-stored-is NoCell e = absurd (true_false (sym e))
-stored-is WrongKind e = absurd (true_false (sym e))
-stored-is Released e = absurd (true_false (sym e))
-stored-is NoBlock e = absurd (true_false (sym e))
-stored-is StillWaiting e = absurd (true_false (sym e))
-stored-is Cleared e = absurd (true_false (sym e))
+plain-is : (reply : Reply) → PlainIs reply
+plain-is (Base b) = record { no_cell = no; wrong_kind = no; stored = no }
+plain-is NoSpace = record { no_cell = no; wrong_kind = no; stored = no }
+plain-is BadLength = record { no_cell = no; wrong_kind = no; stored = no }
+plain-is (Value v) = record { no_cell = no; wrong_kind = no; stored = no }
+plain-is Stored = record { no_cell = no; wrong_kind = no; stored = λ e. refl }
+plain-is Clash = record { no_cell = no; wrong_kind = no; stored = no }
+plain-is NoCell = record { no_cell = λ e. refl; wrong_kind = no; stored = no }
+plain-is WrongKind = record { no_cell = no; wrong_kind = λ e. refl; stored = no }
+plain-is Released = record { no_cell = no; wrong_kind = no; stored = no }
+plain-is NoBlock = record { no_cell = no; wrong_kind = no; stored = no }
+plain-is StillWaiting = record { no_cell = no; wrong_kind = no; stored = no }
+plain-is Cleared = record { no_cell = no; wrong_kind = no; stored = no }
 
 value-is : (stored : Option ℕ) (reply : Reply) → is_value stored reply ≡ true → fetched stored ≡ Some reply
 value-is None reply e = absurd (false_true e)
@@ -167,7 +146,7 @@ told_by (Put a v) stored = None
 answer-is : (op : Op) (stored : Option ℕ) (reply : Reply) → is_answer op stored reply ≡ true → told_by op stored
     ≡ Some reply
 answer-is (Fetch a) stored reply e = value-is stored reply e
-answer-is (Store a v) stored reply e = ap Some (stored-is reply e)
+answer-is (Store a v) stored reply e = ap Some ((plain-is reply).stored e)
 answer-is (Alloc kind n) stored reply e = absurd (false_true e)
 answer-is (Release a) stored reply e = absurd (false_true e)
 answer-is (Reset a) stored reply e = absurd (false_true e)
@@ -186,13 +165,13 @@ is-answer (Put a v) stored reply e = absurd (none-some reply e)
 
 result-is : (op : Op) (stored : Option ℕ) (held : Option Held) (reply : Reply)
     → is_result op stored held reply ≡ true → in_block held (told_by op stored) ≡ Some reply
-result-is op stored None reply e = ap Some (no_cell-is reply e)
+result-is op stored None reply e = ap Some ((plain-is reply).no_cell e)
 result-is op stored (Some held) reply e = by_kind held.block.kind e
   where
     by_kind : (k : Kind) → cond (same_kind I k) (is_answer op stored reply) (is_wrong_kind reply) ≡ true
         → cond (same_kind I k) (told_by op stored) (Some WrongKind) ≡ Some reply
     by_kind I e = answer-is op stored reply e
-    by_kind M e = ap Some (wrong_kind-is reply e)
+    by_kind M e = ap Some ((plain-is reply).wrong_kind e)
 
 is-result : (op : Op) (stored : Option ℕ) (held : Option Held) (reply : Reply)
     → in_block held (told_by op stored) ≡ Some reply → is_result op stored held reply ≡ true
@@ -269,16 +248,15 @@ are-fetches plan is a (w ∷ ws) all = both-cond (is_fetch_in plan a w) (all_fet
     (is-fetch plan is a w all.0) (are-fetches plan is a ws all.1)
 
 -- an empty cell has one test, whoever waits
-empty-tag : (plan : List Request) (r : Request) (s : Bool) (waiters ws : List Waiter)
-    → tag_fits plan r s waiters (presence_of (Empty ws)) ≡ empty_fits plan r s waiters
-empty-tag plan r s waiters [] = refl
-empty-tag plan r s waiters (w ∷ ws) = refl
+empty-tag : (m : Contents) (plan : List Request) (r : Request) (ws : List Waiter)
+    → tag_fits m plan r (presence_of (Empty ws)) ≡ empty_fits m plan r
+empty-tag m plan r [] = refl
+empty-tag m plan r (w ∷ ws) = refl
 
 -- an I cell has the test of its tag
-held-tag : (plan : List Request) (r : Request) (s : Bool) (waiters : List Waiter) (held : Held) → held.block.kind ≡ I
-    → held_fits plan r s waiters (Some held) ≡ tag_fits plan r s waiters (presence_of held.state)
-held-tag plan r s waiters held kind = ap (λ k. cond (same_kind I k) (tag_fits plan r s waiters
-    (presence_of held.state)) true) kind
+held-tag : (m : Contents) (plan : List Request) (r : Request) (held : Held) → held.block.kind ≡ I
+    → held_fits m plan r (Some held) ≡ tag_fits m plan r (presence_of held.state)
+held-tag m plan r held kind = ap (λ k. cond (same_kind I k) (tag_fits m plan r (presence_of held.state)) true) kind
 
 -- ---- one request
 
@@ -287,15 +265,13 @@ pub record Goes (m : Contents) (plan : List Request) (r : Request) : Type 0 wher
   pub number : r.number ≤ LAST
   pub kept : (k : Kept) → kept_for m.windows (asker r) ≡ Some k
       → (k.op ≡ r.op) × IsResultOrWaits (result_of m.cells plan r.op) k.entry
-  pub cell : held_fits plan r (was_served r.number (bounds m.windows r.element))
-      (waiters_at m.cells (address_of r.op)) (held_at m.cells (address_of r.op)) ≡ true
+  pub cell : held_fits m plan r (held_at m.cells (address_of r.op)) ≡ true
 
 request-goes : (m : Contents) (plan : List Request) (r : Request) → is_planned r.op ≡ true → goes_on m plan r ≡ true
     → Goes m plan r
 request-goes m plan r planned e =
     let first = cond-both (number_may_be r.number (bounds m.windows r.element)) _ e in
-    let rest = cond-both (kept_fits r.op (planned_value (address_of r.op) plan) (held_at m.cells (address_of r.op))
-    (kept_for m.windows (asker r))) _ first.1 in
+    let rest = cond-both (entry_fits m plan r) _ first.1 in
     let number = number-is m.windows r.element r.number first.0 in
     record {
       element = number.0;
@@ -310,8 +286,7 @@ goes-request : (m : Contents) (plan : List Request) (r : Request) → is_planned
     → goes_on m plan r ≡ true
 goes-request m plan r planned g = both-cond (number_may_be r.number (bounds m.windows r.element)) _
     (is-number m.windows r.element r.number g.element g.number)
-    (both-cond (kept_fits r.op (planned_value (address_of r.op) plan) (held_at m.cells (address_of r.op))
-    (kept_for m.windows (asker r))) _
+    (both-cond (entry_fits m plan r) _
     (is-kept r.op (planned_value (address_of r.op) plan) (held_at m.cells (address_of r.op))
     (kept_for m.windows (asker r))
     (λ k at. subst (λ o. (k.op ≡ r.op) × IsResultOrWaits o k.entry) (sym (told-result m.cells plan r.op planned))
@@ -340,36 +315,32 @@ module _ (m : Contents) (plan : List Request) (is : IsPlan plan)
     (each : (r : Request) → IsInPlan plan r → Goes m plan r) where
   -- the tag of a request's own cell
   own-tag : (q : Request) → IsInPlan plan q → (a : ℕ) → address_of q.op ≡ a → (held : Held)
-      → held_at m.cells a ≡ Some held → held.block.kind ≡ I
-      → tag_fits plan q (was_served q.number (bounds m.windows q.element)) (waiters_at m.cells a)
-      (presence_of held.state) ≡ true
+      → held_at m.cells a ≡ Some held → held.block.kind ≡ I → tag_fits m plan q (presence_of held.state) ≡ true
   own-tag q q_in a same held at kind =
-      let s = was_served q.number (bounds m.windows q.element) in
-      sym (ap (held_fits plan q s (waiters_at m.cells a)) at
-      ∙ held-tag plan q s (waiters_at m.cells a) held kind)
-      ∙ subst (λ b. held_fits plan q s (waiters_at m.cells b) (held_at m.cells b) ≡ true) same (each q q_in).cell
+      sym (ap (held_fits m plan q) at ∙ held-tag m plan q held kind)
+      ∙ subst (λ b. held_fits m plan q (held_at m.cells b) ≡ true) same (each q q_in).cell
 
   module _ (a : ℕ) (held : Held) (at : held_at m.cells a ≡ Some held) (kind : held.block.kind ≡ I) where
     -- an empty cell
     own-empty : (q : Request) → IsInPlan plan q → address_of q.op ≡ a → (ws : List Waiter) → held.state ≡ Empty ws
-        → (may_be_empty (was_served q.number (bounds m.windows q.element)) q.op ≡ true)
+        → (may_be_empty (is_done m q) q.op ≡ true)
         × (first_fits plan a (asker q) ws (slice_get ws 0) ≡ true)
     own-empty q q_in same ws state =
-        let s = was_served q.number (bounds m.windows q.element) in
         let waiters : waiters_at m.cells a ≡ ws = ap waiters_in at ∙ ap waiters_of state in
-        let fits : empty_fits plan q s ws ≡ true =
-        sym (empty-tag plan q s ws ws) ∙ sym (ap (λ st. tag_fits plan q s ws (presence_of st)) state)
-        ∙ subst (λ ws. tag_fits plan q s ws (presence_of held.state) ≡ true) waiters
-        (own-tag q q_in a same held at kind) in
-        let both = cond-both (may_be_empty s q.op)
-        (first_fits plan (address_of q.op) (asker q) ws (slice_get ws 0)) fits in
-        (both.0, subst (λ b. first_fits plan b (asker q) ws (slice_get ws 0) ≡ true) same both.1)
+        let fits : empty_fits m plan q ≡ true =
+        sym (empty-tag m plan q ws) ∙ sym (ap (λ st. tag_fits m plan q (presence_of st)) state)
+        ∙ own-tag q q_in a same held at kind in
+        let both = cond-both (may_be_empty (is_done m q) q.op) _ fits in
+        let first : first_fits plan a (asker q) (waiters_at m.cells a) (slice_get (waiters_at m.cells a) 0) ≡ true =
+        subst (λ b. first_fits plan b (asker q) (waiters_at m.cells b) (slice_get (waiters_at m.cells b) 0) ≡ true)
+        same both.1 in
+        (both.0, subst (λ ws. first_fits plan a (asker q) ws (slice_get ws 0) ≡ true) waiters first)
 
     unstored : (ws : List Waiter) → held.state ≡ Empty ws → IsUnstored plan m.windows a
     unstored ws state q v q_in op t =
         let e = (own-empty q q_in (ap address_of op) ws state).0 in
-        not_served (was_served q.number (bounds m.windows q.element)) (taken-served m q t)
-        (sym (ap (may_be_empty (was_served q.number (bounds m.windows q.element))) op) ∙ e)
+        not_served (is_done m q) (taken-served m q t)
+        (sym (ap (may_be_empty (is_done m q)) op) ∙ e)
       where
         not_served : (s : Bool) → s ≡ true → may_be_empty s (Store a v) ≡ true → ⊥
         not_served true s e = false_true e
@@ -387,13 +358,11 @@ module _ (m : Contents) (plan : List Request) (is : IsPlan plan)
 
     -- a full one
     own-full : (q : Request) → IsInPlan plan q → address_of q.op ≡ a → (w : ℕ) → held.state ≡ Full w
-        → (may_be_full (was_served q.number (bounds m.windows q.element)) q.op ≡ true)
-        × (is_planned_value w (planned_value a plan) ≡ true)
+        → (may_be_full (is_done m q) q.op ≡ true) × (is_planned_value w (planned_value a plan) ≡ true)
     own-full q q_in same w state =
-        let s = was_served q.number (bounds m.windows q.element) in
-        let both = cond-both (may_be_full s q.op) (is_planned_value w (planned_value (address_of q.op) plan))
-        (sym (ap (λ st. tag_fits plan q s (waiters_at m.cells a) (presence_of st)) state)
-        ∙ own-tag q q_in a same held at kind) in
+        let both = cond-both (may_be_full (is_done m q) q.op)
+        (is_planned_value w (planned_value (address_of q.op) plan))
+        (sym (ap (λ st. tag_fits m plan q (presence_of st)) state) ∙ own-tag q q_in a same held at kind) in
         (both.0, subst (λ b. is_planned_value w (planned_value b plan) ≡ true) same both.1)
 
     value-of : (w : ℕ) (o : Option ℕ) → is_planned_value w o ≡ true → o ≡ Some w
@@ -408,13 +377,11 @@ module _ (m : Contents) (plan : List Request) (is : IsPlan plan)
         (value-of w (planned_value a plan) (own-full r r_in same w state).1) in
         let full = (own-full s.request s.in_plan (ap address_of s.op) w state).0 in
         StoredBy s.request w s.in_plan s.op
-        (served-taken m s.request (sym (ap (may_be_full (was_served s.request.number
-        (bounds m.windows s.request.element))) s.op) ∙ full)) refl
+        (served-taken m s.request (sym (ap (may_be_full (is_done m s.request)) s.op) ∙ full)) refl
     cell-of r r_in same (Clashed w) state = absurd (false_true
-        (sym (ap (λ st. tag_fits plan r (was_served r.number (bounds m.windows r.element)) (waiters_at m.cells a)
-        (presence_of st)) state) ∙ own-tag r r_in a same held at kind))
+        (sym (ap (λ st. tag_fits m plan r (presence_of st)) state) ∙ own-tag r r_in a same held at kind))
 
-  goes-under_way : IsUnderWay m plan
+  goes-under_way : IsPlanUnderWay m plan
   goes-under_way = record {
     element = λ r r_in. (each r r_in).element;
     number = λ r r_in. (each r r_in).number;
@@ -425,21 +392,18 @@ module _ (m : Contents) (plan : List Request) (is : IsPlan plan)
 
 -- ---- where the plan is under way, each goes on
 
-module _ (m : Contents) (plan : List Request) (is : IsPlan plan) (u : IsUnderWay m plan) (r : Request)
+module _ (m : Contents) (plan : List Request) (is : IsPlan plan) (u : IsPlanUnderWay m plan) (r : Request)
     (r_in : IsInPlan plan r) where
-  abbrev own : Bool
-  own = was_served r.number (bounds m.windows r.element)
-
-  empty-may : IsUnstored plan m.windows (address_of r.op) → may_be_empty own r.op ≡ true
+  empty-may : IsUnstored plan m.windows (address_of r.op) → may_be_empty (is_done m r) r.op ≡ true
   empty-may none = by_op r.op refl none
     where
-      not_taken : (a v : ℕ) → r.op ≡ Store a v → IsUnstored plan m.windows a → (s : Bool) → own ≡ s
+      not_taken : (a v : ℕ) → r.op ≡ Store a v → IsUnstored plan m.windows a → (s : Bool) → is_done m r ≡ s
           → may_be_empty s (Store a v) ≡ true
       not_taken a v op none true s = absurd (none r v r_in op (served-taken m r s))
       not_taken a v op none false s = refl
 
-      by_op : (op : Op) → r.op ≡ op → IsUnstored plan m.windows (address_of op) → may_be_empty own op ≡ true
-      by_op (Store a v) e none = not_taken a v e none own refl
+      by_op : (op : Op) → r.op ≡ op → IsUnstored plan m.windows (address_of op) → may_be_empty (is_done m r) op ≡ true
+      by_op (Store a v) e none = not_taken a v e none (is_done m r) refl
       by_op (Fetch a) e none = refl
       by_op (Alloc kind n) e none = refl
       by_op (Release a) e none = refl
@@ -448,10 +412,10 @@ module _ (m : Contents) (plan : List Request) (is : IsPlan plan) (u : IsUnderWay
       by_op (Put a v) e none = refl
 
   full-may : (q : Request) (v : ℕ) → IsInPlan plan q → q.op ≡ Store (address_of r.op) v → IsTaken m.windows (asker q)
-      → may_be_full own r.op ≡ true
+      → may_be_full (is_done m r) r.op ≡ true
   full-may q v q_in op t = by_op r.op refl op
     where
-      by_op : (o : Op) → r.op ≡ o → q.op ≡ Store (address_of o) v → may_be_full own o ≡ true
+      by_op : (o : Op) → r.op ≡ o → q.op ≡ Store (address_of o) v → may_be_full (is_done m r) o ≡ true
       by_op (Store a w) e op = taken-served m r
           (subst (λ q. IsTaken m.windows (asker q)) (same_store plan is q r a v w q_in r_in op e) t)
       by_op (Fetch a) e op = refl
@@ -472,17 +436,16 @@ module _ (m : Contents) (plan : List Request) (is : IsPlan plan) (u : IsUnderWay
       by_test false = refl
 
   tag-may : (held : Held) → held_at m.cells (address_of r.op) ≡ Some held
-      → IsCellOf plan m.windows (address_of r.op) held.state
-      → tag_fits plan r own (waiters_at m.cells (address_of r.op)) (presence_of held.state) ≡ true
+      → IsCellOf plan m.windows (address_of r.op) held.state → tag_fits m plan r (presence_of held.state) ≡ true
   tag-may held at (ToStore ws state all none) =
       let waiters : waiters_at m.cells (address_of r.op) ≡ ws = ap waiters_in at ∙ ap waiters_of state in
-      ap (λ st. tag_fits plan r own (waiters_at m.cells (address_of r.op)) (presence_of st)) state
-      ∙ empty-tag plan r own (waiters_at m.cells (address_of r.op)) ws
-      ∙ ap (empty_fits plan r own) waiters
-      ∙ both-cond (may_be_empty own r.op) _ (empty-may none) (first-may (address_of r.op) ws all)
+      ap (λ st. tag_fits m plan r (presence_of st)) state ∙ empty-tag m plan r ws
+      ∙ both-cond (may_be_empty (is_done m r) r.op) _ (empty-may none)
+      (subst (λ ws. first_fits plan (address_of r.op) (asker r) ws (slice_get ws 0) ≡ true) (sym waiters)
+      (first-may (address_of r.op) ws all))
   tag-may held at (StoredBy q v q_in op t state) =
-      ap (λ st. tag_fits plan r own (waiters_at m.cells (address_of r.op)) (presence_of st)) state
-      ∙ both-cond (may_be_full own r.op) _ (full-may q v q_in op t)
+      ap (λ st. tag_fits m plan r (presence_of st)) state
+      ∙ both-cond (may_be_full (is_done m r) r.op) _ (full-may q v q_in op t)
       (ap (is_planned_value v) (planned_value-store plan is q (address_of r.op) v q_in op) ∙ test-self v)
 
   under_way-goes : Goes m plan r
@@ -494,18 +457,16 @@ module _ (m : Contents) (plan : List Request) (is : IsPlan plan) (u : IsUnderWay
   }
     where
       by_kind : (held : Held) → held_at m.cells (address_of r.op) ≡ Some held → (k : Kind) → held.block.kind ≡ k
-          → cond (same_kind I k)
-          (tag_fits plan r own (waiters_at m.cells (address_of r.op)) (presence_of held.state)) true ≡ true
+          → cond (same_kind I k) (tag_fits m plan r (presence_of held.state)) true ≡ true
       by_kind held at I kind = tag-may held at (u.cell r held r_in at kind)
       by_kind held at M kind = refl
 
-      by_held : (o : Option Held) → held_at m.cells (address_of r.op) ≡ o
-          → held_fits plan r own (waiters_at m.cells (address_of r.op)) o ≡ true
+      by_held : (o : Option Held) → held_at m.cells (address_of r.op) ≡ o → held_fits m plan r o ≡ true
       by_held None at = refl
       by_held (Some held) at = by_kind held at held.block.kind refl
 
 pub plan_goes_on : (m : Contents) (plan : List Request) → IsPlan plan
-    → IsTrue (all_go_on m plan plan) ↔ IsUnderWay m plan
+    → IsTrue (all_go_on m plan plan) ↔ IsPlanUnderWay m plan
 plan_goes_on m plan is = (
   λ e. goes-under_way m plan is (λ r r_in. request-goes m plan r (is.planned r_in.0 r r_in.1)
       (all-is m plan plan e r_in.0 r r_in.1)),

@@ -37,21 +37,28 @@ abbrev pub was_served : ℕ → Result (ℕ × ℕ) Refusal → Bool
 was_served number (Ok bounds) = nat_lt number bounds.1
 was_served number (Err refusal) = false
 
+-- the request's number was used
+abbrev pub is_done : Contents → Request → Bool
+is_done m r = was_served r.number (bounds m.windows r.element)
+
 -- ---- what is kept
 
--- some replies
+-- the reply to an operation on a cell in no block
 abbrev pub is_no_cell : Reply → Bool
 is_no_cell NoCell = true
 is_no_cell reply = false
 
+-- the reply to an operation on an M cell
 abbrev pub is_wrong_kind : Reply → Bool
 is_wrong_kind WrongKind = true
 is_wrong_kind reply = false
 
+-- the reply to a store
 abbrev pub is_stored_reply : Reply → Bool
 is_stored_reply Stored = true
 is_stored_reply reply = false
 
+-- the reply that has this value
 abbrev pub is_value : Option ℕ → Reply → Bool
 is_value None reply = false
 is_value (Some v) (Value w) = v == w
@@ -111,41 +118,44 @@ abbrev pub is_planned_value : ℕ → Option ℕ → Bool
 is_planned_value w None = false
 is_planned_value w (Some v) = v == w
 
--- an I cell that a request of the plan names, if it is empty and these wait for it
-abbrev pub empty_fits : List Request → Request → Bool → List Waiter → Bool
-empty_fits plan r served waiters =
-    if may_be_empty served r.op then first_fits plan (address_of r.op) (asker r) waiters (slice_get waiters 0) else false
+-- an I cell that a request of the plan names, if it is empty: with those who wait for it
+abbrev pub empty_fits : Contents → List Request → Request → Bool
+empty_fits m plan r =
+    let waiters = waiters_at m.cells (address_of r.op) in
+    if may_be_empty (is_done m r) r.op then first_fits plan (address_of r.op) (asker r) waiters (slice_get waiters 0)
+    else false
 
 -- the same, if it is full with this value
-abbrev pub full_fits : List Request → Request → Bool → ℕ → Bool
-full_fits plan r served w =
-    if may_be_full served r.op then is_planned_value w (planned_value (address_of r.op) plan) else false
+abbrev pub full_fits : Contents → List Request → Request → ℕ → Bool
+full_fits m plan r w =
+    if may_be_full (is_done m r) r.op then is_planned_value w (planned_value (address_of r.op) plan) else false
 
 -- the same, by its presence tag
-abbrev pub tag_fits : List Request → Request → Bool → List Waiter → Cell → Bool
-tag_fits plan r served waiters IsEmpty = empty_fits plan r served waiters
-tag_fits plan r served waiters IsWaiting = empty_fits plan r served waiters
-tag_fits plan r served waiters (IsFull w) = full_fits plan r served w
-tag_fits plan r served waiters (IsClashed w) = false
+abbrev pub tag_fits : Contents → List Request → Request → Cell → Bool
+tag_fits m plan r IsEmpty = empty_fits m plan r
+tag_fits m plan r IsWaiting = empty_fits m plan r
+tag_fits m plan r (IsFull w) = full_fits m plan r w
+tag_fits m plan r (IsClashed w) = false
 
 -- a cell that a request of the plan names, if it is an I cell
-abbrev pub held_fits : List Request → Request → Bool → List Waiter → Option Held → Bool
-held_fits plan r served waiters None = true
-held_fits plan r served waiters (Some held) =
-    if same_kind I held.block.kind then tag_fits plan r served waiters (presence_of held.state) else true
+abbrev pub held_fits : Contents → List Request → Request → Option Held → Bool
+held_fits m plan r None = true
+held_fits m plan r (Some held) =
+    if same_kind I held.block.kind then tag_fits m plan r (presence_of held.state) else true
 
 -- ---- requests
+
+-- what is kept for a request of a plan
+abbrev pub entry_fits : Contents → List Request → Request → Bool
+entry_fits m plan r =
+    let a = address_of r.op in
+    kept_fits r.op (planned_value a plan) (held_at m.cells a) (kept_for m.windows (asker r))
 
 -- a request of a plan
 abbrev pub goes_on : Contents → List Request → Request → Bool
 goes_on m plan r =
-    let a = address_of r.op in
-    let are = bounds m.windows r.element in
-    let held = held_at m.cells a in
-    if number_may_be r.number are
-    then (if kept_fits r.op (planned_value a plan) held (kept_for m.windows (asker r))
-    then held_fits plan r (was_served r.number are) (waiters_at m.cells a) held
-    else false)
+    if number_may_be r.number (bounds m.windows r.element)
+    then (if entry_fits m plan r then held_fits m plan r (held_at m.cells (address_of r.op)) else false)
     else false
 
 -- these requests of a plan

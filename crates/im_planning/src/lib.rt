@@ -5,6 +5,7 @@
 mod fitting;
 mod plan;
 mod progress;
+mod states;
 
 pub use fitting::fits;
 pub use plan::Plan;

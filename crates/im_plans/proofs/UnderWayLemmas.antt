@@ -1,5 +1,6 @@
 -- A plan that is under way: from its beginning, and all through its runs.
-use Rattle.std.proofs.Common.{◌≡◌, ◌⊎◌, inl, inr, ℕ, ◌<◌, ◌≤◌, List, [], ◌∷◌, Some, None, true, refl, sym, ap, ◌∙◌, subst}
+use Rattle.std.proofs.Common.{◌≡◌, ◌⊎◌, inl, inr, ℕ, ◌<◌, ◌≤◌, List, [], ◌∷◌, Some, None, true, refl, sym, ap, ◌∙◌}
+use Rattle.std.proofs.Common.{subst}
 use Rattle.std.proofs.Common.{arith}
 use Rattle.std.specs.Prelude.{Option, ◌↔◌, slice_get, is_some}
 use Rattle.std.specs.List.{AllByRecursion}
@@ -27,10 +28,10 @@ use Rattle.im_laws.proofs.ForgetLemmas.{after-no_less}
 use Rattle.im_laws.proofs.MemoryLemmas.{bounds-window}
 use Rattle.im_laws.proofs.WaiterLemmas.{waiting-WaitsAt, listed-WaitsAt, WaitsAt-listed}
 use Rattle.im_plans.specs.Runs.{IsInPlan, IsPlannedRun, IsResultOrWaits, IsTaken}
-use Rattle.im_plans.specs.UnderWay.{fetch_by, IsCellOf, ToStore, StoredBy, IsUnderWay, IsUnserved, GoesOn}
+use Rattle.im_plans.specs.UnderWay.{fetch_by, IsCellOf, ToStore, StoredBy, IsPlanUnderWay, IsPlanUnserved, PlanGoesOn}
 use Rattle.im_plans.proofs.PlanLemmas.{in_block-same}
 use Rattle.im_plans.proofs.Taken.{kept-taken}
-use Rattle.im_plans.proofs.Invariant.{CellIs, Unstored, StoredBy as WasStored, IsUnderPlan}
+use Rattle.im_plans.proofs.Invariant.{untaken, CellIs, Unstored, StoredBy as WasStored, IsUnderPlan}
 use Rattle.im_plans.proofs.PlannedRuns.{end-under_plan}
 use Rattle.im_plans.proofs.Waiters.{first-listed, all-times, times-all, waiting_at}
 use Rattle.im_plans.proofs.Waiters.{AreAlone, end-alone}
@@ -72,11 +73,7 @@ there-after m (line ∷ trace) element some = there-after (contents_after m line
 
 -- ---- the two forms of what holds under a plan
 
-kind-of_fetch : (kind : Kind) (a : ℕ) → awaiting kind a ≡ Fetch a → kind ≡ I
-kind-of_fetch I a e = refl
-kind-of_fetch M a e = absurd (cc)
-
-pub goes-under : (m : Contents) (plan : List Request) → GoesOn m plan → IsUnderPlan plan m m
+pub goes-under : (m : Contents) (plan : List Request) → PlanGoesOn m plan → IsUnderPlan plan m m
 goes-under m plan g = record {
   agrees = g.agrees;
   same = λ a. refl;
@@ -91,16 +88,21 @@ goes-under m plan g = record {
     by_cell a state (ToStore waiters e all none) = Unstored waiters e none
     by_cell a state (StoredBy r v in_plan op t full) = WasStored r v in_plan op t full
 
-pub goes-alone : (m : Contents) (plan : List Request) → GoesOn m plan → AreAlone plan m
+pub goes-alone : (m : Contents) (plan : List Request) → PlanGoesOn m plan → AreAlone plan m
 goes-alone m plan g = record {
   fetches = λ r in_plan who is.
       let w = waiting-WaitsAt m g.agrees who (waiting_at (address_of r.op)) is refl in
-      let kind = kind-of_fetch w.held.block.kind (address_of r.op)
-      (ap (λ (k : Kept). k.op) (same_Some _ _ (sym w.waits ∙ is))) in
-      let some = subst (λ o. 1 ≤ times who (waiters_in o)) w.there (WaitsAt-listed m g.agrees who (address_of r.op) w) in
+      let kind = of_fetch w.held.block.kind (address_of r.op) (same_Some _ _ (sym w.waits ∙ is)) in
+      let some = subst (λ o. 1 ≤ times who (waiters_in o)) w.there
+      (WaitsAt-listed m g.agrees who (address_of r.op) w) in
       by_cell (address_of r.op) who w.held.state (g.under_way.cell r w.held in_plan w.there kind) some;
 }
   where
+    of_fetch : (kind : Kind) (a : ℕ) → ◌≡◌ {A = Kept} (record { op = awaiting kind a; entry = Waiting }) (waiting_at a)
+        → kind ≡ I
+    of_fetch I a e = refl
+    of_fetch M a e = let op : Take a ≡ Fetch a = ap (λ (k : Kept). k.op) e in absurd (cc)
+
     by_state : (a : ℕ) (who : Waiter) (waiters : List Waiter)
         → AllByRecursion (λ who. IsInPlan plan (fetch_by a who)) waiters → 1 ≤ times who (waiters_of (Empty waiters))
         → IsInPlan plan (fetch_by a who)
@@ -141,8 +143,8 @@ cell-of start m plan under alone r held in_plan at kind = by_cell held.state ref
 
 -- ---- a planned run
 
-pub goes-on : (m : Contents) (plan : List Request) (trace : List Line) → GoesOn m plan → IsPlannedRun plan trace
-    → GoesOn (end_of m trace) plan
+pub goes-on : (m : Contents) (plan : List Request) (trace : List Line) → PlanGoesOn m plan → IsPlannedRun plan trace
+    → PlanGoesOn (end_of m trace) plan
 goes-on m plan trace g planned =
     let under = end-under_plan plan g.is_plan m m trace planned (goes-under m plan g) in
     let alone = end-alone plan m trace planned g.agrees (goes-alone m plan g) in
@@ -159,33 +161,26 @@ goes-on m plan trace g planned =
       };
     }
 
-pub result-stays : (m : Contents) (plan : List Request) (trace : List Line) (op : Op) → GoesOn m plan
+pub result-stays : (m : Contents) (plan : List Request) (trace : List Line) (op : Op) → PlanGoesOn m plan
     → IsPlannedRun plan trace → result_of (end_of m trace).cells plan op ≡ result_of m.cells plan op
 result-stays m plan trace op g planned = result-same (end_of m trace) m plan
     (end-under_plan plan g.is_plan m m trace planned (goes-under m plan g)).same op
 
 -- ---- the beginning
 
-fits-untaken : (m : Contents) (plan : List Request) → FitsPlan m plan → (r : Request) → IsInPlan plan r
-    → IsTaken m.windows (asker r) → ⊥
-fits-untaken m plan fits r in_plan t =
-    let number = (fits.number in_plan.0 r t.window in_plan.1 t.there).0 in
-    let below = t.below in
-    absurd (omega arith)
-
-pub fits-under_way : (m : Contents) (plan : List Request) → FitsPlan m plan → IsUnderWay m plan
+pub fits-under_way : (m : Contents) (plan : List Request) → FitsPlan m plan → IsPlanUnderWay m plan
 fits-under_way m plan fits = record {
   element = λ r in_plan. fits.element in_plan.0 r in_plan.1;
   number = λ r in_plan.
       let w = some-window (slice_get m.windows r.element) (fits.element in_plan.0 r in_plan.1) in
       (fits.number in_plan.0 r w.0 in_plan.1 w.1).1;
-  op = λ r k in_plan is. absurd (fits-untaken m plan fits r in_plan (kept-taken m.windows (asker r) k is));
-  result = λ r k in_plan is. absurd (fits-untaken m plan fits r in_plan (kept-taken m.windows (asker r) k is));
+  op = λ r k in_plan is. absurd (untaken m plan fits r in_plan (kept-taken m.windows (asker r) k is));
+  result = λ r k in_plan is. absurd (untaken m plan fits r in_plan (kept-taken m.windows (asker r) k is));
   cell = λ r held in_plan at kind. ToStore [] (fits.empty in_plan.0 r held in_plan.1 at kind) tt
-      (λ q v q_in op t. fits-untaken m plan fits q q_in t);
+      (λ q v q_in op t. untaken m plan fits q q_in t);
 }
 
-pub under_way-fits : (m : Contents) (plan : List Request) → WaitingAgrees m → IsUnderWay m plan
+pub under_way-fits : (m : Contents) (plan : List Request) → WaitingAgrees m → IsPlanUnderWay m plan
     → ((r : Request) → IsInPlan plan r → IsTaken m.windows (asker r) → ⊥) → FitsPlan m plan
 under_way-fits m plan agrees u none = record {
   element = λ i r at. u.element r (i, at);
@@ -217,8 +212,8 @@ under_way-fits m plan agrees u none = record {
     by_cell a held at state s (StoredBy r v in_plan op t full) = absurd (none r in_plan t)
 
 pub fits-begins : (m : Contents) (plan : List Request) → WaitingAgrees m
-    → FitsPlan m plan ↔ (IsUnderWay m plan × IsUnserved m.windows plan)
+    → FitsPlan m plan ↔ (IsPlanUnderWay m plan × IsPlanUnserved m.windows plan)
 fits-begins m plan agrees = (
-  λ fits. (fits-under_way m plan fits, fits-untaken m plan fits),
+  λ fits. (fits-under_way m plan fits, untaken m plan fits),
   λ h. under_way-fits m plan agrees h.0 h.1,
 )

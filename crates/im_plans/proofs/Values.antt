@@ -29,7 +29,8 @@ use Rattle.im_types.specs.Plan.{planned_value, is_planned, IsPlan}
 use Rattle.im_laws.proofs.AgreementLemmas.{held_at-set, held_at-within}
 use Rattle.im_laws.proofs.JudgeLemmas.{confirm-cells}
 use Rattle.im_plans.specs.Runs.{IsInPlan, IsPlannedCall, IsPlannedRun, HasServed}
-use Rattle.im_plans.specs.UnderWay.{IsCellOf, ToStore, StoredBy, GoesOn, end_of_runs, AreRunsOf, value_in_end}
+use Rattle.im_plans.specs.UnderWay.{IsCellOf, ToStore, StoredBy, PlanGoesOn, Traces, end_of_runs, AreRunsOf}
+use Rattle.im_plans.specs.UnderWay.{HaveServed, value_in_end}
 use Rattle.im_plans.proofs.PlanLemmas.{planned_value-store, IsStored, planned_value-stored}
 use Rattle.im_plans.proofs.PlannedRuns.{end-under_plan}
 use Rattle.im_plans.proofs.UnderWayLemmas.{goes-under}
@@ -53,17 +54,16 @@ module _ (f : CellState → Served) (cells : List (Option Held)) (a : ℕ) where
       by_held None at = refl
       by_held (Some held) at = by_kind held at held.block.kind
 
-  at-full : ((s : CellState) → full_value I (f s).state ≡ full_value I s) → (b : ℕ)
+  at-full : ((k : Kind) (s : CellState) → full_value k (f s).state ≡ full_value k s) → (b : ℕ)
       → full_in (held_at (at_cell I f cells a (held_at cells a)).cells b) ≡ full_in (held_at cells b)
   at-full keeps b = by_held (held_at cells a) refl
     where
-      by_kind : (held : Held) → held_at cells a ≡ Some held → (kind : Kind) → held.block.kind ≡ kind
+      by_kind : (held : Held) → held_at cells a ≡ Some held → (kind : Kind)
           → full_in (held_at (cond (same_kind I kind) (serve_cell cells a held.block (f held.state))
           (only_tells cells WrongKind)).cells b) ≡ full_in (held_at cells b)
-      by_kind held at M is = refl
-      by_kind held at I is = ⊎_elim
-          (λ h. ap full_in h.1 ∙ ap (λ k. full_value k (f held.state).state) is ∙ keeps held.state
-          ∙ ap (λ k. full_value k held.state) (sym is)
+      by_kind held at M = refl
+      by_kind held at I = ⊎_elim
+          (λ h. ap full_in h.1 ∙ keeps held.block.kind held.state
           ∙ sym (ap full_in (ap (λ b. held_at cells b) h.0 ∙ at)))
           (λ h. ap full_in h.1)
           (held_at-set cells a b (Some (record { block = held.block; state = (f held.state).state }))
@@ -72,12 +72,13 @@ module _ (f : CellState → Served) (cells : List (Option Held)) (a : ℕ) where
       by_held : (o : Option Held) → held_at cells a ≡ o
           → full_in (held_at (at_cell I f cells a o).cells b) ≡ full_in (held_at cells b)
       by_held None at = refl
-      by_held (Some held) at = by_kind held at held.block.kind refl
+      by_held (Some held) at = by_kind held at held.block.kind
 
-fetch-full : (who : Waiter) (s : CellState) → full_value I (fetch who s).state ≡ full_value I s
-fetch-full who (Empty waiters) = refl
-fetch-full who (Full v) = refl
-fetch-full who (Clashed v) = refl
+fetch-full : (who : Waiter) (k : Kind) (s : CellState) → full_value k (fetch who s).state ≡ full_value k s
+fetch-full who I (Empty waiters) = refl
+fetch-full who M (Empty waiters) = refl
+fetch-full who k (Full v) = refl
+fetch-full who k (Clashed v) = refl
 
 -- ---- where the plan has no store, the value stays
 
@@ -121,7 +122,7 @@ module _ (plan : List Request) (is : IsPlan plan) (a : ℕ) (none : planned_valu
   run-full m (line ∷ trace) planned = run-full (contents_after m line.call) trace planned.1
       ∙ call-full m line.call planned.0
 
-  runs-full : (m : Contents) (runs : List (List Line)) → AreRunsOf plan m runs
+  runs-full : (m : Contents) (runs : Traces) → AreRunsOf plan m runs
       → full_at (end_of_runs m runs) a ≡ full_at m a
   runs-full m [] are = refl
   runs-full m (trace ∷ runs) are = runs-full (end_of m trace) runs (next-runs m plan trace runs are)
@@ -129,14 +130,14 @@ module _ (plan : List Request) (is : IsPlan plan) (a : ℕ) (none : planned_valu
 
 -- ---- the end
 
-runs-block : (m : Contents) (plan : List Request) (runs : List (List Line)) (a : ℕ) → AreRunsOf plan m runs
+runs-block : (m : Contents) (plan : List Request) (runs : Traces) (a : ℕ) → AreRunsOf plan m runs
     → block_at (end_of_runs m runs).cells a ≡ block_at m.cells a
 runs-block m plan [] a are = refl
 runs-block m plan (trace ∷ runs) a are = runs-block (end_of m trace) plan runs a (next-runs m plan trace runs are)
     ∙ (end-under_plan plan are.goes_on.is_plan m m trace are.planned.0 (goes-under m plan are.goes_on)).same a
 
 -- a cell that the plan stores to, once all is served
-stored-full : (e : Contents) (plan : List Request) (a v : ℕ) → GoesOn e plan → HasServed e.windows plan
+stored-full : (e : Contents) (plan : List Request) (a v : ℕ) → PlanGoesOn e plan → HasServed e.windows plan
     → planned_value a plan ≡ Some v → (held : Held) → held_at e.cells a ≡ Some held
     → full_value held.block.kind held.state ≡ full_value held.block.kind (Full v)
 stored-full e plan a v g served value held at = by_kind held.block.kind refl
@@ -157,10 +158,9 @@ stored-full e plan a v g served value held at = by_kind held.block.kind refl
     by_kind I is = by_cell I (subst (λ b. IsCellOf plan e.windows b held.state) (ap address_of s.op)
         (g.under_way.cell s.request held s.in_plan (ap (held_at e.cells) (ap address_of s.op) ∙ at) is))
 
-pub runs-value : (m : Contents) (plan : List Request) (runs : List (List Line)) (a : ℕ) → AreRunsOf plan m runs
-    → HasServed (end_of_runs m runs).windows plan
+pub runs-value : (m : Contents) (plan : List Request) (runs : Traces) (a : ℕ) → HaveServed m plan runs
     → full_at (end_of_runs m runs) a ≡ value_in_end (planned_value a plan) (held_at m.cells a)
-runs-value m plan runs a are served = by_value (planned_value a plan) refl
+runs-value m plan runs a h = by_value (planned_value a plan) refl
   where
     by_held : (v : ℕ) → planned_value a plan ≡ Some v → (now : Option Held)
         → held_at (end_of_runs m runs).cells a ≡ now → (was : Option Held)
@@ -170,11 +170,11 @@ runs-value m plan runs a are served = by_value (planned_value a plan) refl
     by_held v value None at (Some was) same = absurd (none-some was.block same)
     by_held v value (Some held) at None same = absurd (none-some held.block (sym same))
     by_held v value (Some held) at (Some was) same =
-        stored-full (end_of_runs m runs) plan a v (runs-go_on m plan runs are) served value held at
+        stored-full (end_of_runs m runs) plan a v (runs-go_on m plan runs h.are) h.served value held at
         ∙ ap (λ (block : Block). full_value block.kind (Full v)) (same_Some held.block was.block same)
 
     by_value : (o : Option ℕ) → planned_value a plan ≡ o
         → full_at (end_of_runs m runs) a ≡ value_in_end o (held_at m.cells a)
-    by_value None value = runs-full plan are.goes_on.is_plan a value m runs are
+    by_value None value = runs-full plan h.are.goes_on.is_plan a value m runs h.are
     by_value (Some v) value = by_held v value (held_at (end_of_runs m runs).cells a) refl (held_at m.cells a)
-        (runs-block m plan runs a are)
+        (runs-block m plan runs a h.are)

@@ -1,20 +1,22 @@
 -- Memories in which a part of a plan is done. (Own.)
-use Rattle.std.specs.Prelude.{◌≡◌, ◌≤◌, ℕ, List, [], ◌∷◌, true, Option, None, Some, slice_get, is_some}
+use Rattle.std.specs.Prelude.{◌≡◌, ◌≤◌, ℕ, List, [], ◌∷◌, true, Option, None, Some, Ok, slice_get, is_some}
 use Rattle.std.specs.List.{AllByRecursion}
 use Rattle.im_types.specs.declared.TheConstants.{LAST}
 use Rattle.im_types.specs.declared.operations.Op.TheVariants.{Fetch, Store}
 use Rattle.im_types.specs.declared.operations.Kind.TheVariants.{I}
+use Rattle.im_types.specs.declared.operations.Entry.{Entry}
 use Rattle.im_types.specs.declared.operations.Waiter.{Waiter}
 use Rattle.im_types.specs.declared.operations.Kept.{Kept}
 use Rattle.im_types.specs.declared.commands.Request.{Request}
 use Rattle.im_types.specs.declared.commands.Line.{Line}
 use Rattle.im_types.specs.Contents.{CellState, Empty, Full, Held, Window, Contents, held_at, kept_for}
 use Rattle.im_types.specs.Contents.{full_value, full_in}
+use Rattle.im_types.specs.Window.{ask}
 use Rattle.im_types.specs.Step.{asker}
 use Rattle.im_types.specs.Trace.{IsLegal, end_of}
 use Rattle.im_types.specs.Agreement.{address_of, WaitingAgrees}
 use Rattle.im_types.specs.Plan.{result_of, IsPlan}
-use Rattle.im_plans.specs.Runs.{IsInPlan, IsPlannedRun, IsResultOrWaits, IsTaken}
+use Rattle.im_plans.specs.Runs.{IsInPlan, IsPlannedRun, IsResultOrWaits, IsTaken, HasServed}
 
 -- a fetch of this address, under this number
 abbrev pub fetch_by : ℕ → Waiter → Request
@@ -36,7 +38,7 @@ pub data IsCellOf (plan : List Request) (windows : List Window) (a : ℕ) (state
 
 -- A part of the plan is done in the memory, or nothing, or all. What is kept under a number of the plan is its
 -- operation, with its result, if it is answered. Of a number below the base of its window nothing is kept.
-pub record IsUnderWay (m : Contents) (plan : List Request) : Type 0 where
+pub record IsPlanUnderWay (m : Contents) (plan : List Request) : Type 0 where
   pub element : (r : Request) → IsInPlan plan r → is_some (slice_get m.windows r.element) ≡ true
   pub number : (r : Request) → IsInPlan plan r → r.number ≤ LAST
   pub op : (r : Request) (k : Kept) → IsInPlan plan r → kept_for m.windows (asker r) ≡ Some k → k.op ≡ r.op
@@ -46,30 +48,47 @@ pub record IsUnderWay (m : Contents) (plan : List Request) : Type 0 where
       → held.block.kind ≡ I → IsCellOf plan m.windows (address_of r.op) held.state
 
 -- a memory, and a plan that is under way there
-pub record GoesOn (m : Contents) (plan : List Request) : Type 0 where
+pub record PlanGoesOn (m : Contents) (plan : List Request) : Type 0 where
   pub agrees : WaitingAgrees m
   pub is_plan : IsPlan plan
-  pub under_way : IsUnderWay m plan
+  pub under_way : IsPlanUnderWay m plan
 
--- the memory after several traces, each of which begins where the one before stopped
-abbrev pub end_of_runs : Contents → List (List Line) → Contents
+-- ---- runs that were stopped
+
+-- the traces of several runs
+abbrev pub Traces : Type 0
+Traces = List (List Line)
+
+-- the memory after several runs, each of which begins where the one before stopped
+abbrev pub end_of_runs : Contents → Traces → Contents
 end_of_runs m [] = m
 end_of_runs m (trace ∷ runs) = end_of_runs (end_of m trace) runs
 
--- each of them is legal from there
-abbrev pub AreLegal : Contents → List (List Line) → Type 0
+-- each of these traces is legal from there
+abbrev pub AreLegal : Contents → Traces → Type 0
 AreLegal m [] = Unit {0}
 AreLegal m (trace ∷ runs) = IsLegal m trace × AreLegal (end_of m trace) runs
 
 -- traces of planned calls, the first from a memory in which the plan is under way, and each from where the one before
 -- stopped
-pub record AreRunsOf (plan : List Request) (m : Contents) (runs : List (List Line)) : Type 0 where
-  pub goes_on : GoesOn m plan
+pub record AreRunsOf (plan : List Request) (m : Contents) (runs : Traces) : Type 0 where
+  pub goes_on : PlanGoesOn m plan
   pub planned : AllByRecursion (IsPlannedRun plan) runs
 
+-- after these runs this entry is kept for this request of the plan
+pub record IsKeptAfter (m : Contents) (plan : List Request) (runs : Traces) (r : Request) (entry : Entry) : Type 0 where
+  pub are : AreRunsOf plan m runs
+  pub in_plan : IsInPlan plan r
+  pub kept : ask (end_of_runs m runs).windows (asker r) ≡ Ok entry
+
+-- after these runs the whole plan was served
+pub record HaveServed (m : Contents) (plan : List Request) (runs : Traces) : Type 0 where
+  pub are : AreRunsOf plan m runs
+  pub served : HasServed (end_of_runs m runs).windows plan
+
 -- none of the plan was served yet
-abbrev pub IsUnserved : List Window → List Request → Type 0
-IsUnserved windows plan = (r : Request) → IsInPlan plan r → IsTaken windows (asker r) → ⊥
+abbrev pub IsPlanUnserved : List Window → List Request → Type 0
+IsPlanUnserved windows plan = (r : Request) → IsInPlan plan r → IsTaken windows (asker r) → ⊥
 
 -- the value of a full I cell in the end: that of the plan's store to it, or, without one, what it was before
 abbrev pub value_in_end : Option ℕ → Option Held → Option ℕ

@@ -1,6 +1,6 @@
 //! Laws of planned runs that were stopped and gone on with: runs of one plan, each from the memory where the one before
 //! stopped. Each function here does nothing, and its contract is a law.
-ghost use Rattle.std.specs.Prelude.{◌≡◌, ◌↔◌, ℕ, List, None, Ok};
+ghost use Rattle.std.specs.Prelude.{◌≡◌, ◌↔◌, ℕ, List, None};
 ghost use Rattle.std.specs.List.{AllByRecursion};
 ghost use Rattle.im_types.specs.declared.operations.Op.{Op};
 ghost use Rattle.im_types.specs.declared.operations.Entry.{Entry};
@@ -9,55 +9,47 @@ ghost use Rattle.im_types.specs.declared.commands.Request.{Request};
 ghost use Rattle.im_types.specs.declared.commands.Command.{Command};
 ghost use Rattle.im_types.specs.declared.commands.Call.{Call};
 ghost use Rattle.im_types.specs.declared.commands.Call.TheVariants.{Command as Commands};
-ghost use Rattle.im_types.specs.declared.commands.Line.{Line};
 ghost use Rattle.im_types.specs.Contents.{Contents, held_at, full_at};
-ghost use Rattle.im_types.specs.Window.{ask};
-ghost use Rattle.im_types.specs.Step.{asker};
 ghost use Rattle.im_types.specs.Run.{after};
 ghost use Rattle.im_types.specs.Trace.{contents_after};
 ghost use Rattle.im_types.specs.Agreement.{WaitingAgrees};
 ghost use Rattle.im_types.specs.Plan.{planned_value, result_of, FitsPlan};
-ghost use Rattle.im_plans.specs.Runs.{IsInPlan, IsPlannedCall, IsResultOrWaits, TellsResults, HasServed, entry_for};
-ghost use Rattle.im_plans.specs.UnderWay.{IsUnderWay, IsUnserved, GoesOn, AreRunsOf, AreLegal, end_of_runs};
-ghost use Rattle.im_plans.specs.UnderWay.{value_in_end};
+ghost use Rattle.im_plans.specs.Runs.{IsPlannedCall, IsResultOrWaits, TellsResults, entry_for};
+ghost use Rattle.im_plans.specs.UnderWay.{IsPlanUnderWay, IsPlanUnserved, PlanGoesOn, Traces, AreRunsOf, AreLegal};
+ghost use Rattle.im_plans.specs.UnderWay.{IsKeptAfter, HaveServed, end_of_runs, value_in_end};
 
-/// A plan that fits a memory is one that is under way there, with nothing of it served yet. It stays under way after each
-/// call of a planned run, so in each memory that a stop leaves, and over any number of runs. Its results stay as they
-/// are.
+/// A plan that fits a memory is one that is under way there, with nothing of it served yet. It stays under way after
+/// each call of a planned run, so in each memory that a stop leaves, and over any number of runs. Its results stay as
+/// they are.
 pub fn plan_stays_under_way()
     ensures begins { (m : Contents) (plan : List Request) → WaitingAgrees m
-        → FitsPlan m plan ↔ (IsUnderWay m plan × IsUnserved m.windows plan) }
-    ensures step { (m : Contents) (plan : List Request) (call : Call) → GoesOn m plan → IsPlannedCall plan call
-        → GoesOn (contents_after m call) plan }
-    ensures after { (m : Contents) (plan : List Request) (commands : List Command) → GoesOn m plan
-        → AllByRecursion (λ (c : Command). IsPlannedCall plan (Commands c)) commands → GoesOn (after m commands) plan }
-    ensures stays { (m : Contents) (plan : List Request) (runs : List (List Line)) → AreRunsOf plan m runs
-        → GoesOn (end_of_runs m runs) plan }
-    ensures results { (m : Contents) (plan : List Request) (runs : List (List Line)) (op : Op)
-        → AreRunsOf plan m runs
+        → FitsPlan m plan ↔ (IsPlanUnderWay m plan × IsPlanUnserved m.windows plan) }
+    ensures step { (m : Contents) (plan : List Request) (call : Call) → PlanGoesOn m plan → IsPlannedCall plan call
+        → PlanGoesOn (contents_after m call) plan }
+    ensures after { (m : Contents) (plan : List Request) (cs : List Command) → PlanGoesOn m plan
+        → AllByRecursion (λ (c : Command). IsPlannedCall plan (Commands c)) cs → PlanGoesOn (after m cs) plan }
+    ensures stays { (m : Contents) (plan : List Request) (runs : Traces) → AreRunsOf plan m runs
+        → PlanGoesOn (end_of_runs m runs) plan }
+    ensures results { (m : Contents) (plan : List Request) (runs : Traces) (op : Op) → AreRunsOf plan m runs
         → result_of (end_of_runs m runs).cells plan op ≡ result_of m.cells plan op }
 {}
 
 /// Each answer to a planned request is the request's result by the plan, whatever was done before and however often the
 /// runs were stopped. So is each answer that is kept at the end. A fetch that has no result stays waiting.
 pub fn stopped_runs_tell_results()
-    ensures told { (m : Contents) (plan : List Request) (runs : List (List Line)) → AreRunsOf plan m runs
-        → AreLegal m runs → AllByRecursion (AllByRecursion (TellsResults m plan)) runs }
-    ensures kept { (m : Contents) (plan : List Request) (runs : List (List Line)) (r : Request) (entry : Entry)
-        → AreRunsOf plan m runs → IsInPlan plan r → ask (end_of_runs m runs).windows (asker r) ≡ Ok entry
-        → IsResultOrWaits (result_of m.cells plan r.op) entry }
-    ensures waits { (m : Contents) (plan : List Request) (runs : List (List Line)) (r : Request) (entry : Entry)
-        → AreRunsOf plan m runs → IsInPlan plan r → result_of m.cells plan r.op ≡ None
-        → ask (end_of_runs m runs).windows (asker r) ≡ Ok entry → entry ≡ Waiting }
+    ensures told { (m : Contents) (plan : List Request) (runs : Traces) → AreRunsOf plan m runs → AreLegal m runs
+        → AllByRecursion (AllByRecursion (TellsResults m plan)) runs }
+    ensures kept { (m : Contents) (plan : List Request) (runs : Traces) (r : Request) (entry : Entry)
+        → IsKeptAfter m plan runs r entry → IsResultOrWaits (result_of m.cells plan r.op) entry }
+    ensures waits { (m : Contents) (plan : List Request) (runs : Traces) (r : Request) (entry : Entry)
+        → IsKeptAfter m plan runs r entry → result_of m.cells plan r.op ≡ None → entry ≡ Waiting }
 {}
 
 /// Once the whole plan is served, the plan and the memory at the start alone give the entry that is kept for each of
 /// its requests, and the value of each full I cell. So a plan has one end, wherever its runs were stopped.
 pub fn stopped_plan_has_one_end()
-    ensures entries { (m : Contents) (plan : List Request) (runs : List (List Line)) (r : Request) (entry : Entry)
-        → AreRunsOf plan m runs → HasServed (end_of_runs m runs).windows plan → IsInPlan plan r
-        → ask (end_of_runs m runs).windows (asker r) ≡ Ok entry → entry ≡ entry_for (result_of m.cells plan r.op) }
-    ensures cells { (m : Contents) (plan : List Request) (runs : List (List Line)) (a : ℕ) → AreRunsOf plan m runs
-        → HasServed (end_of_runs m runs).windows plan
+    ensures entries { (m : Contents) (plan : List Request) (runs : Traces) (r : Request) (entry : Entry)
+        → HaveServed m plan runs → IsKeptAfter m plan runs r entry → entry ≡ entry_for (result_of m.cells plan r.op) }
+    ensures cells { (m : Contents) (plan : List Request) (runs : Traces) (a : ℕ) → HaveServed m plan runs
         → full_at (end_of_runs m runs) a ≡ value_in_end (planned_value a plan) (held_at m.cells a) }
 {}

@@ -1,7 +1,8 @@
 use Rattle.std.proofs.Common.{◌≡◌}
 use Rattle.im_types.specs.Contents.{waiters_at}
 use Rattle.im_planning.specs.Progress.{all_fetch}
-use Rattle.im_planning.proofs.progress.do_fetch.Given as goal
+use Rattle.im_planning.proofs.states.do_fetch.Given as goal
 
 abbrev pub invariant-loop-waiter : goal.invariant-loop-waiter
-invariant-loop-waiter l = all_fetch l.plan l.a l.waiter-iterator ≡ all_fetch l.plan l.a (waiters_at l.memory.contents.cells l.a)
+invariant-loop-waiter l =
+    all_fetch l.plan l.a l.waiter-iterator ≡ all_fetch l.plan l.a (waiters_at l.memory.contents.cells l.a)

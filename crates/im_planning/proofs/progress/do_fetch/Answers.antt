@@ -1,6 +1,0 @@
-use Rattle.std.proofs.Common.{◌∙◌, ap}
-use Rattle.im_planning.specs.Progress.{all_fetch}
-use Rattle.im_planning.proofs.progress.do_fetch.Goals as goal
-
-pub loop-waiter-init : goal.loop-waiter-init
-loop-waiter-init c = ap (all_fetch c.args.plan.now c.args.a) (c.into_iter-waiter-iterator.ensures.into_iter_gives ∙ c.waiters-waiter-items.ensures)
