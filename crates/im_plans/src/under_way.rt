@@ -14,7 +14,7 @@ ghost use Rattle.im_types.specs.Run.{after};
 ghost use Rattle.im_types.specs.Trace.{contents_after};
 ghost use Rattle.im_types.specs.Agreement.{WaitingAgrees};
 ghost use Rattle.im_types.specs.Plan.{planned_value, result_of, FitsPlan};
-ghost use Rattle.im_plans.specs.Runs.{IsPlannedCall, IsResultOrWaits, TellsResults, entry_for};
+ghost use Rattle.im_plans.specs.Runs.{IsPlannedCall, IsResultOrWaits, TellsResults, end_entry};
 ghost use Rattle.im_plans.specs.UnderWay.{IsPlanUnderWay, IsPlanUnserved, PlanGoesOn, Traces, AreRunsOf, AreLegal};
 ghost use Rattle.im_plans.specs.UnderWay.{IsKeptAfter, HaveServed, end_of_runs, value_in_end};
 
@@ -49,7 +49,7 @@ pub fn stopped_runs_tell_results()
 /// its requests, and the value of each full I cell. So a plan has one end, wherever its runs were stopped.
 pub fn stopped_plan_has_one_end()
     ensures entries { (m : Contents) (plan : List Request) (runs : Traces) (r : Request) (entry : Entry)
-        → HaveServed m plan runs → IsKeptAfter m plan runs r entry → entry ≡ entry_for (result_of m.cells plan r.op) }
+        → HaveServed m plan runs → IsKeptAfter m plan runs r entry → entry ≡ end_entry m plan r }
     ensures cells { (m : Contents) (plan : List Request) (runs : Traces) (a : ℕ) → HaveServed m plan runs
         → full_at (end_of_runs m runs) a ≡ value_in_end (planned_value a plan) (held_at m.cells a) }
 {}
