@@ -28,7 +28,7 @@ use Rattle.im_types.specs.Step.{asker}
 use Rattle.im_types.specs.Agreement.{same_waiter, address_of}
 use Rattle.im_types.specs.Plan.{planned_value, fetched, in_block, result_of, is_planned, IsPlan}
 use Rattle.im_types.proofs.Tests.{false_true}
-use Rattle.im_laws.proofs.Tests.{true_false, test-self, eq_by_test}
+use Rattle.im_laws.proofs.Tests.{test-self, eq_by_test}
 use Rattle.im_laws.proofs.OpLemmas.{same_op-self, same_op-equal}
 use Rattle.im_laws.proofs.AgreementLemmas.{same_waiter-self}
 use Rattle.im_plans.specs.Runs.{IsInPlan, IsResultOrWaits, IsTaken}
