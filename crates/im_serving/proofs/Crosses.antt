@@ -11,14 +11,16 @@ use Rattle.im_engine.specs.contracts.engine.Engine as Engine
 use Rattle.im_trace.specs.contracts.books.Books as Books
 use Rattle.im_trace.specs.contracts.log.Unclaimed as Unclaimed
 use Rattle.im_trace.specs.contracts.traced.Traced as Traced
+use Rattle.im_trace.specs.contracts.chain.Chain as Chain
 use Rattle.im_trace.specs.contracts.chain.Prefix as Prefix
+use Rattle.im_trace.specs.contracts.record.Record as Record
 use Rattle.im_trace.specs.contracts.log.Log as Log
 use Rattle.im_queue.specs.contracts.servers.Servers as Servers
 use Rattle.im_trace.specs.contracts.books.Reserve as Reserve
 use Rattle.im_trace.specs.contracts.books.Tally as Tally
 use Rattle.im_controller.specs.contracts.ports.Port as Port
 use Rattle.logbook.proofs.tokens.Seen.TheSendSync.{the_send as seen_send}
-use Rattle.im_trace.proofs.chain.Chain.TheSendSync.{the_send as chain_send}
+use Rattle.logbook.proofs.tokens.Pen.TheSendSync.{the_send as pen_send}
 use Rattle.im_glass.proofs.pane.Pane.TheSendSync.{the_send as pane_send}
 use Rattle.im_planning.proofs.plan.Plan.TheSendSync.{the_send as plan_send}
 use Rattle.im_controller.specs.contracts.shared.Shared as Shared
@@ -58,9 +60,15 @@ module _ (K : RattleType) (n : name.Ghosts K.Denot) where
   pub Books-send : IsSend (Books.the_field K n).row
   Books-send = search (sendable, crosses, book_send) depth 40 fits 30000
 
+  pub Chain-send : IsSend (Chain.the_field K n).row
+  Chain-send = search (sendable, crosses, seen_send, pen_send) depth 40 fits 30000
+
+  pub Record-send : IsSend (Record.the_field K n).row
+  Record-send = let c = Chain-send in let t = Traced-send in search (sendable, crosses) depth 40 fits 30000
+
   pub Log-send : IsSend (Log.the_field K n).row
-  Log-send = let b = Books-send in let u = Unclaimed-send in let t = Traced-send in search
-      (sendable, crosses, chain_send) depth 40 fits 30000
+  Log-send = let b = Books-send in let u = Unclaimed-send in let r = Record-send in search
+      (sendable, crosses) depth 40 fits 30000
 
   pub Reserve-send : IsSend (Reserve.the_field K n).row
   Reserve-send = search (sendable, crosses, share_send) depth 40 fits 30000
