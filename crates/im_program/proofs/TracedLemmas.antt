@@ -1,7 +1,8 @@
 -- What a sieve tells of a trace. (Own.)
-use Rattle.std.proofs.Common.{◌≡◌, ◌∙◌, ℕ, Bool, true, List, [], ◌++◌, length, refl, ap, subst, take}
+use Rattle.std.proofs.Common.{◌≡◌, ◌∙◌, ℕ, Bool, true, List, [], ◌++◌, length, refl, sym, ap, subst, take}
 use Rattle.std.specs.Prelude.{codes, decimal, OnOk, IsOk, Option, None, Some, Result, Ok, Err, slice_get}
 use Rattle.std.specs.Io.KnownBytes.{Appends}
+use Rattle.std.proofs.KnownBytes.{Appends-nil}
 use Rattle.im_types.specs.declared.commands.Command.TheVariants.{Request as Asks, Confirm}
 use Rattle.im_types.specs.declared.commands.Outcome.{Outcome}
 use Rattle.im_types.specs.declared.commands.Outcome.TheVariants.{Entry as Tells, Confirmed}
@@ -49,14 +50,14 @@ whole_text : (old text trace : List ℕ) → old ≡ [] → Appends (Some old) (
 whole_text old text trace none added = added ∙ ap (λ l. l ++ trace) none
 
 pub objects_whole : {T E F G : Type 0} (t : TraceState) (telling : Telling) (start is : Option (List ℕ))
-    (old text : List ℕ) (taken : Result T E) (written : Result F G) (r : Result T E) → telling ≡ Calls → old ≡ []
+    (old text : List ℕ) (r taken : Result T E) (written : Result F G) → telling ≡ Calls → old ≡ []
     → OnOk taken (Appends (Some old) (Some text) (trace_text t))
     → OnOk written (Appends start is (sifted telling text)) → OnOk r (IsOk taken) → OnOk r (IsOk written)
     → OnOk r (Appends start is (trace_objects t))
-objects_whole t telling start is old text taken written (Err e) same none all told one other = tt
-objects_whole t telling start is old text (Err e) written (Ok x) same none all told one other = absurd one
-objects_whole t telling start is old text (Ok y) (Err e) (Ok x) same none all told one other = absurd other
-objects_whole t telling start is old text (Ok y) (Ok z) (Ok x) same none all told one other =
+objects_whole t telling start is old text (Err e) taken written same none all told one other = tt
+objects_whole t telling start is old text (Ok x) (Err e) written same none all told one other = absurd one
+objects_whole t telling start is old text (Ok x) (Ok y) (Err e) same none all told one other = absurd other
+objects_whole t telling start is old text (Ok x) (Ok y) (Ok z) same none all told one other =
     subst (Appends start is)
     (ap (λ (u : Telling). sifted u text) same ∙ ap (sifted Calls) (whole_text old text (trace_text t) none all)
     ∙ trace_told t) told
@@ -70,3 +71,8 @@ objects_begin t telling start is old text same none some begins =
     subst (λ (l : List ℕ). Begins start is (sifted Calls l)) part
     (subst (λ (u : Telling). Begins start is (sifted u text)) same begins) in
     subst (Begins start is) (trace_told t) (sifted_begins Calls some.0 (trace_text t) start is refl told)
+
+-- nothing was written
+pub begins_none : (start is : Option (List ℕ)) (text : List ℕ) → is ≡ start → Begins start is text
+begins_none start is text same =
+    (0, subst (λ (o : Option (List ℕ)). Appends start o []) (sym same) (Appends-nil start))

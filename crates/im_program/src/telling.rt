@@ -151,8 +151,6 @@ pub fn act_told<
 {
     match order.telling {
         Telling::Plain => act_plainly::<Brand, R, S, T, I, W>(hand, order, out, starts),
-        Telling::Quiet => act_with::<Brand, R, S, T, I, W>(hand, order, out, starts),
-        Telling::Json => act_with::<Brand, R, S, T, I, W>(hand, order, out, starts),
-        Telling::Calls => act_with::<Brand, R, S, T, I, W>(hand, order, out, starts),
+        _ => act_with::<Brand, R, S, T, I, W>(hand, order, out, starts),
     }
 }
