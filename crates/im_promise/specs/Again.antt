@@ -11,10 +11,11 @@ use Rattle.im_types.specs.declared.refusals.Refusal.TheVariants.{Device, Failed,
 use Rattle.im_types.specs.Contents.{Contents}
 use Rattle.im_types.specs.Window.{bounds}
 use Rattle.im_types.specs.Step.{step, asker, is_accepted}
+use Rattle.im_types.specs.Agreement.{WaitingAgrees}
 use Rattle.im_types.specs.Run.{after}
 use Rattle.im_laws.specs.Windows.{IsForgotten}
 use Rattle.im_laws.specs.Entries.{IsSameOrAnswer}
-use Rattle.im_laws.specs.Requests.{after_request}
+use Rattle.im_laws.specs.Requests.{after_request, IsAnswered}
 use Rattle.im_engine.specs.State.{EngineState}
 use Rattle.im_engine.specs.declared.run.Event.{Event}
 use Rattle.im_engine.specs.declared.run.Answer.{Answer}
@@ -25,6 +26,14 @@ abbrev pub IsSaidAgain : Contents → Request → Entry → Result Outcome Refus
 IsSaidAgain m r before said =
     (IsForgotten m.windows (asker r) × (said ≡ Err Forgotten))
     ⊎ ((entry : Entry) × IsSameOrAnswer before entry × (said ≡ Ok (Tells entry)))
+
+-- A memory that this one came of, by these commands, told the request this entry. Its waiters and entries agreed.
+pub record WasTold (m : Contents) (r : Request) (entry : Entry) : Type 0 where
+  pub before : Contents
+  pub later : List Command
+  pub agrees : WaitingAgrees before
+  pub answered : IsAnswered before r entry
+  pub is : m ≡ after (after_request before r) later
 
 -- an engine's answer to a request: the memory's, but for a failed engine, a full journal, and a failed call of the disk
 pub record IsAnswerOf {D : Type 0} (old : EngineState D) (r : Request) (answer : Result Outcome Refusal) : Type 0 where

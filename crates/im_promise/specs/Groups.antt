@@ -6,9 +6,11 @@ use Rattle.im_types.specs.declared.commands.Command.{Command}
 use Rattle.im_types.specs.declared.commands.Outcome.TheVariants.{Entry as Tells}
 use Rattle.im_types.specs.declared.groups.Served.{Served}
 use Rattle.im_types.specs.declared.refusals.Refusal.TheVariants.{Device}
+use Rattle.im_types.specs.Contents.{Contents}
+use Rattle.im_types.specs.Agreement.{WaitingAgrees}
 use Rattle.im_types.specs.Run.{after}
 use Rattle.im_types.specs.Meaning.{Reached}
-use Rattle.im_types.specs.Groups.{is_put, answer_of, reached_by_one}
+use Rattle.im_types.specs.Groups.{is_put, answer_of, reached_by_one, puts_of}
 use Rattle.im_engine.specs.State.{EngineState}
 use Rattle.im_engine.specs.Groups.{reached_in, after_group, group_put, all_refused, answers_in}
 use Rattle.im_engine.specs.declared.run.Event.{Event}
@@ -44,6 +46,13 @@ abbrev pub AreTold : Reached → List Request → Type 0
 AreTold before [] = Unit {0}
 AreTold before (r ∷ rs) =
     ((entry : Entry) × (answer_of before r ≡ Ok (Tells entry))) × AreTold (reached_by_one before r) rs
+
+-- the memory came of `before` by the commands that this group put on the disk there, and later ones; the waiters and
+-- entries of `before` agreed
+pub record HasGroup (m : Contents) (before : Reached) (members : List Request) : Type 0 where
+  pub later : List Command
+  pub agrees : WaitingAgrees before.contents
+  pub is : m ≡ after (after before.contents (puts_of before members)) later
 
 -- the answers to a group that was sent on `before` and is sent again, and the engine after it
 pub record GroupSaidAgain {D : Type 0} (before : Reached) (old : EngineState D) (members : List Request)

@@ -1,12 +1,18 @@
 -- What a recovery gives. (Own.)
 use Rattle.std.specs.Prelude.{◌≡◌, ◌⊎◌, ℕ, ◌+◌, ◌≤◌, false, List, [], ◌++◌, length}
 use Rattle.im_types.specs.declared.commands.Command.{Command}
+use Rattle.im_types.specs.declared.refusals.Refusal.{Refusal}
+use Rattle.im_types.specs.declared.refusals.Refusal.TheVariants.{NoMemory, Device}
 use Rattle.im_types.specs.Contents.{Contents}
 use Rattle.im_types.specs.Run.{after}
 use Rattle.im_engine.specs.declared.run.Event.{Event}
 use Rattle.im_engine.specs.declared.run.Answer.{Answer}
 use Rattle.im_engine.specs.Run.{acknowledged, in_doubt}
 use Rattle.im_promise.specs.Acknowledged.{calls_in_doubt, most_of_one, AreAnswers}
+
+-- there was no room for the answers or the memory, or none for the record of the disk
+abbrev pub HasNoRoom : Refusal → Type 0
+HasNoRoom e = (e ≡ NoMemory) ⊎ (e ≡ Device)
 
 -- An engine with this memory and this count of commands got these events and gave these answers. Its disk stopped, or
 -- not, and a crash left a file. The image was opened again, with the memory `now` and the count `many`. They are those

@@ -1,14 +1,13 @@
 //! Requests that are sent again.
-ghost use Rattle.std.specs.Prelude.{◌≡◌, List, false, Ok, IfOk, IfErr, ◌⊎◌};
+ghost use Rattle.std.specs.Prelude.{◌≡◌, List, false, Ok, IfOk, IfErr};
 ghost use Rattle.im_types.specs.declared.operations.Entry.{Entry};
 ghost use Rattle.im_types.specs.declared.commands.Command.{Command};
 ghost use Rattle.im_types.specs.declared.commands.Outcome.TheVariants.{Entry as Tells};
-ghost use Rattle.im_types.specs.declared.refusals.Refusal.TheVariants.{NoMemory, Device};
 ghost use Rattle.im_types.specs.Contents.{Contents};
-ghost use Rattle.im_types.specs.Agreement.{WaitingAgrees};
 ghost use Rattle.im_types.specs.Run.{after};
-ghost use Rattle.im_laws.specs.Requests.{IsAnswered, after_request};
-ghost use Rattle.im_promise.specs.Again.{IsAnswerOf, IsSaidAgain, IsUnused, HasNotActed, AskedOverACrash};
+ghost use Rattle.im_laws.specs.Requests.{after_request};
+ghost use Rattle.im_promise.specs.Again.{IsAnswerOf, IsSaidAgain, IsUnused, HasNotActed, AskedOverACrash, WasTold};
+ghost use Rattle.im_promise.specs.Recovery.{HasNoRoom};
 
 use crate::recovery::{Recovered, open_crashed, recover};
 use im_disk::{Crash, Disk, FuseDisk, MemDisk};
@@ -36,9 +35,7 @@ pub struct Asked {
 /// of the disk is made. The clause asks that waiters and entries agree in the memory that answered. `Memory::cells`
 /// says so of each memory of an engine.
 pub fn ask_again<D: Disk>(engine: &mut Engine<D>, request: Request) -> Result<Outcome, Refusal>
-    ensures { engine.old.failed ≡ false → (before : Contents) (later : List Command) (entry : Entry)
-        → WaitingAgrees before → IsAnswered before request entry
-        → engine.old.memory ≡ after (after_request before request) later
+    ensures { engine.old.failed ≡ false → (entry : Entry) → WasTold engine.old.memory request entry
         → IsSaidAgain engine.old.memory request entry result × (engine.new ≡ engine.old) }
 {
     repeat_is_told_again();
@@ -92,7 +89,7 @@ pub fn ask_over_a_crash(
     ensures again { IfOk result.1 (λ r. engine.failed ≡ false → (entry : Entry) → result.0 ≡ Ok (Tells entry)
         → AskedOverACrash engine request events.now r.answers.items entry r.again r.engine) }
     ensures refused { IfErr result.1 (λ e. engine.failed ≡ false → (entry : Entry) → result.0 ≡ Ok (Tells entry)
-        → (e ≡ NoMemory) ⊎ (e ≡ Device)) }
+        → HasNoRoom e) }
 {
     repeat_is_told_again();
     forgotten_for_ever();
@@ -132,7 +129,7 @@ pub fn send_over_a_crash(
     ensures first { IsAnswerOf engine request result.0 }
     ensures once { IfOk result.1 (λ r. engine.failed ≡ false → (entry : Entry) → r.again ≡ Ok (Tells entry)
         → r.engine.memory ≡ after_request engine.memory request) }
-    ensures refused { IfErr result.1 (λ e. engine.failed ≡ false → (e ≡ NoMemory) ⊎ (e ≡ Device)) }
+    ensures refused { IfErr result.1 (λ e. engine.failed ≡ false → HasNoRoom e) }
 {
     files_mean_one_thing();
     number_acts_once();

@@ -1,13 +1,10 @@
 //! A group over a crash, and a group that is sent again.
-ghost use Rattle.std.specs.Prelude.{◌≡◌, ◌⊎◌, List, false, [], IfOk, IfErr};
-ghost use Rattle.im_types.specs.declared.commands.Command.{Command};
-ghost use Rattle.im_types.specs.declared.refusals.Refusal.TheVariants.{NoMemory, Device};
-ghost use Rattle.im_types.specs.Agreement.{WaitingAgrees};
-ghost use Rattle.im_types.specs.Run.{after};
+ghost use Rattle.std.specs.Prelude.{◌≡◌, false, [], IfOk, IfErr};
 ghost use Rattle.im_types.specs.Meaning.{Reached};
-ghost use Rattle.im_types.specs.Groups.{AreApart, puts_of};
+ghost use Rattle.im_types.specs.Groups.{AreApart};
 ghost use Rattle.im_engine.specs.Run.{has_device};
-ghost use Rattle.im_promise.specs.Groups.{RecoversGroup, GroupSaidAgain, GroupAskedOverACrash};
+ghost use Rattle.im_promise.specs.Groups.{RecoversGroup, HasGroup, GroupSaidAgain, GroupAskedOverACrash};
+ghost use Rattle.im_promise.specs.Recovery.{HasNoRoom};
 
 use crate::recovery::{Recovered, open_crashed, recover};
 use arrayvec::ArrayVec;
@@ -38,7 +35,7 @@ pub fn recover_group(
     ensures recovers { IfOk result (λ e. engine.failed ≡ false
         → RecoversGroup engine members.now.items served.new.items e) }
     ensures works { IfOk result (λ e. e.failed ≡ false) }
-    ensures refused { IfErr result (λ e. engine.failed ≡ false → (e ≡ NoMemory) ⊎ (e ≡ Device)) }
+    ensures refused { IfErr result (λ e. engine.failed ≡ false → HasNoRoom e) }
 {
     files_mean_one_thing();
     groups_are_runs();
@@ -61,8 +58,7 @@ pub fn ask_group_again<D: Disk>(
     // Each element has one request at most.
     requires apart { AreApart members.now.items }
     requires empty { served.old.items ≡ [] }
-    ensures { engine.old.failed ≡ false → (before : Reached) (later : List Command) → WaitingAgrees before.contents
-        → engine.old.memory ≡ after (after before.contents (puts_of before members.now.items)) later
+    ensures { engine.old.failed ≡ false → (before : Reached) → HasGroup engine.old.memory before members.now.items
         → GroupSaidAgain before engine.old members.now.items served.new.items engine.new }
 {
     repeat_is_told_again();
@@ -74,9 +70,9 @@ pub fn ask_group_again<D: Disk>(
     engine.serve_group(members, served)
 }
 
-/// Serves a group of requests, runs events on a disk that may fail at any call, crashes the disk, opens what is left,
-/// and sends the group again. It puts the answers into `served` and `again`, in the members' order. Nothing is asked of
-/// the engine's memory.
+/// Serves a group of requests, at most one of each element, runs events on a disk that may fail at any call, crashes
+/// the disk, opens what is left, and sends the group again. It puts the answers into `served` and `again`, in the
+/// members' order. Nothing is asked of the engine's memory.
 ///
 /// If no member was answered `Device`, the group is there once. Each member that was told an entry is told it again, or
 /// the answer that has come since, or `Forgotten` if an event confirmed it. The refusal is then `NoMemory` or `Device`,
@@ -90,14 +86,12 @@ pub fn ask_group_over_a_crash(
     crash: Crash,
     again: &mut ArrayVec<Served, 16>,
 ) -> Result<Recovered, Refusal>
-    // Each element has one request at most.
     requires apart { AreApart members.now.items }
     requires empty { served.old.items ≡ [] }
     requires none { again.old.items ≡ [] }
     ensures again { IfOk result (λ r. engine.failed ≡ false → has_device served.new.items ≡ false
         → GroupAskedOverACrash engine members.now.items events.now r.answers.items again.new.items r.engine) }
-    ensures refused { IfErr result (λ e. engine.failed ≡ false → has_device served.new.items ≡ false
-        → (e ≡ NoMemory) ⊎ (e ≡ Device)) }
+    ensures refused { IfErr result (λ e. engine.failed ≡ false → has_device served.new.items ≡ false → HasNoRoom e) }
 {
     repeat_is_told_again();
     forgotten_for_ever();

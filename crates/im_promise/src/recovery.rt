@@ -4,7 +4,7 @@ ghost use Rattle.im_types.specs.declared.refusals.Refusal.TheVariants.{NoMemory,
 ghost use Rattle.im_types.specs.Contents.{empty_contents};
 ghost use Rattle.im_disk.specs.Moment.{Left};
 ghost use Rattle.im_engine.specs.State.{MeansState, IsFirstFault};
-ghost use Rattle.im_promise.specs.Recovery.{Recovers};
+ghost use Rattle.im_promise.specs.Recovery.{HasNoRoom, Recovers};
 
 use im_disk::{Crash, FuseDisk, MemDisk, Mode};
 use im_engine::{
@@ -38,7 +38,7 @@ pub fn recover(
     ensures recovers { IfOk result (λ r. engine.failed ≡ false
         → Recovers engine.memory engine.count events.now r.answers.items r.engine.memory r.engine.count) }
     ensures works { IfOk result (λ r. r.engine.failed ≡ false) }
-    ensures refused { IfErr result (λ e. engine.failed ≡ false → (e ≡ NoMemory) ⊎ (e ≡ Device)) }
+    ensures refused { IfErr result (λ e. engine.failed ≡ false → HasNoRoom e) }
 {
     files_mean_one_thing();
     accepted_where_changed();
@@ -96,7 +96,7 @@ pub fn recover_again(
     ensures recovers { IfOk result (λ r. engine.failed ≡ false
         → Recovers engine.memory engine.count events.now r.answers.items r.engine.memory r.engine.count) }
     ensures works { IfOk result (λ r. r.engine.failed ≡ false) }
-    ensures refused { IfErr result (λ e. engine.failed ≡ false → (e ≡ NoMemory) ⊎ (e ≡ Device)) }
+    ensures refused { IfErr result (λ e. engine.failed ≡ false → HasNoRoom e) }
 {
     files_mean_one_thing();
     match Engine::open(alloc, FuseDisk::new(engine.close(), passes, mode)) {
@@ -144,7 +144,7 @@ pub fn reopen(
 ) -> Result<Engine<MemDisk>, Refusal>
     ensures same { IfOk result (λ e. engine.failed ≡ false → (e.memory ≡ engine.memory) × (e.count ≡ engine.count)) }
     ensures works { IfOk result (λ e. e.failed ≡ false) }
-    ensures refused { IfErr result (λ e. engine.failed ≡ false → (e ≡ NoMemory) ⊎ (e ≡ Device)) }
+    ensures refused { IfErr result (λ e. engine.failed ≡ false → HasNoRoom e) }
 {
     files_mean_one_thing();
     let disk = open_and_close(alloc, engine.close(), passes, mode);
