@@ -1,6 +1,6 @@
 //! The scene of the stories: a place in memory, and files of the folder in which the program runs.
 
-use crate::files::Files_files;
+use crate::files::{Files, tell_of_files};
 use crate::place::Place;
 use im_story::{Call, Saying, Scene};
 use std::alloc::{AllocError, Global};
