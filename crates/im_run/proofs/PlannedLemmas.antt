@@ -82,20 +82,20 @@ module _ (m : Contents) (trace : List Line) (agrees : WaitingAgrees m) (legal : 
   taken_all front rest element number (intent_kinds.Request op ∷ intents) (first ∷ firsts) is count stand zero r there =
       let asked : Request = record { element = element; number = number; op = op } in
       subst (λ (q : Request). IsTaken (end_of m trace).windows (asker q)) (some_same asked r there)
-      (taken_at (front ++ stand.0) stand.1.0 asked first
-      (is ∙ ap (λ (l : List Line). front ++ l) stand.1.1.0
-      ∙ sym (append_assoc front stand.0 (asked_line element number op first ∷ stand.1.0))))
+      (taken_at (front ++ stand.0) stand.1 asked first
+      (is ∙ ap (λ (l : List Line). front ++ l) stand.2
+      ∙ sym (append_assoc front stand.0 (asked_line element number op first ∷ stand.1))))
   taken_all front rest element number (intent_kinds.Request op ∷ intents) (first ∷ firsts) is count stand (suc i) r
       there =
       let line = asked_line element number op first in
       let before = stand.0 in
-      let after = stand.1.0 in
+      let after = stand.1 in
       let split : front ++ rest ≡ (front ++ before ++ line ∷ []) ++ after =
-      ap (λ (l : List Line). front ++ l) stand.1.1.0
+      ap (λ (l : List Line). front ++ l) stand.2
       ∙ sym (append_assoc front before (line ∷ after))
       ∙ sym (append_assoc (front ++ before) (line ∷ []) after) in
       taken_all (front ++ before ++ line ∷ []) after element (suc number) intents firsts (is ∙ split)
-      (omega (arith, count)) stand.1.1.1 i r there
+      (omega (arith, count)) stand.3 i r there
 
   in_either : (xs ys : List Request) (i : ℕ) (r : Request) → slice_get (xs ++ ys) i ≡ Some r
       → IsInPlan xs r ⊎ IsInPlan ys r
@@ -106,12 +106,12 @@ module _ (m : Contents) (trace : List Line) (agrees : WaitingAgrees m) (legal : 
   -- of all orders
   orders_taken : (none : Type 0) (orders : List Ask) (told : List Did) → AreAllTold m trace none orders told → none
       → (r : Request) → IsInPlan (plan_of orders) r → IsTaken (end_of m trace).windows (asker r)
-  orders_taken none [] told it yes r in_plan = absurd (no_place in_plan.0 r in_plan.1)
+  orders_taken none [] told it well r in_plan = absurd (no_place in_plan.0 r in_plan.1)
     where
       no_place : (i : ℕ) (r : Request) → ◌≡◌ {A = Option Request} (slice_get [] i) (Some r) → ⊥
       no_place i r e = cc
-  orders_taken none (order ∷ orders) told it yes r in_plan = ⊎_elim here
-      (orders_taken none orders it.1.0 it.1.1.1.1 yes r)
+  orders_taken none (order ∷ orders) told it well r in_plan = ⊎_elim here
+      (orders_taken none orders it.1.0 it.1.1.1.1 well r)
       (in_either (requests_from order.element order.first order.intents) (plan_of orders) in_plan.0 r in_plan.1)
     where
       here : IsInPlan (requests_from order.element order.first order.intents) r
@@ -119,7 +119,7 @@ module _ (m : Contents) (trace : List Line) (agrees : WaitingAgrees m) (legal : 
       here place =
           let o = it.1.1.1.0 in
           let a = o.answered in
-          let whole = o.all yes in
+          let whole = o.all well in
           taken_all [] trace order.element order.first order.intents a.firsts refl
           (subst (λ (l : List Intent). length a.firsts ≡ length (ops_of l)) whole a.count)
           (subst (λ (l : List Intent). StandIn (asked_lines order.element order.first (ops_of l) a.firsts) trace) whole
@@ -133,6 +133,6 @@ pub ends_on_plan : (m : Contents) (trace : List Line) (orders : List Ask) (told 
     → EndsAsPlanned m (plan_of orders) end → EndsOnPlan m orders trace end none
 ends_on_plan m trace orders told end none legal ends it planned = inl (
   planned,
-  λ yes. subst (λ (e : Contents). HasServed e.windows (plan_of orders)) ends
-      (orders_taken m trace planned.starts.agrees legal none orders told it yes),
+  λ well. subst (λ (e : Contents). HasServed e.windows (plan_of orders)) ends
+      (orders_taken m trace planned.starts.agrees legal none orders told it well),
 )

@@ -284,7 +284,7 @@ module _ {D : Type 0} (now : D → Moment) (past : D → List Moment) (failures 
           whole = λ zero. absurd (never zero);
         };
         traced = record { legal = subst (IsLegal (after start.memory put)) (sym unserved) tt; accepted = inl unserved };
-        tells = inr (left, (set_up, (none, never)));
+        tells = inr (left, set_up, none, never);
       }
 
   -- the elements' servers ended

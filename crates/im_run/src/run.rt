@@ -106,8 +106,7 @@ pub(crate) fn run_server<
     mode: Mode,
 ) -> (u8, D, Trace)
     requires ready { CanServe D.Disk (seen_by server (W.contents out.old)) }
-    requires bases { server.bases.items
-        ≡ bases_first asked.entry.once server.engine.memory asked.entry.script.now }
+    requires bases { server.bases.items ≡ bases_first asked.once server.engine.memory asked.script.now }
     ensures status { (result.0 ≤ 1) ⊎ (result.0 ≡ STALLED) }
     ensures run { EndsRun D.Disk asked.entry.once mode.planned asked.entry.script.now server.engine result.1
         (W.contents out.old) (W.contents out.new) result.2 result.0 }

@@ -1,5 +1,6 @@
 use Rattle.std.proofs.Common.{◌≡◌, ◌∙◌, List, [], ℕ, ap, map, subst}
 use Rattle.im_types.specs.Contents.{Contents}
+use Rattle.im_serial.specs.Serving.{server_of}
 use Rattle.im_serial.proofs.ScriptedLemmas.{has_served, unserved}
 use Rattle.im_run.specs.Orders.{HasReadTo, ask_of, asks_among, first_asked, script_heard, settled_by, settled_when}
 use Rattle.im_run.proofs.BlocksLemmas.{ends_as, passes_as}
@@ -20,10 +21,15 @@ returns-in-Ok-set_up-clause-served g c =
 pub returns-in-Err-clause-served : goal.returns-in-Err-clause-served
 returns-in-Err-clause-served g c =
     let once = c.args.asked.once in
+    let was = c.args.server.now in
+    let old = server_of was.engine (g.W.Write.contents c.args.out.now) was.lines was.waited.items was.places.marks.items
+    in
+    let n = c.set_up.new.server in
+    let new = server_of n.engine (g.W.Write.contents c.set_up.new.out) n.lines n.waited.items n.places.marks.items in
     record {
       serves = tt;
-      ends = ends_as g.D.Disk (settled_by c.in-Ok.sheet.past) (settled_when once c.args.server.now.engine.memory)
-          (script_heard c.args.asked.script.now) _ _ _
+      ends = ends_as g.D.Disk (settled_by c.in-Ok.sheet.past) (settled_when once was.engine.memory)
+          (script_heard c.args.asked.script.now) was.bases.items old new
           (c.in-Ok.ensures.settled ∙ ap (settled_when once) c.memory.ensures) c.in-Err.ensures.served.ends;
     }
 
