@@ -30,9 +30,9 @@ use Rattle.im_pipes.proofs.ends.Inlet.TheSendSync as inlet
 use Rattle.im_pipes.proofs.ends.Outlet.TheSendSync as outlet
 use Rattle.im_serving.specs.contracts.intent.Intent as Intent
 use Rattle.im_serving.specs.contracts.glances.Glances as Glances
-use Rattle.im_serving.specs.contracts.elements.Server as Server
-use Rattle.im_serving.specs.contracts.elements.Done as Done
-use Rattle.im_serving.specs.contracts.elements.Stopped as Stopped
+use Rattle.im_serving.specs.contracts.parts.Server as Server
+use Rattle.im_serving.specs.contracts.parts.Done as Done
+use Rattle.im_serving.specs.contracts.running.Stopped as Stopped
 use Rattle.im_glass.proofs.glance.Glance.TheSendSync.{the_send as glance_send}
 use Rattle.im_queue.specs.contracts.turns.Turns as Turns
 use Rattle.im_queue.specs.contracts.bell.Bell as Bell

@@ -253,6 +253,30 @@ pub counted_then : (a b k n : ℕ) (xs ys : List Intent) (intent : Intent) → a
 counted_then a b k n xs ys intent e f is = one_more a b k n (length xs) (length ys) e f
     (ap length is ∙ length-append xs (intent ∷ []))
 
+few_one : (a b k n l m : ℕ) → a ≤ b + 1 → b + k ≡ n + l → m ≡ l + 1 → a + k ≤ n + m
+few_one a b k n l m e f g = omega (arith, e, f, g)
+
+-- and so at most one more was done
+pub few_then : (a b k n : ℕ) (xs ys : List Intent) (intent : Intent) → a ≤ b + 1 → b + k ≡ n + length xs → ys
+    ≡ xs ++ intent ∷ [] → a + k ≤ n + length ys
+few_then a b k n xs ys intent e f is = few_one a b k n (length xs) (length ys) e f
+    (ap length is ∙ length-append xs (intent ∷ []))
+
+-- or nothing more was received
+pub counted_same : (a k n : ℕ) (xs ys : List Intent) → a + k ≡ n + length xs → ys ≡ xs → a + k ≡ n + length ys
+counted_same a k n xs ys e is = e ∙ ap (λ (l : List Intent). n + length l) (sym is)
+
+pub few_by : (a b : ℕ) → a ≡ b → a ≤ b
+few_by a b e = omega (arith, e)
+
+pub few_more : (a n x y : ℕ) → a ≤ n + x → x ≤ y → a ≤ n + y
+few_more a n x y e f = omega (arith, e, f)
+
+-- all of it was done, and so a beginning
+pub begun_all : (p : PortState) (e : Served) (g : List Glanced) (xs ys : List Intent) → ys ≡ xs
+    → AreDone p e g xs → HasBegun p e g ys
+begun_all p e g xs ys is d = (xs, ([], append-nil xs ∙ sym is), d)
+
 -- whatever came of it
 pub always : {T E P : Type 0} (r : Result T E) → P → OnOk r P
 always (Ok x) p = p

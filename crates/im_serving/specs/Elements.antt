@@ -1,5 +1,5 @@
 -- What becomes of elements that are all served at once. (Own.)
-use Rattle.std.specs.Prelude.{◌≡◌, ℕ, Bool, true, List, [], ◌∷◌, Option, Result, Err, OnOk}
+use Rattle.std.specs.Prelude.{◌≡◌, ◌≤◌, ℕ, ◌+◌, Bool, true, List, [], ◌∷◌, Option, Result, Err, OnOk, length}
 use mathlib.Core.List.{IsPrefix}
 use Rattle.im_types.specs.declared.changes.Change.{Change}
 use Rattle.im_types.specs.declared.refusals.Refusal.{Refusal}
@@ -10,6 +10,7 @@ use Rattle.im_pipes.specs.Ends.{PipeEnd, PipeId}
 use Rattle.im_serving.specs.declared.numbers.Served.{Served}
 use Rattle.im_serving.specs.declared.intent.Intent.{Intent}
 use Rattle.im_serving.specs.declared.glances.Glanced.{Glanced}
+use Rattle.im_serving.specs.declared.glances.Glances.{Glances}
 use Rattle.im_serving.specs.Serving.{AreDone, AreGlanced, HasBegun}
 
 -- what was done for an element: its port with what it has seen of the trace, its numbers and entries, the number of the
@@ -21,6 +22,16 @@ pub record Deeds : Type 0 where
   pub seen : List Change
   pub made : List Glanced
 
+-- what was done for an element with this port, these numbers and this reader
+abbrev pub deeds_of : {K : Type 0} → PortState → Served → Glances K → Deeds
+deeds_of port served glances = record {
+  port = port;
+  served = served;
+  last = glances.last;
+  seen = glances.glance;
+  made = glances.made.items;
+}
+
 -- a part as contracts see it: what was done for its element before, and what it asks for
 pub record Asked : Type 0 where
   pub deeds : Deeds
@@ -30,6 +41,23 @@ pub record Asked : Type 0 where
 pub record End : Type 0 where
   pub deeds : Deeds
   pub result : Result (Unit {0}) Refusal
+
+-- A server came from the first deeds to the second, while it received what a pipe gave out. If nothing was refused, it
+-- received the end mark, and did all that it received, in order; else it did a prefix of it. For each thing done there
+-- is an entry or a glance more, and for what was refused at most one. Each glance tells what the element had seen.
+pub record ServesOn (m : Contents) (p q : Deeds) (result : Result (Unit {0}) Refusal) (was is : PipeEnd Intent) :
+    Type 0 where
+  pub element : q.port.element ≡ p.port.element
+  pub first : q.served.first ≡ p.served.first
+  pub pipe : is.pipe ≡ was.pipe
+  pub ended : OnOk result (is.ended ≡ true)
+  pub begun : AreDone p.port p.served p.made was.items → HasBegun q.port q.served q.made is.items
+  pub done : OnOk result (AreDone p.port p.served p.made was.items → AreDone q.port q.served q.made is.items)
+  pub count : OnOk result (length q.served.entries.items + length q.made + length was.items
+      ≡ length p.served.entries.items + length p.made + length is.items)
+  pub few : length q.served.entries.items + length q.made + length was.items
+      ≤ length p.served.entries.items + length p.made + length is.items
+  pub seen : AreGlanced m p.port.element p.last p.seen p.made → AreGlanced m p.port.element q.last q.seen q.made
 
 -- A server came from the first deeds to the second, given what was asked for. It did all of it, in order, if nothing
 -- was refused, and else a prefix of it. Each glance tells what the element had seen. What was done is counted from the

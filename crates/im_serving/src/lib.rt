@@ -4,23 +4,33 @@
 //! The crate stands on `im_controller` and `im_pipes`.
 #![tactic(auto)]
 
+mod asking;
+mod awaiting;
+mod context;
 mod elements;
+mod ending;
 mod gate;
 mod glances;
 mod intent;
 mod numbers;
 mod orders;
+mod parts;
+mod running;
 mod sender;
 mod server;
+mod starting;
 mod watching;
 
-pub use elements::{Done, PIPE, Part, serve_elements};
+pub use context::Context;
+pub use elements::serve_elements;
 pub use gate::{Gate, Open};
 pub use glances::{Glanced, Glances};
 pub use im_controller::Standing;
 pub use intent::Intent;
 pub use numbers::Served;
 pub use orders::{are_in_order, ask_twice};
+pub use parts::{Done, Part};
 pub use sender::{Sent, send_all};
 pub use server::serve_element;
+pub use starting::PIPE;
 pub use watching::{Unwatched, Watcher};

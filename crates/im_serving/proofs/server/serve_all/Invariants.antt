@@ -5,7 +5,8 @@ use Rattle.im_serving.proofs.server.serve_all.Given as goal
 abbrev pub invariant-loop : goal.invariant-loop
 invariant-loop g l =
     (goal.iterator-loop g).can_next l.iterator' × (goal.iterator-loop g).is_finite l.iterator'
-    × (l.port.element ≡ l.fn.port.element) × (l.served.first ≡ l.fn.served.first) × (l.outlet.ended ≡ false) × (l.outlet.pipe ≡ l.fn.outlet.pipe)
+    × (l.port.element ≡ l.fn.port.element) × (l.served.first ≡ l.fn.served.first) × (l.outlet.ended ≡ false) ×
+    (l.outlet.pipe ≡ l.fn.outlet.pipe)
     × (AreDone l.fn.port l.fn.served l.fn.glances.made.items l.fn.outlet.items
     → AreDone l.port l.served l.glances.made.items l.outlet.items)
     × (length l.served.entries.items + length l.glances.made.items + length l.fn.outlet.items

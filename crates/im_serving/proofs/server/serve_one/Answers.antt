@@ -71,7 +71,8 @@ returns-in-Ok-answer-clause-count g c =
 
 pub returns-in-Ok-answer-clause-few : goal.returns-in-Ok-answer-clause-few
 returns-in-Ok-answer-clause-few g c =
-    let one = looked_count c.args.port.now.history c.make_place.new.port.history c.args.port.now.element c.args.served.now.first
+    let one = looked_count c.args.port.now.history c.make_place.new.port.history c.args.port.now.element
+    c.args.served.now.first
     c.args.served.now.entries.items c.make_place.new.served.entries.items c.push_reserved.new.self.items
     c.in-Ok-answer.entry (search rules) c.make_place.ensures.looked in
     omega (arith, one)

@@ -1,0 +1,16 @@
+use Rattle.im_serving.proofs.AnswerLemmas.{looked_found, looked_none, looked_same, sees_found, sees_longer}
+use Rattle.im_serving.proofs.awaiting.await_one.Goals as goal
+
+pub returns-then-is_told-clause-looked : goal.returns-then-is_told-clause-looked
+returns-then-is_told-clause-looked g c = looked_none _ _ _ _
+
+pub returns-in-Ok-clause-looked : goal.returns-in-Ok-clause-looked
+returns-in-Ok-clause-looked g c =
+    let a = c.await_answer in
+    looked_found c.args.port.now.history a.new.self.history c.args.port.now.element c.args.served.now.first
+    c.args.number c.args.served.now.entries.items c.note.new.self.entries.items c.entry.result c.note.ensures.noted
+    (sees_found _ _ _ _ a.result c.in-Ok.found c.entry.result c.in-Ok.is c.entry.ensures.entry a.ensures.order)
+
+pub returns-in-Err-clause-looked : goal.returns-in-Err-clause-looked
+returns-in-Err-clause-looked g c =
+    looked_same _ _ _ _ _ (sees_longer _ _ _ _ c.await_answer.result c.await_answer.ensures.order)

@@ -1,0 +1,23 @@
+use Rattle.std.proofs.Common.{◌∙◌, refl}
+use Rattle.im_serving.proofs.AnswerLemmas.{looked_none, looked_then}
+use Rattle.im_serving.proofs.awaiting.await_rest.Goals as goal
+
+pub loop-number-init : goal.loop-number-init
+loop-number-init g c = (refl, refl, looked_none _ _ _ _)
+
+pub loop-number-preserved : goal.loop-number-preserved
+loop-number-preserved g c =
+    let l = c.loop-number in (
+      c.await_one.ensures.element ∙ l.invariant.0,
+      c.await_one.ensures.first ∙ l.invariant.1,
+      looked_then c.args.port.now.history l.port.history c.await_one.new.port.history c.args.port.now.element
+          l.port.element c.args.served.now.first l.served.first c.args.served.now.entries.items l.served.entries.items
+          c.await_one.new.served.entries.items l.invariant.0 l.invariant.1 l.invariant.2 c.await_one.ensures.looked,
+    )
+
+pub returns-in-Err-clause-looked : goal.returns-in-Err-clause-looked
+returns-in-Err-clause-looked g c =
+    let l = c.loop-number in
+    looked_then c.args.port.now.history l.port.history c.await_one.new.port.history c.args.port.now.element
+    l.port.element c.args.served.now.first l.served.first c.args.served.now.entries.items l.served.entries.items
+    c.await_one.new.served.entries.items l.invariant.0 l.invariant.1 l.invariant.2 c.await_one.ensures.looked

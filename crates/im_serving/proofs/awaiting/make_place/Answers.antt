@@ -1,0 +1,28 @@
+use Rattle.std.proofs.Common.{rules}
+use Rattle.im_serving.proofs.AnswerLemmas.{looked_none, looked_on}
+use Rattle.im_serving.proofs.GlanceLemmas.{glanced_more}
+use Rattle.im_serving.proofs.awaiting.make_place.Goals as goal
+
+pub returns-in-Ok-confirm-clause-seen : goal.returns-in-Ok-confirm-clause-seen
+returns-in-Ok-confirm-clause-seen g c =
+    glanced_more g.K.Name.memory c.args.port.now.element c.args.glances.now.last c.learn-confirmed.new.self.last
+    c.args.glances.now.glance c.learn-confirmed.new.self.glance
+    c.args.glances.now.made.items c.learn-confirmed.new.self.made.items c.learn-confirmed.ensures.kept
+    (search rules) c.learn-confirmed.ensures.same.1
+
+pub returns-in-Ok-confirm-clause-looked : goal.returns-in-Ok-confirm-clause-looked
+returns-in-Ok-confirm-clause-looked g c =
+    let f = c.first_waiting in
+    looked_on c.args.port.now.history f.new.port.history c.confirm.new.port.history c.args.port.now.element
+    c.args.served.now.first c.args.served.now.entries.items f.new.served.entries.items _ (search rules)
+    c.confirm.ensures.longer f.ensures.looked
+
+pub returns-in-Err-confirm-clause-looked : goal.returns-in-Err-confirm-clause-looked
+returns-in-Err-confirm-clause-looked g c =
+    let f = c.first_waiting in
+    looked_on c.args.port.now.history f.new.port.history c.confirm.new.port.history c.args.port.now.element
+    c.args.served.now.first c.args.served.now.entries.items f.new.served.entries.items _ (search rules)
+    c.confirm.ensures.longer f.ensures.looked
+
+pub returns-then-saturating_sub-lt-WINDOW-clause-looked : goal.returns-then-saturating_sub-lt-WINDOW-clause-looked
+returns-then-saturating_sub-lt-WINDOW-clause-looked g c = looked_none _ _ _ _

@@ -1,0 +1,13 @@
+use Rattle.std.proofs.Common.{subst, sym}
+use Rattle.im_controller.specs.State.{PortState}
+use Rattle.im_serving.specs.Elements.{ServesOn, deeds_of}
+use Rattle.im_serving.proofs.server.serve_element.Goals as goal
+
+pub returns : goal.returns
+returns g c =
+    let s = c.serve_to_end-done in
+    record {
+      done = subst (λ (p : PortState). ServesOn g.K.Name.memory
+          (deeds_of c.args.port.now c.args.served.now c.args.glances.now) (deeds_of p s.new.served s.new.glances)
+          s.result c.args.outlet.now s.new.outlet) (sym c.retire.ensures.same) s.ensures.done;
+    }

@@ -1,0 +1,145 @@
+//! What a server waits for: an answer, a place in its window, and all that it still keeps.
+ghost use Rattle.std.specs.Prelude.{◌≡◌};
+ghost use Rattle.im_serving.specs.Serving.{AreGlanced, Looked};
+
+use crate::asking::confirm;
+use crate::glances::Glances;
+use crate::numbers::Served;
+use im_controller::{Controller, Name, Port};
+use im_disk::Disk;
+use im_types::{Entry, Refusal, WINDOW};
+use std::sync::Wait;
+
+// Waits for the answer under a number, and notes it. It asks nothing if the answer was told.
+fn await_one<D: Disk, K: Name, R: Wait>(
+    rt: &R,
+    controller: &Controller<D, K>,
+    port: &mut Port<K>,
+    served: &mut Served,
+    number: u64,
+) -> Result<(), Refusal>
+    ensures element { port.new.element ≡ port.old.element }
+    ensures first { served.new.first ≡ served.old.first }
+    ensures looked { Looked port.old.history port.new.history port.old.element served.old.first
+        served.old.entries.items served.new.entries.items }
+{
+    if served.is_told(number) {
+        return Ok(());
+    }
+    match port.await_answer(rt, controller, number) {
+        Ok(found) => {
+            served.note(number, found.entry());
+            Ok(())
+        }
+        Err(refusal) => Err(refusal),
+    }
+}
+
+// Returns whether a number is answered, and notes the answer. It asks nothing if the answer was told.
+fn is_answered<D: Disk, K: Name, R: Wait>(
+    rt: &R,
+    controller: &Controller<D, K>,
+    port: &mut Port<K>,
+    served: &mut Served,
+    number: u64,
+) -> Result<bool, Refusal>
+    ensures element { port.new.element ≡ port.old.element }
+    ensures first { served.new.first ≡ served.old.first }
+    ensures looked { Looked port.old.history port.new.history port.old.element served.old.first
+        served.old.entries.items served.new.entries.items }
+{
+    if served.is_told(number) {
+        return Ok(true);
+    }
+    match port.collect(rt, controller, number) {
+        Ok(found) => {
+            let entry = found.entry();
+            served.note(number, entry);
+            Ok(entry != Entry::Waiting)
+        }
+        Err(refusal) => Err(refusal),
+    }
+}
+
+// Waits for the oldest entry that is kept, and goes through the entries after it. Returns the number of the first that
+// still waits, or the next request's number if none does.
+fn first_waiting<D: Disk, K: Name, R: Wait>(
+    rt: &R,
+    controller: &Controller<D, K>,
+    port: &mut Port<K>,
+    served: &mut Served,
+) -> Result<u64, Refusal>
+    ensures element { port.new.element ≡ port.old.element }
+    ensures first { served.new.first ≡ served.old.first }
+    ensures looked { Looked port.old.history port.new.history port.old.element served.old.first
+        served.old.entries.items served.new.entries.items }
+{
+    let base = served.base;
+    match await_one(rt, controller, port, served, base) {
+        Ok(()) => {}
+        Err(refusal) => return Err(refusal),
+    }
+    for number in base.saturating_add(1)..served.next() {
+        match is_answered(rt, controller, port, served, number) {
+            Ok(true) => {}
+            Ok(false) => return Ok(number),
+            Err(refusal) => return Err(refusal),
+        }
+    }
+    Ok(served.next())
+}
+
+/// Makes a place in the window for the next request. If the window is full, it waits for the oldest entry, and confirms
+/// all entries before the first that still waits.
+pub(crate) fn make_place<D: Disk, K: Name, R: Wait>(
+    rt: &R,
+    controller: &Controller<D, K>,
+    port: &mut Port<K>,
+    served: &mut Served,
+    glances: &mut Glances<K>,
+) -> Result<(), Refusal>
+    ensures element { port.new.element ≡ port.old.element }
+    ensures first { served.new.first ≡ served.old.first }
+    ensures looked { Looked port.old.history port.new.history port.old.element served.old.first
+        served.old.entries.items served.new.entries.items }
+    ensures seen { AreGlanced K.memory port.old.element glances.old.last glances.old.glance glances.old.made.items
+        → AreGlanced K.memory port.old.element glances.new.last glances.new.glance glances.new.made.items }
+    ensures made { glances.new.made ≡ glances.old.made }
+{
+    if served.next().saturating_sub(served.base) < WINDOW {
+        return Ok(());
+    }
+    let upto = match first_waiting(rt, controller, port, served) {
+        Ok(upto) => upto,
+        Err(refusal) => return Err(refusal),
+    };
+    match confirm(rt, controller, port, upto) {
+        Ok(receipt) => {
+            let _confirmed = glances.learn(&receipt);
+            served.base = upto;
+            Ok(())
+        }
+        Err(refusal) => Err(refusal),
+    }
+}
+
+/// Waits, in order, for the answer to each of the server's own requests that is still kept.
+pub(crate) fn await_rest<D: Disk, K: Name, R: Wait>(
+    rt: &R,
+    controller: &Controller<D, K>,
+    port: &mut Port<K>,
+    served: &mut Served,
+) -> Result<(), Refusal>
+    ensures element { port.new.element ≡ port.old.element }
+    ensures first { served.new.first ≡ served.old.first }
+    ensures looked { Looked port.old.history port.new.history port.old.element served.old.first
+        served.old.entries.items served.new.entries.items }
+{
+    for number in served.base.max(served.first)..served.next() {
+        match await_one(rt, controller, port, served, number) {
+            Ok(()) => {}
+            Err(refusal) => return Err(refusal),
+        }
+    }
+    Ok(())
+}
