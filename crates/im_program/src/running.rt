@@ -14,7 +14,7 @@ use crate::watching::Watch;
 use crate::work::refuse;
 use im_disk::{Disk, FileDisk, Start};
 use im_files::open_image;
-use im_run::{STALLED, Trace, run_on, run_once_on};
+use im_run::{RunMode, STALLED, Trace, run_on, run_once_on};
 use im_serving::{Open, Watcher};
 use im_text::Observer;
 use im_types::Refusal;
@@ -34,6 +34,8 @@ pub struct ScriptRun<'a> {
     pub script: &'a str,
     /// How it is run.
     pub way: Way,
+    /// Whether its servers' calls are recorded, so that they can be written as a trace.
+    pub traced: bool,
 }
 
 // Whether a script is run once.
@@ -96,12 +98,19 @@ pub fn run_file<
     match open_image(rt, running.image, start) {
         Ok(disk) => {
             let alloc = rt.alloc();
+            let recorded = running.traced;
             if is_once(running.way) {
-                Ok(run_once_on(rt, alloc, disk, &script, &Open, watcher, out, observer))
+                let (ended, disk, trace) = run_once_on(
+                    rt, alloc, disk, &script, &Open, watcher, out, observer, recorded,
+                );
+                Ok((ended, disk, trace))
             } else {
-                let planned = running.way == Way::Planned;
+                let mode = RunMode {
+                    planned: running.way == Way::Planned,
+                    recorded,
+                };
                 let (ended, disk, trace) = run_on(
-                    rt, alloc, disk, &script, &Open, watcher, out, observer, planned,
+                    rt, alloc, disk, &script, &Open, watcher, out, observer, mode,
                 );
                 Ok((ended, disk, trace))
             }

@@ -136,7 +136,12 @@ pub fn act<
             way,
             trace,
         } => {
-            let running = ScriptRun { image, script, way };
+            let running = ScriptRun {
+                image,
+                script,
+                way,
+                traced: traced.path.is_some(),
+            };
             let traced = TraceFile {
                 path: trace,
                 objects: order.telling == Telling::Json,

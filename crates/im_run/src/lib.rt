@@ -20,5 +20,5 @@ mod tracing;
 
 pub use once::run_once_on;
 pub use run::{STALLED, run_on};
-pub use sheet::Mode;
+pub use sheet::RunMode;
 pub use tracing::{Trace, write_trace};

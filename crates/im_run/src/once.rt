@@ -6,7 +6,7 @@ ghost use Rattle.im_serial.specs.Serving.{seen_by};
 ghost use Rattle.im_run.specs.Once.{EndsOnce, RunsOnceOn};
 
 use crate::run::{STALLED, run_server};
-use crate::sheet::{Commission, Mode};
+use crate::sheet::{Commission, RunMode};
 use crate::tracing::Trace;
 use im_disk::Disk;
 use im_engine::Engine;
@@ -76,7 +76,7 @@ fn run_rest<
             let none = Vec::new(alloc);
             server.waited = none; // Those that wait are sent again.
             let asked = Commission { script, once: true };
-            let mode = Mode {
+            let mode = RunMode {
                 planned: false,
                 recorded,
             };

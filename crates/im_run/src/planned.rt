@@ -5,7 +5,7 @@ ghost use Rattle.im_run.specs.Orders.{ask_of};
 ghost use Rattle.im_run.specs.Planned.{number_behind, plan_of, request_by, requests_from};
 ghost use Rattle.im_run.specs.Running.{AreThere};
 
-use crate::sheet::{Mode, Order};
+use crate::sheet::{Order, RunMode};
 use im_controller::{Opening, start, start_planned, start_planned_unrecorded, start_unrecorded};
 use im_disk::Disk;
 use im_engine::Engine;
@@ -259,7 +259,7 @@ pub fn begin<D: Disk + Drop, R: Wait>(
     alloc: Global,
     engine: Engine<D>,
     orders: &[Order],
-    mode: Mode,
+    mode: RunMode,
 ) -> Result<Opening<D>, (Reason, Engine<D>)>
     ensures found { IfOk result (λ o. o.engine ≡ engine) }
     ensures plan { IfOk result (λ o. mode.planned ≡ true → o.plan ≡ Some (plan_of (map ask_of orders.now))) }

@@ -10,7 +10,7 @@ use crate::closing::close;
 use crate::orders::read_orders;
 use crate::planned::begin;
 use crate::served::{Outcome, serve_orders};
-use crate::sheet::{Commission, Mode, Order};
+use crate::sheet::{Commission, Order, RunMode};
 use crate::tracing::Trace;
 use im_disk::Disk;
 use im_engine::Engine;
@@ -57,7 +57,7 @@ fn serve_on<
     watcher: &V,
     out: &mut W,
     observer: &mut N,
-    mode: Mode,
+    mode: RunMode,
 ) -> (u8, D, Calls)
     ensures status { (result.0 ≤ 1) ⊎ (result.0 ≡ STALLED) }
     ensures ended { EndsServing D.Disk mode.planned (map ask_of orders.items) engine result.1 (W.contents out.old)
@@ -103,7 +103,7 @@ pub(crate) fn run_server<
     watcher: &V,
     out: &mut W,
     observer: &mut N,
-    mode: Mode,
+    mode: RunMode,
 ) -> (u8, D, Trace)
     requires ready { CanServe D.Disk (seen_by server (W.contents out.old)) }
     requires bases { server.bases.items ≡ bases_first asked.once server.engine.memory asked.script.now }
@@ -207,7 +207,7 @@ pub fn run_on<
     watcher: &V,
     out: &mut W,
     observer: &mut N,
-    mode: Mode,
+    mode: RunMode,
 ) -> (u8, D, Trace)
     ensures status { (result.0 ≤ 1) ⊎ (result.0 ≡ STALLED) }
     ensures ran { D.honest result.1 → (result.0 ≡ 0) ⊎ (result.0 ≡ STALLED)

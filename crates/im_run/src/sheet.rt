@@ -23,7 +23,7 @@ pub struct Order {
 
 /// How a script is run.
 #[derive(Clone, Copy, Debug, PartialEq, Eq)]
-pub struct Mode {
+pub struct RunMode {
     /// Whether its requests are a plan.
     pub planned: bool,
     /// Whether the servers' calls are recorded, so that they can be written as a trace: 48 bytes for each.

@@ -4,7 +4,7 @@ use crate::gates::After;
 use crate::scripts::script_of;
 use crate::stage::{How, Stage};
 use im_disk::Mode;
-use im_run::{run_on, run_once_on};
+use im_run::{RunMode, run_on, run_once_on};
 use im_script::read_script_with_glances;
 use im_serving::{Gate, Open, Unwatched};
 use std::sync::Wait;
@@ -27,10 +27,13 @@ pub fn serve<G: Gate + Sync, R: Threads + Wait + Sync>(
     };
     let (out, told, watcher) = (&mut here.out, &mut here.told, &Unwatched);
     let (status, disk, trace) = if how == How::Once {
-        run_once_on(rt, alloc, disk, &script, gate, watcher, out, told)
+        run_once_on(rt, alloc, disk, &script, gate, watcher, out, told, true)
     } else {
-        let planned = how == How::Plan;
-        run_on(rt, alloc, disk, &script, gate, watcher, out, told, planned)
+        let mode = RunMode {
+            planned: how == How::Plan,
+            recorded: how == How::Trace,
+        };
+        run_on(rt, alloc, disk, &script, gate, watcher, out, told, mode)
     };
     here.lay_down(disk, &trace, how);
     status
