@@ -140,7 +140,7 @@ pub fn act<
                 image,
                 script,
                 way,
-                traced: traced.path.is_some(),
+                traced: trace.is_some(),
             };
             let traced = TraceFile {
                 path: trace,
