@@ -100,10 +100,9 @@ pub fn run_file<
             let alloc = rt.alloc();
             let recorded = running.traced;
             if is_once(running.way) {
-                let (ended, disk, trace) = run_once_on(
+                Ok(run_once_on(
                     rt, alloc, disk, &script, &Open, watcher, out, observer, recorded,
-                );
-                Ok((ended, disk, trace))
+                ))
             } else {
                 let mode = RunMode {
                     planned: running.way == Way::Planned,

@@ -248,8 +248,8 @@ fn room_if(recorded: bool, orders: &[Order], elements: u16) -> Option<usize>
     }
 }
 
-/// Makes room for what the elements ask for, and for the trace if it is recorded, before any thread starts. Returns `NoElement` if one of the elements
-/// doesn't exist.
+/// Makes room for what the elements ask for, and for the trace if it is recorded, before any thread starts. Returns
+/// `NoElement` if one of the elements doesn't exist.
 ///
 /// If the run is planned, its plan is of all requests of the orders. It then returns `BadPlan` if they make no plan:
 /// a request is no fetch or store, two requests store to one address, a cell that a request names isn't empty or has a
