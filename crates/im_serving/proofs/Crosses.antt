@@ -21,6 +21,7 @@ use Rattle.im_trace.specs.contracts.books.Tally as Tally
 use Rattle.im_controller.specs.contracts.ports.Port as Port
 use Rattle.logbook.proofs.tokens.Seen.TheSendSync.{the_send as seen_send}
 use Rattle.logbook.proofs.tokens.Pen.TheSendSync.{the_send as pen_send}
+use Rattle.logbook.proofs.word.Word.TheSendSync.{the_send as word_send}
 use Rattle.im_glass.proofs.pane.Pane.TheSendSync.{the_send as pane_send}
 use Rattle.im_planning.proofs.plan.Plan.TheSendSync.{the_send as plan_send}
 use Rattle.im_controller.specs.contracts.shared.Shared as Shared
@@ -61,7 +62,7 @@ module _ (K : RattleType) (n : name.Ghosts K.Denot) where
   Books-send = search (sendable, crosses, book_send) depth 40 fits 30000
 
   pub Chain-send : IsSend (Chain.the_field K n).row
-  Chain-send = search (sendable, crosses, seen_send, pen_send) depth 40 fits 30000
+  Chain-send = search (sendable, crosses, seen_send, pen_send, word_send) depth 40 fits 30000
 
   pub Record-send : IsSend (Record.the_field K n).row
   Record-send = let c = Chain-send in let t = Traced-send in search (sendable, crosses) depth 40 fits 30000
