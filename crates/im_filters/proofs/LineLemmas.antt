@@ -27,12 +27,12 @@ asked element number = decimal element ++ codes "." ++ decimal number
 asked_is : (element number : ℕ) → asked element number ≡ decimal element ++ 46 ∷ decimal number
 asked_is element number = append_assoc (decimal element) (46 ∷ []) (decimal number)
 
-asked_front : (element number : ℕ) → cut_front 46 (asked element number) ≡ decimal element
+pub asked_front : (element number : ℕ) → cut_front 46 (asked element number) ≡ decimal element
 asked_front element number =
     ap (cut_front 46) (asked_is element number)
     ∙ front_at 46 (decimal element) (decimal number) (lacks_decimal 46 element (omega arith))
 
-asked_rest : (element number : ℕ) → cut_rest 46 (asked element number) ≡ decimal number
+pub asked_rest : (element number : ℕ) → cut_rest 46 (asked element number) ≡ decimal number
 asked_rest element number =
     ap (cut_rest 46) (asked_is element number)
     ∙ rest_at 46 (decimal element) (decimal number) (lacks_decimal 46 element (omega arith))
@@ -48,10 +48,10 @@ asked_differs element number =
     ap (λ l. bytes_eq l (codes "refused")) (asked_is element number)
     ∙ digits_and_dot_differ (decimal element) (decimal number) (decimal_digits element)
 
-spaced_head : (front word rest : List ℕ) → lacks 32 front ≡ true → head_word ((front ++ 32 ∷ word) ++ rest) ≡ front
+pub spaced_head : (front word rest : List ℕ) → lacks 32 front ≡ true → head_word ((front ++ 32 ∷ word) ++ rest) ≡ front
 spaced_head front word rest h = ap head_word (append_assoc front (32 ∷ word) rest) ∙ front_at 32 front (word ++ rest) h
 
-spaced_tail : (front word rest : List ℕ) → lacks 32 front ≡ true
+pub spaced_tail : (front word rest : List ℕ) → lacks 32 front ≡ true
     → tail_words ((front ++ 32 ∷ word) ++ rest) ≡ word ++ rest
 spaced_tail front word rest h = ap tail_words (append_assoc front (32 ∷ word) rest) ∙ rest_at 32 front (word ++ rest) h
 

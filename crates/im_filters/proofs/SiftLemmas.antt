@@ -114,3 +114,9 @@ pub sifts_new : (start was : Option (List ℕ)) (slate : Slate) (text : List ℕ
 sifts_new start was slate text same none held empty =
     subst (λ (l : List ℕ). Sifts start was slate l) (sym empty)
     (subst (λ (o : Option (List ℕ)). Sifts o was slate []) same (sifts_none was slate none held))
+
+-- what a relay took is there, whole
+pub relay_begins : (start was is : Option (List ℕ)) (taken text : List ℕ) → Appends start was taken → taken ≡ text
+    → Keeps was is → Begins start is text
+relay_begins start was is taken text there same kept =
+    (length text, subst (Appends start is) (same ∙ sym (take-all text)) (Appends-kept start was is taken there kept))

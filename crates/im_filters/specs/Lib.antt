@@ -1,3 +1,4 @@
 pub mod Objects
+pub mod Calls
 pub mod Tellings
 pub mod Sieves

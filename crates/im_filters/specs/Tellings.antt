@@ -6,8 +6,9 @@ use Rattle.std.specs.Str.{bytes_eq}
 use Rattle.im_text.specs.Printing.{Begins}
 use Rattle.im_text.specs.Texts.{line_feed}
 use Rattle.im_filters.specs.declared.telling.Telling.{Telling}
-use Rattle.im_filters.specs.declared.telling.Telling.TheVariants.{Plain, Quiet, Json}
-use Rattle.im_filters.specs.Objects.{head_word, object_of}
+use Rattle.im_filters.specs.declared.telling.Telling.TheVariants.{Plain, Quiet, Json, Calls}
+use Rattle.im_filters.specs.Calls.{call_object}
+use Rattle.im_filters.specs.Objects.{head_word, object_of, tail_words}
 
 -- ---- a line
 
@@ -20,6 +21,7 @@ abbrev pub sifted_line : Telling → List ℕ → List ℕ
 sifted_line Plain line = line ++ line_feed
 sifted_line Quiet line = if tells_refusal line then line ++ line_feed else []
 sifted_line Json line = object_of line
+sifted_line Calls line = call_object line
 
 -- ---- a text
 
@@ -40,6 +42,7 @@ abbrev pub sifted : Telling → List ℕ → List ℕ
 sifted Plain text = text
 sifted Quiet text = sifted_lines Quiet text []
 sifted Json text = sifted_lines Json text []
+sifted Calls text = sifted_lines Calls text []
 
 -- a text has no such mark
 abbrev pub lacks : ℕ → List ℕ → Bool
@@ -58,6 +61,12 @@ line_of_done element number = decimal element ++ codes "." ++ decimal number ++ 
 abbrev pub line_of_glance : ℕ → ℕ → List ℕ → List ℕ
 line_of_glance element a seen =
     decimal element ++ codes " glance " ++ decimal a ++ codes " " ++ seen ++ line_feed
+
+-- what was answered has this word, and this number behind it, or none
+pub record IsSaid (said word operand : List ℕ) : Type 0 where
+  pub head : head_word said ≡ word
+  pub tail : tail_words said ≡ operand
+  pub ends : lacks 10 said ≡ true
 
 -- ---- a writer
 

@@ -1,17 +1,20 @@
 //! How the lines of replies are told: writers in front of a writer.
 #![tactic(auto)]
 
+mod calls;
 mod cutting;
 mod intake;
 mod laws;
 mod object;
 mod passing;
+mod relay;
 mod sieve;
 mod sieving;
 mod slate;
 mod telling;
 
-pub use laws::{law_of_objects, law_of_quiet};
+pub use laws::{law_of_calls, law_of_objects, law_of_quiet};
+pub use relay::Relay;
 pub use sieve::Sieve;
 pub use sieving::Sieving;
 pub use telling::Telling;

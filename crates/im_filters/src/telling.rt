@@ -1,6 +1,6 @@
-//! How the lines of replies are told.
+//! How lines are told.
 
-/// How the lines of replies are told.
+/// How lines are told: those of replies, or those of a trace.
 #[derive(Clone, Copy, Debug, PartialEq, Eq)]
 pub enum Telling {
     /// As they are.
@@ -9,4 +9,6 @@ pub enum Telling {
     Quiet,
     /// Each as an object of JSON.
     Json,
+    /// Each line of a trace as an object of JSON.
+    Calls,
 }

@@ -112,6 +112,7 @@ fn add_order(said: &mut Saying, order: &Order) {
         Telling::Plain => {}
         Telling::Quiet => write!(said, ", quietly"),
         Telling::Json => write!(said, ", as JSON"),
+        Telling::Calls => write!(said, ", as a trace in JSON"),
     }
     if order.wait > 0 {
         write!(said, ", waiting {} s", order.wait)
