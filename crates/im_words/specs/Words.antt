@@ -105,9 +105,13 @@ abbrev pub sized_app : App → App
 sized_app app = with_rule (with_rule (with_rule app (option_rule (codes "cells"))) (option_rule (codes "elements")))
     (option_rule (codes "slots"))
 
+-- a subcommand that takes a path and that of a new file, with the options for sizes
+abbrev pub making_app : Text → Text → App
+making_app name path = sized_app (with_rule (file_app name path) (path_rule (codes "NEW")))
+
 -- copy OLD NEW [--cells N] [--elements N] [--slots N] [--statuses] [--wait SECONDS]
 abbrev pub copy_app : App
-copy_app = sized_app (with_rule (file_app (codes "copy") (codes "OLD")) (path_rule (codes "NEW")))
+copy_app = making_app (codes "copy") (codes "OLD")
 
 -- dump IMAGE [--json] [--statuses] [--wait SECONDS]
 abbrev pub dump_app : App
@@ -115,7 +119,7 @@ dump_app = json_app (codes "dump")
 
 -- load TEXT NEW [--cells N] [--elements N] [--slots N] [--statuses] [--wait SECONDS]
 abbrev pub load_app : App
-load_app = sized_app (with_rule (file_app (codes "load") (codes "TEXT")) (path_rule (codes "NEW")))
+load_app = making_app (codes "load") (codes "TEXT")
 
 -- a command with `--version`
 abbrev pub with_version : App → App

@@ -3,11 +3,12 @@ ghost use Rattle.std.specs.Prelude.{◌≡◌, false, IfOk, codes};
 ghost use Rattle.std.specs.Option.{option_map};
 ghost use Rattle.clap.specs.Words.{app_of, found_of, rows_of};
 ghost use Rattle.clap.specs.declared.builder.command.Command.TheViews.{out-Command};
-ghost use Rattle.im_words.specs.Words.{copy_app, copy_task, dump_app, dump_job, dump_task, given_in, given_number};
-ghost use Rattle.im_words.specs.Words.{load_app, load_task, sized_app, sizes_given, task_of, task_of_job};
+ghost use Rattle.im_words.specs.Words.{copy_task, dump_app, dump_job, dump_task, given_in, given_number};
+ghost use Rattle.im_words.specs.Words.{load_task, making_app, sized_app, sizes_given, task_of, task_of_job};
 
 use crate::look_words::json_command;
-use crate::words::{Job, Work, file_command, is_given, number_option, path_argument, path_of};
+use crate::parts::{Help, file_command, is_given, number_option, path_argument, path_of};
+use crate::words::{Job, Work};
 use clap::{ArgMatches, Command};
 use im_migration::Asked;
 use im_report::View;
@@ -31,6 +32,13 @@ Example: a backup, and the same image with more cells
 Exit status: 0 the image is copied; 1 refused, with 'refused N NAME' as the last line: 17 BadLimits if the
 cells or elements in use don't fit, 12 WrongLength if NEW has another length, 22 NotBlank if NEW is an image
 already; 2 a bad command line. A refusal also has a line on standard error, which says why.";
+
+/// What the help says of `copy`.
+pub(crate) const COPY_HELP: Help<'static> = Help {
+    path: "The image",
+    about: COPY,
+    examples: COPY_EXAMPLES,
+};
 
 const DUMP: &str = "Print what an image means as a text, which 'imem load' reads back";
 
@@ -75,6 +83,13 @@ is no dump, 17 BadLimits if the cells or elements in use don't fit, 12 WrongLeng
 22 NotBlank if NEW is an image already; 2 a bad command line. A refusal also has a line on standard error,
 which says why: of a text, the line, the word, and what is expected there.";
 
+/// What the help says of `load`.
+pub(crate) const LOAD_HELP: Help<'static> = Help {
+    path: "The text, or - for standard input",
+    about: LOAD,
+    examples: LOAD_EXAMPLES,
+};
+
 // Adds the options for sizes to a command.
 fn with_sizes<'a>(alloc: Global, command: Command<'a>) -> Result<Command<'a>, AllocError>
     requires { (out-Command command).has_globals ≡ false }
@@ -102,12 +117,17 @@ fn with_sizes<'a>(alloc: Global, command: Command<'a>) -> Result<Command<'a>, Al
     Ok(three)
 }
 
-/// The subcommand `copy`.
-pub(crate) fn copy_command<'a>(alloc: Global) -> Result<Command<'a>, AllocError>
-    ensures app { IfOk result (λ c. app_of c ≡ copy_app) }
+/// A subcommand that takes a path and the path of a new file, with the options for sizes: `copy` or `load`.
+pub(crate) fn making_command<'a>(
+    alloc: Global,
+    name: &'a str,
+    path: &'a str,
+    help: Help<'a>,
+) -> Result<Command<'a>, AllocError>
+    ensures app { IfOk result (λ c. app_of c ≡ making_app name.entry.now path.entry.now) }
     ensures local { IfOk result (λ c. (out-Command c).has_globals ≡ false) }
 {
-    let old = file_command(alloc, "copy", "OLD", "The image", COPY, COPY_EXAMPLES)?;
+    let old = file_command(alloc, name, path, help)?;
     let new = path_argument(alloc, "NEW", "The new file");
     let both = old.arg(new)?;
     let sized = with_sizes(alloc, both)?;
@@ -120,25 +140,6 @@ pub(crate) fn dump_command<'a>(alloc: Global) -> Result<Command<'a>, AllocError>
     ensures local { IfOk result (λ c. (out-Command c).has_globals ≡ false) }
 {
     json_command(alloc, "dump", DUMP, DUMP_EXAMPLES)
-}
-
-/// The subcommand `load`.
-pub(crate) fn load_command<'a>(alloc: Global) -> Result<Command<'a>, AllocError>
-    ensures app { IfOk result (λ c. app_of c ≡ load_app) }
-    ensures local { IfOk result (λ c. (out-Command c).has_globals ≡ false) }
-{
-    let text = file_command(
-        alloc,
-        "load",
-        "TEXT",
-        "The text, or - for standard input",
-        LOAD,
-        LOAD_EXAMPLES,
-    )?;
-    let new = path_argument(alloc, "NEW", "The new file");
-    let both = text.arg(new)?;
-    let sized = with_sizes(alloc, both)?;
-    Ok(sized)
 }
 
 // The number of a text that was given. Returns `None` if it is not the decimal number of a u32.

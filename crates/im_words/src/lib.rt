@@ -2,9 +2,16 @@
 #![tactic(auto)]
 
 mod copy_words;
+mod format_words;
 mod look_words;
+mod migrate_words;
+mod orders;
+mod parts;
+mod reading;
+mod script_words;
+mod serve_words;
 mod words;
 
-pub use words::{
-    DEFAULT_CELLS, DEFAULT_ELEMENTS, DEFAULT_SLOTS, Job, Order, Way, WordFault, Work, read_words,
-};
+pub use format_words::{DEFAULT_CELLS, DEFAULT_ELEMENTS, DEFAULT_SLOTS};
+pub use reading::read_words;
+pub use words::{Job, Order, Way, WordFault, Work};

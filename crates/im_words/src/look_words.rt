@@ -7,9 +7,8 @@ ghost use Rattle.im_words.specs.Words.{filter_in, given_cells, inspect_app, insp
 ghost use Rattle.im_words.specs.Words.{span_between, span_given, span_in, stat_app, stat_look, stat_task, task_of};
 
 use crate::copy_words::number_given;
-use crate::words::{
-    Job, Work, flag_option, image_command, is_given, number_option, path_of, value_option,
-};
+use crate::parts::{flag_option, image_command, is_given, number_option, path_of, value_option};
+use crate::words::{Job, Work};
 use clap::error::ErrorKind;
 use clap::{ArgMatches, Command, Error};
 use im_report::{Filter, Span, View};

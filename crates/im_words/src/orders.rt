@@ -1,0 +1,134 @@
+//! What the words that clap found ask for.
+ghost use Rattle.std.specs.Prelude.{◌≡◌, IfSome, codes};
+ghost use Rattle.std.specs.Option.{option_map};
+ghost use Rattle.clap.specs.Words.{subcommand_rows_of};
+ghost use Rattle.im_words.specs.Words.{behind_plus, has_statuses, is_of_script, seconds_of, task_in, task_of};
+ghost use Rattle.im_words.specs.Words.{telling_in, wait_in};
+
+use crate::copy_words::{copy_work, dump_work, load_work};
+use crate::format_words::format_work;
+use crate::look_words::{inspect_work, stat_work};
+use crate::migrate_words::migrate_work;
+use crate::parts::{is_given, path_of};
+use crate::script_words::{run_work, serial_work, telling_given};
+use crate::serve_words::serve_work;
+use crate::words::{Job, Order, Work};
+use clap::ArgMatches;
+use im_filters::Telling;
+use im_script::read_u32;
+
+/// What the command line asks for. Returns `None` if a number is not the decimal number of a u32, if a plan is to be
+/// done once, or if lines are to be told in two ways.
+fn work_of<'a>(matches: &ArgMatches<'a>) -> Option<Work<'a>>
+    ensures { option_map task_of result ≡ task_in (subcommand_rows_of matches.now) }
+{
+    match matches.subcommand() {
+        None => Some(Work::Alone(Job::Demonstration)),
+        Some((name, found)) => {
+            if name == "format" {
+                format_work(found)
+            } else if name == "serial" {
+                serial_work(found)
+            } else if name == "run" {
+                run_work(found)
+            } else if name == "serve" {
+                Some(serve_work(found))
+            } else if name == "migrate" {
+                Some(migrate_work(found))
+            } else if name == "copy" {
+                copy_work(found)
+            } else if name == "dump" {
+                Some(dump_work(found))
+            } else if name == "load" {
+                load_work(found)
+            } else if name == "stat" {
+                Some(stat_work(found))
+            } else {
+                inspect_work(found)
+            }
+        }
+    }
+}
+
+/// Whether the subcommand's exit status is to tell refusals apart.
+fn statuses_of(matches: &ArgMatches<'_>) -> bool
+    ensures { result ≡ has_statuses (subcommand_rows_of matches.now) }
+{
+    match matches.subcommand() {
+        None => false,
+        Some((_, found)) => is_given(found, "statuses"),
+    }
+}
+
+/// Returns the text after a leading plus. A text without one is returned whole.
+fn behind_plus(text: &[u8]) -> &[u8]
+    ensures { result.now ≡ behind_plus text.now }
+{
+    if text.is_empty() {
+        return text;
+    }
+    if text[0] == b'+' { &text[1..] } else { text }
+}
+
+/// Returns the seconds that a text gives in decimal digits, after an optional plus. clap has refused any other text.
+fn read_seconds(text: &[u8]) -> u32
+    ensures { result ≡ seconds_of text.now }
+{
+    match read_u32(behind_plus(text)) {
+        Some(seconds) => seconds,
+        None => 0,
+    }
+}
+
+/// How many seconds the subcommand's openings wait.
+fn wait_of(matches: &ArgMatches<'_>) -> u32
+    ensures { result ≡ wait_in (subcommand_rows_of matches.now) }
+{
+    match matches.subcommand() {
+        None => 0,
+        Some((_, found)) => read_seconds(path_of(found, "wait").as_bytes()),
+    }
+}
+
+/// Whether a subcommand serves a script.
+fn is_of_script(name: &str) -> bool
+    ensures { result ≡ is_of_script name.now }
+{
+    name == "serial" || name == "run"
+}
+
+/// How the subcommand's lines are told.
+fn telling_of(matches: &ArgMatches<'_>) -> Telling
+    ensures { result ≡ telling_in (subcommand_rows_of matches.now) }
+{
+    match matches.subcommand() {
+        None => Telling::Plain,
+        Some((name, found)) => {
+            if is_of_script(name) {
+                telling_given(found).unwrap_or(Telling::Plain)
+            } else {
+                Telling::Plain
+            }
+        }
+    }
+}
+
+/// The work, how the program is to end, how long its openings wait, and how its lines are told. Returns `None` as
+/// [`work_of`] does.
+pub(crate) fn order_of<'a>(matches: &ArgMatches<'a>) -> Option<Order<'a>>
+    ensures work { option_map (λ (order : Order). task_of order.work) result
+        ≡ task_in (subcommand_rows_of matches.now) }
+    ensures statuses { IfSome result (λ order. order.statuses ≡ has_statuses (subcommand_rows_of matches.now)) }
+    ensures wait { IfSome result (λ order. order.wait ≡ wait_in (subcommand_rows_of matches.now)) }
+    ensures telling { IfSome result (λ order. order.telling ≡ telling_in (subcommand_rows_of matches.now)) }
+{
+    match work_of(matches) {
+        Some(work) => Some(Order {
+            work,
+            statuses: statuses_of(matches),
+            wait: wait_of(matches),
+            telling: telling_of(matches),
+        }),
+        None => None,
+    }
+}

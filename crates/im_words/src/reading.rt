@@ -1,0 +1,171 @@
+//! Reads the words of the command line.
+ghost use Rattle.std.specs.Prelude.{◌≡◌, [], true, Some, IfOk, IfErr, IsOk, IsSome};
+ghost use Rattle.clap.specs.Words.{app_of, fault_of, kind_of, takes};
+ghost use Rattle.im_script.specs.Grammar.{texts};
+ghost use Rattle.im_words.specs.Words.{asked, asks_statuses, asks_telling, asks_wait, earlier_app, imem_app};
+ghost use Rattle.im_words.specs.Words.{task_of, top_app};
+
+use crate::copy_words::{COPY_HELP, LOAD_HELP, dump_command, making_command};
+use crate::format_words::{bad_option, format_command};
+use crate::look_words::{bad_look, inspect_command, stat_command};
+use crate::migrate_words::migrate_command;
+use crate::orders::order_of;
+use crate::script_words::{bad_script, run_command, serial_command};
+use crate::serve_words::serve_command;
+use crate::words::{Order, WordFault, version};
+use clap::error::ErrorKind;
+use clap::{ArgMatches, Command, Error};
+use std::alloc::{AllocError, Global};
+
+const ABOUT: &str = "A durable memory of I-structure and M-structure cells, kept in an image file.";
+
+const EXAMPLES: &str =
+    "With no subcommand, imem serves a short script on an image in memory, and prints its replies.
+
+Example:
+  imem format --new a.img
+  imem run a.img fetch.script
+  imem inspect a.img
+
+An image of layout version 1 can be inspected. The subcommands serial, run and serve refuse it with
+21 OldVersion; 'imem migrate' moves it to a new file of the version in use.
+
+While imem works on an image, it holds the lock of the image's file. Another imem is then refused with
+8 Device, and a line on standard error says that the image is in use. With --wait SECONDS, which each
+subcommand takes, imem tries again for that many seconds. Any number of programs may inspect an image at
+the same time. The lock is advisory: it doesn't keep another program from writing the file, or from making
+another file of the same name.
+
+Exit status: 0 done; 1 refused, with 'refused N NAME' as the last line; 2 a bad command line; 3 the
+elements of a run wait for each other. With --statuses, which each subcommand takes, some refusals end
+with another status than 1. The status is 4 if a file is in use by another program: another try may
+succeed. It is 5 if there is no image, if the image is damaged or old, or if there is no such file or no
+permission: another try ends the same.
+
+No subcommand opens a file under the descriptor number of a standard stream that is closed.";
+
+/// The program with no subcommand.
+fn top_command<'a>(alloc: Global) -> Command<'a>
+    ensures app { app_of result ≡ top_app }
+{
+    Command::new(alloc, "imem")
+        .version(version())
+        .about(ABOUT)
+        .after_help(EXAMPLES)
+}
+
+/// The command line with the first six subcommands.
+fn earlier_command<'a>(alloc: Global) -> Result<Command<'a>, AllocError>
+    ensures app { IfOk result (λ c. app_of c ≡ earlier_app) }
+{
+    let empty = top_command(alloc);
+    let format = format_command(alloc)?;
+    let serial = serial_command(alloc)?;
+    let run = run_command(alloc)?;
+    let serve = serve_command(alloc)?;
+    let inspect = inspect_command(alloc)?;
+    let migrate = migrate_command(alloc)?;
+    let one = empty.subcommand(format)?;
+    let two = one.subcommand(serial)?;
+    let three = two.subcommand(run)?;
+    let four = three.subcommand(serve)?;
+    let five = four.subcommand(inspect)?;
+    let six = five.subcommand(migrate)?;
+    Ok(six)
+}
+
+/// The whole command line.
+fn imem_command<'a>(alloc: Global) -> Result<Command<'a>, AllocError>
+    ensures app { IfOk result (λ c. app_of c ≡ imem_app) }
+{
+    let six = earlier_command(alloc)?;
+    let copy = making_command(alloc, "copy", "OLD", COPY_HELP)?;
+    let dump = dump_command(alloc)?;
+    let load = making_command(alloc, "load", "TEXT", LOAD_HELP)?;
+    let stat = stat_command(alloc)?;
+    let seven = six.subcommand(copy)?;
+    let eight = seven.subcommand(dump)?;
+    let nine = eight.subcommand(load)?;
+    let ten = nine.subcommand(stat)?;
+    Ok(ten)
+}
+
+/// The fault that clap found.
+fn fault(error: Error) -> WordFault
+    ensures { kind_of error ≡ ErrorKind.OutOfMemory → result ≡ WordFault.NoMemory }
+{
+    if error.kind() == ErrorKind::OutOfMemory {
+        WordFault::NoMemory
+    } else {
+        WordFault::Bad(error)
+    }
+}
+
+/// The subcommand of this name, which takes sizes, as its usage shows it.
+fn sized_command<'a>(alloc: Global, name: &str) -> Result<Command<'a>, AllocError> {
+    if name == "copy" {
+        making_command(alloc, "copy", "OLD", COPY_HELP)?.bin_name("imem copy")
+    } else if name == "load" {
+        making_command(alloc, "load", "TEXT", LOAD_HELP)?.bin_name("imem load")
+    } else {
+        format_command(alloc)?.bin_name("imem format")
+    }
+}
+
+/// The error for a size that is no number, with the usage of the subcommand.
+fn bad_size(alloc: Global, name: &str, found: Option<&ArgMatches>) -> Result<Error, AllocError> {
+    let (id, text) = match found {
+        Some(found) => bad_option(found).unwrap_or(("cells", "")),
+        None => ("cells", ""),
+    };
+    let message = format!(in alloc;
+        "invalid value {text:?} for '--{id} <N>': a decimal number below 4294967296 is expected"
+    )?;
+    let mut command = sized_command(alloc, name)?;
+    command.error(ErrorKind::ValueValidation, message.as_str())
+}
+
+/// The error for a text that is no number, or for two flags that can't go together, with the usage of the subcommand.
+fn bad_number(alloc: Global, matches: &ArgMatches<'_>) -> Result<Error, AllocError> {
+    match matches.subcommand() {
+        Some(("run", found)) => bad_script(alloc, "run", found),
+        Some(("serial", found)) => bad_script(alloc, "serial", found),
+        Some(("inspect", found)) => bad_look(alloc, found),
+        Some((name, found)) => bad_size(alloc, name, Some(found)),
+        None => bad_size(alloc, "format", None),
+    }
+}
+
+/// The fault for a text that is no number, or `NoMemory` if there is no memory for its message.
+fn number_fault(alloc: Global, matches: &ArgMatches<'_>) -> WordFault {
+    match bad_number(alloc, matches) {
+        Ok(error) => WordFault::Bad(error),
+        Err(_) => WordFault::NoMemory,
+    }
+}
+
+/// Reads the words of a command line, with the program's own name first. [`WordFault::Bad`] has the error
+/// that clap found, or says that a number is not written in decimal digits below 2^32. `--help` and `--version` are
+/// such faults too, with status 0.
+pub fn read_words<'a>(alloc: Global, words: &'a [&'a str]) -> Result<Order<'a>, WordFault>
+    ensures work { IfOk result (λ order. asked (texts words.entry.now) ≡ Some (task_of order.work)) }
+    ensures statuses { IfOk result (λ order. order.statuses ≡ asks_statuses (texts words.entry.now)) }
+    ensures wait { IfOk result (λ order. order.wait ≡ asks_wait (texts words.entry.now)) }
+    ensures telling { IfOk result (λ order. order.telling ≡ asks_telling (texts words.entry.now)) }
+    ensures sound { IsOk result → fault_of imem_app (texts words.entry.now) ≡ [] }
+    ensures taken { IfErr result (λ fault. takes imem_app (texts words.entry.now) ≡ true →
+        IsSome (asked (texts words.entry.now)) → fault ≡ WordFault.NoMemory) }
+{
+    let command = match imem_command(alloc) {
+        Ok(command) => command,
+        Err(_) => return Err(WordFault::NoMemory),
+    };
+    let matches = match command.try_get_matches_from(words) {
+        Ok(matches) => matches,
+        Err(error) => return Err(fault(error)),
+    };
+    match order_of(&matches) {
+        Some(order) => Ok(order),
+        None => Err(number_fault(alloc, &matches)),
+    }
+}
