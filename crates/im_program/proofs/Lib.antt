@@ -3,3 +3,4 @@ pub mod Loads
 pub mod MovedLemmas
 pub mod RunLemmas
 pub mod ToldLemmas
+pub mod TracedLemmas

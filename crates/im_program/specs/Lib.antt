@@ -2,3 +2,4 @@ pub mod Working
 pub mod Moving
 pub mod Loading
 pub mod Told
+pub mod Traced

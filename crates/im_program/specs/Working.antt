@@ -1,5 +1,5 @@
 -- The result of each kind of work. (Own.)
-use Rattle.std.specs.Prelude.{◌≡◌, ℕ, Bool, true, false, List, [], Option, None, Some}
+use Rattle.std.specs.Prelude.{◌≡◌, ℕ, Bool, true, false, List, [], Option, None, Some, IfSome}
 use Rattle.im_types.specs.Sizes.{AreLimits}
 use Rattle.im_disk.specs.Moment.{Moment}
 use Rattle.im_disk.specs.Since.{LeavesNow, ReadsOnly}
@@ -9,10 +9,11 @@ use Rattle.im_serial.specs.Once.{ServedOnceFrom}
 use Rattle.im_serial.specs.Serving.{ServedFrom}
 use Rattle.im_dialogue.specs.Backups.{Backup}
 use Rattle.im_dialogue.specs.Dialogue.{TalkedFrom}
-use Rattle.im_dialogue.specs.Talk.{outputs}
+use Rattle.im_dialogue.specs.Talk.{Outputs, outputs}
 use Rattle.im_run.specs.Once.{RanOnceFrom}
 use Rattle.im_run.specs.Running.{RanFrom}
 use Rattle.im_run.specs.Tracing.{TraceState}
+use Rattle.im_disk.specs.declared.disk.Disk.{Ghosts as DiskGhosts}
 use Rattle.im_disk.specs.declared.file.FileDisk.{FileDisk}
 use Rattle.im_disk.specs.declared.start.Start.{Ghosts}
 use Rattle.im_dump.specs.Dumping.{Dumps}
@@ -64,6 +65,41 @@ DoneOn now past failures first (dump image) was is status disk =
     (status ≡ 0 → Dumps first.bytes was is) × ReadsOnly first (now disk) [] (past disk)
 DoneOn now past failures first (load text new asked) was is status disk =
     LoadedFrom now past first asked disk was is status
+
+-- ---- the same, if the disk is honest
+
+-- a script was served on this disk
+abbrev pub WasScriptServed : {D : Type 0} → DiskGhosts D → Moment → Bool → Option (List ℕ) → Option (List ℕ) → ℕ → D
+    → Type 0
+WasScriptServed d first once was is status disk =
+    d.honest disk → ScriptServed once d.now d.past d.failures first disk was is status
+
+-- a script was run on this disk
+abbrev pub WasRun : {D : Type 0} → DiskGhosts D → Moment → Way → Option (List ℕ) → Option (List ℕ) → TraceState → ℕ → D
+    → Type 0
+WasRun d first way was is run status disk =
+    d.honest disk → ScriptRan (is_once way) d.now d.past d.failures first disk was is run status
+
+-- the same, with a trace if there is one
+abbrev pub WasRunWith : {D : Type 0} → DiskGhosts D → Moment → Way → Option (List ℕ) → Option (List ℕ)
+    → Option TraceState → ℕ → D → Type 0
+WasRunWith d first way was is run status disk = d.honest disk
+    → IfSome run (λ calls. ScriptRan (is_once way) d.now d.past d.failures first disk was is calls status)
+
+-- the same, with some trace
+abbrev pub WasRunSomehow : {D : Type 0} → DiskGhosts D → Moment → Way → Option (List ℕ) → Option (List ℕ) → ℕ → D
+    → Type 0
+WasRunSomehow d first way was is status disk = d.honest disk
+    → (calls : TraceState) × ScriptRan (is_once way) d.now d.past d.failures first disk was is calls status
+
+-- a dialogue was served on this disk
+abbrev pub WasTalked : {D : Type 0} → DiskGhosts D → Moment → Bool → Outputs → Outputs → ℕ → D → Type 0
+WasTalked d first watch was is status disk = d.honest disk → TalkedFrom watch d.now d.past first disk was is status
+
+-- a task was done on this disk
+abbrev pub WasDone : {D : Type 0} → DiskGhosts D → Moment → Task → Option (List ℕ) → Option (List ℕ) → ℕ → D → Type 0
+WasDone d first task was is status disk =
+    d.honest disk → DoneOn d.now d.past d.failures first task was is status disk
 
 -- the task opens two files
 abbrev pub IsOfTwo : Task → Type 0

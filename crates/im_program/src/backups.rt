@@ -7,8 +7,7 @@ ghost use Rattle.im_migration.specs.Migration.{LeavesLaid, moved_header};
 ghost use Rattle.im_dialogue.specs.Backups.{bytes_of};
 
 use crate::descriptors::Descriptors;
-use crate::opening::{format_reason, reason_of};
-use crate::work::give_up;
+use crate::opening::{format_reason, give_up, reason_of};
 use im_damage::Damage;
 use im_dialogue::{BackupFault, BackupName, Backups, Shelf};
 use im_disk::{Disk, FileDisk, Start, Unknown};

@@ -3,27 +3,22 @@
 use crate::descriptors::Descriptors;
 use crate::loading::{LoadFault, LoadObserver};
 use crate::opening::call_of;
+use crate::shown::{Shown, folder_of, input_or};
 use im_disk::Failure;
 use im_files::Noting;
 use im_migration::{Follower, Misfit};
-use im_serving::{Standing, Watcher};
 use im_text::{Observer, PathFault, Progress, Reason, Waited, Warning, make_now};
 use im_types::{Entry, Refusal};
 use im_words::{Job, Work};
 use std::alloc::Global;
-use std::fmt;
-use std::fmt::{Display, Formatter};
+use std::fmt::Display;
 use std::io::Eprint;
-use std::path::Path;
 
 // The number of requests served between two lines of progress.
 const STRIDE: u64 = 4_096;
 
 // The number of pages and slots of a new file that are written between two lines of progress.
 const WRITES: u64 = 1_024;
-
-// The number of checkpoint turns between two lines about how a run stands.
-const TURNS: u64 = 1_024;
 
 /// Which of the standard streams are terminals.
 #[derive(Clone, Copy, Debug, PartialEq, Eq)]
@@ -34,24 +29,6 @@ pub struct Terminals {
     pub output: bool,
     /// Standard error: a person watches.
     pub errors: bool,
-}
-
-// A name in a message. Control characters are written as escapes, so that a name can't steer a terminal.
-#[derive(Clone, Copy)]
-struct Shown<'a>(&'a str);
-
-impl Display for Shown<'_> {
-    fn fmt<W: fmt::Write>(&self, f: &mut Formatter<W>) -> fmt::Result {
-        for letter in self.0.chars() {
-            if letter.is_control() {
-                let code = letter as u32;
-                write!(f, "\\u{{{code:x}}}")?;
-            } else {
-                write!(f, "{letter}")?;
-            }
-        }
-        Ok(())
-    }
 }
 
 /// Prints on standard error what happens to the files of one piece of work.
@@ -238,19 +215,6 @@ impl<'a, R: Eprint + AllocGlobal> Console<'a, R> {
     }
 }
 
-// What a person calls the file at a path that may stand for standard input.
-fn input_or(path: &str) -> &str {
-    if path == "-" { "standard input" } else { path }
-}
-
-// The folder that contains the path.
-fn folder_of(path: &str) -> &str {
-    match Path::new(path).parent() {
-        Some(folder) => folder.as_str(),
-        None => path,
-    }
-}
-
 // Whether a reason waits for what the disk says, because a call on the disk failed.
 fn is_of_call(reason: Reason) -> bool {
     matches!(
@@ -329,30 +293,5 @@ impl<R: Eprint + AllocGlobal> LoadObserver for Console<'_, R> {
             LoadFault::NoInput => eprintln!(self.rt; "imem: {fault}"),
             _ => eprintln!(self.rt; "imem: {path}: {fault}"),
         };
-    }
-}
-
-/// Prints on standard error for the thread that keeps checkpoints in a run.
-#[derive(Drop)]
-pub struct Watch<'a, R> {
-    rt: &'a R,
-    is_watched: bool,
-}
-
-impl<'a, R> Watch<'a, R> {
-    /// Makes the watch. It prints how the run stands if `is_watched`.
-    pub fn new(rt: &'a R, is_watched: bool) -> Watch<'a, R> {
-        Watch { rt, is_watched }
-    }
-}
-
-impl<R: Eprint> Watcher for Watch<'_, R> {
-    fn listens(&self, turn: u64) -> bool {
-        self.is_watched && turn % TURNS == 0
-    }
-
-    fn tell(&self, standing: Standing) {
-        let Standing { waits, room } = standing;
-        let _printed = eprintln!(self.rt; "imem: {waits} elements wait, room for {room}");
     }
 }

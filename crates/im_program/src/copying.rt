@@ -7,8 +7,7 @@ ghost use Rattle.im_program.specs.Moving.{CopiedFrom};
 
 use crate::descriptors::Descriptors;
 use crate::moving::{place_at, print_counted, source_at};
-use crate::opening::call_of;
-use crate::work::give_up;
+use crate::opening::{call_of, give_up};
 use im_disk::{Disk, Failure, FileDisk, Start};
 use im_migration::{Asked, Follower, copy, length_for_copy};
 use im_text::{Observer, Reason, diagnose, end};

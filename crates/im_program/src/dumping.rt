@@ -6,8 +6,8 @@ ghost use Rattle.im_disk.specs.Since.{ReadsOnly};
 ghost use Rattle.im_disk.specs.Runs.{ReadsAlone};
 ghost use Rattle.im_dump.specs.Dumping.{Dumps};
 
-use crate::descriptors::Descriptors;
-use crate::work::{refusal_of, warn};
+use crate::hand::AtHand;
+use crate::opening::{refusal_of, warn};
 use im_disk::{Disk, FileDisk, Start};
 use im_dump::dump;
 use im_files::open_image_to_read;
@@ -44,12 +44,10 @@ fn dump_on<D: Disk, W: Write, V: Observer>(
 /// file, an opening that writes has its lock, or a call of the system fails. The observer is told why.
 ///
 /// No clause says that an image is ever opened, because nothing is known about the contents of a folder.
-pub fn dump_file<R: Files<File = File> + AllocGlobal, S: Start, W: Write, V: Observer>(
-    rt: &R,
-    _held: &Descriptors,
+pub fn dump_file<R: Files<File = File> + AllocGlobal, S: Start, I, W: Write, V: Observer>(
+    hand: AtHand<'_, R, I, V>,
     image: &str,
     out: &mut W,
-    observer: &mut V,
     start: S,
 ) -> Result<(u8, FileDisk<S>), Refusal>
     ensures status { IfOk result (λ r. r.0 ≤ 1) }
@@ -60,6 +58,7 @@ pub fn dump_file<R: Files<File = File> + AllocGlobal, S: Start, W: Write, V: Obs
     ensures refused { IfErr result (λ refusal. refusal ≡ Device) }
     ensures same { OnErr result (Keeps (W.contents out.old) (W.contents out.new)) }
 {
+    let (rt, _held, _input, observer) = hand.parts();
     match open_image_to_read(rt, image, start) {
         Ok((mut disk, is_unsynced)) => {
             warn(is_unsynced, observer);

@@ -5,30 +5,47 @@
 mod backups;
 mod console;
 mod copying;
+mod demonstrating;
 mod descriptors;
 mod dumping;
+mod formatting;
+mod hand;
+mod jobs;
 mod loading;
+mod looking;
 mod moving;
 mod opening;
 mod overwriting;
 mod prompting;
+mod running;
+mod scripts;
+mod serving;
+mod shown;
 mod statuses;
+mod talking;
 mod telling;
 mod tracing;
+mod watching;
 mod work;
 
 pub use console::{Console, Terminals};
 pub use copying::{Copying, copy_file};
 pub use descriptors::Descriptors;
 pub use dumping::dump_file;
+pub use formatting::format_file;
+pub use hand::AtHand;
 pub use im_words::{
     DEFAULT_CELLS, DEFAULT_ELEMENTS, DEFAULT_SLOTS, Job, Order, Way, WordFault, Work, read_words,
 };
+pub use jobs::act_alone;
 pub use loading::{LoadFault, LoadObserver, Loading, load_file};
+pub use looking::inspect_file;
 pub use moving::{Paths, migrate_file, migrate_on};
 pub use prompting::Prompter;
+pub use running::{ScriptRun, run_file};
+pub use serving::{Serving, serve_file};
 pub use statuses::status_for;
-pub use telling::{AtHand, act_told};
-pub use work::{
-    act, act_alone, format_file, inspect_file, refuse, run_file, serve_file, talk_file,
-};
+pub use talking::{Talking, talk_file};
+pub use telling::act_told;
+pub use tracing::write_traced;
+pub use work::{act, refuse};

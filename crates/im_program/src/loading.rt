@@ -8,9 +8,10 @@ ghost use Rattle.im_migration.specs.Migration.{MayRefusePlace};
 ghost use Rattle.im_program.specs.Loading.{IsReadied, IsPutInto, LoadedFrom, MayRefuseLoad, MayRefuseText};
 
 use crate::descriptors::Descriptors;
+use crate::hand::AtHand;
 use crate::moving::{place_at, print_counted};
-use crate::opening::call_of;
-use crate::work::{give_up, text_of};
+use crate::opening::{call_of, give_up};
+use crate::scripts::text_of;
 use im_disk::{Disk, FileDisk, Start};
 use im_dump::{DumpFault, Loaded, read_dump};
 use im_image::image_length;
@@ -74,8 +75,6 @@ pub trait LoadObserver {
 /// What an image is made of: the paths of the text and of the new file, and the sizes that are asked for.
 #[derive(Clone, Copy)]
 pub struct Loading<'a> {
-    /// What takes the numbers of the standard streams while the files are opened.
-    pub held: &'a Descriptors,
     /// The path of the text. `-` stands for the input.
     pub text: &'a str,
     /// The path of the new file.
@@ -95,13 +94,14 @@ fn refuse_text<V: LoadObserver>(fault: LoadFault, observer: &mut V) -> Refusal
 // Returns the text, or why it can't be read.
 fn read_whole<R: Files<File = File> + AllocGlobal, I: Read>(
     rt: &R,
-    loading: &Loading,
+    held: &Descriptors,
+    path: &str,
     input: &mut I,
 ) -> Result<Vec<u8>, LoadFault> {
-    if loading.text == "-" && loading.held.stands_for(0) {
+    if path == "-" && held.stands_for(0) {
         return Err(LoadFault::NoInput);
     }
-    match text_of(rt, loading.text, input) {
+    match text_of(rt, path, input) {
         Ok(text) => Ok(text),
         Err(TextFault::Bad(ScriptFault::NoMemory)) => Err(LoadFault::Bad(DumpFault::NoMemory)),
         Err(TextFault::Bad(_)) => Err(LoadFault::TooLarge),
@@ -112,12 +112,13 @@ fn read_whole<R: Files<File = File> + AllocGlobal, I: Read>(
 // Returns what the text says, or why it isn't loaded.
 fn read_loaded<R: Files<File = File> + AllocGlobal, I: Read>(
     rt: &R,
-    loading: &Loading,
+    held: &Descriptors,
+    path: &str,
     input: &mut I,
 ) -> Result<Loaded, LoadFault>
     ensures { IfOk result (λ l. (text : List ℕ) × IsDumpOf l text) }
 {
-    let text = read_whole(rt, loading, input)?;
+    let text = read_whole(rt, held, path, input)?;
     match read_dump(rt.alloc(), text.as_slice()) {
         Ok(loaded) => Ok(loaded),
         Err(fault) => Err(LoadFault::Bad(fault)),
@@ -205,11 +206,9 @@ pub fn load_file<
     W: Write,
     V: Observer + Follower + LoadObserver,
 >(
-    rt: &R,
+    hand: AtHand<'_, R, I, V>,
     loading: &Loading,
-    input: &mut I,
     out: &mut W,
-    observer: &mut V,
     start: S,
 ) -> Result<(u8, FileDisk<S>), Refusal>
     ensures status { IfOk result (λ r. r.0 ≤ 1) }
@@ -218,7 +217,8 @@ pub fn load_file<
     ensures refused { IfErr result (λ e. MayRefuseLoad e) }
     ensures same { OnErr result (Keeps (W.contents out.old) (W.contents out.new)) }
 {
-    let loaded = match read_loaded(rt, loading, input) {
+    let (rt, held, input, observer) = hand.parts();
+    let loaded = match read_loaded(rt, held, loading.text, input) {
         Ok(loaded) => loaded,
         Err(fault) => return Err(refuse_text(fault, observer)),
     };

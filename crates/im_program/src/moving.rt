@@ -10,8 +10,7 @@ ghost use Rattle.im_migration.specs.Migration.{LeavesBlankOrSame, MeansSame};
 ghost use Rattle.im_program.specs.Moving.{BeginsNew, BeginsOld, MigratedFrom, TellsCount, counted_line};
 
 use crate::descriptors::Descriptors;
-use crate::opening::{is_one_file, reason_of};
-use crate::work::{refusal_of, warn};
+use crate::opening::{is_one_file, reason_of, refusal_of, warn};
 use im_disk::{Disk, FileDisk, Start};
 use im_files::{FileFault, make_image, open_image, open_image_to_read};
 use im_image::read_header;

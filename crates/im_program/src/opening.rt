@@ -1,9 +1,11 @@
-//! Why a file wasn't made, opened or written, in the words for a person.
+//! Why a file wasn't made, opened or written, in the words for a person; and how it is given up.
+ghost use Rattle.std.specs.Prelude.{◌≡◌};
+ghost use Rattle.im_types.specs.declared.refusals.Refusal.{Refusal};
 
 use im_damage::Damage;
-use im_disk::{Failure, OpenFault};
-use im_files::FileFault;
-use im_text::{CallFault, PathFault, Reason};
+use im_disk::{Failure, FileDisk, OpenFault, Start};
+use im_files::{FileFault, Noting, note_failed_sync, remove_image};
+use im_text::{CallFault, Observer, PathFault, Reason, Warning};
 use im_types::Refusal;
 use std::fs::{self, File};
 use std::io::ErrorKind;
@@ -81,5 +83,41 @@ pub(crate) fn is_one_file<R: Files<File = File>>(rt: &R, one: &str, other: &str)
     match (fs::metadata(rt, one), fs::metadata(rt, other)) {
         (Ok(one), Ok(other)) => one.ino() == other.ino() && one.dev() == other.dev(),
         _ => false,
+    }
+}
+
+/// Returns the refusal for an image that isn't made or opened, and tells the observer why.
+pub(crate) fn refusal_of<R: Files<File = File>, N: Observer>(
+    rt: &R,
+    image: &str,
+    fault: FileFault,
+    observer: &mut N,
+) -> Refusal
+    ensures { result ≡ Refusal.Device }
+{
+    observer.refused(Reason::File(reason_of(rt, image, fault)));
+    Refusal::from(fault)
+}
+
+/// Removes a file that was made and holds no image or a torn one. A file that existed before stays. If a sync of it
+/// failed, a note is left.
+pub(crate) fn give_up<R: Files<File = File> + AllocGlobal, S: Start>(
+    rt: &R,
+    image: &str,
+    disk: FileDisk<S>,
+    is_made: bool,
+) {
+    let _noted = if is_made {
+        Noting::Unneeded
+    } else {
+        note_failed_sync(rt, image, &disk)
+    };
+    let _removed = remove_image(rt, image, disk, is_made);
+}
+
+/// Warns about a file that is read although a note of this boot is beside it.
+pub(crate) fn warn<N: Observer>(is_unsynced: bool, observer: &mut N) {
+    if is_unsynced {
+        observer.warned(Warning::Unsynced);
     }
 }

@@ -5,31 +5,20 @@ ghost use Rattle.im_words.specs.Words.{demonstration, task_of};
 ghost use Rattle.im_program.specs.Working.{IsOfTwo};
 
 use crate::console::Console;
-use crate::descriptors::Descriptors;
+use crate::hand::AtHand;
 use crate::work::{act, refuse};
 use im_disk::{Disk, FileDisk, Start};
-use im_filters::{Sieve, Sieving};
+use im_filters::{Relay, Sieve, Sieving, Telling};
 use im_listening::Ear;
 use im_run::STALLED;
 use im_types::Refusal;
-use im_words::{Order, Work};
+use im_words::Order;
 use std::fs::File;
 use std::io::{BufRead, Eprint, Write};
 use std::marker::Brand;
 use std::rt::Files;
 use std::sync::Wait;
 use std::thread::Threads;
-
-/// What work has at hand beside the writer.
-#[derive(Drop)]
-pub struct AtHand<'a, 'b, R, I> {
-    /// The standard descriptors.
-    pub held: &'a Descriptors,
-    /// Standard input.
-    pub input: &'a mut I,
-    /// What a person is told through.
-    pub console: &'a mut Console<'b, R>,
-}
 
 // Returns the status, by whether all lines are written.
 fn status_told(is_written: bool, status: u8) -> u8
@@ -47,29 +36,51 @@ fn act_sieved<
     I: BufRead + Ear,
     W: Write + Drop,
 >(
-    rt: &R,
-    hand: AtHand<'_, '_, R, I>,
-    work: &Work,
+    hand: AtHand<'_, R, I, Console<'_, R>>,
+    order: &Order,
     sieve: Sieve<W, K>,
     starts: (S, T),
 ) -> (u8, W, Option<FileDisk<S>>, Option<FileDisk<T>>)
     requires { sieve ≡ [] }
     ensures status { (result.0 ≤ 1) ⊎ (result.0 ≡ STALLED) }
-    ensures done { DoneTold ⟦<FileDisk<S> as Disk>⟧ S.first (task_of work.now) K.telling
+    ensures done { DoneTold ⟦<FileDisk<S> as Disk>⟧ S.first (task_of order.now.work) K.telling
         K.start (W.contents result.1) result.0 result.2 }
-    ensures moved { MovedTold S.Start T.Start (task_of work.now) K.telling
+    ensures moved { MovedTold S.Start T.Start (task_of order.now.work) K.telling
         K.start (W.contents result.1) result.0 result.3 result.2 }
-    ensures other { IfSome result.3 (λ _. IsOfTwo (task_of work.now)) }
-    ensures none { IfNone result.2 ((task_of work.now ≡ demonstration) ⊎ (result.0 ≡ 1)) }
+    ensures other { IfSome result.3 (λ _. IsOfTwo (task_of order.now.work)) }
+    ensures none { IfNone result.2 ((task_of order.now.work ≡ demonstration) ⊎ (result.0 ≡ 1)) }
 {
-    let AtHand {
-        held,
-        input,
-        console,
-    } = hand;
-    let (start, other) = starts;
     let mut out = sieve;
-    let (status, disk, old) = act(rt, held, work, input, &mut out, console, start, other);
+    let (status, disk, old) = act(hand, order, &mut out, starts);
+    let (out, written) = out.leave();
+    (status_told(written.is_ok(), status), out, disk, old)
+}
+
+// Does the work, and tells its lines as they are, through a relay of this name.
+fn act_plainly<
+    K: Sieving,
+    R: Files<File = File> + AllocGlobal + Eprint + Threads + Wait + Sync,
+    S: Start + Send,
+    T: Start,
+    I: BufRead + Ear,
+    W: Write + Drop,
+>(
+    hand: AtHand<'_, R, I, Console<'_, R>>,
+    order: &Order,
+    out: W,
+    starts: (S, T),
+) -> (u8, W, Option<FileDisk<S>>, Option<FileDisk<T>>)
+    requires { W.contents out ≡ K.start }
+    ensures status { (result.0 ≤ 1) ⊎ (result.0 ≡ STALLED) }
+    ensures done { DoneTold ⟦<FileDisk<S> as Disk>⟧ S.first (task_of order.now.work) Telling.Plain
+        K.start (W.contents result.1) result.0 result.2 }
+    ensures moved { MovedTold S.Start T.Start (task_of order.now.work) Telling.Plain
+        K.start (W.contents result.1) result.0 result.3 result.2 }
+    ensures other { IfSome result.3 (λ _. IsOfTwo (task_of order.now.work)) }
+    ensures none { IfNone result.2 ((task_of order.now.work ≡ demonstration) ⊎ (result.0 ≡ 1)) }
+{
+    let mut out: Relay<W, K> = Relay::new(out);
+    let (status, disk, old) = act(hand, order, &mut out, starts);
     let (out, written) = out.leave();
     (status_told(written.is_ok(), status), out, disk, old)
 }
@@ -83,8 +94,7 @@ fn act_with<
     I: BufRead + Ear,
     W: Write + Drop,
 >(
-    rt: &R,
-    hand: AtHand<'_, '_, R, I>,
+    hand: AtHand<'_, R, I, Console<'_, R>>,
     order: &Order,
     out: W,
     starts: (S, T),
@@ -99,11 +109,12 @@ fn act_with<
     ensures other { IfSome result.3 (λ _. IsOfTwo (task_of order.now.work)) }
     ensures none { IfNone result.2 ((task_of order.now.work ≡ demonstration) ⊎ (result.0 ≡ 1)) }
 {
-    let made: Result<Sieve<W, K>, W> = Sieve::new(rt.alloc(), out, order.telling);
+    let alloc = hand.rt.alloc();
+    let made: Result<Sieve<W, K>, W> = Sieve::new(alloc, out, order.telling);
     match made {
-        Ok(sieve) => act_sieved(rt, hand, &order.work, sieve, starts),
+        Ok(sieve) => act_sieved(hand, order, sieve, starts),
         Err(mut out) => {
-            let status = refuse(rt.alloc(), Refusal::NoMemory, &mut out);
+            let status = refuse(alloc, Refusal::NoMemory, &mut out);
             (status, out, None, None)
         }
     }
@@ -114,7 +125,7 @@ fn act_with<
 ///
 /// What [`act`] ensures of a writer holds of the text that its lines make, from nothing on. The writer then holds a
 /// prefix of what is told of that text, behind what it held before. Unless the status is 1 it holds all of it. A line
-/// is told once it is whole, in batches of at most 4,096 bytes; what is told plainly is written at once.
+/// is told once it is whole, in batches of at most 4,096 bytes; what is told plainly is written as it comes.
 ///
 /// The status is that of [`act`], or 1 if a write or a flush of the writer failed. If there isn't enough memory to tell
 /// anything, no work is done: the status is 1, and `refused 10 NoMemory` is printed as it is.
@@ -125,8 +136,7 @@ pub fn act_told<
     I: BufRead + Ear,
     W: Write + Drop,
 >(
-    rt: &R,
-    hand: AtHand<'_, '_, R, I>,
+    hand: AtHand<'_, R, I, Console<'_, R>>,
     order: &Order,
     out: W,
     starts: (S, T),
@@ -139,5 +149,8 @@ pub fn act_told<
     ensures other { IfSome result.3 (λ _. IsOfTwo (task_of order.now.work)) }
     ensures none { IfNone result.2 ((task_of order.now.work ≡ demonstration) ⊎ (result.0 ≡ 1)) }
 {
-    act_with::<Brand, R, S, T, I, W>(rt, hand, order, out, starts)
+    match order.telling {
+        Telling::Plain => act_plainly::<Brand, R, S, T, I, W>(hand, order, out, starts),
+        _ => act_with::<Brand, R, S, T, I, W>(hand, order, out, starts),
+    }
 }

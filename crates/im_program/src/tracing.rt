@@ -1,16 +1,101 @@
 //! The file of a run's trace.
+ghost use Rattle.std.specs.Prelude.{◌≡◌, [], OnOk, IsOk, MatchResult};
+ghost use Rattle.std.specs.Io.KnownBytes.{Appends};
+ghost use Rattle.im_text.specs.Printing.{Begins};
+ghost use Rattle.im_program.specs.Traced.{trace_objects, traced_as};
 
 use crate::console::Console;
 use crate::descriptors::Descriptors;
 use crate::opening::reason_of;
 use im_disk::OpenFault;
 use im_files::FileFault;
+use im_filters::{Sieve, Sieving, Telling};
 use im_run::{Trace, write_trace};
 use im_text::{PathFault, Reason};
 use im_types::Refusal;
+use std::alloc::Global;
 use std::fs::{self, File, OpenOptions};
-use std::io::{Eprint, ErrorKind};
+use std::io::{Eprint, ErrorKind, Write};
+use std::marker::Brand;
 use std::rt::Files;
+
+/// Where the trace of a run is written, and whether its lines are objects of JSON.
+#[derive(Clone, Copy)]
+pub(crate) struct TraceFile<'a> {
+    pub(crate) path: Option<&'a str>,
+    pub(crate) objects: bool,
+}
+
+// Whether the lines were taken and written.
+fn both(taken: Result<(), Reason>, written: Result<(), ErrorKind>) -> Result<(), Reason>
+    ensures taken { OnOk result (IsOk taken) }
+    ensures written { OnOk result (IsOk written) }
+{
+    match taken {
+        Ok(()) => match written {
+            Ok(()) => Ok(()),
+            Err(kind) => Err(Reason::Output(kind)),
+        },
+        Err(reason) => Err(reason),
+    }
+}
+
+// Writes a trace through a sieve that has taken nothing.
+fn write_sieved<K: Sieving, W: Write + Drop>(
+    alloc: Global,
+    trace: &Trace,
+    sieve: Sieve<W, K>,
+) -> (W, Result<(), Reason>)
+    requires taken { sieve ≡ [] }
+    requires telling { K.telling ≡ Telling.Calls }
+    ensures whole { OnOk result.1 (Appends K.start (W.contents result.0) (trace_objects trace.now)) }
+    ensures begins { Begins K.start (W.contents result.0) (trace_objects trace.now) }
+{
+    let mut out = sieve;
+    let taken = write_trace(alloc, trace, &mut out);
+    let (out, written) = out.leave();
+    (out, both(taken, written))
+}
+
+// Writes a trace as objects, through a sieve of this name.
+fn write_with<K: Sieving, W: Write + Drop>(
+    alloc: Global,
+    trace: &Trace,
+    out: W,
+) -> (W, Result<(), Reason>)
+    requires start { W.contents out ≡ K.start }
+    requires telling { K.telling ≡ Telling.Calls }
+    ensures whole { OnOk result.1 (Appends K.start (W.contents result.0) (trace_objects trace.now)) }
+    ensures begins { Begins K.start (W.contents result.0) (trace_objects trace.now) }
+{
+    let made: Result<Sieve<W, K>, W> = Sieve::new(alloc, out, Telling::Calls);
+    match made {
+        Ok(sieve) => write_sieved(alloc, trace, sieve),
+        Err(out) => (out, Err(Reason::Memory)),
+    }
+}
+
+/// Writes a trace as [`write_trace`] does, or each of its lines as an object of JSON, and gives the writer back. An
+/// object has the element, the number and the word of the call, what it asks for, and its reply.
+///
+/// Returns `Output` if a write or a flush fails, and `Memory` if there is not enough memory. What was written is then a
+/// prefix of the lines or the objects.
+pub fn write_traced<W: Write + Drop>(
+    alloc: Global,
+    trace: &Trace,
+    objects: bool,
+    out: W,
+) -> (W, Result<(), Reason>)
+    ensures whole { OnOk result.1 (Appends (W.contents out) (W.contents result.0) (traced_as objects trace.now)) }
+    ensures begins { Begins (W.contents out) (W.contents result.0) (traced_as objects trace.now) }
+{
+    if objects {
+        return write_with::<Brand, W>(alloc, trace, out);
+    }
+    let mut out = out;
+    let written = write_trace(alloc, trace, &mut out);
+    (out, written)
+}
 
 // Why no file was made at the path.
 fn fault_of<R: Files<File = File>>(rt: &R, path: &str, kind: ErrorKind) -> PathFault {
@@ -63,13 +148,14 @@ pub(crate) fn keep_trace<R: Files<File = File> + AllocGlobal + Eprint>(
     rt: &R,
     file: Option<(&str, File)>,
     trace: Option<Trace>,
+    objects: bool,
     console: &Console<'_, R>,
 ) {
-    let Some((path, mut file)) = file else {
+    let Some((path, file)) = file else {
         return;
     };
     match trace {
-        Some(trace) => match write_trace(rt.alloc(), &trace, &mut file) {
+        Some(trace) => match write_traced(rt.alloc(), &trace, objects, file).1 {
             Ok(()) => {}
             Err(reason) => console.tell_trace(path, reason),
         },

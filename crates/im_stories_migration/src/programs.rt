@@ -6,8 +6,8 @@ use crate::writers::{Paper, Told};
 use crate::{Desk, files};
 use im_disk::Unknown;
 use im_program::{
-    Console, Copying, Job, Paths, Terminals, Work, act_alone, copy_file, migrate_file, read_words,
-    refuse,
+    AtHand, Console, Copying, Job, Paths, Terminals, Work, act_alone, copy_file, migrate_file,
+    read_words, refuse,
 };
 use im_story::{Call, Saying};
 use std::fs;
@@ -24,15 +24,13 @@ const NOBODY: Terminals = Terminals {
 fn act_by_itself(desk: &mut Desk, job: &Job<'_>) -> u8 {
     let mut console = Console::new(desk.rt, desk.held, &Work::Alone(*job), NOBODY);
     let mut nothing = b"".as_slice();
-    let (status, _disk) = act_alone(
-        desk.rt,
-        desk.held,
-        job,
-        &mut nothing,
-        &mut desk.out,
-        &mut console,
-        Unknown,
-    );
+    let hand = AtHand {
+        rt: desk.rt,
+        held: desk.held,
+        input: &mut nothing,
+        observer: &mut console,
+    };
+    let (status, _disk) = act_alone(hand, job, &mut desk.out, Unknown);
     status
 }
 

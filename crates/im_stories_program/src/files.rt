@@ -3,8 +3,8 @@
 use crate::{Desk, command_lines};
 use im_disk::Unknown;
 use im_program::{
-    Console, Terminals, Work, act_alone, format_file, inspect_file, read_words, serve_file,
-    status_for,
+    AtHand, Console, Serving, Terminals, Work, act_alone, format_file, inspect_file, read_words,
+    serve_file, status_for,
 };
 use im_report::View;
 use im_story::{Call, Saying};
@@ -30,50 +30,37 @@ fn run(desk: &mut Desk, input: &[u8], call: &Call, said: &mut Saying) {
     let mut console = Console::new(desk.rt, desk.held, &order.work, NOBODY);
     let mut input = input;
     desk.print(usize::MAX);
-    let (status, _disk) = act_alone(
-        desk.rt,
-        desk.held,
-        &job,
-        &mut input,
-        &mut desk.out,
-        &mut console,
-        Unknown,
-    );
+    let hand = AtHand {
+        rt: desk.rt,
+        held: desk.held,
+        input: &mut input,
+        observer: &mut console,
+    };
+    let (status, _disk) = act_alone(hand, &job, &mut desk.out, Unknown);
     let status = status_for(status, order.statuses, console.reason());
     write!(said, "{status}")
 }
 
 // Serves a file's script, tells about an image, or makes one. Tells whether that is done.
 fn attempt(desk: &mut Desk, call: &Call, said: &mut Saying) {
-    let (rt, held, image) = (desk.rt, desk.held, call.word(2));
+    let image = call.word(2);
     let mut nothing = b"".as_slice();
     desk.print(usize::MAX);
+    let hand = AtHand {
+        rt: desk.rt,
+        held: desk.held,
+        input: &mut nothing,
+        observer: &mut desk.notes,
+    };
+    let serving = Serving {
+        image,
+        script: call.word(3),
+        once: false,
+    };
     let is_done = match (call.word(1), Limits::new(1, 1, 16)) {
-        ("serial", _) => serve_file(
-            rt,
-            held,
-            image,
-            call.word(3),
-            false,
-            &mut nothing,
-            &mut desk.out,
-            &mut desk.notes,
-            Unknown,
-        )
-        .is_ok(),
-        ("inspect", _) => inspect_file(
-            rt,
-            held,
-            image,
-            &View::Stat,
-            &mut desk.out,
-            &mut desk.notes,
-            Unknown,
-        )
-        .is_ok(),
-        ("format", Some(limits)) => {
-            format_file(rt, held, image, limits, false, &mut desk.notes, Unknown).is_ok()
-        }
+        ("serial", _) => serve_file(hand, &serving, &mut desk.out, Unknown).is_ok(),
+        ("inspect", _) => { inspect_file(hand, image, &View::Stat, &mut desk.out, Unknown).is_ok() }
+        ("format", Some(limits)) => format_file(hand, image, limits, false, Unknown).is_ok(),
         _ => return said.fail("no such call"),
     };
     said.either(is_done, "done", "refused")

@@ -80,7 +80,12 @@ With --trace, FILE is a new file. At the end each call is written to it with its
 which the calls were served: 'K.N OPERATION -> REPLY', 'confirm K UPTO -> confirmed' or
 'collect K.N -> REPLY'. What stands before the arrows is a dialogue for 'imem serve', which gets the same
 replies on the image as it was before. If a file of that name exists, nothing is run: 'refused 8 Device'.
-If a write of it fails, standard error says so.
+If a write of it fails, standard error says so. With --json, each call is an object:
+  {element, number, call, reply}          call is the operation, collect or confirm; of confirm, number is UPTO
+  with kind and length                    of an alloc
+  with address                            of the other operations, and value of a store and a put
+What was read, a base, and the N of 'refused N' stand under value, base and refused. There number, value,
+base and refused are strings.
 
 Example: the lines 'setup', 'alloc x i 1', 'element 1', 'fetch x', 'element 2', 'store x 5' in the
 file fetch.script, run on the image a.img, as a plan, with a trace, and again after a stop

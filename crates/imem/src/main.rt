@@ -82,12 +82,13 @@ fn work_on<
         Ok(mut input) => {
             let mut console = Console::new(rt, held, &order.work, terminals);
             let hand = AtHand {
+                rt,
                 held,
                 input: &mut input,
-                console: &mut console,
+                observer: &mut console,
             };
             let starts = (Waiting::new(*rt, order.wait), Waiting::new(*rt, order.wait));
-            let (status, _out, _disk, _old) = act_told(rt, hand, order, out, starts);
+            let (status, _out, _disk, _old) = act_told(hand, order, out, starts);
             status_for(status, order.statuses, console.reason())
         }
         Err(_) => refuse(rt.alloc(), Refusal::NoMemory, out),

@@ -1,6 +1,6 @@
 use Rattle.std.proofs.Common.{sym}
 use Rattle.im_program.specs.Working.{ScriptServed}
-use Rattle.im_program.proofs.work.serve_file.Goals as goal
+use Rattle.im_program.proofs.serving.serve_file.Goals as goal
 
 pub returns-then-once-clause-served : goal.returns-then-once-clause-served
 returns-then-once-clause-served g c = λ honest. rw c.if-once.true (record {

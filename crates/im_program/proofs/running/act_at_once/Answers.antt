@@ -1,5 +1,5 @@
 use Rattle.im_program.proofs.RunLemmas.{with_some}
-use Rattle.im_program.proofs.work.act_at_once.Goals as goal
+use Rattle.im_program.proofs.running.act_at_once.Goals as goal
 
 pub returns-clause-ran : goal.returns-clause-ran
 returns-clause-ran g c = with_some _ _ c.run_at_once-status.result.1 c.run_at_once-status.result.2

@@ -1,5 +1,5 @@
 use Rattle.std.proofs.Common.{refl}
-use Rattle.im_program.proofs.work.do_job.Goals as goal
+use Rattle.im_program.proofs.jobs.do_job.Goals as goal
 
 pub returns-in-Ok-format_image-clause-done : goal.returns-in-Ok-format_image-clause-done
 returns-in-Ok-format_image-clause-done g c = λ honest.

@@ -1,5 +1,5 @@
 use Rattle.std.proofs.Common.{sym}
-use Rattle.im_program.proofs.work.format_image.Goals as goal
+use Rattle.im_program.proofs.formatting.format_image.Goals as goal
 
 pub returns-clause-made : goal.returns-clause-made
 returns-clause-made g c =

@@ -1,4 +1,4 @@
-use Rattle.im_program.proofs.work.talk_file.Goals as goal
+use Rattle.im_program.proofs.talking.talk_file.Goals as goal
 
 pub returns-in-Ok-clause-talked : goal.returns-in-Ok-clause-talked
 returns-in-Ok-clause-talked g c = λ honest. record {

@@ -1,0 +1,13 @@
+use Rattle.im_program.proofs.tracing.write_traced.Goals as goal
+
+pub returns-then-objects-clause-whole : goal.returns-then-objects-clause-whole
+returns-then-objects-clause-whole g c = rw c.if-objects.true c.write_with.ensures.whole
+
+pub returns-then-objects-clause-begins : goal.returns-then-objects-clause-begins
+returns-then-objects-clause-begins g c = rw c.if-objects.true c.write_with.ensures.begins
+
+pub returns-clause-whole : goal.returns-clause-whole
+returns-clause-whole g c = rw c.if-objects.false c.write_trace-written.ensures.whole
+
+pub returns-clause-begins : goal.returns-clause-begins
+returns-clause-begins g c = rw c.if-objects.false c.write_trace-written.ensures.begins

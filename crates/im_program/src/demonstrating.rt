@@ -1,0 +1,64 @@
+//! What is done if no work is named.
+ghost use Rattle.std.specs.Prelude.{◌≡◌, ◌≤◌, IfOk};
+
+use crate::formatting::limits_of;
+use im_damage::Damage;
+use im_disk::MemDisk;
+use im_engine::Engine;
+use im_image::image_length;
+use im_script::read_script;
+use im_serial::serial_on;
+use im_text::{Observer, Reason};
+use im_types::Refusal;
+use im_words::{DEFAULT_CELLS, DEFAULT_ELEMENTS, DEFAULT_SLOTS};
+use std::alloc::Global;
+use std::io::Write;
+
+// The script that is served then.
+const DEMONSTRATION: &str = "setup
+alloc x i 2
+element 1
+fetch x+0
+element 2
+store x+0 42
+";
+
+// Returns the refusal of an image that was made or opened, and tells the observer why.
+fn told<N: Observer>(refusal: Refusal, observer: &mut N) -> Refusal
+    ensures { result ≡ refusal }
+{
+    observer.refused(Reason::Image(refusal, Damage::Unknown)); // No image that can be read.
+    refusal
+}
+
+// Makes an image of the default limits in memory.
+fn usual_image(alloc: Global) -> Result<MemDisk, Refusal> {
+    let limits = limits_of(DEFAULT_CELLS, DEFAULT_ELEMENTS, DEFAULT_SLOTS)?;
+    let Ok(disk) = MemDisk::new(alloc, image_length(limits)) else {
+        return Err(Refusal::NoMemory);
+    };
+    match Engine::format(alloc, disk, limits) {
+        Ok(engine) => Ok(engine.close()),
+        Err((refusal, _)) => Err(refusal),
+    }
+}
+
+/// Serves a short script on an image in memory.
+pub(crate) fn demonstrate<W: Write, N: Observer>(
+    alloc: Global,
+    out: &mut W,
+    observer: &mut N,
+) -> Result<u8, Refusal>
+    ensures status { IfOk result (λ status. status ≤ 1) }
+{
+    let script = match read_script(alloc, DEMONSTRATION.as_bytes()) {
+        Ok(script) => script,
+        Err(fault) => return Err(fault.refusal()),
+    };
+    let disk = match usual_image(alloc) {
+        Ok(disk) => disk,
+        Err(refusal) => return Err(told(refusal, observer)),
+    };
+    let (status, _) = serial_on(alloc, disk, &script, out, observer);
+    Ok(status)
+}

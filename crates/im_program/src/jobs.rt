@@ -1,0 +1,243 @@
+//! Does the work of one thread.
+ghost use Rattle.std.specs.Prelude.{◌≡◌, ◌⊎◌, ◌≤◌, IfOk, IfSome, IfNone};
+ghost use Rattle.im_words.specs.Words.{demonstration, task_of_job};
+ghost use Rattle.im_program.specs.Working.{WasDone};
+
+use crate::backups::Folder;
+use crate::console::Console;
+use crate::demonstrating::demonstrate;
+use crate::dumping::dump_file;
+use crate::formatting::{GivenSizes, format_image};
+use crate::hand::AtHand;
+use crate::loading::{LoadObserver, Loading, load_file};
+use crate::looking::inspect_file;
+use crate::overwriting::may_be_made;
+use crate::serving::{Serving, serve_file};
+use crate::talking::{Talking, talk_file};
+use crate::work::refuse;
+use im_disk::{Disk, FileDisk, Start};
+use im_files::{Noting, note_failed_sync};
+use im_listening::Ear;
+use im_migration::Follower;
+use im_text::{Observer, PathFault, Reason};
+use im_types::Refusal;
+use im_words::Job;
+use std::fs::File;
+use std::io::{BufRead, Eprint, Write};
+use std::rt::Files;
+
+// Does the job. Returns the status, and the disk of the file if one was opened.
+fn do_job<
+    R: Files<File = File> + AllocGlobal,
+    S: Start,
+    I: BufRead + Ear,
+    W: Write,
+    N: Observer + Follower + LoadObserver,
+>(
+    hand: AtHand<'_, R, I, N>,
+    job: &Job,
+    out: &mut W,
+    start: S,
+) -> Result<(u8, Option<FileDisk<S>>), Refusal>
+    ensures status { IfOk result (λ r. r.0 ≤ 1) }
+    ensures done { IfOk result (λ r. IfSome r.1 (λ disk. WasDone ⟦<FileDisk<S> as Disk>⟧ S.first
+        (task_of_job job.now) (W.contents out.old) (W.contents out.new) r.0 disk)) }
+    ensures none { IfOk result (λ r. IfNone r.1 (task_of_job job.now ≡ demonstration)) }
+{
+    match *job {
+        Job::Demonstration => {
+            let (rt, _held, _input, observer) = hand.parts();
+            match demonstrate(rt.alloc(), out, observer) {
+                Ok(status) => Ok((status, None)),
+                Err(refusal) => Err(refusal),
+            }
+        }
+        Job::Format {
+            image,
+            cells,
+            elements,
+            slots,
+            is_new,
+        } => {
+            let sizes = GivenSizes {
+                cells,
+                elements,
+                slots,
+            };
+            match format_image(hand, image, sizes, is_new, start) {
+                Ok(disk) => Ok((0, Some(disk))),
+                Err(refusal) => Err(refusal),
+            }
+        }
+        Job::Serial {
+            image,
+            script,
+            once,
+        } => {
+            let serving = Serving {
+                image,
+                script,
+                once,
+            };
+            match serve_file(hand, &serving, out, start) {
+                Ok((status, disk)) => Ok((status, Some(disk))),
+                Err(refusal) => Err(refusal),
+            }
+        }
+        Job::Serve {
+            image,
+            watch,
+            backups,
+        } => {
+            let talking = Talking { image, watch };
+            let mut folder = Folder::new(hand.rt, hand.held, backups);
+            match talk_file(hand, &talking, &mut folder, out, start) {
+                Ok((status, disk)) => Ok((status, Some(disk))),
+                Err(refusal) => Err(refusal),
+            }
+        }
+        Job::Inspect { image, look } => match inspect_file(hand, image, &look, out, start) {
+            Ok((status, disk)) => Ok((status, Some(disk))),
+            Err(refusal) => Err(refusal),
+        },
+        Job::Dump { image } => match dump_file(hand, image, out, start) {
+            Ok((status, disk)) => Ok((status, Some(disk))),
+            Err(refusal) => Err(refusal),
+        },
+        Job::Load { text, new, asked } => {
+            let loading = Loading { text, new, asked };
+            match load_file(hand, &loading, out, start) {
+                Ok((status, disk)) => Ok((status, Some(disk))),
+                Err(refusal) => Err(refusal),
+            }
+        }
+    }
+}
+
+// The path of the job's image.
+fn image_of<'a>(job: &Job<'a>) -> &'a str {
+    match *job {
+        Job::Demonstration => "",
+        Job::Format { image, .. } | Job::Inspect { image, .. } | Job::Dump { image } => image,
+        Job::Serial { image, .. } | Job::Serve { image, .. } => image,
+        Job::Load { new, .. } => new,
+    }
+}
+
+// Whether the job may be done: nobody is asked, or the answer is yes.
+fn may_do<R: Files<File = File> + AllocGlobal + Eprint, I: BufRead>(
+    rt: &R,
+    job: &Job,
+    input: &mut I,
+    console: &Console<'_, R>,
+) -> bool {
+    match *job {
+        Job::Format {
+            image,
+            is_new: false,
+            ..
+        } => may_be_made(rt, image, input, console),
+        _ => true,
+    }
+}
+
+// Prints which call on the image's disk failed, if a disk was opened. Leaves a note if a sync failed. A file that is
+// loaded is a new one.
+fn settle_job<R: Files<File = File> + AllocGlobal + Eprint, S: Start>(
+    rt: &R,
+    job: &Job,
+    disk: &Option<FileDisk<S>>,
+    console: &mut Console<'_, R>,
+) {
+    if let (Job::Load { new, .. }, Some(disk)) = (job, disk) {
+        console.settle_new(disk.failure(), note_failed_sync(rt, new, disk));
+        console.settle(None, Noting::Unneeded);
+    } else {
+        settle(rt, image_of(job), disk, console);
+    }
+}
+
+/// Prints which call on the image's disk failed, if a disk was opened. Leaves a note if a sync failed.
+pub(crate) fn settle<R: Files<File = File> + AllocGlobal + Eprint, S: Start>(
+    rt: &R,
+    image: &str,
+    disk: &Option<FileDisk<S>>,
+    console: &mut Console<'_, R>,
+) {
+    match disk {
+        Some(disk) => console.settle(disk.failure(), note_failed_sync(rt, image, disk)),
+        None => console.settle(None, Noting::Unneeded),
+    }
+}
+
+// Does the job, and prints the line of a refusal.
+fn work_alone<
+    R: Files<File = File> + AllocGlobal,
+    S: Start,
+    I: BufRead + Ear,
+    W: Write,
+    N: Observer + Follower + LoadObserver,
+>(hand: AtHand<'_, R, I, N>, job: &Job, out: &mut W, start: S) -> (u8, Option<FileDisk<S>>)
+    ensures status { result.0 ≤ 1 }
+    ensures done { IfSome result.1 (λ disk. WasDone ⟦<FileDisk<S> as Disk>⟧ S.first
+        (task_of_job job.now) (W.contents out.old) (W.contents out.new) result.0 disk) }
+    ensures none { IfNone result.1 ((task_of_job job.now ≡ demonstration) ⊎ (result.0 ≡ 1)) }
+{
+    let alloc = hand.rt.alloc();
+    match do_job(hand, job, out, start) {
+        Ok(done) => done,
+        Err(refusal) => (refuse(alloc, refusal, out), None),
+    }
+}
+
+/// Does the job of one thread. Returns the status that the program ends with: 0, or 1 if something was refused or a
+/// write of the output failed. Also returns the disk of the image, if its file was made or opened. A dialogue reads
+/// the input, and so does a script with the path `-`. The output goes to `out`, a refusal as its last line `refused N
+/// NAME`.
+///
+/// Standard error has these lines:
+///
+/// - The reason of a refusal. If a call of the disk failed, it says which. If that was a sync, it also says that the
+///   file system is to be mounted anew, and a note is left beside the image.
+/// - `K.N now REPLY` for a request that waited when the image was opened and whose entry is confirmed.
+/// - How far a long script has come, if somebody watches.
+///
+/// If standard input is a terminal, a person is asked before an image replaces a file that isn't empty.
+///
+/// Refusals: `Device` for a file that isn't to be replaced; `BadLimits` for a number out of its range, and then no file
+/// is made; and the errors of [`format_file`], [`serve_file`], [`talk_file`], [`inspect_file`], [`dump_file`] and
+/// [`load_file`]. If a disk is returned, the status and the output are those of the function that was called. Else the
+/// status is 1, except for the demonstration.
+///
+/// `start` stands for what the image holds when it is opened. It is used up, and no code reads it.
+pub fn act_alone<
+    R: Files<File = File> + AllocGlobal + Eprint,
+    S: Start,
+    I: BufRead + Ear,
+    W: Write,
+>(
+    hand: AtHand<'_, R, I, Console<'_, R>>,
+    job: &Job,
+    out: &mut W,
+    start: S,
+) -> (u8, Option<FileDisk<S>>)
+    ensures status { result.0 ≤ 1 }
+    ensures done { IfSome result.1 (λ disk. WasDone ⟦<FileDisk<S> as Disk>⟧ S.first
+        (task_of_job job.now) (W.contents out.old) (W.contents out.new) result.0 disk) }
+    ensures none { IfNone result.1 ((task_of_job job.now ≡ demonstration) ⊎ (result.0 ≡ 1)) }
+{
+    let (rt, held, input, console) = hand.parts();
+    if !may_do(rt, job, input, console) {
+        console.refused(Reason::File(PathFault::Exists));
+        return (refuse(rt.alloc(), Refusal::Device, out), None);
+    }
+    let inner = AtHand {
+        rt,
+        held,
+        input,
+        observer: &mut *console,
+    };
+    let (status, disk) = work_alone(inner, job, out, start);
+    settle_job(rt, job, &disk, console);
+    (status, disk)
+}

@@ -1,0 +1,176 @@
+//! Runs a script, the requests of each element by threads of its own.
+ghost use Rattle.std.specs.Prelude.{◌≡◌, ◌⊎◌, ◌≤◌, IfOk, IfErr, OnErr, IfSome, IfNone, IsSome};
+ghost use Rattle.std.specs.Io.KnownBytes.{Keeps};
+ghost use Rattle.im_types.specs.declared.refusals.Refusal.TheVariants.{BadScript, Device, NoMemory};
+ghost use Rattle.im_program.specs.Working.{WasRun, WasRunSomehow, WasRunWith, is_once};
+
+use crate::console::Console;
+use crate::hand::AtHand;
+use crate::jobs::settle;
+use crate::opening::refusal_of;
+use crate::scripts::{read_file, script_in};
+use crate::tracing::{TraceFile, keep_trace, make_file_if};
+use crate::watching::Watch;
+use crate::work::refuse;
+use im_disk::{Disk, FileDisk, Start};
+use im_files::open_image;
+use im_run::{STALLED, Trace, run_on, run_once_on};
+use im_serving::{Open, Watcher};
+use im_text::Observer;
+use im_types::Refusal;
+use im_words::Way;
+use std::fs::File;
+use std::io::{Eprint, Read, Write};
+use std::rt::Files;
+use std::sync::Wait;
+use std::thread::Threads;
+
+/// What is run: the paths of the image and of the script, and how.
+#[derive(Clone, Copy)]
+pub struct ScriptRun<'a> {
+    /// The path of the image.
+    pub image: &'a str,
+    /// The path of the script. `-` stands for the input.
+    pub script: &'a str,
+    /// How it is run.
+    pub way: Way,
+}
+
+// Whether a script is run once.
+fn is_once(way: Way) -> bool
+    ensures { result ≡ is_once way }
+{
+    match way {
+        Way::Free => false,
+        Way::Planned => false,
+        Way::Once => true,
+    }
+}
+
+/// Runs the script of one file on the image of another, each element's requests by threads of its own. The script may
+/// have glances, and is a plan if `way` says so. Returns the status of [`run_on`], the image's disk and the trace;
+/// [`run_on`] also says which lines are printed. The script is read first. The path `-` stands for the input, which is
+/// read to its end. If it is done once, [`run_once_on`] stands for [`run_on`] here.
+///
+/// The clauses hold for whatever the image held when it was opened (`S`), as long as the file was honest. A crash at
+/// any moment since then leaves what [`run_on`] says.
+///
+/// Errors, with nothing printed and the image as it was; the observer is told why:
+///
+/// - `BadScript` if the script can't be read or isn't in the grammar.
+/// - `NoMemory` if there is no room for the script.
+/// - `Device` if the image can't be opened: it isn't a regular file, another opening has its lock, or a call of the
+///   system fails.
+///
+/// If [`run_on`] refuses, its status and its last line say so. No clause says that an image is ever opened, because
+/// nothing is known about the contents of a folder.
+pub fn run_file<
+    R: Files<File = File> + AllocGlobal + Threads + Wait + Sync,
+    S: Start + Send,
+    V: Watcher + Sync,
+    I: Read,
+    W: Write,
+    N: Observer,
+>(
+    hand: AtHand<'_, R, I, N>,
+    running: &ScriptRun,
+    watcher: &V,
+    out: &mut W,
+    start: S,
+) -> Result<(u8, FileDisk<S>, Trace), Refusal>
+    ensures status { IfOk result (λ r. (r.0 ≤ 1) ⊎ (r.0 ≡ STALLED)) }
+    ensures ran { IfOk result (λ r. WasRun ⟦<FileDisk<S> as Disk>⟧ S.first running.now.way
+        (W.contents out.old) (W.contents out.new) r.2 r.0 r.1) }
+    ensures refused { IfErr result (λ refusal. (refusal ≡ BadScript) ⊎ (refusal ≡ NoMemory) ⊎ (refusal ≡ Device)) }
+    ensures same { OnErr result (Keeps (W.contents out.old) (W.contents out.new)) }
+{
+    let (rt, held, input, observer) = hand.parts();
+    let text = match read_file(rt, held, running.script, input, observer) {
+        Ok(text) => text,
+        Err(refusal) => return Err(refusal),
+    };
+    let script = match script_in(rt.alloc(), text.as_slice(), true, observer) {
+        Ok(script) => script,
+        Err(refusal) => return Err(refusal),
+    };
+    match open_image(rt, running.image, start) {
+        Ok(disk) => {
+            let alloc = rt.alloc();
+            if is_once(running.way) {
+                Ok(run_once_on(rt, alloc, disk, &script, &Open, watcher, out, observer))
+            } else {
+                let planned = running.way == Way::Planned;
+                let (ended, disk, trace) = run_on(
+                    rt, alloc, disk, &script, &Open, watcher, out, observer, planned,
+                );
+                Ok((ended, disk, trace))
+            }
+        }
+        Err(fault) => Err(refusal_of(rt, running.image, fault, observer)),
+    }
+}
+
+// Runs the script, and prints the line of a refusal.
+fn run_at_once<
+    R: Files<File = File> + AllocGlobal + Threads + Wait + Sync,
+    S: Start + Send,
+    V: Watcher + Sync,
+    I: Read,
+    W: Write,
+    N: Observer,
+>(
+    hand: AtHand<'_, R, I, N>,
+    running: &ScriptRun,
+    watcher: &V,
+    out: &mut W,
+    start: S,
+) -> (u8, Option<FileDisk<S>>, Option<Trace>)
+    ensures status { (result.0 ≤ 1) ⊎ (result.0 ≡ STALLED) }
+    ensures ran { IfSome result.1 (λ disk. WasRunWith ⟦<FileDisk<S> as Disk>⟧ S.first running.now.way
+        (W.contents out.old) (W.contents out.new) result.2 result.0 disk) }
+    ensures none { IfNone result.1 (result.0 ≡ 1) }
+    ensures both { IfSome result.1 (λ _. IsSome result.2) }
+{
+    let alloc = hand.rt.alloc();
+    match run_file(hand, running, watcher, out, start) {
+        Ok((status, disk, trace)) => (status, Some(disk), Some(trace)),
+        Err(refusal) => (refuse(alloc, refusal, out), None, None),
+    }
+}
+
+/// Runs a script with threads for its elements, and writes its trace if one is asked for. Returns the status, and the
+/// disk of the image if it was opened.
+pub(crate) fn act_at_once<
+    R: Files<File = File> + AllocGlobal + Eprint + Threads + Wait + Sync,
+    S: Start + Send,
+    I: Read,
+    W: Write,
+>(
+    hand: AtHand<'_, R, I, Console<'_, R>>,
+    running: &ScriptRun,
+    traced: TraceFile,
+    out: &mut W,
+    start: S,
+) -> (u8, Option<FileDisk<S>>)
+    ensures status { (result.0 ≤ 1) ⊎ (result.0 ≡ STALLED) }
+    ensures ran { IfSome result.1 (λ disk. WasRunSomehow ⟦<FileDisk<S> as Disk>⟧ S.first running.now.way
+        (W.contents out.old) (W.contents out.new) result.0 disk) }
+    ensures none { IfNone result.1 (result.0 ≡ 1) }
+{
+    let (rt, held, input, console) = hand.parts();
+    let file = match make_file_if(rt, held, traced.path, console) {
+        Ok(file) => file,
+        Err(refusal) => return (refuse(rt.alloc(), refusal, out), None),
+    };
+    let watch = Watch::new(rt, console.is_watched());
+    let inner = AtHand {
+        rt,
+        held,
+        input,
+        observer: &mut *console,
+    };
+    let (status, disk, run) = run_at_once(inner, running, &watch, out, start);
+    keep_trace(rt, file, run, traced.objects, console);
+    settle(rt, running.image, &disk, console);
+    (status, disk)
+}

@@ -1,0 +1,81 @@
+//! Reads the text of a script.
+ghost use Rattle.std.specs.Prelude.{◌≡◌, ◌⊎◌, IfErr};
+ghost use Rattle.im_types.specs.declared.refusals.Refusal.TheVariants.{BadScript, NoMemory};
+
+use crate::descriptors::Descriptors;
+use im_script::{Script, ScriptFault, TextFault, read_script, read_script_with_glances, read_text};
+use im_text::{Observer, Reason};
+use im_types::Refusal;
+use std::alloc::Global;
+use std::fs::File;
+use std::io::{ErrorKind, Read};
+use std::rt::Files;
+
+/// Returns the text of a file, or of the input if the path is `-`.
+pub(crate) fn text_of<R: Files<File = File> + AllocGlobal, I: Read>(
+    rt: &R,
+    script: &str,
+    input: &mut I,
+) -> Result<Vec<u8>, TextFault> {
+    if script == "-" {
+        return read_text(rt.alloc(), input);
+    }
+    match File::open(rt, script) {
+        Ok(mut file) => read_text(rt.alloc(), &mut file),
+        Err(error) => Err(TextFault::Unread(error.kind())),
+    }
+}
+
+// Returns the refusal of a script, and tells the observer why.
+fn refuse_script<N: Observer>(reason: Reason, observer: &mut N) -> Refusal
+    ensures { (result ≡ BadScript) ⊎ (result ≡ NoMemory) }
+{
+    observer.refused(reason);
+    match reason {
+        Reason::ScriptFile(ErrorKind::OutOfMemory) | Reason::Script(ScriptFault::NoMemory) => {
+            Refusal::NoMemory
+        }
+        _ => Refusal::BadScript,
+    }
+}
+
+/// Returns the text of a script, or `BadScript` if it can't be read.
+pub(crate) fn read_file<R: Files<File = File> + AllocGlobal, I: Read, N: Observer>(
+    rt: &R,
+    held: &Descriptors,
+    script: &str,
+    input: &mut I,
+    observer: &mut N,
+) -> Result<Vec<u8>, Refusal>
+    ensures { IfErr result (λ refusal. (refusal ≡ BadScript) ⊎ (refusal ≡ NoMemory)) }
+{
+    if script == "-" && held.stands_for(0) {
+        return Err(refuse_script(Reason::NoInput, observer));
+    }
+    match text_of(rt, script, input) {
+        Ok(text) => Ok(text),
+        Err(TextFault::Bad(fault)) => Err(refuse_script(Reason::Script(fault), observer)),
+        Err(TextFault::Unread(kind)) => Err(refuse_script(Reason::ScriptFile(kind), observer)),
+    }
+}
+
+/// Returns the script in a text, or `BadScript` if the text isn't in the grammar. `glances` says whether it may have
+/// glances.
+pub(crate) fn script_in<'a, N: Observer>(
+    alloc: Global,
+    text: &'a [u8],
+    glances: bool,
+    observer: &mut N,
+) -> Result<Script<'a>, Refusal>
+    ensures { IfErr result (λ refusal. (refusal ≡ BadScript) ⊎ (refusal ≡ NoMemory)) }
+{
+    let read = if glances {
+        read_script_with_glances(alloc, text)
+    } else {
+        read_script(alloc, text)
+    };
+    match read {
+        Ok(script) => Ok(script),
+        Err(fault) => Err(refuse_script(Reason::Script(fault), observer)),
+    }
+}

@@ -1,0 +1,79 @@
+//! Serves the requests of a script in their order.
+ghost use Rattle.std.specs.Prelude.{◌≡◌, ◌⊎◌, ◌≤◌, IfOk, IfErr, OnErr};
+ghost use Rattle.std.specs.Io.KnownBytes.{Keeps};
+ghost use Rattle.im_types.specs.declared.refusals.Refusal.TheVariants.{BadScript, Device, NoMemory};
+ghost use Rattle.im_program.specs.Working.{WasScriptServed};
+
+use crate::hand::AtHand;
+use crate::opening::refusal_of;
+use crate::scripts::{read_file, script_in};
+use im_disk::{Disk, FileDisk, Start};
+use im_files::open_image;
+use im_serial::{serial_on, serial_once_on};
+use im_text::Observer;
+use im_types::Refusal;
+use std::fs::File;
+use std::io::{Read, Write};
+use std::rt::Files;
+
+/// What is served: the paths of the image and of the script, and whether it is done once.
+#[derive(Clone, Copy)]
+pub struct Serving<'a> {
+    /// The path of the image.
+    pub image: &'a str,
+    /// The path of the script. `-` stands for the input.
+    pub script: &'a str,
+    /// Whether what the image has of the script isn't asked anew.
+    pub once: bool,
+}
+
+/// Serves the script of one file on the image of another. Returns the status of [`serial_on`] and the image's disk;
+/// [`serial_on`] also says which lines are printed. The script is read first. The path `-` stands for the input, which
+/// is read to its end. If it is done once, what the image has of the script isn't asked anew: then [`serial_once_on`]
+/// stands for [`serial_on`] here.
+///
+/// The clauses hold for whatever the image held when it was opened (`S`), as long as the file was honest. A crash at
+/// any moment since then leaves what [`serial_on`] says.
+///
+/// Errors, with nothing printed and the image as it was; the observer is told why:
+///
+/// - `BadScript` if the script can't be read or isn't in the grammar.
+/// - `NoMemory` if there is no room for the script.
+/// - `Device` if the image can't be opened: it isn't a regular file, another opening has its lock, or a call of the
+///   system fails.
+///
+/// If [`serial_on`] refuses, its status and its last line say so. No clause says that an image is ever opened, because
+/// nothing is known about the contents of a folder.
+pub fn serve_file<R: Files<File = File> + AllocGlobal, S: Start, I: Read, W: Write, N: Observer>(
+    hand: AtHand<'_, R, I, N>,
+    serving: &Serving,
+    out: &mut W,
+    start: S,
+) -> Result<(u8, FileDisk<S>), Refusal>
+    ensures status { IfOk result (λ r. r.0 ≤ 1) }
+    ensures served { IfOk result (λ r. WasScriptServed ⟦<FileDisk<S> as Disk>⟧ S.first serving.now.once
+        (W.contents out.old) (W.contents out.new) r.0 r.1) }
+    ensures refused { IfErr result (λ refusal. (refusal ≡ BadScript) ⊎ (refusal ≡ NoMemory) ⊎ (refusal ≡ Device)) }
+    ensures same { OnErr result (Keeps (W.contents out.old) (W.contents out.new)) }
+{
+    let (rt, held, input, observer) = hand.parts();
+    let once = serving.once;
+    let text = match read_file(rt, held, serving.script, input, observer) {
+        Ok(text) => text,
+        Err(refusal) => return Err(refusal),
+    };
+    let script = match script_in(rt.alloc(), text.as_slice(), false, observer) {
+        Ok(script) => script,
+        Err(refusal) => return Err(refusal),
+    };
+    match open_image(rt, serving.image, start) {
+        Ok(disk) => {
+            if once {
+                Ok(serial_once_on(rt.alloc(), disk, &script, out, observer))
+            } else {
+                Ok(serial_on(rt.alloc(), disk, &script, out, observer))
+            }
+        }
+        Err(fault) => Err(refusal_of(rt, serving.image, fault, observer)),
+    }
+}

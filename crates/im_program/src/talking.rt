@@ -1,0 +1,69 @@
+//! Serves a dialogue.
+ghost use Rattle.std.specs.Prelude.{◌≡◌, ◌≤◌, IfOk, IfErr, OnErr};
+ghost use Rattle.std.specs.Io.KnownBytes.{Keeps};
+ghost use Rattle.im_types.specs.declared.refusals.Refusal.TheVariants.{Device};
+ghost use Rattle.im_dialogue.specs.Dialogue.{NotOpened, Talked, TalkedFrom};
+ghost use Rattle.im_dialogue.specs.Talk.{outputs};
+ghost use Rattle.im_program.specs.Working.{WasTalked};
+
+use crate::hand::AtHand;
+use crate::opening::refusal_of;
+use im_dialogue::{Backups, dialogue_on};
+use im_disk::{Disk, FileDisk, Start};
+use im_files::open_image;
+use im_listening::Ear;
+use im_text::Observer;
+use im_types::Refusal;
+use std::fs::File;
+use std::io::{BufRead, Write};
+use std::rt::Files;
+
+/// What a dialogue is served on: the path of the image, and whether it is watched.
+#[derive(Clone, Copy)]
+pub struct Talking<'a> {
+    /// The path of the image.
+    pub image: &'a str,
+    /// Whether the answers to requests that waited are printed when they come.
+    pub watch: bool,
+}
+
+/// Serves a dialogue on the image of a file. Returns the status of [`dialogue_on`] and the image's disk;
+/// [`dialogue_on`] also says which lines are printed.
+///
+/// The clauses hold for whatever the image held when it was opened (`S`), as long as the file was honest. A crash at
+/// any moment since then leaves what [`dialogue_on`] says.
+///
+/// Returns `Device`, with nothing printed, no line read and the image as it was, if the image can't be opened: it isn't
+/// a regular file, another opening has its lock, or a call of the system fails. The observer is told why. If
+/// [`dialogue_on`] refuses, its status and its last line say so. Then no backup is kept.
+///
+/// No clause says that an image is ever opened, because nothing is known about the contents of a folder.
+pub fn talk_file<
+    R: Files<File = File> + AllocGlobal,
+    S: Start,
+    B: Backups,
+    I: BufRead + Ear,
+    W: Write,
+    N: Observer,
+>(
+    hand: AtHand<'_, R, I, N>,
+    talking: &Talking,
+    backups: &mut B,
+    out: &mut W,
+    start: S,
+) -> Result<(u8, FileDisk<S>), Refusal>
+    ensures status { IfOk result (λ r. r.0 ≤ 1) }
+    ensures talked { IfOk result (λ r. WasTalked ⟦<FileDisk<S> as Disk>⟧ S.first talking.now.watch
+        (outputs (W.contents out.old) (B.kept backups.old)) (outputs (W.contents out.new) (B.kept backups.new))
+        r.0 r.1) }
+    ensures refused { IfErr result (λ refusal. refusal ≡ Device) }
+    ensures same { OnErr result (Keeps (W.contents out.old) (W.contents out.new)) }
+    ensures kept { OnErr result (B.kept backups.new ≡ B.kept backups.old) }
+{
+    let (rt, _held, input, observer) = hand.parts();
+    let watch = talking.watch;
+    match open_image(rt, talking.image, start) {
+        Ok(disk) => Ok(dialogue_on(rt.alloc(), disk, backups, input, watch, out, observer)),
+        Err(fault) => Err(refusal_of(rt, talking.image, fault, observer)),
+    }
+}
