@@ -1,8 +1,9 @@
 """Reads the trace of a run, for the scripts beside this file, and judges it by the plain memory of images.py.
 
 A line is `K.N OPERATION -> REPLY`, `confirm K UPTO -> confirmed` or `collect K.N -> REPLY`. What stands before the arrow is a line of a
-dialogue.
+dialogue. With --json each line is an object that says the same.
 """
+import json
 import re
 import subprocess
 from dataclasses import dataclass
@@ -43,9 +44,40 @@ def call_of(line):
     return Call(asked, reply, int(met[1]), int(met[2]), None)
 
 
-def calls_of(text):
+OPERANDS = {"alloc": ("kind", "length"), "store": ("address", "value"), "put": ("address", "value"), "confirm": (), "collect": ()}
+OTHERS = {"group", "checkpoint"}  # What an object may have besides.
+
+
+def line_of(text):
+    """The line that an object stands for."""
+    try:
+        it = json.loads(text)
+        element, number, call, reply = it["element"], it["number"], it["call"], it["reply"]
+        operands = [it[key] for key in OPERANDS.get(call, ("address",))]
+        answer = " ".join([reply, *([it[reply]] if reply in ("value", "base", "refused") else [])])
+    except (ValueError, KeyError, TypeError):
+        need(False, f"{text!r} is no object of a trace")
+    wanted = {"element", "number", "call", "reply", *OPERANDS.get(call, ("address",)), *({reply} if " " in answer else ())}
+    need(set(it) - OTHERS == wanted, f"{text!r} has other keys than {sorted(wanted)}")
+    need(type(element) is int and all(isinstance(it[key], str) for key in ("number", "value", "base") if key in it), f"{text!r} has a number of another kind")
+    asked = {"confirm": f"confirm {element} {number}", "collect": f"collect {element}.{number}"}
+    return f"{asked.get(call) or ' '.join([f'{element}.{number}', call, *map(str, operands)])} -> {answer}"
+
+
+def lines_of(text):
+    """The lines of a trace, be they objects or not."""
     need(not text or text.endswith("\n"), "the last line of the trace is cut off")
-    return [call_of(line) for line in text.splitlines()]
+    return [line_of(it) if it.startswith("{") else it for it in text.splitlines()]
+
+
+def marks_of(text):
+    """Of each line whether it begins a group, and whether a checkpoint came before it, where the objects say so."""
+    found = [json.loads(it) if it.startswith("{") else {} for it in text.splitlines()]
+    return [(bool(it.get("group")), bool(it.get("checkpoint"))) for it in found]
+
+
+def calls_of(text):
+    return [call_of(line) for line in lines_of(text)]
 
 
 def kept(memory, element, number):
