@@ -1,5 +1,5 @@
 use Rattle.std.proofs.Common.{◌∙◌, ap, ap₂}
-use Rattle.clap.specs.Words.{App, with_rule}
+use Rattle.clap.specs.Words.{with_rule}
 use Rattle.im_words.specs.Words.{sized_app}
 use Rattle.im_words.proofs.copy_words.making_command.Goals as goal
 

@@ -1,5 +1,5 @@
 use Rattle.std.proofs.Common.{◌∙◌, ap, ap₂}
-use Rattle.clap.specs.Words.{App, with_rule}
+use Rattle.clap.specs.Words.{with_rule}
 use Rattle.im_words.proofs.copy_words.with_sizes.Goals as goal
 
 pub returns-clause-app : goal.returns-clause-app
