@@ -6,8 +6,9 @@ use Rattle.im_types.specs.declared.refusals.Refusal.{Refusal}
 use Rattle.im_types.specs.Contents.{Contents}
 use Rattle.im_types.specs.Run.{after}
 use Rattle.im_types.specs.Meaning.{Means}
-use Rattle.im_disk.specs.Moment.{Moment, Left, LeftSince, Outside}
+use Rattle.im_disk.specs.Moment.{Moment, Left, Outside}
 use Rattle.im_disk.specs.Since.{Leaves, LeavesNow}
+use Rattle.im_disk.proofs.SinceLemmas.{left_now, only_now}
 use Rattle.im_engine.specs.declared.run.Event.{Event}
 use Rattle.im_engine.specs.declared.run.Answer.{Answer}
 use Rattle.im_engine.specs.State.{EngineState, MeansState, IsFirstFault}
@@ -15,22 +16,9 @@ use Rattle.im_engine.specs.Run.{acknowledged, in_doubt, MeansAll, MeansWithOrWit
 
 -- ---- files
 
-pub left_now : (m : Moment) → Left m m.bytes
-left_now m = record { size = refl; same = λ i out. refl }
-
--- a file that was left at no earlier time than now is left now
-since_now : (m : Moment) (past : List Moment) (c : List ℕ) → LeftSince (m ∷ past) (length past) c → Left m c
-since_now m past c (inl it) = it.1
-since_now m past c (inr it) = absurd (too_late past (length past) c it (omega arith))
-  where
-    too_late : (past : List Moment) (t : ℕ) (c : List ℕ) → LeftSince past t c → length past ≤ t → ⊥
-    too_late [] t c it le = it
-    too_late (n ∷ past) t c (inl it) le = omega (arith, it.0)
-    too_late (n ∷ past) t c (inr it) le = too_late past t c it (omega arith)
-
 -- what an opening leaves could be left before it
 pub was_left : (old new : Moment) (past_old past_new : List Moment) → Leaves old new past_old past_new (Left old) → (c : List ℕ) → Left new c → Left old c
-was_left old new past_old past_new leaves c left = ⊎_elim (λ before. since_now old past_old c before) (λ here. here) (leaves.each (length past_old) c (omega arith) (inl (leaves.later, left)))
+was_left old new past_old past_new leaves c left = ⊎_elim (λ before. only_now old past_old c before) (λ here. here) (leaves.each (length past_old) c (omega arith) (inl (leaves.later, left)))
 
 -- a crash after a crash leaves no more
 pub left_again : (m mid : Moment) → mid.ranges ≡ m.ranges → Left m mid.bytes → (f : List ℕ) → Left mid f → Left m f

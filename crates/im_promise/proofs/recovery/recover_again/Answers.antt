@@ -5,7 +5,8 @@ use Rattle.im_disk.specs.Recording.{Recording}
 use Rattle.im_disk.specs.Fuse.{Fused}
 use Rattle.im_engine.specs.State.{EngineState, MeansState}
 use Rattle.im_promise.specs.Recovery.{Recovers}
-use Rattle.im_promise.proofs.Recovering.{left_now, was_left, still_means}
+use Rattle.im_disk.proofs.SinceLemmas.{left_now}
+use Rattle.im_promise.proofs.Recovering.{was_left, still_means}
 use Rattle.im_promise.proofs.Reopening.{again_by, under, over}
 use Rattle.im_promise.proofs.recovery.recover_again.Goals as goal
 
