@@ -1,5 +1,7 @@
-use Rattle.std.proofs.Common.{◌≡◌, ◌∙◌, map, sym}
+use Rattle.std.proofs.Common.{◌≡◌, ◌∙◌, map, subst, sym}
 use Rattle.std.specs.Prelude.{None}
+use Rattle.im_trace.specs.Ends.{RecordingState}
+use Rattle.im_run.specs.Doing.{AreAllTold}
 use Rattle.im_run.specs.Orders.{ask_of}
 use Rattle.im_run.proofs.DoingLemmas.{all_told_by, elements_end}
 use Rattle.im_run.proofs.OrdersLemmas.{if_ok_map}
@@ -19,8 +21,10 @@ returns-clause-told g c =
     let notes = c.note_all-ports in
     let end = c.finish-engine in
     let trace = end.result.trace.items in
-    all_told_by (λ all. all.items) served.result g.K.Name.memory trace (made.result.refused ≡ None)
+    subst (λ (t : RecordingState). AreAllTold g.K.Name.memory t.items (notes.result.refused ≡ None)
+    (map ask_of c.args.orders.items) notes.result.did.items) (sym c.of.ensures)
+    (all_told_by (λ all. all.items) served.result g.K.Name.memory trace (made.result.refused ≡ None)
     (notes.result.refused ≡ None) (map ask_of c.args.orders.items) made.result.parts.items notes.result.did.items
     made.ensures.made served.ensures.ends
     (if_ok_map _ _ served.result notes.ensures.some (λ all it. (it.0, it.1 trace end.ensures.seen)))
-    notes.ensures.none
+    notes.ensures.none)
