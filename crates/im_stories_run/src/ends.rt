@@ -78,7 +78,7 @@ fn step_all(memory: &mut PlainMemory, requests: &[Request], others: u64, order: 
     for request in requests {
         let mut element = 0;
         if request.element != 0 && others != 0 {
-            element = (rest % others).saturating_add(1) as u16;
+            element = u16::try_from((rest % others).saturating_add(1)).unwrap_or(0);
             rest /= others;
         }
         if !step(memory, requests, element) {
