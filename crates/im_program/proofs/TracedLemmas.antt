@@ -1,6 +1,7 @@
 -- What a sieve tells of a trace. (Own.)
 use Rattle.std.proofs.Common.{◌≡◌, ◌∙◌, ℕ, Bool, true, List, [], ◌++◌, length, refl, sym, ap, subst, take}
 use Rattle.std.specs.Prelude.{codes, decimal, OnOk, IsOk, Option, None, Some, Result, Ok, Err, slice_get}
+use Rattle.std.specs.Prelude.{if◌then◌else◌}
 use Rattle.std.specs.Io.KnownBytes.{Appends}
 use Rattle.std.proofs.KnownBytes.{Appends-nil}
 use Rattle.im_types.specs.declared.commands.Command.TheVariants.{Request as Asks, Confirm}
@@ -34,13 +35,13 @@ call_told (Commands (Confirm element upto)) text word operand is = confirm_told 
 call_told (Collect element number) text word operand is = collect_told element number text word operand is
 
 line_told : (line : Option Line) → IsSifted Calls (trace_line line) (line_object line)
-line_told None text = refl
+line_told None = λ text. refl
 line_told (Some line) = call_told line.call (outcome_text line.answer) (outcome_word line.answer)
     (outcome_operand line.answer) (said line.answer)
 
 pub trace_told : (t : TraceState) → sifted Calls (trace_text t) ≡ trace_objects t
 trace_told t =
-    let lines = t.setup ++ t.served in
+    let lines = t.setup ++ (if t.recorded then t.served else []) in
     sifted_whole Calls (trace_text t) (trace_objects t) refl
     (sifted_texts Calls (λ i. trace_line (slice_get lines i)) (λ i. line_object (slice_get lines i))
     (λ i. line_told (slice_get lines i)) (length lines))

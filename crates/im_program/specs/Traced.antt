@@ -1,6 +1,6 @@
 -- The trace of a run as objects of JSON. (Own.)
 use Rattle.std.specs.Prelude.{ℕ, Bool, true, false, List, [], ◌++◌, length, codes, decimal, Option, None, Some}
-use Rattle.std.specs.Prelude.{Result, Ok, Err, slice_get}
+use Rattle.std.specs.Prelude.{Result, Ok, Err, slice_get, if◌then◌else◌}
 use Rattle.im_types.specs.declared.commands.Command.TheVariants.{Request as Asks, Confirm}
 use Rattle.im_types.specs.declared.commands.Outcome.{Outcome}
 use Rattle.im_types.specs.declared.commands.Outcome.TheVariants.{Entry as Tells, Confirmed}
@@ -42,9 +42,9 @@ line_object (Some line) =
 abbrev pub objects_text : List Line → List ℕ
 objects_text lines = texts_below (λ i. line_object (slice_get lines i)) (length lines)
 
--- all objects of a trace
+-- the objects of all lines that were recorded
 abbrev pub trace_objects : TraceState → List ℕ
-trace_objects t = objects_text (t.setup ++ t.served)
+trace_objects t = objects_text (t.setup ++ (if t.recorded then t.served else []))
 
 -- a trace as lines, or as objects
 abbrev pub traced_as : Bool → TraceState → List ℕ

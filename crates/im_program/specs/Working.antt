@@ -77,14 +77,14 @@ WasScriptServed d first once was is status disk =
 -- a script was run on this disk
 abbrev pub WasRun : {D : Type 0} → DiskGhosts D → Moment → Way → Option (List ℕ) → Option (List ℕ) → TraceState → ℕ → D
     → Type 0
-WasRun d first way was is run status disk =
-    d.honest disk → ScriptRan (is_once way) d.now d.past d.failures first disk was is run status
+WasRun d first way was is calls status disk =
+    d.honest disk → ScriptRan (is_once way) d.now d.past d.failures first disk was is calls status
 
 -- the same, with a trace if there is one
 abbrev pub WasRunWith : {D : Type 0} → DiskGhosts D → Moment → Way → Option (List ℕ) → Option (List ℕ)
     → Option TraceState → ℕ → D → Type 0
-WasRunWith d first way was is run status disk = d.honest disk
-    → IfSome run (λ calls. ScriptRan (is_once way) d.now d.past d.failures first disk was is calls status)
+WasRunWith d first way was is some status disk = d.honest disk
+    → IfSome some (λ calls. ScriptRan (is_once way) d.now d.past d.failures first disk was is calls status)
 
 -- the same, with some trace
 abbrev pub WasRunSomehow : {D : Type 0} → DiskGhosts D → Moment → Way → Option (List ℕ) → Option (List ℕ) → ℕ → D

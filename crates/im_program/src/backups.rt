@@ -160,17 +160,17 @@ fn keep_in<R: Files<File = File> + AllocGlobal>(
 
 /// The folder in which a dialogue keeps its backups, or none.
 #[derive(Drop)]
-pub(crate) struct Folder<'a, R> {
+pub(crate) struct Folder<'a, 'p, R> {
     rt: &'a R,
     // What takes the numbers of the standard streams while files are made.
     _held: &'a Descriptors,
-    path: Option<&'a str>,
+    path: Option<&'p str>,
     shelf: Shelf,
 }
 
-impl<'a, R> Folder<'a, R> {
+impl<'a, 'p, R> Folder<'a, 'p, R> {
     /// Returns the folder at a path. Nothing is kept in it yet. Without a path, each name is refused.
-    pub(crate) fn new(rt: &'a R, held: &'a Descriptors, path: Option<&'a str>) -> Folder<'a, R>
+    pub(crate) fn new(rt: &'a R, held: &'a Descriptors, path: Option<&'p str>) -> Folder<'a, 'p, R>
         ensures { result.shelf.backups ≡ [] }
     {
         Folder {
@@ -182,7 +182,7 @@ impl<'a, R> Folder<'a, R> {
     }
 }
 
-impl<'a, R: Files<File = File> + AllocGlobal> Backups for Folder<'a, R> {
+impl<'a, 'p, R: Files<File = File> + AllocGlobal> Backups for Folder<'a, 'p, R> {
     ghost kept = { λ folder. folder.shelf.backups };
 
     fn keep(

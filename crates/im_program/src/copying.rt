@@ -19,9 +19,9 @@ use std::rt::Files;
 
 /// What a copy is made of: the paths of the image and of the new file, and the sizes that are asked for.
 #[derive(Clone, Copy)]
-pub struct Copying<'a> {
+pub struct Copying<'h, 'a> {
     /// What takes the numbers of the standard streams while the files are opened.
-    pub held: &'a Descriptors,
+    pub held: &'h Descriptors,
     /// The path of the image.
     pub old: &'a str,
     /// The path of the new file.

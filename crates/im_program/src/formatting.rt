@@ -40,6 +40,34 @@ fn limits_reason(cells: u32, elements: u32, slots: u32) -> Reason {
     }
 }
 
+// Makes an image at the path, as [`format_file`] says.
+fn make_formatted<R: Files<File = File> + AllocGlobal, S: Start, N: Observer>(
+    rt: &R,
+    observer: &mut N,
+    image: &str,
+    limits: Limits,
+    is_new: bool,
+    start: S,
+) -> Result<FileDisk<S>, Refusal>
+    ensures made { IfOk result (λ disk. ⟦<FileDisk<S> as Disk>⟧.honest disk →
+        LeavesNow (⟦<FileDisk<S> as Disk>⟧.now disk) (λ file. file ≡ new_image 0xA5 (sizes_of limits))) }
+    ensures refused { IfErr result (λ refusal. (refusal ≡ WrongLength) ⊎ (refusal ≡ NoMemory) ⊎ (refusal ≡ Device)) }
+{
+    let (disk, is_made) = match make_image(rt, image, image_length(limits), is_new, start) {
+        Ok(made) => made,
+        Err(fault) => return Err(refusal_of(rt, image, fault, observer)),
+    };
+    match Engine::format(rt.alloc(), disk, limits) {
+        Ok(engine) => Ok(engine.close()),
+        Err((refusal, disk)) => {
+            let reason = format_reason(refusal, disk.failure(), is_made);
+            give_up(rt, image, disk, is_made);
+            observer.refused(reason);
+            Err(refusal)
+        }
+    }
+}
+
 /// Makes an image at the path and returns its disk. An existing file loses its bytes; if a new file is asked for, it is
 /// refused. As long as the file was honest, each file that a crash may leave is the new image, byte for byte.
 ///
@@ -63,19 +91,7 @@ pub fn format_file<R: Files<File = File> + AllocGlobal, S: Start, I, N: Observer
     ensures refused { IfErr result (λ refusal. (refusal ≡ WrongLength) ⊎ (refusal ≡ NoMemory) ⊎ (refusal ≡ Device)) }
 {
     let (rt, _held, _input, observer) = hand.parts();
-    let (disk, is_made) = match make_image(rt, image, image_length(limits), is_new, start) {
-        Ok(made) => made,
-        Err(fault) => return Err(refusal_of(rt, image, fault, observer)),
-    };
-    match Engine::format(rt.alloc(), disk, limits) {
-        Ok(engine) => Ok(engine.close()),
-        Err((refusal, disk)) => {
-            let reason = format_reason(refusal, disk.failure(), is_made);
-            give_up(rt, image, disk, is_made);
-            observer.refused(reason);
-            Err(refusal)
-        }
-    }
+    make_formatted(rt, observer, image, limits, is_new, start)
 }
 
 /// The numbers of cells, elements and journal slots that the command line asks for.
@@ -101,7 +117,7 @@ pub(crate) fn format_image<R: Files<File = File> + AllocGlobal, S: Start, I, N: 
         (λ file. file ≡ new_image 0xA5
         (record { cells = sizes.cells; elements = sizes.elements; slots = sizes.slots }))) }
 {
-    let (rt, held, input, observer) = hand.parts();
+    let (rt, _held, _input, observer) = hand.parts();
     let GivenSizes {
         cells,
         elements,
@@ -114,11 +130,5 @@ pub(crate) fn format_image<R: Files<File = File> + AllocGlobal, S: Start, I, N: 
             return Err(refusal);
         }
     };
-    let inner = AtHand {
-        rt,
-        held,
-        input,
-        observer,
-    };
-    format_file(inner, image, limits, is_new, start)
+    make_formatted(rt, observer, image, limits, is_new, start)
 }

@@ -24,9 +24,9 @@ use std::rt::Files;
 
 /// The paths of an old file and a new one, and what takes the numbers of the standard streams while they are opened.
 #[derive(Clone, Copy)]
-pub struct Paths<'a> {
+pub struct Paths<'h, 'a> {
     /// What takes the numbers of the standard streams.
-    pub held: &'a Descriptors,
+    pub held: &'h Descriptors,
     /// The path of the old file.
     pub old: &'a str,
     /// The path of the new file.
