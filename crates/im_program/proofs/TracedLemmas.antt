@@ -4,6 +4,7 @@ use Rattle.std.specs.Prelude.{codes, decimal, OnOk, IsOk, Option, None, Some, Re
 use Rattle.std.specs.Prelude.{if◌then◌else◌}
 use Rattle.std.specs.Io.KnownBytes.{Appends}
 use Rattle.std.proofs.KnownBytes.{Appends-nil}
+use Rattle.im_types.proofs.Tests.{false_true}
 use Rattle.im_types.specs.declared.commands.Command.TheVariants.{Request as Asks, Confirm}
 use Rattle.im_types.specs.declared.commands.Outcome.{Outcome}
 use Rattle.im_types.specs.declared.commands.Outcome.TheVariants.{Entry as Tells, Confirmed}
@@ -56,8 +57,8 @@ pub objects_whole : {T E F G : Type 0} (t : TraceState) (telling : Telling) (sta
     → OnOk written (Appends start is (sifted telling text)) → OnOk r (IsOk taken) → OnOk r (IsOk written)
     → OnOk r (Appends start is (trace_objects t))
 objects_whole t telling start is old text (Err e) taken written same none all told one other = tt
-objects_whole t telling start is old text (Ok x) (Err e) written same none all told one other = absurd one
-objects_whole t telling start is old text (Ok x) (Ok y) (Err e) same none all told one other = absurd other
+objects_whole t telling start is old text (Ok x) (Err e) written same none all told one other = absurd (false_true one)
+objects_whole t telling start is old text (Ok x) (Ok y) (Err e) same none all told one other = absurd (false_true other)
 objects_whole t telling start is old text (Ok x) (Ok y) (Ok z) same none all told one other =
     subst (Appends start is)
     (ap (λ (u : Telling). sifted u text) same ∙ ap (sifted Calls) (whole_text old text (trace_text t) none all)

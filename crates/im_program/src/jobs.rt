@@ -45,13 +45,10 @@ fn do_job<
     ensures none { IfOk result (λ r. IfNone r.1 (task_of_job job.now ≡ demonstration)) }
 {
     match *job {
-        Job::Demonstration => {
-            let (rt, _held, _input, observer) = hand.parts();
-            match demonstrate(rt.alloc(), out, observer) {
-                Ok(status) => Ok((status, None)),
-                Err(refusal) => Err(refusal),
-            }
-        }
+        Job::Demonstration => match demonstrate(hand.rt.alloc(), out, hand.observer) {
+            Ok(status) => Ok((status, None)),
+            Err(refusal) => Err(refusal),
+        },
         Job::Format {
             image,
             cells,

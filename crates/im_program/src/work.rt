@@ -150,19 +150,21 @@ pub fn act<
             (status, disk, None)
         }
         Work::Migrate { old, new } => {
-            let (rt, held, _input, observer) = hand.parts();
-            let paths = Paths { held, old, new };
-            act_on_two(rt, &paths, out, observer, (start, other))
+            let paths = Paths {
+                held: hand.held,
+                old,
+                new,
+            };
+            act_on_two(hand.rt, &paths, out, hand.observer, (start, other))
         }
         Work::Copy { old, new, asked } => {
-            let (rt, held, _input, observer) = hand.parts();
             let copying = Copying {
-                held,
+                held: hand.held,
                 old,
                 new,
                 asked,
             };
-            act_copying(rt, &copying, out, observer, (start, other))
+            act_copying(hand.rt, &copying, out, hand.observer, (start, other))
         }
     }
 }
