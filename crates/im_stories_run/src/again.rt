@@ -87,7 +87,8 @@ fn stop_each<R: Threads + Wait + Sync>(
         let passes = times.saturating_mul(by);
         right = right.saturating_add(stop_at(rt, here, text, ends, passes));
     }
-    let is_whole = run_to_end(rt, here, text, most, Crash::Kept) == Some(0);
+    // How many calls a run makes hangs on its groups: four times as many are enough for each request alone.
+    let is_whole = run_to_end(rt, here, text, most.saturating_mul(4), Crash::Kept) == Some(0);
     write!(here.said, "ends {}, runs to them {right}, ", ends.len());
     here.said
         .either(is_whole, "the last at once\n", "the last stopped\n")
