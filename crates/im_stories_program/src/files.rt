@@ -89,7 +89,7 @@ fn read(desk: &Desk, name: &str, said: &mut Saying) -> Vec<u8> {
 // Makes an image in memory of a file.
 fn load(desk: &mut Desk, name: &str, said: &mut Saying) {
     let bytes = read(desk, name, said);
-    said.so(desk.place.lay(bytes.as_slice()), "")
+    said.so(desk.place.lay(bytes.as_slice(), bytes.len()), "")
 }
 
 // Makes a call that takes the text that was put together, as standard input or as a file's bytes.

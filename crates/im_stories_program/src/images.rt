@@ -1,9 +1,8 @@
 //! The image in memory, its bytes, and changes of them.
 
-use crate::place::Place;
-use crate::spelling::hex;
 use crate::{Desk, scripts};
-use im_story::{Call, Saying, old_image};
+use im_story::{Call, Saying, bytes, old_image};
+use im_story_disk::Place;
 
 // Tells how many bytes the disk has.
 fn add_length(place: &Place, is_so: bool, said: &mut Saying) {
@@ -18,7 +17,7 @@ fn lay_old(place: &mut Place, call: &Call) -> bool {
         return false;
     };
     match old_image(place.alloc, limits) {
-        Ok(image) => place.lay(image.as_slice()),
+        Ok(image) => place.lay(image.as_slice(), image.len()),
         Err(_) => false,
     }
 }
@@ -26,7 +25,7 @@ fn lay_old(place: &mut Place, call: &Call) -> bool {
 // Makes a new image.
 fn format(place: &mut Place, call: &Call, said: &mut Saying) {
     let limits = call.limits(0);
-    match place.start(limits) {
+    match place.found(limits) {
         Ok(_) => said.so(limits.is_some(), "formatted"),
         Err(refusal) => said.refusal(refusal),
     }
@@ -34,30 +33,24 @@ fn format(place: &mut Place, call: &Call, said: &mut Saying) {
 
 // Tells the count of the image's commands, as an opening finds it.
 fn count(place: &mut Place, said: &mut Saying) {
-    match place.start(None) {
-        Ok(count) => said.number(count),
+    match place.found(None) {
+        Ok((count, _)) => said.number(count),
         Err(refusal) => said.refusal(refusal),
     }
 }
 
 fn add_bytes(place: &Place, at: usize, count: usize, said: &mut Saying) {
-    let Some(bytes) = place.bytes().get(at..at.saturating_add(count)) else {
-        return said.fail("the disk is shorter");
-    };
-    for byte in bytes {
-        write!(said, " {byte:02x}");
+    match place.bytes().get(at..at.saturating_add(count)) {
+        Some(bytes) => said.bytes(bytes, usize::MAX),
+        None => said.fail("the disk is shorter"),
     }
 }
 
 // Puts bytes in their places, and tells those that stood there before.
 fn write(place: &mut Place, call: &Call, said: &mut Saying) {
-    let mut bytes = Vec::new(place.alloc);
-    for word in call.rest(2) {
-        match hex(word) {
-            Some(byte) => said.so(bytes.push(byte).is_ok(), ""),
-            None => said.fail("that is no byte"),
-        }
-    }
+    let Some(bytes) = bytes(place.alloc, call.rest(2)) else {
+        return said.fail("that is no byte");
+    };
     add_bytes(place, call.place(0), bytes.len(), said);
     said.so(place.put(call.place(0), bytes.as_slice()), "")
 }
@@ -67,7 +60,7 @@ pub fn tell(desk: &mut Desk, call: &Call, said: &mut Saying) {
     let place = &mut desk.place;
     match call.form() {
         "disk _" => {
-            let is_laid = place.blank(call.place(0));
+            let is_laid = place.lay(&[], call.place(0));
             add_length(place, is_laid, said)
         }
         "cut _" => {

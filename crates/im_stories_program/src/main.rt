@@ -6,7 +6,6 @@ mod command_lines;
 mod dialogues;
 mod files;
 mod images;
-mod place;
 mod printed;
 mod reasons;
 mod scripts;
@@ -14,15 +13,13 @@ mod serving;
 mod spelling;
 mod writers;
 
-use anyhow::Result;
 use im_program::Descriptors;
 use im_script::Said;
-use im_story::{Call, Layer, Saying, Scene, tell_of, walk_files};
-use place::Place;
-use std::alloc::Global;
+use im_story::{Call, Paper, Saying, Scene, walk_files};
+use im_story_disk::Place;
 use std::mem;
 use std::process::ExitCode;
-use writers::{Notes, Paper};
+use writers::Notes;
 
 /// What a story works with: a script, an image in memory, what was last printed, and the folder's files.
 struct Desk<'a> {
@@ -78,7 +75,7 @@ impl<'a> Desk<'a> {
             lines: Vec::new(alloc),
             bases: Vec::new(alloc),
             fault: Saying::new(alloc),
-            out: Paper::new(alloc, usize::MAX),
+            out: Paper::new(alloc),
             notes: Notes::new(alloc),
         }
     }
@@ -90,14 +87,8 @@ impl<'a> Desk<'a> {
 
     // Begins a new text of what is printed, of so many bytes at most, and of what is told besides.
     fn print(&mut self, room: usize) {
-        self.out = Paper::new(self.rt.alloc(), room);
+        self.out = Paper::with_room(self.rt.alloc(), room);
         self.notes = Notes::new(self.rt.alloc());
-    }
-}
-
-impl<'a> Layer for Desk<'a> {
-    fn make(&mut self, call: &Call, said: &mut Saying) {
-        printed::tell(self, call, said)
     }
 }
 
@@ -106,8 +97,8 @@ impl<'a> Scene for Desk<'a> {
         *self = Desk::new(self.rt, self.held);
     }
 
-    fn tell(&mut self, alloc: Global, words: &[&str], said: &mut String) -> Result<()> {
-        tell_of(self, alloc, words, said)
+    fn make(&mut self, call: &Call, said: &mut Saying) {
+        printed::tell(self, call, said)
     }
 }
 
@@ -116,5 +107,5 @@ fn main(rt: HostRuntime) -> ExitCode {
         return ExitCode::from(1);
     };
     let mut desk = Desk::new(&rt, &held);
-    ExitCode::from(walk_files(&rt, &mut desk).unwrap_or(1))
+    ExitCode::from(walk_files(&rt, &mut desk))
 }

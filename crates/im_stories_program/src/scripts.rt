@@ -6,13 +6,6 @@ use im_script::{Action, Place, Reader, Said, ScriptLine, read_script, read_u32};
 use im_story::{Call, Saying};
 use im_types::Kind;
 
-fn letter(kind: Kind) -> &'static str {
-    match kind {
-        Kind::I => "i",
-        Kind::M => "m",
-    }
-}
-
 // Returns the word of an action, the place on which it acts, and its value.
 fn parts_of(action: Action) -> (&'static str, Option<Place>, Option<u64>) {
     match action {
@@ -41,20 +34,14 @@ fn add_action(action: Action, said: &mut Saying) {
     }
 }
 
-// Adds a number, or that there is none.
-fn add_number(number: Option<u32>, said: &mut Saying) {
-    match number {
-        Some(number) => said.number(u64::from(number)),
-        None => said.text("none"),
-    }
-}
-
 // Adds the kinds and lengths of the blocks, or else the elements of the parts.
 fn add_lines(lines: &[Said], of_blocks: bool, said: &mut Saying) {
     for line in lines {
         match line {
             Said::Block(block) if of_blocks => {
-                write!(said, " {} {}", letter(block.kind), block.length)
+                said.text(" ");
+                said.kind(block.kind);
+                write!(said, " {}", block.length)
             }
             Said::Begins(element) if !of_blocks => write!(said, " {element}"),
             _ => {}
@@ -91,7 +78,7 @@ fn add_address(line: Option<ScriptLine>, bases: &[u32], said: &mut Saying) {
         return said.fail("no such request");
     };
     match parts_of(line.action).1 {
-        Some(place) => add_number(place.address(bases), said),
+        Some(place) => said.number_or_none(place.address(bases)),
         None => said.fail("a block is made nowhere yet"),
     }
 }
@@ -177,7 +164,7 @@ fn set_bases(desk: &mut Desk, call: &Call, said: &mut Saying) {
 fn read_number(call: &Call, said: &mut Saying) {
     let mut text = Vec::new(call.alloc());
     add_word(&mut text, call.word(1), said);
-    add_number(read_u32(text.as_slice()), said)
+    said.number_or_none(read_u32(text.as_slice()))
 }
 
 // Makes a call on a script that was read, or else one of those of reports and servings.

@@ -1,20 +1,20 @@
 //! Serves scripts on the image in memory, and prints reports of it. The disk may stop after a number of calls, or lets
 //! one fail. A writer may take only a number of bytes.
 
-use crate::place::{Place, STEADY};
 use crate::{Desk, dialogues};
 use im_disk::Mode;
 use im_report::{Filter, Span, View, inspect_on, look_on};
 use im_script::read_script;
 use im_serial::{serial_on, serial_once_on};
 use im_story::{Call, Saying};
+use im_story_disk::{Place, STEADY};
 
 // The most calls of the program.
 const MOST: u64 = 100;
 
 /// Returns how many calls an opening of the image makes.
 pub fn opening_calls(place: &mut Place) -> u64 {
-    let _count = place.start(None);
+    let _count = place.found(None);
     place.calls
 }
 

@@ -1,12 +1,7 @@
 //! The spelling of a text in a story: words with a space between them, and `/` where a line ends. In a word `~` is a
 //! space, `\t` a tab, `\r` a carriage return, and `\xHH` the byte with this number. The word `""` is empty.
 
-use im_story::Saying;
-
-/// Reads a byte: two digits of base 16.
-pub fn hex(digits: &str) -> Option<u8> {
-    u8::from_str_radix(digits, 16).ok()
-}
+use im_story::{Saying, hex};
 
 // Reads what follows a backslash: the byte that it spells, and the rest.
 fn spelled(part: &str) -> (Option<u8>, &str) {
