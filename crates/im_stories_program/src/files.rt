@@ -41,11 +41,9 @@ fn run(desk: &mut Desk, input: &[u8], call: &Call, said: &mut Saying) {
     write!(said, "{status}")
 }
 
-// Serves a file's script, tells about an image, or makes one. Tells whether that is done.
-fn attempt(desk: &mut Desk, call: &Call, said: &mut Saying) {
-    let image = call.word(2);
+// Serves a file's script. Returns whether that is done.
+fn serves(desk: &mut Desk, image: &str, script: &str) -> bool {
     let mut nothing = b"".as_slice();
-    desk.print(usize::MAX);
     let hand = AtHand {
         rt: desk.rt,
         held: desk.held,
@@ -54,13 +52,44 @@ fn attempt(desk: &mut Desk, call: &Call, said: &mut Saying) {
     };
     let serving = Serving {
         image,
-        script: call.word(3),
+        script,
         once: false,
     };
+    serve_file(hand, &serving, &mut desk.out, Unknown).is_ok()
+}
+
+// Tells about an image. Returns whether that is done.
+fn inspects(desk: &mut Desk, image: &str) -> bool {
+    let mut nothing = b"".as_slice();
+    let hand = AtHand {
+        rt: desk.rt,
+        held: desk.held,
+        input: &mut nothing,
+        observer: &mut desk.notes,
+    };
+    inspect_file(hand, image, &View::Stat, &mut desk.out, Unknown).is_ok()
+}
+
+// Makes an image. Returns whether that is done.
+fn formats(desk: &mut Desk, image: &str, limits: Limits) -> bool {
+    let mut nothing = b"".as_slice();
+    let hand = AtHand {
+        rt: desk.rt,
+        held: desk.held,
+        input: &mut nothing,
+        observer: &mut desk.notes,
+    };
+    format_file(hand, image, limits, false, Unknown).is_ok()
+}
+
+// Serves a file's script, tells about an image, or makes one. Tells whether that is done.
+fn attempt(desk: &mut Desk, call: &Call, said: &mut Saying) {
+    let image = call.word(2);
+    desk.print(usize::MAX);
     let is_done = match (call.word(1), Limits::new(1, 1, 16)) {
-        ("serial", _) => serve_file(hand, &serving, &mut desk.out, Unknown).is_ok(),
-        ("inspect", _) => { inspect_file(hand, image, &View::Stat, &mut desk.out, Unknown).is_ok() }
-        ("format", Some(limits)) => format_file(hand, image, limits, false, Unknown).is_ok(),
+        ("serial", _) => serves(desk, image, call.word(3)),
+        ("inspect", _) => inspects(desk, image),
+        ("format", Some(limits)) => formats(desk, image, limits),
         _ => return said.fail("no such call"),
     };
     said.either(is_done, "done", "refused")
