@@ -1,13 +1,14 @@
 //! Files, and the program's work on them.
 
+use crate::writers::Notes;
 use crate::{Desk, command_lines};
 use im_disk::Unknown;
 use im_program::{
-    AtHand, Console, Serving, Terminals, Work, act_alone, format_file, inspect_file, read_words,
-    serve_file, status_for,
+    AtHand, Console, Descriptors, Serving, Terminals, Work, act_alone, format_file, inspect_file,
+    read_words, serve_file, status_for,
 };
 use im_report::View;
-use im_story::{Call, Saying};
+use im_story::{Call, Paper, Saying};
 use im_types::Limits;
 use std::fs;
 use std::io::ErrorKind;
@@ -42,32 +43,45 @@ fn run(desk: &mut Desk, input: &[u8], call: &Call, said: &mut Saying) {
 }
 
 // Serves a file's script. Returns whether that is done.
-fn serves(desk: &mut Desk, image: &str, script: &str) -> bool {
+fn serves<'a, 'p>(
+    rt: &'a HostRuntime,
+    held: &'a Descriptors,
+    paths: (&'p str, &'p str),
+    out: &mut Paper,
+    notes: &'a mut Notes,
+) -> bool {
     let mut nothing = b"".as_slice();
-    let hand = AtHand {
-        rt: desk.rt,
-        held: desk.held,
-        input: &mut nothing,
-        observer: &mut desk.notes,
-    };
+    let (image, script) = paths;
     let serving = Serving {
         image,
         script,
         once: false,
     };
-    serve_file(hand, &serving, &mut desk.out, Unknown).is_ok()
+    let hand = AtHand {
+        rt,
+        held,
+        input: &mut nothing,
+        observer: notes,
+    };
+    serve_file(hand, &serving, out, Unknown).is_ok()
 }
 
 // Tells about an image. Returns whether that is done.
-fn inspects(desk: &mut Desk, image: &str) -> bool {
+fn inspects<'a>(
+    rt: &'a HostRuntime,
+    held: &'a Descriptors,
+    image: &str,
+    out: &mut Paper,
+    notes: &'a mut Notes,
+) -> bool {
     let mut nothing = b"".as_slice();
     let hand = AtHand {
-        rt: desk.rt,
-        held: desk.held,
+        rt,
+        held,
         input: &mut nothing,
-        observer: &mut desk.notes,
+        observer: notes,
     };
-    inspect_file(hand, image, &View::Stat, &mut desk.out, Unknown).is_ok()
+    inspect_file(hand, image, &View::Stat, out, Unknown).is_ok()
 }
 
 // Makes an image. Returns whether that is done.
@@ -87,8 +101,14 @@ fn attempt(desk: &mut Desk, call: &Call, said: &mut Saying) {
     let image = call.word(2);
     desk.print(usize::MAX);
     let is_done = match (call.word(1), Limits::new(1, 1, 16)) {
-        ("serial", _) => serves(desk, image, call.word(3)),
-        ("inspect", _) => inspects(desk, image),
+        ("serial", _) => serves(
+            desk.rt,
+            desk.held,
+            (image, call.word(3)),
+            &mut desk.out,
+            &mut desk.notes,
+        ),
+        ("inspect", _) => inspects(desk.rt, desk.held, image, &mut desk.out, &mut desk.notes),
         ("format", Some(limits)) => formats(desk, image, limits),
         _ => return said.fail("no such call"),
     };
