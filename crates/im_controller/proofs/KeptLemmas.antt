@@ -1,14 +1,15 @@
 -- What a crash leaves, with a command, a group or a turn more.
-use Rattle.std.proofs.Common.{◌≡◌, ◌⊎◌, inl, inr, ⊎_elim, ℕ, zero, suc, ◌+◌, ◌≤◌, Bool, true, false, ◌&&◌, List, []}
-use Rattle.std.proofs.Common.{◌∷◌, ◌++◌, length, length-append, append_assoc, map, refl, sym, ap, ◌∙◌, subst, arith}
+use Rattle.std.proofs.Common.{◌≡◌, ◌⊎◌, inl, inr, ⊎_elim, ℕ, zero, suc, ◌+◌, ◌≤◌, ◌<◌, Bool, true, false, ◌&&◌, List}
+use Rattle.std.proofs.Common.{[], ◌∷◌, ◌++◌, length, length-append, append_assoc, map, refl, sym, ap, ◌∙◌, subst, arith}
 use Rattle.std.proofs.Common.{if◌then◌else◌, Result, Ok, Err}
-use Rattle.std.specs.Prelude.{Some, nat_lt, ◌==◌, IfErr}
+use Rattle.std.specs.Prelude.{Option, Some, nat_lt, ◌==◌, IfErr}
 use Rattle.std.proofs.lemmas.Bool.Decides.{nat_tests}
 use Rattle.std.proofs.lemmas.List.{append-nil, take_all, take-append-le}
 use Rattle.im_types.specs.declared.commands.Command.{Command}
 use Rattle.im_types.specs.declared.commands.Outcome.{Outcome}
 use Rattle.im_types.specs.declared.commands.Call.TheVariants.{Command as Commands, Collect}
 use Rattle.im_types.specs.declared.commands.Line.{Line}
+use Rattle.im_types.specs.declared.commands.Request.{Request}
 use Rattle.im_types.specs.declared.groups.Served.{Served}
 use Rattle.im_types.specs.declared.refusals.Refusal.{Refusal}
 use Rattle.im_types.specs.declared.refusals.Refusal.TheVariants.{JournalFull, Device, Failed, TraceFull}
@@ -34,7 +35,7 @@ use Rattle.im_engine.specs.Groups.{GroupFaults}
 use Rattle.im_engine.specs.Commands.{commands_put, after_commands, answers_in_turn, each_refused, CommandsAnswered}
 use Rattle.im_engine.specs.Commands.{MeansCommands}
 use Rattle.im_groups.specs.Commands.{places, answer_with, contents_with, places_behind, command_at, answers_with}
-use Rattle.im_groups.specs.Commands.{commands_at}
+use Rattle.im_groups.specs.Commands.{commands_at, takes_place}
 use Rattle.im_groups.proofs.CommandLemmas.{at-after, at-accepted}
 use Rattle.im_engine.proofs.Keeping.{accept_both, accept_one}
 use Rattle.im_engine.proofs.Running.{Failures, failures_more, failures_turned}
@@ -42,6 +43,7 @@ use Rattle.im_trace.specs.Lines.{leaves_line, line_of, lines_of}
 use Rattle.im_controller.specs.Groups.{answer_in, MembersAnswered}
 use Rattle.im_controller.specs.Lends.{IsTurnFault, told_turn}
 use Rattle.im_controller.specs.Kept.{Begun, begun_in, accepted_in, MeansSome, MeansAll, HasKept}
+use Rattle.im_controller.specs.Planned.{IsOnPlan, AreOnPlan}
 use Rattle.im_controller.proofs.LendLemmas.{ok-leaves}
 use Rattle.im_controller.proofs.GroupLemmas.{answers_served}
 use Rattle.im_controller.proofs.PutLemmas.{lines_all, one-end, refused-lines}
@@ -170,6 +172,19 @@ all_put m left (r ∷ rs) =
     ∙ ap (λ l. l ++ accepted_in t (lines_all rs (answers_with t now rs))) (one_put m left r)
     ∙ ap (λ l. command_at m left r ++ l) (all_put t now rs)
 
+-- those that take a place are on the plan, as all members are
+put_on_plan : (plan : Option (List Request)) (rs : List Command) (m : Contents) (left : ℕ) → AreOnPlan plan rs
+    → AreOnPlan plan (commands_at m left rs)
+put_on_plan plan [] m left on = tt
+put_on_plan plan (r ∷ rs) m left on = by_test (takes_place m left r)
+    (put_on_plan plan rs (contents_with m left r) (places_behind m left r) on.1)
+  where
+    by_test : (b : Bool) → AreOnPlan plan (commands_at (contents_with m left r) (places_behind m left r) rs)
+        → AreOnPlan plan ((if b then r ∷ [] else [])
+        ++ commands_at (contents_with m left r) (places_behind m left r) rs)
+    by_test true rest = (on.0, rest)
+    by_test false rest = rest
+
 -- ---- what a file means
 
 meant : {D : Type 0} (e : EngineState D) (file : List ℕ) → MeansState e file → Means e.memory e.count 0 file
@@ -201,9 +216,10 @@ module _ (m : Contents) (count : ℕ) (told : List Command) where
   some_told : (file : List ℕ) → MeansAll m count told file → MeansSome m count told file
   some_told file means = (length told, omega arith, means)
 
-module _ {D : Type 0} (now : D → Moment) (past : D → List Moment) (failures : D → ℕ) (b : Begun) (m : Contents) where
+module _ {D : Type 0} (now : D → Moment) (past : D → List Moment) (failures : D → ℕ) (b : Begun) (m : Contents)
+    (plan : Option (List Request)) where
   abbrev Has : List Command → EngineState D → Type 0
-  Has told e = HasKept now past failures b m told e
+  Has told e = HasKept now past failures b m plan told e
 
   -- nothing was done
   pub kept_same : (told told' : List Command) (e f : EngineState D) → f ≡ e → told' ≡ told → Has told e → Has told' f
@@ -217,7 +233,7 @@ module _ {D : Type 0} (now : D → Moment) (past : D → List Moment) (failures 
       (far : f.failed ≡ false → (f.memory ≡ after e.memory cs) × (f.count ≡ e.count + length cs))
       (means : f.failed ≡ false → LeavesNow (now f.disk) (MeansState f))
       (rose : f.failed ≡ true → Rises (failures e.disk) (failures f.disk))
-      (stayed : f.failed ≡ false → failures f.disk ≡ failures e.disk) where
+      (stayed : f.failed ≡ false → failures f.disk ≡ failures e.disk) (on : AreOnPlan plan cs) where
     no_doubt : told ++ it.doubt ≡ told
     no_doubt = ap (λ l. told ++ l) (it.sure alive) ∙ append-nil told
 
@@ -256,6 +272,7 @@ module _ {D : Type 0} (now : D → Moment) (past : D → List Moment) (failures 
     by_failed true is = subst (λ (l : List Command). Has l f) (sym (append-nil told)) (record {
       doubt = cs;
       sure = λ living. absurd (true_false (sym is ∙ living));
+      on_plan = on;
       accepts = takes_all;
       count = λ living. absurd (true_false (sym is ∙ living));
       leaves = leaves_all;
@@ -266,6 +283,7 @@ module _ {D : Type 0} (now : D → Moment) (past : D → List Moment) (failures 
     by_failed false is = record {
       doubt = [];
       sure = λ _. refl;
+      on_plan = tt;
       accepts = subst (λ (l : List Command). accept_each m l ≡ Some (after m l))
           (sym (append-nil (told ++ cs))) takes_all;
       count = λ living. omega (arith, (far living).1, counted, length-append told cs);
@@ -288,9 +306,10 @@ module _ {D : Type 0} (now : D → Moment) (past : D → List Moment) (failures 
   pub kept_start : (e : EngineState D) → begun_in now past failures e ≡ b → e.memory ≡ m → e.failed ≡ false
       → LeavesNow (now e.disk) (MeansState e) → Has [] e
   kept_start e is same alive means =
-      subst (λ (x : Begun). HasKept now past failures x m [] e) is (record {
+      subst (λ (x : Begun). HasKept now past failures x m plan [] e) is (record {
         doubt = [];
         sure = λ _. refl;
+        on_plan = tt;
         accepts = refl;
         count = λ _. omega arith;
         leaves = leaves_start (now e.disk) (past e.disk) (MeansSome m e.count []);
@@ -315,7 +334,7 @@ module _ {D : Type 0} (now : D → Moment) (past : D → List Moment) (failures 
           (cause : Faults (λ r. Unit {0}) a (failures e.disk) (failures f.disk))
           (leaves : Leaves (now e.disk) (now f.disk) (past e.disk) (past f.disk) (MeansEither e c))
           (last : LeavesNow (now f.disk) (MeansEither e c))
-          (means : f.failed ≡ false → LeavesNow (now f.disk) (MeansState f)) where
+          (means : f.failed ≡ false → LeavesNow (now f.disk) (MeansState f)) (on : IsOnPlan plan (Commands c)) where
         abbrev Next : Type 0
         Next = Has (told ++ accepted_in e.memory (lines_of (Commands c) a)) f
 
@@ -333,7 +352,7 @@ module _ {D : Type 0} (now : D → Moment) (past : D → List Moment) (failures 
             (kept_more told (c ∷ []) e f it alive ends (accept_one e.memory c is)
             (leaves_weaker (now e.disk) (now f.disk) (past e.disk) (past f.disk) (MeansEither e c)
             (MeansBoth e (c ∷ [])) leaves (either c))
-            (λ file left. either c file (last file left)) far means counts.rose counts.stayed)
+            (λ file left. either c file (last file left)) far means counts.rose counts.stayed (on, tt))
 
         put : is_accepted e.memory c ≡ true
             → ((a ≡ (step e.memory c).answer) × (f ≡ record (with_command e c) { disk = f.disk; pages = f.pages }))
@@ -371,7 +390,7 @@ module _ {D : Type 0} (now : D → Moment) (past : D → List Moment) (failures 
           (leaves_weaker (now e.disk) (now f.disk) (past e.disk) (past f.disk) (MeansState e) (MeansBoth e []) leaves
           (λ file image. inl (meant e file image)))
           (λ file left. inl (meant e file (last file left)))
-          (λ _. (stays.0, omega (arith, stays.1))) means counts.rose counts.stayed)
+          (λ _. (stays.0, omega (arith, stays.1))) means counts.rose counts.stayed tt)
         where
           none_by : (dead : Bool) → told ++ (if dead then [] else []) ≡ told
           none_by true = append-nil told
@@ -381,7 +400,7 @@ module _ {D : Type 0} (now : D → Moment) (past : D → List Moment) (failures 
           (cause : GroupFaults e.failed f.failed (failures e.disk) (failures f.disk))
           (leaves : Leaves (now e.disk) (now f.disk) (past e.disk) (past f.disk) (MeansCommands e rs))
           (last : LeavesNow (now f.disk) (MeansCommands e rs))
-          (means : f.failed ≡ false → LeavesNow (now f.disk) (MeansState f)) where
+          (means : f.failed ≡ false → LeavesNow (now f.disk) (MeansState f)) (on : AreOnPlan plan rs) where
         abbrev puts : List Command
         puts = commands_put e rs
 
@@ -418,7 +437,8 @@ module _ {D : Type 0} (now : D → Moment) (past : D → List Moment) (failures 
             (MeansBoth e puts) leaves group_either)
             (λ file left. group_either file (last file left))
             (λ living. ((far living).0 ∙ group_after, (far living).1 ∙ group_count)) means
-            (λ dead. (cause.failed alive dead).0) (λ living. cause.steady (living ∙ sym alive)))
+            (λ dead. (cause.failed alive dead).0) (λ living. cause.steady (living ∙ sym alive))
+            (put_on_plan plan rs e.memory (places e.count e.room) on))
 
         group_by : (cs : List Command) → puts ≡ cs → NextAll
         group_by [] none =
@@ -455,15 +475,17 @@ module _ {D : Type 0} (now : D → Moment) (past : D → List Moment) (failures 
         ∙ ap (accepted_in e.memory) (refused-lines r none rs)) ∙ append-nil told) it
 
     by_room : (dead : Bool) (room n : ℕ) → e.failed ≡ dead → room ≡ n → MembersAnswered e room rs ss f
+        → (e.failed ≡ false → 0 < room → AreOnPlan plan rs)
         → Has (told ++ accepted_in e.memory (lines_all rs (map answer_in ss))) f
-    by_room true room n dead is a = let it = (a.dead dead).dead dead in refused Failed refl it.0 it.1
-    by_room false room zero alive is a = let full = a.full alive is in refused TraceFull refl full.0 full.1
-    by_room false room (suc n) alive is a = kept_group e f alive told it ends rs ss
-        (a.served (omega (arith, is))) cause (leaves alive) (last alive) means
+    by_room true room n dead is a on = let it = (a.dead dead).dead dead in refused Failed refl it.0 it.1
+    by_room false room zero alive is a on = let full = a.full alive is in refused TraceFull refl full.0 full.1
+    by_room false room (suc n) alive is a on = kept_group e f alive told it ends rs ss
+        (a.served (omega (arith, is))) cause (leaves alive) (last alive) means (on alive (omega (arith, is)))
 
     pub kept_members : (room : ℕ) → MembersAnswered e room rs ss f
+        → (e.failed ≡ false → 0 < room → AreOnPlan plan rs)
         → Has (told ++ accepted_in e.memory (lines_all rs (map answer_in ss))) f
-    kept_members room a = by_room e.failed room room refl refl a
+    kept_members room a on = by_room e.failed room room refl refl a on
 
   -- the lines of a trace more
   pub kept_on : (e f : EngineState D) (trace trace' more : List Line) → trace' ≡ trace ++ more → end_of m trace

@@ -11,3 +11,4 @@ pub mod Lending
 pub mod KeptLemmas
 pub mod PlannedLemmas
 pub mod AdmitLemmas
+pub mod StopLemmas

@@ -16,6 +16,7 @@ use Rattle.im_types.specs.Contents.{Contents}
 use Rattle.im_types.specs.Trace.{IsLegal, end_of}
 use Rattle.im_plans.specs.Runs.{IsPlannedCall, IsPlannedRun}
 use Rattle.im_plans.proofs.Laws.{planned-last, planned-kept, planned-waits, planned-served, planned-grows}
+use Rattle.im_plans.proofs.UnderWayLemmas.{goes-on}
 use Rattle.im_planning.proofs.MakingLemmas.{in_plan}
 use Rattle.im_trace.specs.Lines.{leaves_line, line_of, lines_of}
 use Rattle.im_trace.specs.Log.{ReceiptState, IsProof, IsOfTrace}
@@ -94,13 +95,15 @@ tells-some m plan trace (Some a) k of = tells-of m plan trace a k of
 
 -- the end
 pub ends-by : (m : Contents) (plan : Option (List Request)) (trace : List Line) (end : Contents)
-    → KeepsTo m plan trace → end_of m trace ≡ end → EndsBy m plan end
+    → KeepsTo m plan trace → end_of m trace ≡ end → EndsBy m plan trace end
 ends-by m None trace end k is = tt
-ends-by m (Some plan) trace end k is = subst (λ (e : Contents). EndsAsPlanned m plan e) is (record {
+ends-by m (Some plan) trace end k is = subst (λ (e : Contents). EndsAsPlanned m plan trace e) is (record {
   starts = k.0;
+  run = k.1;
   results = λ r entry has e. planned-kept m plan trace r entry k.0 k.1 has e;
-  waits = λ r entry has none e. planned-waits m plan trace r entry k.0 k.1 has none e;
-  one = λ r entry served has e. planned-served m plan trace r entry k.0 k.1 served has e;
+  waits = λ r entry has none e. planned-waits m plan trace r entry k.0 k.1 has e none;
+  one = λ r entry served has e. planned-served m plan trace r entry k.0 k.1 has e served;
+  goes_on = goes-on m plan trace k.0 k.1;
 })
 
 -- which commands the plan has

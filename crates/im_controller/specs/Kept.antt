@@ -1,7 +1,8 @@
 -- What a crash leaves of an engine after a trace of its answers began. (Own.)
-use Rattle.std.specs.Prelude.{◌≡◌, ◌⊎◌, ℕ, ◌+◌, ◌≤◌, true, false, List, [], ◌++◌, length, take, Some}
+use Rattle.std.specs.Prelude.{◌≡◌, ◌⊎◌, ℕ, ◌+◌, ◌≤◌, true, false, List, [], ◌++◌, length, take, Option, Some}
 use Rattle.im_types.specs.declared.commands.Command.{Command}
 use Rattle.im_types.specs.declared.commands.Line.{Line}
+use Rattle.im_types.specs.declared.commands.Request.{Request}
 use Rattle.im_types.specs.Contents.{Contents}
 use Rattle.im_types.specs.Meaning.{Means, accept_each}
 use Rattle.im_types.specs.Run.{after, accepted}
@@ -10,6 +11,7 @@ use Rattle.im_disk.specs.Moment.{Moment, Rises}
 use Rattle.im_disk.specs.Since.{Leaves, LeavesNow}
 use Rattle.im_engine.specs.State.{EngineState}
 pub use Rattle.im_trace.specs.Begun.{Begun}
+use Rattle.im_controller.specs.Planned.{AreOnPlan}
 
 -- an engine when its trace begins, given what is known of its disk
 abbrev pub begun_in : {D : Type 0} → (D → Moment) → (D → List Moment) → (D → ℕ) → EngineState D → Begun
@@ -34,11 +36,12 @@ MeansAll m count commands file = MeansThrough m count commands (length commands)
 
 -- Since the trace began these commands were acknowledged. If a call of the disk has failed, others are in doubt. A
 -- crash leaves the memory after a prefix of all of them. Now it has all acknowledged commands, and those in doubt all
--- or none.
+-- or none. If there is a plan, it has the requests in doubt too.
 pub record HasKept {D : Type 0} (now : D → Moment) (past : D → List Moment) (failures : D → ℕ) (b : Begun)
-    (m : Contents) (told : List Command) (engine : EngineState D) : Type 0 where
+    (m : Contents) (plan : Option (List Request)) (told : List Command) (engine : EngineState D) : Type 0 where
   pub doubt : List Command
   pub sure : engine.failed ≡ false → doubt ≡ []
+  pub on_plan : AreOnPlan plan doubt
   -- each was accepted in its turn
   pub accepts : accept_each m (told ++ doubt) ≡ Some (after m (told ++ doubt))
   pub count : engine.failed ≡ false → engine.count ≡ b.count + length told

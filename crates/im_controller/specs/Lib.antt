@@ -13,3 +13,4 @@ pub mod Ends
 pub mod Runs
 pub mod Planned
 pub mod Admitted
+pub mod Stops

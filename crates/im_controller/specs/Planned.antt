@@ -1,5 +1,6 @@
 -- Planned runs under the lock: what a plan has, and what each answer is by the plan. (Own.)
-use Rattle.std.specs.Prelude.{◌≡◌, List, [], ◌∷◌, Option, None, Some, Bool, true, Result, Ok, Err}
+use Rattle.std.specs.Prelude.{◌≡◌, List, Option, None, Some, Bool, true, false, Result, Ok, Err}
+use Rattle.std.specs.List.{AllByRecursion}
 use Rattle.im_types.specs.declared.operations.Entry.{Entry}
 use Rattle.im_types.specs.declared.operations.Entry.TheVariants.{Waiting}
 use Rattle.im_types.specs.declared.commands.Command.{Command}
@@ -14,9 +15,10 @@ use Rattle.im_types.specs.declared.commands.Line.{Line}
 use Rattle.im_types.specs.Contents.{Contents}
 use Rattle.im_types.specs.Window.{ask}
 use Rattle.im_types.specs.Step.{asker}
-use Rattle.im_types.specs.Plan.{result_of}
+use Rattle.im_types.specs.Plan.{result_of, FitsPlan}
 use Rattle.im_plans.specs.Runs.{IsInPlan, IsPlannedCall, IsPlannedRun, IsResultOrWaits, TellsResults, HasServed}
-use Rattle.im_plans.specs.Runs.{entry_for, Starts}
+use Rattle.im_plans.specs.Runs.{entry_for}
+use Rattle.im_plans.specs.UnderWay.{IsPlanUnderWay, PlanGoesOn}
 use Rattle.im_planning.specs.Making.{op_under, is_op}
 use Rattle.im_trace.specs.Lines.{line_of}
 use Rattle.im_trace.specs.Log.{ReceiptState, FoundState}
@@ -38,18 +40,22 @@ IsOnPlan (Some plan) call = IsPlannedCall plan call
 
 -- the plan has each of these commands that is a request
 abbrev pub AreOnPlan : Option (List Request) → List Command → Type 0
-AreOnPlan plan [] = Unit {0}
-AreOnPlan plan (c ∷ cs) = IsOnPlan plan (Commands c) × AreOnPlan plan cs
+AreOnPlan plan commands = AllByRecursion (λ (c : Command). IsOnPlan plan (Commands c)) commands
 
--- the plan, if there is one, fits the memory
+-- a plan may be started under: it fits the memory, or, if a run before may have begun it, it is under way there
+abbrev pub MayStart : Bool → Contents → List Request → Type 0
+MayStart false m plan = FitsPlan m plan
+MayStart true m plan = IsPlanUnderWay m plan
+
+-- The plan, if there is one, is under way in the memory: nothing of it is done there, or a part, or all.
 abbrev pub StartsBy : Contents → Option (List Request) → Type 0
 StartsBy m None = Unit {0}
-StartsBy m (Some plan) = Starts m plan
+StartsBy m (Some plan) = PlanGoesOn m plan
 
--- the plan, if there is one, fits the memory, and has each request of a trace
+-- the plan, if there is one, is under way in the memory, and has each request of a trace
 abbrev pub KeepsTo : Contents → Option (List Request) → List Line → Type 0
 KeepsTo m None trace = Unit {0}
-KeepsTo m (Some plan) trace = Starts m plan × IsPlannedRun plan trace
+KeepsTo m (Some plan) trace = PlanGoesOn m plan × IsPlannedRun plan trace
 
 -- the plan has the request of this call, and an answer that this outcome tells is the request's result by the plan
 abbrev pub TellsBy : Contents → Option (List Request) → Call → Outcome → Type 0
@@ -66,10 +72,12 @@ abbrev pub TellsFound : Contents → Option (List Request) → Result FoundState
 TellsFound m plan (Ok f) = TellsBy m plan (Collect f.element f.number) (Tells f.entry)
 TellsFound m plan (Err refusal) = Unit {0}
 
--- What is kept of a planned run from this memory.
-pub record EndsAsPlanned (m : Contents) (plan : List Request) (end : Contents) : Type 0 where
-  -- the plan fits the memory at the start
-  pub starts : Starts m plan
+-- What is kept after a planned run with this trace, from the one memory to the other.
+pub record EndsAsPlanned (m : Contents) (plan : List Request) (trace : List Line) (end : Contents) : Type 0 where
+  -- the plan is under way in the memory at the start; one that fits it is, with nothing served yet
+  pub starts : PlanGoesOn m plan
+  -- each request of the trace is one of the plan's
+  pub run : IsPlannedRun plan trace
   -- what is kept for a planned request is its result, if it is answered
   pub results : (r : Request) (entry : Entry) → IsInPlan plan r → ask end.windows (asker r) ≡ Ok entry
       → IsResultOrWaits (result_of m.cells plan r.op) entry
@@ -79,8 +87,10 @@ pub record EndsAsPlanned (m : Contents) (plan : List Request) (end : Contents) :
   -- once all of the plan was served, the memory at the start and the plan alone say what is kept
   pub one : (r : Request) (entry : Entry) → HasServed end.windows plan → IsInPlan plan r
       → ask end.windows (asker r) ≡ Ok entry → entry ≡ entry_for (result_of m.cells plan r.op)
+  -- the plan is under way in the memory at the end, so it may be gone on with
+  pub goes_on : PlanGoesOn end plan
 
 -- the same, if there is a plan
-abbrev pub EndsBy : Contents → Option (List Request) → Contents → Type 0
-EndsBy m None end = Unit {0}
-EndsBy m (Some plan) end = EndsAsPlanned m plan end
+abbrev pub EndsBy : Contents → Option (List Request) → List Line → Contents → Type 0
+EndsBy m None trace end = Unit {0}
+EndsBy m (Some plan) trace end = EndsAsPlanned m plan trace end

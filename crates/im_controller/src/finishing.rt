@@ -44,7 +44,9 @@ pub struct Finished<D: Disk> {
 /// has failed, the commands that it left in doubt may be there too, all of them or none.
 ///
 /// Under a plan, an answered entry of a planned request has its result by the plan. Once the whole plan is served, the
-/// memory that was opened and the plan alone say what is kept, whatever the threads did.
+/// memory that was opened and the plan alone say what is kept, whatever the threads did. A plan that isn't served yet
+/// may be gone on with ([`resume_planned`](crate::resume_planned)), after a crash too
+/// ([`stopped_runs_end_as_one`](crate::stopped_runs_end_as_one)).
 pub fn finish<D: Disk, K: Name, R: Wait>(
     rt: &R,
     controller: Controller<D, K>,
@@ -53,9 +55,9 @@ pub fn finish<D: Disk, K: Name, R: Wait>(
     ensures legal { IsLegal K.memory result.trace.items }
     ensures end { end_of K.memory result.trace.items ≡ result.engine.memory }
     ensures recorded { result.trace.recorded ≡ K.book.recorded }
-    ensures planned { EndsBy K.memory K.plan result.engine.memory }
-    ensures kept { D.honest result.engine.disk → K.begun.failed ≡ false
-        → HasKept D.now D.past D.failures K.begun K.memory (accepted_in K.memory result.trace.items) result.engine }
+    ensures planned { EndsBy K.memory K.plan result.trace.items result.engine.memory }
+    ensures kept { D.honest result.engine.disk → K.begun.failed ≡ false → HasKept D.now D.past D.failures
+        K.begun K.memory K.plan (accepted_in K.memory result.trace.items) result.engine }
     ensures honest { D.honest result.engine.disk → K.honest }
     ensures came { HaveCome K.marks result.trace.items K.ports ports.items result.left result.came result.claimed }
     // Each port has seen a prefix of the trace: so have all receipts that it was told.

@@ -15,7 +15,8 @@ mod panes; // Changes, put ahead and shown.
 mod plans; // Whether a plan has a command.
 mod ports; // The way of one element to the lock.
 mod shared; // What lies under the lock.
-mod starts; // With a trace that is recorded, and with one that isn't.
+mod starts; // With a trace that is recorded, and with one that isn't; fresh, or gone on with.
+mod stops; // Laws of planned runs that are stopped.
 mod tellers; // Who is told how things stand.
 
 pub use controller::Controller;
@@ -27,5 +28,9 @@ pub use im_trace::{
 pub use opening::Opening;
 pub use ports::Port;
 pub use shared::{Shared, begin_wait, lend, lend_turn, look};
-pub use starts::{start, start_planned, start_planned_unrecorded, start_unrecorded};
+pub use starts::{
+    resume_planned, resume_planned_unrecorded, start, start_planned, start_planned_unrecorded,
+    start_unrecorded,
+};
+pub use stops::stopped_runs_end_as_one;
 pub use tellers::{Silent, Standing, Teller};

@@ -1,10 +1,10 @@
 //! An engine with room for a trace, before it has a name.
 ghost use Rattle.std.specs.Prelude.{◌≡◌, ◌↔◌, ◌⊎◌, true, None, Some, IsTrue, IfOk, IfErr, OnOk, length, count_by};
 ghost use Rattle.im_types.specs.declared.refusals.Refusal.TheVariants.{NoMemory, BadPlan};
-ghost use Rattle.im_types.specs.Plan.{FitsPlan};
-ghost use Rattle.im_plans.specs.Runs.{Starts};
+ghost use Rattle.im_plans.specs.UnderWay.{PlanGoesOn};
 ghost use Rattle.im_types.specs.Changes.{opening};
 ghost use Rattle.im_controller.specs.Kept.{begun_in};
+ghost use Rattle.im_controller.specs.Planned.{MayStart};
 ghost use Rattle.im_controller.specs.State.{Begins, is_recorded, most_lines};
 ghost use Rattle.im_queue.specs.Servers.{is_unmade};
 
@@ -16,7 +16,7 @@ use im_disk::Disk;
 use im_engine::Engine;
 use im_glass::{Unnamed, open};
 use im_memory::Memory;
-use im_planning::{Plan, fits};
+use im_planning::{Plan, fits, is_under_way};
 use im_queue::{Bells, Inbox, Servers, Turns};
 use im_trace::{Name, NewLog, Shown};
 use im_types::Refusal;
@@ -145,13 +145,24 @@ pub(crate) fn begin<D: Disk + Drop, R: Wait>(
     }
 }
 
-// Returns whether a plan fits a memory. If it does, a run under it may start from there.
-fn may_start(plan: &Plan, memory: &Memory) -> bool
-    ensures starts { result ≡ true → Starts memory.now.contents plan.now }
-    ensures fits { IsTrue result ↔ FitsPlan memory.now.contents plan.now }
+// A plan, and whether a run before may have begun it.
+#[derive(Drop)]
+pub(crate) struct Asked {
+    pub(crate) plan: Plan,
+    pub(crate) begun: bool,
+}
+
+// Returns whether a plan may be started under. It is under way then.
+fn may_start(asked: &Asked, memory: &Memory) -> bool
+    ensures starts { result ≡ true → PlanGoesOn memory.now.contents asked.now.plan }
+    ensures exactly { IsTrue result ↔ MayStart asked.now.begun memory.now.contents asked.now.plan }
 {
+    let plan = &asked.plan;
     let _requests = plan.requests(); // So that it is known to be a plan,
     let _elements = memory.elements(); // and that the memory's waiters agree with its entries.
+    if asked.begun {
+        return is_under_way(plan, memory);
+    }
     fits(plan, memory)
 }
 
@@ -160,28 +171,28 @@ pub(crate) fn begin_planned<D: Disk + Drop, R: Wait>(
     rt: &R,
     alloc: Global,
     engine: Engine<D>,
-    plan: Plan,
+    asked: Asked,
     room: Option<usize>,
 ) -> Result<Opening<D>, (Refusal, Engine<D>)>
-    ensures found { IfOk result (λ o. Begins room (Some plan) engine o) }
+    ensures found { IfOk result (λ o. Begins room (Some asked.plan) engine o) }
     ensures ports { IfOk result (λ o. o.ports ≡ length engine.memory.windows) }
-    ensures fits { OnOk result (FitsPlan engine.memory plan) }
-    ensures bad { IfErr result (λ e. e.0 ≡ BadPlan → FitsPlan engine.memory plan → ⊥) }
+    ensures starts { OnOk result (PlanGoesOn engine.memory asked.plan × MayStart asked.begun engine.memory asked.plan) }
+    ensures bad { IfErr result (λ e. (e.0 ≡ BadPlan) ↔ (MayStart asked.begun engine.memory asked.plan → ⊥)) }
     ensures refused { IfErr result (λ e. ((e.0 ≡ NoMemory) ⊎ (e.0 ≡ BadPlan)) × (e.1 ≡ engine)) }
 {
-    if !may_start(&plan, engine.memory()) {
+    if !may_start(&asked, engine.memory()) {
         return Err((Refusal::BadPlan, engine));
     }
     match begin(rt, alloc, engine, room) {
-        Ok(opening) => Ok(opening.under(plan)),
+        Ok(opening) => Ok(opening.under(asked.plan)),
         Err(refused) => Err(refused),
     }
 }
 
 impl<D: Disk> Opening<D> {
-    // Puts a plan that fits on it.
+    // Puts a plan that is under way on it.
     fn under(self, plan: Plan) -> Opening<D>
-        requires starts { Starts self.engine.memory plan }
+        requires starts { PlanGoesOn self.engine.memory plan }
         ensures { result ≡ record self { plan = Some plan } }
     {
         let Opening {

@@ -45,7 +45,8 @@ use std::sync::Wait;
 /// commands. These are the trace's accepted commands and, if a call of the disk has failed, those that the failure left
 /// in doubt. Each file that a crash may leave now has all accepted commands of the trace.
 ///
-/// If there is a plan, it has each request of the trace.
+/// If there is a plan, it is under way in the memory that was opened, and it has each request of the trace, and each
+/// one that is in doubt.
 pub struct Shared<D: Disk, K: Name> {
     pub(crate) engine: Engine<D>,
     pub(crate) log: Log<K>,
@@ -82,7 +83,7 @@ impl<D: Disk, K: Name> Model for Shared<D, K> {
         × (s.engine.failed ≡ false → s.pane.ahead ≡ [])
         × (D.honest s.engine.disk → K.honest)
         × (D.honest s.engine.disk → K.begun.failed ≡ false
-        → HasKept D.now D.past D.failures K.begun K.memory (accepted_in K.memory s.log.trace) s.engine)
+        → HasKept D.now D.past D.failures K.begun K.memory K.plan (accepted_in K.memory s.log.trace) s.engine)
         × (s.reserve ≡ count_by is_unmade s.servers)
         × (s.plan ≡ K.plan) × KeepsTo K.memory K.plan s.log.trace };
 }

@@ -1,9 +1,11 @@
 //! An engine becomes a controller's, with room for its trace or for a trace that isn't recorded.
-ghost use Rattle.std.specs.Prelude.{◌≡◌, ◌⊎◌, true, false, None, Some, IfOk, IfErr, OnOk, length};
+ghost use Rattle.std.specs.Prelude.{◌≡◌, ◌↔◌, ◌⊎◌, true, false, None, Some, IfOk, IfErr, OnOk, length};
 ghost use Rattle.im_types.specs.declared.refusals.Refusal.TheVariants.{NoMemory, BadPlan};
 ghost use Rattle.im_types.specs.Plan.{FitsPlan};
+ghost use Rattle.im_plans.specs.UnderWay.{IsPlanUnderWay, PlanGoesOn};
+ghost use Rattle.im_controller.specs.State.{Begins};
 
-use crate::opening::{Opening, begin, begin_planned};
+use crate::opening::{Asked, Opening, begin, begin_planned};
 use im_disk::Disk;
 use im_engine::Engine;
 use im_planning::Plan;
@@ -60,10 +62,16 @@ pub fn start_planned<D: Disk + Drop, R: Wait>(
     ensures recorded { IfOk result (λ o. o.book.recorded ≡ true) }
     ensures ports { IfOk result (λ o. o.ports ≡ length engine.memory.windows) }
     ensures fits { OnOk result (FitsPlan engine.memory plan) }
-    ensures bad { IfErr result (λ e. e.0 ≡ BadPlan → FitsPlan engine.memory plan → ⊥) }
+    ensures bad { IfErr result (λ e. (e.0 ≡ BadPlan) ↔ (FitsPlan engine.memory plan → ⊥)) }
     ensures refused { IfErr result (λ e. ((e.0 ≡ NoMemory) ⊎ (e.0 ≡ BadPlan)) × (e.1 ≡ engine)) }
 {
-    begin_planned(rt, alloc, engine, plan, Some(trace_room))
+    begin_planned(
+        rt,
+        alloc,
+        engine,
+        Asked { plan, begun: false },
+        Some(trace_room),
+    )
 }
 
 /// Does what [`start_planned`] does, for a trace that isn't recorded, as [`start_unrecorded`] has it.
@@ -78,8 +86,52 @@ pub fn start_planned_unrecorded<D: Disk + Drop, R: Wait>(
     ensures recorded { IfOk result (λ o. o.book.recorded ≡ false) }
     ensures ports { IfOk result (λ o. o.ports ≡ length engine.memory.windows) }
     ensures fits { OnOk result (FitsPlan engine.memory plan) }
-    ensures bad { IfErr result (λ e. e.0 ≡ BadPlan → FitsPlan engine.memory plan → ⊥) }
+    ensures bad { IfErr result (λ e. (e.0 ≡ BadPlan) ↔ (FitsPlan engine.memory plan → ⊥)) }
     ensures refused { IfErr result (λ e. ((e.0 ≡ NoMemory) ⊎ (e.0 ≡ BadPlan)) × (e.1 ≡ engine)) }
 {
-    begin_planned(rt, alloc, engine, plan, None)
+    let asked = Asked { plan, begun: false };
+    begin_planned(rt, alloc, engine, asked, None)
+}
+
+/// Goes on with a planned run that was stopped, however often it was, in any way: does what [`start_planned`] does, for
+/// a plan of which nothing is done in the engine's memory, or a part, or all. All that contracts say of a planned run
+/// holds of it too. A request that was served before is answered as it was then, or since.
+///
+/// Returns `BadPlan` exactly if the plan isn't under way in the engine's memory, and else `NoMemory` as [`start`] does.
+/// The engine is then as it was, and the plan is dropped.
+pub fn resume_planned<D: Disk + Drop, R: Wait>(
+    rt: &R,
+    alloc: Global,
+    engine: Engine<D>,
+    plan: Plan,
+    trace_room: usize,
+) -> Result<Opening<D>, (Refusal, Engine<D>)>
+    ensures found { IfOk result (λ o. Begins (Some trace_room) (Some plan) engine o) }
+    ensures ports { IfOk result (λ o. o.ports ≡ length engine.memory.windows) }
+    ensures goes_on { OnOk result (PlanGoesOn engine.memory plan) }
+    ensures bad { IfErr result (λ e. (e.0 ≡ BadPlan) ↔ (IsPlanUnderWay engine.memory plan → ⊥)) }
+    ensures refused { IfErr result (λ e. ((e.0 ≡ NoMemory) ⊎ (e.0 ≡ BadPlan)) × (e.1 ≡ engine)) }
+{
+    begin_planned(
+        rt,
+        alloc,
+        engine,
+        Asked { plan, begun: true },
+        Some(trace_room),
+    )
+}
+
+/// Does what [`resume_planned`] does, for a trace that isn't recorded, as [`start_unrecorded`] has it.
+pub fn resume_planned_unrecorded<D: Disk + Drop, R: Wait>(
+    rt: &R,
+    alloc: Global,
+    engine: Engine<D>,
+    plan: Plan,
+) -> Result<Opening<D>, (Refusal, Engine<D>)>
+    ensures found { IfOk result (λ o. Begins None (Some plan) engine o × (o.ports ≡ length engine.memory.windows)) }
+    ensures goes_on { OnOk result (PlanGoesOn engine.memory plan) }
+    ensures bad { IfErr result (λ e. (e.0 ≡ BadPlan) ↔ (IsPlanUnderWay engine.memory plan → ⊥)) }
+    ensures refused { IfErr result (λ e. ((e.0 ≡ NoMemory) ⊎ (e.0 ≡ BadPlan)) × (e.1 ≡ engine)) }
+{
+    begin_planned(rt, alloc, engine, Asked { plan, begun: true }, None)
 }

@@ -1,5 +1,5 @@
 -- What may stand before a plan, and an index that follows one.
-use Rattle.std.specs.Prelude.{◌≡◌, ℕ, List, true, Option, None, is_some}
+use Rattle.std.specs.Prelude.{◌≡◌, ℕ, List, ◌∷◌, true, Option, None, is_some}
 use Rattle.im_types.specs.declared.operations.Op.{Op}
 use Rattle.im_types.specs.declared.commands.Request.{Request}
 use Rattle.im_types.specs.Plan.{stored_by, planned_value, is_planned}
@@ -15,3 +15,7 @@ pub record Begins (r : Request) (plan : List Request) : Type 0 where
 pub record Follows (under : Key → Option Op) (stored : ℕ → Option ℕ) (plan : List Request) : Type 0 where
   pub has : (key : Key) → under key ≡ op_under key plan
   pub stores : (a : ℕ) → stored a ≡ planned_value a plan
+
+-- a request may stand before those of a plan, and these indices follow it with them
+abbrev pub StandsFirst : Request → List Request → (Key → Option Op) → (ℕ → Option ℕ) → Type 0
+StandsFirst r plan under stored = Begins r plan × Follows under stored (r ∷ plan)

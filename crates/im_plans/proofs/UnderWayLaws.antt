@@ -2,11 +2,9 @@
 use Rattle.std.proofs.Common.{◌≡◌, List, [], ◌∷◌, None, Ok, refl, sym, ap, ◌∙◌, subst}
 use Rattle.std.specs.Prelude.{Option}
 use Rattle.std.specs.List.{AllByRecursion}
-use Rattle.std.proofs.lemmas.Option.{none-some}
 use Rattle.im_types.specs.declared.operations.Op.{Op}
-use Rattle.im_types.specs.declared.operations.Reply.{Reply}
 use Rattle.im_types.specs.declared.operations.Entry.{Entry}
-use Rattle.im_types.specs.declared.operations.Entry.TheVariants.{Waiting, Answered}
+use Rattle.im_types.specs.declared.operations.Entry.TheVariants.{Waiting}
 use Rattle.im_types.specs.declared.commands.Request.{Request}
 use Rattle.im_types.specs.declared.commands.Command.{Command}
 use Rattle.im_types.specs.declared.commands.Call.{Call}
@@ -21,14 +19,10 @@ use Rattle.im_types.specs.Plan.{result_of}
 use Rattle.im_plans.specs.Runs.{IsInPlan, IsPlannedCall, IsPlannedRun, IsResultOrWaits, TellsResults}
 use Rattle.im_plans.specs.Runs.{HasServed, entry_for}
 use Rattle.im_plans.specs.UnderWay.{PlanGoesOn, Traces, end_of_runs, AreLegal, AreRunsOf, IsKeptAfter, HaveServed}
-use Rattle.im_plans.proofs.PlannedRuns.{asked-result, run-tells, served-result}
-use Rattle.im_plans.proofs.UnderWayLemmas.{goes-under, goes-on, result-stays}
+use Rattle.im_plans.proofs.Laws.{planned-told, planned-kept, planned-waits, planned-served}
+use Rattle.im_plans.proofs.UnderWayLemmas.{goes-on, result-stays}
 
 -- ---- one run
-
-pub goes-told : (m : Contents) (plan : List Request) (trace : List Line) → PlanGoesOn m plan → IsLegal m trace
-    → IsPlannedRun plan trace → AllByRecursion (TellsResults m plan) trace
-goes-told m plan trace g legal planned = run-tells plan g.is_plan m m trace (goes-under m plan g) planned legal
 
 -- one call, and one command behind the other
 pub call-goes_on : (m : Contents) (plan : List Request) (call : Call) → PlanGoesOn m plan → IsPlannedCall plan call
@@ -41,17 +35,6 @@ pub after-goes_on : (m : Contents) (plan : List Request) (commands : List Comman
 after-goes_on m plan [] g planned = g
 after-goes_on m plan (c ∷ commands) g planned = after-goes_on (step m c).contents plan commands
     (call-goes_on m plan (Commands c) g planned.0) planned.1
-
--- what is kept now
-now-kept : (m : Contents) (plan : List Request) (r : Request) (entry : Entry) → PlanGoesOn m plan → IsInPlan plan r
-    → ask m.windows (asker r) ≡ Ok entry → IsResultOrWaits (result_of m.cells plan r.op) entry
-now-kept m plan r entry g in_plan e = asked-result plan g.is_plan m m (goes-under m plan g) r entry in_plan e
-
-now-served : (m : Contents) (plan : List Request) (r : Request) (entry : Entry) → PlanGoesOn m plan
-    → HasServed m.windows plan → IsInPlan plan r → ask m.windows (asker r) ≡ Ok entry
-    → entry ≡ entry_for (result_of m.cells plan r.op)
-now-served m plan r entry g served in_plan e = served-result plan g.is_plan m m (goes-under m plan g) served r entry
-    in_plan e
 
 -- ---- several runs
 
@@ -87,7 +70,7 @@ pub runs-told : (m : Contents) (plan : List Request) (runs : Traces) → AreRuns
     → AreLegal m runs → AllByRecursion (AllByRecursion (TellsResults m plan)) runs
 runs-told m plan [] are legal = tt
 runs-told m plan (trace ∷ runs) are legal = (
-  goes-told m plan trace are.goes_on legal.0 are.planned.0,
+  planned-told m plan trace are.goes_on legal.0 are.planned.0,
   all-map (AllByRecursion (TellsResults (end_of m trace) plan)) (AllByRecursion (TellsResults m plan))
       (all-map (TellsResults (end_of m trace) plan) (TellsResults m plan) (λ line tells r entry in_plan of told.
       subst (λ o. IsResultOrWaits o entry) (first-result m plan trace runs r.op are) (tells r entry in_plan of told)))
@@ -95,20 +78,17 @@ runs-told m plan (trace ∷ runs) are legal = (
 )
 
 -- what is kept at the end
-waits-only : (result : Option Reply) (entry : Entry) → IsResultOrWaits result entry → result ≡ None → entry ≡ Waiting
-waits-only result Waiting is none = refl
-waits-only result (Answered reply) is none = absurd (none-some reply (sym none ∙ is))
-
 module _ (m : Contents) (plan : List Request) (runs : Traces) (r : Request) (entry : Entry) where
   pub runs-kept : IsKeptAfter m plan runs r entry → IsResultOrWaits (result_of m.cells plan r.op) entry
   runs-kept k = subst (λ o. IsResultOrWaits o entry) (runs-result m plan runs r.op k.are)
-      (now-kept (end_of_runs m runs) plan r entry (runs-go_on m plan runs k.are) k.in_plan k.kept)
+      (planned-kept (end_of_runs m runs) plan [] r entry (runs-go_on m plan runs k.are) tt k.in_plan k.kept)
 
   pub runs-wait : IsKeptAfter m plan runs r entry → result_of m.cells plan r.op ≡ None → entry ≡ Waiting
-  runs-wait k = waits-only (result_of m.cells plan r.op) entry (runs-kept k)
+  runs-wait k none = planned-waits (end_of_runs m runs) plan [] r entry (runs-go_on m plan runs k.are) tt k.in_plan
+      k.kept (runs-result m plan runs r.op k.are ∙ none)
 
   pub runs-served : HaveServed m plan runs → IsKeptAfter m plan runs r entry
       → entry ≡ entry_for (result_of m.cells plan r.op)
   runs-served h k =
-      now-served (end_of_runs m runs) plan r entry (runs-go_on m plan runs k.are) h.served k.in_plan k.kept
+      planned-served (end_of_runs m runs) plan [] r entry (runs-go_on m plan runs k.are) tt k.in_plan k.kept h.served
       ∙ ap entry_for (runs-result m plan runs r.op k.are)

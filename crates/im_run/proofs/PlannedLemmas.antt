@@ -11,6 +11,7 @@ use Rattle.im_types.specs.declared.commands.Line.{Line}
 use Rattle.im_types.specs.declared.commands.Request.{Request}
 use Rattle.im_types.specs.Agreement.{WaitingAgrees}
 use Rattle.im_types.specs.Contents.{Contents}
+use Rattle.im_types.specs.Plan.{FitsPlan}
 use Rattle.im_types.specs.Step.{asker, step}
 use Rattle.im_types.specs.Trace.{IsLegal, contents_after, end_of}
 use Rattle.im_laws.proofs.EntryLemmas.{told-kept}
@@ -29,10 +30,10 @@ use Rattle.im_run.specs.Planned.{EndsOnPlan, plan_of, requests_from}
 
 -- ---- the plan of the controller
 
-pub plan_ends : (m begun : Contents) (plan : List Request) (found : Option (List Request)) (end : Contents)
-    → m ≡ begun → found ≡ Some plan → EndsBy m found end → EndsAsPlanned begun plan end
-plan_ends m begun plan found end same is it = subst (λ (n : Contents). EndsAsPlanned n plan end) same
-    (subst (λ (o : Option (List Request)). EndsBy m o end) is it)
+pub plan_ends : (m begun : Contents) (plan : List Request) (found : Option (List Request)) (trace : List Line)
+    (end : Contents) → m ≡ begun → found ≡ Some plan → EndsBy m found trace end → EndsAsPlanned begun plan trace end
+plan_ends m begun plan found trace end same is it = subst (λ (n : Contents). EndsAsPlanned n plan trace end) same
+    (subst (λ (o : Option (List Request)). EndsBy m o trace end) is it)
 
 -- ---- a number that was asked stays taken
 
@@ -130,8 +131,9 @@ module _ (m : Contents) (trace : List Line) (agrees : WaitingAgrees m) (legal : 
 -- it ended as planned, and if all was told, all was served
 pub ends_on_plan : (m : Contents) (trace : List Line) (orders : List Ask) (told : List Did) (end : Contents)
     (none : Type 0) → IsLegal m trace → end_of m trace ≡ end → AreAllTold m trace none orders told
-    → EndsAsPlanned m (plan_of orders) end → EndsOnPlan m orders trace end none
-ends_on_plan m trace orders told end none legal ends it planned = inl (
+    → FitsPlan m (plan_of orders) → EndsAsPlanned m (plan_of orders) trace end → EndsOnPlan m orders trace end none
+ends_on_plan m trace orders told end none legal ends it fits planned = inl (
+  fits,
   planned,
   λ well. subst (λ (e : Contents). HasServed e.windows (plan_of orders)) ends
       (orders_taken m trace planned.starts.agrees legal none orders told it well),

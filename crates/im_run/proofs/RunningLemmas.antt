@@ -1,6 +1,6 @@
 -- What a run puts on a disk, and what it prints. (Own.)
 use Rattle.std.proofs.Common.{◌≡◌, ◌∙◌, ◌-◌, ◌+◌, ◌≤◌, inl, inr, ⊎_elim, ℕ, zero, suc, Bool, true, false, List, [], ◌++◌, length, refl, sym, ap, subst, take, drop, length-append, append_assoc, arith}
-use Rattle.std.specs.Prelude.{Option, Some, ◌⊎◌, slice_get}
+use Rattle.std.specs.Prelude.{None, Option, Some, ◌⊎◌, slice_get}
 use Rattle.std.specs.Io.KnownBytes.{Appends}
 use Rattle.std.proofs.lemmas.List.{append-nil, take_all, take-append-le, take-append-drop, length-take-le}
 use Rattle.im_types.specs.declared.commands.Command.{Command}
@@ -206,7 +206,8 @@ none_served {D} now past failures begun engine trace none same alive means =
     (subst (λ (t : List Line). ServedOn now past failures here engine.memory t engine) (sym none) (record {
       legal = tt;
       ends = refl;
-      kept = kept_start _ _ _ here engine.memory engine refl refl alive means;
+      plan = None;
+      kept = kept_start _ _ _ here engine.memory None engine refl refl alive means;
     }))
 
 -- a server that was just made can serve

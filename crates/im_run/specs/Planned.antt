@@ -3,6 +3,7 @@ use Rattle.std.specs.Prelude.{◌≡◌, ◌⊎◌, ℕ, suc, List, [], ◌∷�
 use Rattle.im_types.specs.declared.commands.Line.{Line}
 use Rattle.im_types.specs.declared.commands.Request.{Request}
 use Rattle.im_types.specs.Contents.{Contents}
+use Rattle.im_types.specs.Plan.{FitsPlan}
 use Rattle.im_plans.specs.Runs.{HasServed}
 use Rattle.im_controller.specs.Planned.{EndsAsPlanned}
 use Rattle.im_serving.specs.declared.intent.Intent.{Intent}
@@ -30,10 +31,11 @@ abbrev pub plan_of : List Ask → List Request
 plan_of [] = []
 plan_of (order ∷ orders) = requests_from order.element order.first order.intents ++ plan_of orders
 
--- A planned run of these orders went from the one memory to the other, with this trace: it ended as the plan of their
--- requests says, and all of them were served if nothing was refused. If it didn't begin, no request was served, and
--- something was refused.
+-- A planned run of these orders went from the one memory to the other, with this trace: the plan of their requests
+-- fitted, it ended as the plan says, and all of them were served if nothing was refused. If it didn't begin, no request
+-- was served, and something was refused.
 abbrev pub EndsOnPlan : Contents → List Ask → List Line → Contents → Type 0 → Type 0
 EndsOnPlan m orders trace end none =
-    (EndsAsPlanned m (plan_of orders) end × (none → HasServed end.windows (plan_of orders)))
+    (FitsPlan m (plan_of orders) × EndsAsPlanned m (plan_of orders) trace end
+    × (none → HasServed end.windows (plan_of orders)))
     ⊎ ((trace ≡ []) × (none → ⊥))

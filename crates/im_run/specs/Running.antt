@@ -33,6 +33,7 @@ use Rattle.im_types.specs.Contents.{Contents}
 use Rattle.im_types.specs.Trace.{IsLegal, end_of}
 use Rattle.im_types.specs.declared.commands.Command.{Command}
 use Rattle.im_types.specs.declared.commands.Line.{Line}
+use Rattle.im_types.specs.declared.commands.Request.{Request as Requests}
 use Rattle.im_types.specs.Window.{ask}
 use Rattle.im_types.specs.Meaning.{Means, accept_each}
 use Rattle.im_types.specs.Run.{after}
@@ -126,7 +127,8 @@ pub record ServedOn {D : Type 0} (now : D → Moment) (past : D → List Moment)
     (m : Contents) (trace : List Line) (engine : EngineState D) : Type 0 where
   pub legal : IsLegal m trace
   pub ends : end_of m trace ≡ engine.memory
-  pub kept : HasKept now past failures b m (accepted_in m trace) engine
+  pub plan : Option (List Requests)
+  pub kept : HasKept now past failures b m plan (accepted_in m trace) engine
 
 -- an engine's servers of these orders ended with this trace, the engine was closed, and this status was given
 pub record EndedOn {D : Type 0} (now : D → Moment) (past : D → List Moment) (failures : D → ℕ) (planned : Bool)

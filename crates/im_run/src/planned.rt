@@ -1,5 +1,6 @@
 //! A script's requests as a plan.
 ghost use Rattle.std.specs.Prelude.{◌≡◌, ◌≤◌, ◌++◌, IfOk, IfErr, IfSome, IfNone, OnOk, Some, length, map, true};
+ghost use Rattle.im_types.specs.Plan.{FitsPlan};
 ghost use Rattle.im_controller.specs.State.{is_recorded};
 ghost use Rattle.im_run.specs.Orders.{ask_of};
 ghost use Rattle.im_run.specs.Planned.{number_behind, plan_of, request_by, requests_from};
@@ -154,6 +155,7 @@ fn start_by<D: Disk + Drop, R: Wait>(
     room: Option<usize>,
 ) -> Result<Opening<D>, (Refusal, Engine<D>)>
     ensures found { IfOk result (λ o. (o.engine ≡ engine) × (o.plan ≡ Some plan)) }
+    ensures fits { OnOk result (FitsPlan engine.memory plan) }
     ensures recorded { IfOk result (λ o. o.book.recorded ≡ is_recorded room) }
     ensures same { IfErr result (λ e. e.1 ≡ engine) }
 {
@@ -189,6 +191,7 @@ fn begin_planned<D: Disk + Drop, R: Wait>(
     room: Option<usize>,
 ) -> Result<Opening<D>, (Reason, Engine<D>)>
     ensures found { IfOk result (λ o. (o.engine ≡ engine) × (o.plan ≡ Some (plan_of (map ask_of orders.now)))) }
+    ensures fits { OnOk result (FitsPlan engine.memory (plan_of (map ask_of orders.now))) }
     ensures recorded { IfOk result (λ o. o.book.recorded ≡ is_recorded room) }
     ensures same { IfErr result (λ e. e.1 ≡ engine) }
 {
@@ -263,6 +266,7 @@ pub fn begin<D: Disk + Drop, R: Wait>(
 ) -> Result<Opening<D>, (Reason, Engine<D>)>
     ensures found { IfOk result (λ o. o.engine ≡ engine) }
     ensures plan { IfOk result (λ o. mode.planned ≡ true → o.plan ≡ Some (plan_of (map ask_of orders.now))) }
+    ensures fits { OnOk result (mode.planned ≡ true → FitsPlan engine.memory (plan_of (map ask_of orders.now))) }
     ensures recorded { IfOk result (λ o. o.book.recorded ≡ mode.recorded) }
     ensures there { IfOk result (λ _. AreThere engine.memory orders.now) }
     ensures same { IfErr result (λ e. e.1 ≡ engine) }

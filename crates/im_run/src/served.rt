@@ -227,7 +227,7 @@ pub(crate) fn serve_orders<
     ensures legal { IsLegal K.memory result.trace.items }
     ensures end { end_of K.memory result.trace.items ≡ result.engine.memory }
     ensures recorded { result.trace.recorded ≡ opening.book.recorded }
-    ensures planned { EndsBy K.memory K.plan result.engine.memory }
+    ensures planned { EndsBy K.memory K.plan result.trace.items result.engine.memory }
     ensures kept { D.honest result.engine.disk → K.begun.failed ≡ false
         → ServedOn D.now D.past D.failures K.begun K.memory result.trace.items result.engine }
     ensures honest { D.honest result.engine.disk → K.honest }

@@ -6,6 +6,7 @@ use Rattle.im_types.specs.declared.commands.Line.{Line}
 use Rattle.std.specs.Prelude.{count_by}
 use Rattle.im_trace.specs.Ends.{RecordingState}
 use Rattle.im_trace.specs.Lines.{Counts}
+use Rattle.im_controller.specs.Planned.{EndsBy}
 use Rattle.im_controller.specs.State.{PortState}
 use Rattle.im_controller.proofs.PlannedLemmas.{ends-by}
 use Rattle.im_controller.proofs.finishing.finish.Goals as goal
@@ -66,4 +67,7 @@ returns-clause-seen g c =
 pub returns-clause-planned : goal.returns-clause-planned
 returns-clause-planned g c =
     let s = c.engine.inside in let i = c.engine.invariant in
-    ends-by g.K.Name.memory g.K.Name.plan s.log.trace s.engine.memory i.8 i.0
+    let same = ap (λ (r : RecordingState). r.items) c.close-trace.ensures.trace ∙ c.take_all_back.ensures.trace
+    ∙ c.of-log.ensures.trace in
+    subst (λ (ls : List Line). EndsBy g.K.Name.memory g.K.Name.plan ls s.engine.memory) (sym same)
+    (ends-by g.K.Name.memory g.K.Name.plan s.log.trace s.engine.memory i.8 i.0)

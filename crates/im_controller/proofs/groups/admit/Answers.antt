@@ -45,7 +45,7 @@ invariant_of-shared g c =
       c.shared.invariant.3,
       c.shared.invariant.4,
       (λ honest began. subst
-          (λ (ls : List Line). HasKept g.D.Disk.now g.D.Disk.past g.D.Disk.failures g.K.Name.begun m
+          (λ (ls : List Line). HasKept g.D.Disk.now g.D.Disk.past g.D.Disk.failures g.K.Name.begun m g.K.Name.plan
           (accepted_in m ls) e) same (c.shared.invariant.5 honest began)),
       c.shared.invariant.6,
       c.shared.invariant.7,

@@ -11,12 +11,13 @@ use Rattle.im_queue.specs.Members.{AreFreeFor, AreSureBehind}
 use Rattle.im_controller.specs.Groups.{LendsGroup}
 use Rattle.im_controller.specs.Runs.{LendsRuns}
 use Rattle.im_controller.specs.Kept.{accepted_in}
-use Rattle.im_controller.specs.Planned.{AreOnPlan, KeepsTo}
+use Rattle.im_types.specs.declared.commands.Call.TheVariants.{Command as Commands}
+use Rattle.im_controller.specs.Planned.{IsOnPlan, AreOnPlan, KeepsTo}
 use Rattle.im_controller.proofs.AdmitLemmas.{keeps-members}
 use Rattle.im_controller.proofs.ShownLemmas.{end-cells}
 use Rattle.im_controller.proofs.PutLemmas.{lines_all, all-trace}
 use Rattle.im_controller.proofs.KeptLemmas.{accepted-after, kept_on, kept_members}
-use Rattle.im_controller.proofs.Choosing.{those-sure}
+use Rattle.im_controller.proofs.Choosing.{those-all, those-sure}
 use Rattle.im_controller.proofs.Lending.{group-is, group-fits, group-room, group-pane, lines-same, lends-group}
 use Rattle.im_controller.proofs.groups.lend_members.Goals as goal
 
@@ -82,35 +83,40 @@ invariant_of-shared g c =
     let ends = c.keep_all.ensures.end
     ∙ rw (c.as_slice-4.ensures.value, c.as_slice-5.ensures.value)
     (ap (λ m. memory_after_all m rs (map answer_in xs)) c.shared.invariant.0 ∙ fits.ends) in
-    let e = c.shared.inside.engine in let f = c.serve_members.new.engine in let m = g.K.Name.memory in let trace = c.shared.inside.log.trace in
+    let e = c.shared.inside.engine in let f = c.serve_members.new.engine in let m = g.K.Name.memory in
+    let trace = c.shared.inside.log.trace in
     let lent = c.choose.new.lent.items in let ss = c.serve_members.new.served.items in
     let same = lines-same e f c.room-room.result rs c.choose.new.roomy.items lent ss xs it (subst WaitingAgrees c.memory-memory.ensures c.cells-cells.ensures.memory.agrees) c.requires.cut c.requires.apart (subst (λ (s : SharedState g.row.D.Denot). AreSureBehind s.engine.memory c.args.members.now.items) (sym c.shared.view_is) c.requires.sure) in
     let lines = ap (λ (l : LogState). l.trace) log ∙ all-trace c.shared.inside.log rs (map answer_in xs)
-    ∙ ap (λ ls. trace ++ ls) same in (
+    ∙ ap (λ ls. trace ++ ls) same in
+    let on : e.failed ≡ false → 0 < c.room-room.result → AreOnPlan g.K.Name.plan rs = λ alive some.
+    subst (λ (s : SharedState g.row.D.Denot). s.engine.failed ≡ false → length s.log.trace < s.log.limit
+    → AreOnPlan g.K.Name.plan rs) (sym c.shared.view_is) c.requires.planned alive
+    (omega (arith, some, c.room-room.ensures.room)) in
+    let these = c.choose.ensures.lent ∙ ap (those c.choose.new.roomy.items) c.as_slice.ensures.value in
+    let lent_on : e.failed ≡ false → 0 < c.room-room.result → AreOnPlan g.K.Name.plan lent = λ alive some.
+    subst (λ (qs : List Command). AreOnPlan g.K.Name.plan qs) (sym these)
+    (those-all (λ (r : Command). IsOnPlan g.K.Name.plan (Commands r)) c.choose.new.roomy.items rs (on alive some)) in (
       ends,
       pane.shown_is ∙ ap (λ (l : LogState). shown_by g.K.Name.memory l.trace) (sym log),
       pane.cells ∙ c.shared.invariant.2,
       pane.ahead,
       (λ honest. c.shared.invariant.4 (c.serve_members.ensures.runs.honest honest)),
       (λ honest began.
-          kept_on g.D.Disk.now g.D.Disk.past g.D.Disk.failures g.K.Name.begun m e f trace c.keep_all.new.log.trace
+          kept_on g.D.Disk.now g.D.Disk.past g.D.Disk.failures g.K.Name.begun m g.K.Name.plan e f trace c.keep_all.new.log.trace
           (lines_all lent (map answer_in ss)) lines c.shared.invariant.0
-          (kept_members g.D.Disk.now g.D.Disk.past g.D.Disk.failures g.K.Name.begun m e f (accepted_in m trace)
+          (kept_members g.D.Disk.now g.D.Disk.past g.D.Disk.failures g.K.Name.begun m g.K.Name.plan e f (accepted_in m trace)
           (c.shared.invariant.5 (c.serve_members.ensures.runs.honest honest) began)
           (sym (accepted-after m trace ∙ c.shared.invariant.0)) lent ss c.serve_members.ensures.runs.faults
           (λ alive. (c.serve_members.ensures.runs.leaves honest alive).within)
           (λ alive. (c.serve_members.ensures.runs.leaves honest alive).after)
           (c.serve_members.ensures.runs.means honest)
-          c.room-room.result c.serve_members.ensures.answered)),
+          c.room-room.result c.serve_members.ensures.answered lent_on)),
       c.shared.invariant.6,
       c.shared.invariant.7,
       subst (λ (ls : List Line). KeepsTo m g.K.Name.plan ls) (sym lines)
           (keeps-members m g.K.Name.plan e f rs lent
-          (map answer_in xs) ss same trace c.shared.invariant.8 c.room-room.result c.serve_members.ensures.answered
-          (λ alive some.
-          subst (λ (s : SharedState g.row.D.Denot). s.engine.failed ≡ false → length s.log.trace < s.log.limit
-          → AreOnPlan g.K.Name.plan rs) (sym c.shared.view_is) c.requires.planned alive
-          (omega (arith, some, c.room-room.ensures.room)))),
+          (map answer_in xs) ss same trace c.shared.invariant.8 c.room-room.result c.serve_members.ensures.answered on),
     )
 
 pub returns-clause-lends : goal.returns-clause-lends

@@ -72,28 +72,29 @@ invariant_of-shared g c =
     c.shared.inside.log.trace c.leave.new.self.trace c.shared.invariant.0 c.shared.invariant.1
     (ap (λ (l : LogState). l.trace) c.leave.ensures.log) in
     let alive = sym c.failed.ensures.failed ∙ c.if-failed.false in
-    let e = c.shared.inside.engine in let m = g.K.Name.memory in let trace = c.shared.inside.log.trace in (
+    let e = c.shared.inside.engine in let m = g.K.Name.memory in let trace = c.shared.inside.log.trace in
+    let plan = g.K.Name.plan in
+    let on = on-command m plan c.args.command.now (keeps-starts m plan trace c.shared.invariant.8)
+    (ap (λ (p : Option (List Request)). has_command p c.args.command.now) (sym c.shared.invariant.7)
+    ∙ sym c.has_command.ensures ∙ c.if-not-has_command.false) in (
       ends,
       shown.ends,
       shown.pane.cells ∙ c.shared.invariant.2,
       (λ living. shown.pane.ahead (c.failed-in-Ok.ensures.failed ∙ living)),
       (λ honest. c.shared.invariant.4 (c.serve-answer.ensures.honest honest)),
       (λ honest began.
-          kept_on g.D.Disk.now g.D.Disk.past g.D.Disk.failures g.K.Name.begun m e c.serve-answer.new.self trace c.leave.new.self.trace _ (ap (λ (l : LogState). l.trace) c.leave.ensures.log) c.shared.invariant.0
-          (kept_lent g.D.Disk.now g.D.Disk.past g.D.Disk.failures g.K.Name.begun m e c.serve-answer.new.self alive
+          kept_on g.D.Disk.now g.D.Disk.past g.D.Disk.failures g.K.Name.begun m plan e c.serve-answer.new.self trace c.leave.new.self.trace _ (ap (λ (l : LogState). l.trace) c.leave.ensures.log) c.shared.invariant.0
+          (kept_lent g.D.Disk.now g.D.Disk.past g.D.Disk.failures g.K.Name.begun m plan e c.serve-answer.new.self alive
           (accepted_in m trace)
           (c.shared.invariant.5 (c.serve-answer.ensures.honest honest) began)
           (sym (accepted-after m trace ∙ c.shared.invariant.0))
           c.args.command.now c.serve-answer.result c.serve-answer.ensures.answered c.serve-answer.ensures.faults
           (c.serve-answer.ensures.leaves honest alive) (c.serve-answer.ensures.doubt honest alive)
-          (c.serve-answer.ensures.means honest))),
+          (c.serve-answer.ensures.means honest) on)),
       c.shared.invariant.6,
       c.shared.invariant.7,
-      subst (λ (ls : List Line). KeepsTo m g.K.Name.plan ls) (sym (ap (λ (l : LogState). l.trace) c.leave.ensures.log))
-          (keeps-line m trace (Commands c.args.command.now) c.serve-answer.result g.K.Name.plan c.shared.invariant.8
-          (on-command m g.K.Name.plan c.args.command.now (keeps-starts m g.K.Name.plan trace c.shared.invariant.8)
-          (ap (λ (p : Option (List Request)). has_command p c.args.command.now) (sym c.shared.invariant.7)
-          ∙ sym c.has_command.ensures ∙ c.if-not-has_command.false))),
+      subst (λ (ls : List Line). KeepsTo m plan ls) (sym (ap (λ (l : LogState). l.trace) c.leave.ensures.log))
+          (keeps-line m trace (Commands c.args.command.now) c.serve-answer.result plan c.shared.invariant.8 on),
     )
 
 pub returns-in-Ok-clause-lends : goal.returns-in-Ok-clause-lends

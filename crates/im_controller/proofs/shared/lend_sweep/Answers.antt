@@ -5,7 +5,8 @@ use Rattle.im_controller.proofs.shared.lend_sweep.Goals as goal
 
 pub invariant_of-shared : goal.invariant_of-shared
 invariant_of-shared g c =
-    let e = c.shared.inside.engine in let f = c.sweep.new.self in let m = g.K.Name.memory in let trace = c.shared.inside.log.trace in
+    let e = c.shared.inside.engine in let f = c.sweep.new.self in let m = g.K.Name.memory in
+    let trace = c.shared.inside.log.trace in
     let quiet = sweep_quiet g.D.Disk.failures e f c.args.most c.sweep.result c.sweep.ensures.answered c.sweep.ensures.faults in (
       c.shared.invariant.0 ∙ sym quiet.stays.0,
       c.shared.invariant.1,
@@ -13,7 +14,7 @@ invariant_of-shared g c =
       (λ living. c.shared.invariant.3 (quiet_alive g.D.Disk.failures e f quiet living)),
       (λ honest. c.shared.invariant.4 (c.sweep.ensures.honest honest)),
       (λ honest began.
-          kept_quiet g.D.Disk.now g.D.Disk.past g.D.Disk.failures g.K.Name.begun m e f (accepted_in m trace)
+          kept_quiet g.D.Disk.now g.D.Disk.past g.D.Disk.failures g.K.Name.begun m g.K.Name.plan e f (accepted_in m trace)
           (c.shared.invariant.5 (c.sweep.ensures.honest honest) began)
           (sym (accepted-after m trace ∙ c.shared.invariant.0)) quiet
           (c.sweep.ensures.leaves honest) (c.sweep.ensures.now honest) (c.sweep.ensures.means honest)),

@@ -21,7 +21,8 @@ returns-clause-leaves g c = λ honest. let f = c.turn-done.new.self in
 
 pub invariant_of-shared : goal.invariant_of-shared
 invariant_of-shared g c =
-    let e = c.shared.inside.engine in let f = c.turn-done.new.self in let m = g.K.Name.memory in let trace = c.shared.inside.log.trace in
+    let e = c.shared.inside.engine in let f = c.turn-done.new.self in let m = g.K.Name.memory in
+    let trace = c.shared.inside.log.trace in
     let quiet = turn_quiet g.D.Disk.failures e f c.turn-done.result c.turn-done.ensures.answered c.turn-done.ensures.faults in rw c.note_turn.ensures (
       c.shared.invariant.0 ∙ sym quiet.stays.0,
       c.shared.invariant.1,
@@ -29,7 +30,7 @@ invariant_of-shared g c =
       (λ living. c.shared.invariant.3 (quiet_alive g.D.Disk.failures e f quiet living)),
       (λ honest. c.shared.invariant.4 (c.turn-done.ensures.honest honest)),
       (λ honest began.
-          kept_quiet g.D.Disk.now g.D.Disk.past g.D.Disk.failures g.K.Name.begun m e f (accepted_in m trace)
+          kept_quiet g.D.Disk.now g.D.Disk.past g.D.Disk.failures g.K.Name.begun m g.K.Name.plan e f (accepted_in m trace)
           (c.shared.invariant.5 (c.turn-done.ensures.honest honest) began)
           (sym (accepted-after m trace ∙ c.shared.invariant.0)) quiet
           (c.turn-done.ensures.leaves honest) (c.turn-done.ensures.now honest) (c.turn-done.ensures.means honest)),

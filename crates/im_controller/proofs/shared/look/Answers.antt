@@ -35,7 +35,7 @@ invariant_of-shared g c =
       c.shared.invariant.3,
       c.shared.invariant.4,
       (λ honest began.
-          kept_looked g.D.Disk.now g.D.Disk.past g.D.Disk.failures g.K.Name.begun g.K.Name.memory c.shared.inside.engine c.shared.inside.log.trace c.leave.new.self.trace c.args.element c.args.number (told c.collect-answer.result) is
+          kept_looked g.D.Disk.now g.D.Disk.past g.D.Disk.failures g.K.Name.begun g.K.Name.memory g.K.Name.plan c.shared.inside.engine c.shared.inside.log.trace c.leave.new.self.trace c.args.element c.args.number (told c.collect-answer.result) is
           (c.shared.invariant.5 honest began)),
       c.shared.invariant.6,
       c.shared.invariant.7,

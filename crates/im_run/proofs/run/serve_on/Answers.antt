@@ -4,6 +4,7 @@ use Rattle.im_disk.specs.Since.{LeavesNow}
 use Rattle.im_engine.specs.State.{EngineState, MeansState}
 use Rattle.im_controller.specs.Kept.{begun_in}
 use Rattle.im_laws.proofs.Tests.{true_false}
+use Rattle.im_types.specs.Plan.{FitsPlan}
 use Rattle.im_run.specs.declared.sheet.Order.{Order}
 use Rattle.im_run.specs.Doing.{AreAllTold}
 use Rattle.im_run.specs.Orders.{ask_of}
@@ -41,7 +42,10 @@ returns-in-Ok-clause-ended g c = λ honest alive.
       did = s.result.did.items;
       told = told;
       as_planned = λ planned. ends_on_plan m trace orders s.result.did.items end (k.result.0 ≡ 0) served.legal
-          served.ends told (plan_ends c.in-Ok.opening.engine.memory m (plan_of orders) c.in-Ok.opening.plan end
+          served.ends told
+          (subst (λ (l : List Order). FitsPlan m (plan_of (map ask_of l))) c.as_slice.ensures.value
+          (c.in-Ok.ensures.fits planned))
+          (plan_ends c.in-Ok.opening.engine.memory m (plan_of orders) c.in-Ok.opening.plan trace end
           (ap (λ (e : EngineState g.row.D.Denot). e.memory) same)
           (subst (λ (l : List Order). c.in-Ok.opening.plan ≡ Some (plan_of (map ask_of l))) c.as_slice.ensures.value
           (c.in-Ok.ensures.plan planned)) s.ensures.planned);

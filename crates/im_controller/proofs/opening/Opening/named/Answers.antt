@@ -17,7 +17,8 @@ named-log-requires-clause-memory g c =
 
 pub invariant_of-shared : goal.invariant_of-shared
 invariant_of-shared g c =
-    let i = c.self.invariant in let begins = c.named-log.ensures.trace in let e = c.self.inside.engine in let m = g.K.Name.memory in
+    let i = c.self.invariant in let begins = c.named-log.ensures.trace in let e = c.self.inside.engine in
+    let m = g.K.Name.memory in
     let begun = ap (λ (o : OpeningState g.row.D.Denot). begun_in g.D.Disk.now g.D.Disk.past g.D.Disk.failures o.engine) c.self.view_is ∙ c.requires.begun in
     let plan = ap (λ (o : OpeningState g.row.D.Denot). o.plan) c.self.view_is ∙ c.requires.plan in
     let memory = ap (λ (o : OpeningState g.row.D.Denot). o.engine.memory) c.self.view_is ∙ c.requires.memory in (
@@ -28,9 +29,9 @@ invariant_of-shared g c =
       search rules,
       (λ honest began.
           let alive = ap (λ (b : Begun). b.failed) begun ∙ began in
-          subst (λ (ls : List Line). HasKept g.D.Disk.now g.D.Disk.past g.D.Disk.failures g.K.Name.begun m
+          subst (λ (ls : List Line). HasKept g.D.Disk.now g.D.Disk.past g.D.Disk.failures g.K.Name.begun m g.K.Name.plan
           (accepted_in m ls) e) (sym begins)
-          (kept_start g.D.Disk.now g.D.Disk.past g.D.Disk.failures g.K.Name.begun m e begun memory alive
+          (kept_start g.D.Disk.now g.D.Disk.past g.D.Disk.failures g.K.Name.begun m g.K.Name.plan e begun memory alive
           (c.failed-failed.ensures.means honest alive))),
       search rules,
       plan,

@@ -1,0 +1,27 @@
+-- Planned runs that were stopped. (Own.)
+use Rattle.std.specs.Prelude.{◌≡◌, ℕ, List, ◌++◌, Some}
+use Rattle.im_types.specs.declared.commands.Command.{Command}
+use Rattle.im_types.specs.declared.commands.Line.{Line}
+use Rattle.im_types.specs.declared.commands.Request.{Request}
+use Rattle.im_types.specs.Contents.{Contents}
+use Rattle.im_types.specs.Trace.{IsLegal, end_of}
+use Rattle.im_plans.specs.Runs.{IsPlannedRun}
+use Rattle.im_controller.specs.Kept.{MeansSome, accepted_in}
+use Rattle.im_controller.specs.Planned.{AreOnPlan}
+
+-- a planned run leads from the one memory to the other
+pub record LeadsTo (plan : List Request) (m n : Contents) : Type 0 where
+  pub trace : List Line
+  pub legal : IsLegal m trace
+  pub run : IsPlannedRun plan trace
+  pub ends : end_of m trace ≡ n
+
+-- A crash may have left this file of a planned run from that memory: it means the memory after some of the trace's
+-- accepted commands, from the first on, and maybe after some of those in doubt.
+pub record IsLeftOf (m : Contents) (plan : List Request) (file : List ℕ) : Type 0 where
+  pub trace : List Line
+  pub doubt : List Command
+  pub count : ℕ
+  pub run : IsPlannedRun plan trace
+  pub on_plan : AreOnPlan (Some plan) doubt
+  pub means : MeansSome m count (accepted_in m trace ++ doubt) file
