@@ -107,7 +107,7 @@ cell 0 = full 6 in block 0 of 2 i
 0.2 reset 1 = refused 4 Mismatch
 0.2 release 0 = refused 4 Mismatch
 accepted = 8
-kept 0.2 = cleared for reset 0
+kept 0.2 = reset 0 -> cleared
 
 # A reset of a block of M cells, and of what is no base
 memory 4 cells 2 elements = made
@@ -196,7 +196,7 @@ collect 0.0 = refused 2 Forgotten
 collect 1.1 = refused 5 NoElement
 cells = 1
 elements = 1
-kept 0.3 = stored for store 0 0
+kept 0.3 = store 0 0 -> stored
 kept 0.4 = none
 
 # The records of a memory show each cell
@@ -209,9 +209,9 @@ memory 4 cells 3 elements = made
 0.3 put 2 9 = stored
 record 1 = empty in block 1 of 2 m
 record 2 = full 9 in block 1 of 2 m
-record 3 = free, hole of 0, next none
+record 3 = free hole 0 next none
 -- Past the cells.
-record 4 = free, hole of 0, next none
+record 4 = free hole 0 next none
 
 # The records of a memory show who waits, in the nodes of the cell's list
 memory 4 cells 3 elements = made
@@ -225,7 +225,7 @@ record 0 = waiting in block 0 of 1 i
 nodes 0 = 1.1 2.1 1.2
 -- All other nodes are free, and past the nodes too.
 listed 192 = 3
-node 192 = free, next none
+node 192 = free next none
 
 # Thrown commands leave both memories in order
 -- A command is accepted exactly where it changes its element's window; each request that waits stands once at its cell,

@@ -256,8 +256,8 @@ cells = 0
 place i 1 = none
 
 # Thrown calls go on in a table that is restored after each fourth of them
-table 24 cells = made
-walk 5000 from 3 restored = 5000 steps agree
+table 24 cells restored = made
+walk 5000 from 3 = 5000 steps agree
 
 # A table of as many holes as there can be is restored
 table 65536 cells = made

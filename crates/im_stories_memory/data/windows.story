@@ -11,18 +11,18 @@ keep waiting for 16.1 fetch 0 = refused 5 NoElement
 keep stored for 2.1 store 0 3 = fresh
 answer 1.1 value 3 = answered
 keep waiting for 1.1 fetch 0 = repeat value 3
-kept 1.1 = value 3 for fetch 0
+kept 1.1 = fetch 0 -> value 3
 kept 1.2 = none
 
 # A full window has room after a confirmation
 windows 16 = made
-keep waiting for 1.1 to 64 fetch 0 = 64 fresh
+keep waiting for 1.1 to 64 fetch 0 = fresh
 keep waiting for 1.65 fetch 0 = refused 3 WindowFull
 -- What waits can't be forgotten, nor what isn't there.
 confirm 1 2 = refused 6 NotAnswered
 confirm 1 66 = refused 1 Gap
 confirm 16 1 = refused 5 NoElement
-answer 1.1 to 64 value 8 = 64 answered
+answer 1.1 to 64 value 8 = answered
 window 1 = 1 65
 confirm 1 65 = confirmed
 keep waiting for 1.1 fetch 0 = refused 2 Forgotten
@@ -61,8 +61,8 @@ walk 20000 from 88172645463325252 = 20000 steps agree
 past 500 = 3 windows
 
 # Thrown calls go on though the windows are restored, after one in ten of them
-windows 3 = made
-walk 5000 from 2463534242 restored = 5000 steps agree
+windows 3 restored = made
+walk 5000 from 2463534242 = 5000 steps agree
 
 # A restored window goes on where it stood, and the others are as they were
 windows 3 = made

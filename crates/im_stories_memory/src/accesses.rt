@@ -3,7 +3,6 @@ ghost use Rattle.std.specs.Prelude.{◌≡◌, ◌<◌, List, Option, length, If
 ghost use Rattle.im_cell.specs.declared.slots.Slot.{Slot};
 ghost use Rattle.im_istore.specs.Agreement.{Agree, AgreeBut};
 
-use crate::random_walks::walk;
 use im_arena::Arena;
 use im_cell::CellTable;
 use im_istore::{fetch, look, next_reader, store, store_and_drain};
@@ -16,6 +15,7 @@ use std::marker::Model;
 /// A table and the lists of its cells. A cell waits exactly if somebody is on its list.
 #[derive(Drop)]
 pub struct Accesses {
+    alloc: Global,
     table: CellTable,
     arena: Arena,
 }
@@ -78,7 +78,16 @@ impl Accesses {
     /// Makes the given numbers of free cells and of free nodes for waiters.
     pub fn new(alloc: Global, cells: u32, nodes: u32) -> Result<Accesses, Refusal> {
         let (table, arena) = pair(alloc, cells, nodes)?;
-        Ok(Accesses { table, arena })
+        Ok(Accesses {
+            alloc,
+            table,
+            arena,
+        })
+    }
+
+    /// Returns the allocator of both.
+    pub fn alloc(&self) -> Global {
+        self.alloc
     }
 
     /// Makes a block. Returns `None` if there is no room for it, or it has no cell.
@@ -214,7 +223,6 @@ pub fn tell(accesses: &mut Accesses, call: &Call, said: &mut Saying) {
         "put _ _" => add_put(said, accesses.put(a, value)),
         "place i _" => said.number_or_none(accesses.place(Kind::I, a)),
         "place m _" => said.number_or_none(accesses.place(Kind::M, a)),
-        "walk _ from _" => walk(accesses, call, said),
         _ => tell_state(accesses, call, said),
     }
 }

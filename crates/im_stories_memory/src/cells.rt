@@ -2,7 +2,6 @@
 ghost use Rattle.std.specs.Prelude.{◌≡◌, ◌<◌, ◌^◌, length, map, IfOk};
 ghost use Rattle.im_cell.specs.Slots.{slot_at, shown_cell, shown_slot, HasBlocks};
 
-use crate::plain_slots::walk;
 use im_cell::CellTable;
 use im_story::{Call, Saying};
 use im_types::{Cell, CellRecord, Kind, PresenceTag};
@@ -147,8 +146,6 @@ fn tell_many(table: &mut CellTable, call: &Call, said: &mut Saying) {
         "fill _" => add_blocks(said, place_ones(table, count)),
         "release _ from _ up" => add_blocks(said, release_each(table, count, first, true)),
         "release _ from _ down" => add_blocks(said, release_each(table, count, first, false)),
-        "walk _ from _" => walk(table, call, false, said),
-        "walk _ from _ restored" => walk(table, call, true, said),
         _ => said.fail("no call of a table"),
     }
 }

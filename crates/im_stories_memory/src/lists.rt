@@ -1,17 +1,8 @@
 //! Lists of waiters, over one table of nodes.
 ghost use Rattle.std.specs.Prelude.{◌<◌, length};
 
-use crate::plain_lists::walk;
-use im_arena::{Arena, Ends, hand_over};
+use im_arena::{Arena, hand_over};
 use im_story::{Call, Saying};
-
-// Adds the first and the last node of a list.
-fn add_ends(said: &mut Saying, ends: Option<Ends>) {
-    match ends {
-        Some(ends) => write!(said, "{} {}", ends.first, ends.last),
-        None => said.text("none"),
-    }
-}
 
 // Makes a call of one list, if it exists.
 fn tell_of(arena: &mut Arena, call: &Call, said: &mut Saying) {
@@ -26,7 +17,7 @@ fn tell_of(arena: &mut Arena, call: &Call, said: &mut Saying) {
         "list _ at _" => said.waiter(arena.at(list, call.address(1))),
         "list _ length" => said.number(u64::from(arena.len(list))),
         "list _ empty" => said.truth(arena.is_empty(list)),
-        "list _ ends" => add_ends(said, arena.ends(list)),
+        "list _ ends" => said.either(arena.ends(list).is_none(), "none", "some"),
         _ => said.fail("no call of lists"),
     }
 }
@@ -51,7 +42,6 @@ pub fn tell(arena: &mut Arena, call: &Call, said: &mut Saying) {
         "nodes" => said.number(u64::from(arena.node_count())),
         "free" => said.number(u64::from(arena.free_count())),
         "full" => said.truth(arena.is_full()),
-        "walk _ from _" => walk(arena, call, said),
         _ => tell_of(arena, call, said),
     }
 }

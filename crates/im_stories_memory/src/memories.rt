@@ -1,12 +1,10 @@
 //! The fast memory and the plain one, side by side. Each call is made on both, and both have to answer the same.
 
-use crate::memory_walks::walk;
-use crate::nodes::{add_cell_record, add_node_record, add_nodes, listed};
-use crate::texts::add_kept;
+use crate::nodes::{add_cell_record, add_nodes, listed};
 use im_memory::Memory;
 use im_plain::PlainMemory;
-use im_story::{Call, Saying, command};
-use im_types::{Command, Entry, Limits, Op, Outcome, Refusal, Request};
+use im_story::{Call, Saying, asked, command};
+use im_types::{Command, Entry, Limits, Op, Outcome, Refusal};
 use std::alloc::Global;
 
 /// The two memories, and how many commands they accepted.
@@ -72,11 +70,8 @@ fn fetches(memories: &mut Memories, call: &Call) -> u32 {
     let mut wait = 0u32;
     for number in call.number(1)..call.number(2).saturating_add(1) {
         let before = memories.accepted;
-        let answer = memories.step(&Command::Request(Request {
-            element: call.element(0),
-            number,
-            op: Op::Fetch(call.address(3)),
-        }));
+        let fetch = asked(call.element(0), number, Op::Fetch(call.address(3)));
+        let answer = memories.step(&Command::Request(fetch));
         if answer == Some(Ok(Outcome::Entry(Entry::Waiting))) && memories.accepted > before {
             wait = wait.saturating_add(1);
         }
@@ -108,7 +103,7 @@ fn tell_same(memories: &Memories, call: &Call, said: &mut Saying) -> Option<bool
             fast.window(of) == plain.window(of)
         }
         "kept _._" => {
-            add_kept(said, fast.kept(of, number));
+            said.kept(fast.kept(of, number));
             fast.kept(of, number) == plain.kept(of, number)
         }
         "cell _" => {
@@ -147,9 +142,8 @@ fn tell_other(memories: &mut Memories, call: &Call, said: &mut Saying) {
     match call.form() {
         "accepted" => said.number(u64::from(memories.accepted)),
         "_._ to _ fetch _" => write!(said, "{} wait", fetches(memories, call)),
-        "walk _ from _" => walk(memories, call, said),
         "record _" => add_cell_record(said, &memories.fast, call.address(0)),
-        "node _" => add_node_record(said, &memories.fast, call.address(0)),
+        "node _" => said.node_record(memories.fast.records().node_record(call.address(0))),
         "nodes _" => add_nodes(said, &memories.fast, call.address(0)),
         "listed _" => said.number(u64::from(listed(&memories.fast, call.address(0)))),
         _ => tell_command(memories, call, said),

@@ -1,9 +1,8 @@
 //! A random walk of commands over both memories, and what stays true of them.
 
 use crate::memories::Memories;
-use crate::texts::add_steps;
 use im_memory::Memory;
-use im_story::{Call, Dice, Saying};
+use im_story::Dice;
 use im_types::{Block, Cell, Command, Entry, Kept, Kind, Op, Refusal, Waiter};
 
 // Returns a command of one of three elements, or of one that doesn't exist.
@@ -155,15 +154,8 @@ fn is_in_order(memories: &Memories) -> bool {
     true
 }
 
-/// Makes thrown commands, as many as the call's first number says. Tells after how many of them all is in order, up to
-/// the first after which it isn't.
-pub fn walk(memories: &mut Memories, call: &Call, said: &mut Saying) {
-    let mut dice = Dice::new(call.number(1));
-    for step in 0..call.number(0) {
-        let command = any_command(&mut dice, &memories.fast);
-        if !turns(memories, &command) || !is_in_order(memories) {
-            return add_steps(said, step);
-        }
-    }
-    add_steps(said, call.number(0))
+/// Makes a thrown command. Returns whether all is in order then.
+pub fn step(memories: &mut Memories, dice: &mut Dice) -> bool {
+    let command = any_command(dice, &memories.fast);
+    turns(memories, &command) && is_in_order(memories)
 }

@@ -4,46 +4,14 @@ use im_memory::Memory;
 use im_story::Saying;
 use im_types::{Cell, CellRecord, NONE, NodeRecord, PresenceTag};
 
-fn cell_of(tag: PresenceTag) -> Cell {
-    match tag {
-        PresenceTag::Empty => Cell::Empty,
-        PresenceTag::Waiting { .. } => Cell::Waiting,
-        PresenceTag::Full(value) => Cell::Full(value),
-        PresenceTag::Clashed(value) => Cell::Clashed(value),
-    }
-}
-
-fn add_link(said: &mut Saying, link: u32) {
-    said.text(", next ");
-    if link == NONE {
-        said.text("none")
-    } else {
-        write!(said, "{link}")
-    }
-}
-
-/// Adds what the record of a cell shows. If the cell waits, it doesn't add which nodes are in its list.
+/// Adds the record of a cell. If somebody waits, it doesn't add which nodes are in the cell's list.
 pub fn add_cell_record(said: &mut Saying, memory: &Memory, a: u32) {
     match memory.records().cell_record(a) {
-        CellRecord::Free { hole, next } => {
-            write!(said, "free, hole of {hole}");
-            add_link(said, next)
-        }
-        CellRecord::Held { block, tag } => said.place(Some(cell_of(tag)), Some(block)),
-    }
-}
-
-/// Adds what the record of a node shows.
-pub fn add_node_record(said: &mut Saying, memory: &Memory, n: u32) {
-    match memory.records().node_record(n) {
-        NodeRecord::Listed { next, waiter } => {
-            said.waiter(Some(waiter));
-            add_link(said, next)
-        }
-        NodeRecord::Free { next } => {
-            said.text("free");
-            add_link(said, next)
-        }
+        CellRecord::Held {
+            block,
+            tag: PresenceTag::Waiting { .. },
+        } => said.place(Some(Cell::Waiting), Some(block)),
+        record => said.cell_record(record),
     }
 }
 

@@ -1,9 +1,8 @@
-//! A random walk over the lists of an arena, beside lists that are kept plainly.
+//! The steps of a random walk over the lists of an arena, beside lists that are kept plainly.
 ghost use Rattle.std.specs.Prelude.{◌<◌, length};
 
-use crate::texts::add_steps;
 use im_arena::Arena;
-use im_story::{Call, Dice, Saying};
+use im_story::Dice;
 use im_types::{NONE, NodeRecord, Waiter};
 use std::alloc::Global;
 use std::collections::VecDeque;
@@ -108,8 +107,13 @@ fn agrees(arena: &Arena, plain: &[VecDeque<Waiter>]) -> bool {
         && arena.is_full() == (held == arena.node_count())
 }
 
-// Makes the step of this number.
-fn step(arena: &mut Arena, plain: &mut [VecDeque<Waiter>], number: u64, dice: &mut Dice) -> bool {
+// Makes a thrown call of this number.
+fn call_one(
+    arena: &mut Arena,
+    plain: &mut [VecDeque<Waiter>],
+    number: u64,
+    dice: &mut Dice,
+) -> bool {
     let count = arena.list_count();
     if count == 0 {
         return false;
@@ -122,19 +126,8 @@ fn step(arena: &mut Arena, plain: &mut [VecDeque<Waiter>], number: u64, dice: &m
     }
 }
 
-// Makes steps. Returns how many of them agree, up to the first that doesn't.
-fn steps(arena: &mut Arena, plain: &mut [VecDeque<Waiter>], call: &Call) -> u64 {
-    let mut dice = Dice::new(call.number(1));
-    for number in 0..call.number(0) {
-        if !step(arena, plain, number, &mut dice) || !agrees(arena, plain) {
-            return number;
-        }
-    }
-    call.number(0)
-}
-
-// Makes so many empty lists.
-fn queues(alloc: Global, count: u32) -> Option<Vec<VecDeque<Waiter>>> {
+/// Makes so many empty lists.
+pub fn queues(alloc: Global, count: u32) -> Option<Vec<VecDeque<Waiter>>> {
     let mut plain = Vec::new(alloc);
     for _list in 0..count {
         plain.push(VecDeque::new(alloc)).ok()?;
@@ -142,11 +135,12 @@ fn queues(alloc: Global, count: u32) -> Option<Vec<VecDeque<Waiter>>> {
     Some(plain)
 }
 
-/// Makes thrown calls, as many as the call's first number says. Tells how many of them agree with plain lists, up to
-/// the first that doesn't.
-pub fn walk(arena: &mut Arena, call: &Call, said: &mut Saying) {
-    match queues(call.alloc(), arena.list_count()) {
-        Some(mut plain) => add_steps(said, steps(arena, plain.as_mut_slice(), call)),
-        None => said.fail("no memory is left"),
-    }
+/// Makes a thrown call of this number. Returns whether the lists are then as they are kept plainly.
+pub fn step(
+    arena: &mut Arena,
+    plain: &mut [VecDeque<Waiter>],
+    number: u64,
+    dice: &mut Dice,
+) -> bool {
+    call_one(arena, plain, number, dice) && agrees(arena, plain)
 }

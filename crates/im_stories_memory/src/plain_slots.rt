@@ -1,10 +1,10 @@
-//! A random walk over a table of cells, beside slots that are kept plainly.
+//! The steps of a random walk over a table of cells, beside slots that are kept plainly.
 
 use crate::cells::restore;
-use crate::texts::add_steps;
 use im_cell::{CellTable, Slot};
-use im_story::{Call, Dice, Saying};
+use im_story::Dice;
 use im_types::{Block, Cell, Kind};
+use std::alloc::Global;
 
 fn slot_at(slots: &[Option<Slot>], a: u32) -> Option<Slot> {
     slots.get(a as usize).copied().flatten()
@@ -133,25 +133,20 @@ fn agrees(table: &CellTable, slots: &[Option<Slot>]) -> bool {
     true
 }
 
-// Makes steps. Returns how many of them agree, up to the first that doesn't.
-fn steps(table: &mut CellTable, slots: &mut [Option<Slot>], call: &Call, restores: bool) -> u64 {
-    let mut dice = Dice::new(call.number(1));
-    for step in 0..call.number(0) {
-        if !call_both(table, slots, dice.throw()) || !agrees(table, slots) {
-            return step;
+/// Makes a thrown call on the table. With an allocator the table is restored at each fourth step. Returns whether it is
+/// as the plain slots are.
+pub fn step(
+    table: &mut CellTable,
+    slots: &mut [Option<Slot>],
+    alloc: Option<Global>,
+    number: u64,
+    dice: &mut Dice,
+) -> bool {
+    let are_alike = call_both(table, slots, dice.throw()) && agrees(table, slots);
+    match alloc {
+        Some(alloc) if number % 4 == 0 => {
+            are_alike && restore(alloc, table) && agrees(table, slots)
         }
-        if restores && step % 4 == 0 && !(restore(call.alloc(), table) && agrees(table, slots)) {
-            return step;
-        }
-    }
-    call.number(0)
-}
-
-/// Makes thrown calls on a new table, as many as the call's first number says, and restores it after each fourth if
-/// that is asked for. Tells how many of them agree with plain slots, up to the first that doesn't.
-pub fn walk(table: &mut CellTable, call: &Call, restores: bool, said: &mut Saying) {
-    match vec![in call.alloc(); None; table.cells() as usize] {
-        Ok(mut slots) => add_steps(said, steps(table, slots.as_mut_slice(), call, restores)),
-        Err(_) => said.fail("no memory is left"),
+        _ => are_alike,
     }
 }

@@ -1,15 +1,14 @@
-//! A long run of thrown calls on windows, beside windows that are kept plainly.
+//! The steps of a random walk over windows, beside windows that are kept plainly.
 
-use crate::texts::add_steps;
 use crate::windows::{answer, ask, restore};
 use im_sessions::Sessions;
-use im_story::{Call, Dice, Saying};
-use im_types::{Entry, Judged, Kept, Kind, Op, Refusal, Reply, Request, WINDOW, Waiter};
+use im_story::{Dice, asked};
+use im_types::{Entry, Judged, Kept, Kind, Op, Refusal, Reply, WINDOW, Waiter};
 use std::alloc::Global;
 
-// A window, kept plainly: all entries from number 1 on, those that are forgotten too.
+/// A window, kept plainly: all entries from number 1 on, those that are forgotten too.
 #[derive(Drop)]
-struct PlainWindow {
+pub struct PlainWindow {
     base: u64,
     all: Vec<Kept>,
 }
@@ -122,12 +121,7 @@ fn ask_both(
     if judged == Ok(Judged::Fresh) && plain.all.push(Kept { op, entry }).is_err() {
         return false;
     }
-    let request = Request {
-        element: who.element,
-        number: who.number,
-        op,
-    };
-    ask(sessions, &request, entry) == judged
+    ask(sessions, &asked(who.element, who.number, op), entry) == judged
 }
 
 // Makes one thrown call on the sessions and on the plain window of the same element. Returns whether they agree on it,
@@ -173,24 +167,24 @@ fn restore_all(sessions: &mut Sessions, plain: &[PlainWindow]) -> bool {
     true
 }
 
-// Makes steps. Returns how many of them agree, up to the first that doesn't.
-fn steps(sessions: &mut Sessions, plain: &mut [PlainWindow], call: &Call, restores: bool) -> u64 {
-    let mut dice = Dice::new(call.number(1));
-    for step in 0..call.number(0) {
-        let element = dice.below(3);
-        let agrees = match plain.get_mut(element as usize) {
-            Some(window) => call_both(sessions, window, element as u16, &mut dice),
-            None => false,
-        };
-        if !agrees || restores && dice.below(10) == 0 && !restore_all(sessions, plain) {
-            return step;
-        }
-    }
-    call.number(0)
+/// Makes a thrown call on one of three windows, and restores them after one in ten if that is asked for. Returns
+/// whether they are as the plain ones are.
+pub fn step(
+    sessions: &mut Sessions,
+    plain: &mut [PlainWindow],
+    restores: bool,
+    dice: &mut Dice,
+) -> bool {
+    let element = dice.below(3);
+    let agrees = match plain.get_mut(element as usize) {
+        Some(window) => call_both(sessions, window, element as u16, dice),
+        None => false,
+    };
+    agrees && (!restores || dice.below(10) != 0 || restore_all(sessions, plain))
 }
 
-// Makes three plain windows with no entry.
-fn begin(alloc: Global) -> Option<Vec<PlainWindow>> {
+/// Makes three plain windows with no entry.
+pub fn begin(alloc: Global) -> Option<Vec<PlainWindow>> {
     let mut windows = Vec::new(alloc);
     for _ in 0..3u32 {
         let window = PlainWindow {
@@ -200,13 +194,4 @@ fn begin(alloc: Global) -> Option<Vec<PlainWindow>> {
         windows.push(window).ok()?;
     }
     Some(windows)
-}
-
-/// Makes thrown calls on three new windows, as many as the call's first number says, and restores the windows after one
-/// in ten if that is asked for. Tells how many of them agree with plain windows, up to the first that doesn't.
-pub fn walk(sessions: &mut Sessions, call: &Call, restores: bool, said: &mut Saying) {
-    match begin(call.alloc()) {
-        Some(mut plain) => add_steps(said, steps(sessions, plain.as_mut_slice(), call, restores)),
-        None => said.fail("no memory is left"),
-    }
 }

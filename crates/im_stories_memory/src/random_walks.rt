@@ -1,9 +1,8 @@
-//! A random walk of accesses, beside cells by the rules.
+//! The steps of a random walk of accesses, beside cells by the rules.
 
 use crate::accesses::Accesses;
 use crate::plain_cells::PlainCell;
-use crate::texts::add_steps;
-use im_story::{Call, Dice, Saying};
+use im_story::Dice;
 use im_types::{Kind, Reply, Waiter};
 use std::alloc::Global;
 
@@ -64,7 +63,7 @@ fn call_both(
 
 // Makes one of the calls on one of the cells. Returns whether it answers as by the rules, and the cell and its list are
 // then as by the rules.
-fn step(alloc: Global, accesses: &mut Accesses, plain: &mut [PlainCell], thrown: u64) -> bool {
+fn call_one(alloc: Global, accesses: &mut Accesses, plain: &mut [PlainCell], thrown: u64) -> bool {
     let a = (thrown >> 60) as u32 % 4;
     match plain.get_mut(a as usize) {
         Some(cell) => {
@@ -76,35 +75,27 @@ fn step(alloc: Global, accesses: &mut Accesses, plain: &mut [PlainCell], thrown:
     }
 }
 
-// Makes steps. Returns how many of them agree, up to the first that doesn't.
-fn steps(accesses: &mut Accesses, plain: &mut [PlainCell], call: &Call) -> u64 {
-    let mut dice = Dice::new(call.number(1));
-    for number in 0..call.number(0) {
-        if !step(call.alloc(), accesses, plain, dice.throw()) {
-            return number;
-        }
-    }
-    call.number(0)
-}
-
-// Makes four blocks of one cell each, of the two kinds in turn.
-fn begin(alloc: Global, accesses: &mut Accesses) -> Option<Vec<PlainCell>> {
-    let mut plain = Vec::new(alloc);
+// Makes four blocks of one cell each, of the two kinds in turn. Returns whether they are at the first four cells.
+fn begin(alloc: Global, accesses: &mut Accesses, plain: &mut Vec<PlainCell>) -> bool {
     for a in 0..4u32 {
         let kind = if a % 2 == 0 { Kind::I } else { Kind::M };
-        if accesses.place(kind, 1) != Some(a) {
-            return None;
+        let is_kept = plain.push(PlainCell::new(alloc, kind)).is_ok();
+        if !is_kept || accesses.place(kind, 1) != Some(a) {
+            return false;
         }
-        plain.push(PlainCell::new(alloc, kind)).ok()?;
     }
-    Some(plain)
+    true
 }
 
-/// Makes thrown calls on four cells of a new table, as many as the call's first number says. Tells how many of them
-/// agree with cells by the rules, up to the first that doesn't.
-pub fn walk(accesses: &mut Accesses, call: &Call, said: &mut Saying) {
-    match begin(call.alloc(), accesses) {
-        Some(mut plain) => add_steps(said, steps(accesses, plain.as_mut_slice(), call)),
-        None => said.fail("no new table"),
-    }
+/// Makes a thrown call of this number on four cells of a new table, which the first step makes. Returns whether it
+/// answers as by the rules.
+pub fn step(
+    accesses: &mut Accesses,
+    plain: &mut Vec<PlainCell>,
+    number: u64,
+    dice: &mut Dice,
+) -> bool {
+    let alloc = accesses.alloc();
+    let is_begun = number != 0 || begin(alloc, accesses, plain);
+    is_begun && call_one(alloc, accesses, plain.as_mut_slice(), dice.throw())
 }

@@ -1,26 +1,40 @@
 //! Windows of kept replies.
 
-use crate::plain_windows::walk;
-use crate::texts::add_kept;
+use crate::plain_windows::{PlainWindow, begin, step};
 use im_sessions::Sessions;
-use im_story::{Call, Saying, op, request};
+use im_story::{Call, Dice, Saying, asked, op};
 use im_types::{Entry, Judged, Kept, LAST, Op, Refusal, Reply, Request, WINDOW, Waiter};
 use std::alloc::Global;
 
-/// Windows, and the entries that the next one is restored from.
+/// Windows, the entries that the next one is restored from, and three windows as a walk keeps them plainly. The walk
+/// may restore its windows now and then.
 #[derive(Drop)]
 pub struct Windows {
     sessions: Sessions,
     shown: Vec<Kept>,
+    plain: Vec<PlainWindow>,
+    restores: bool,
 }
 
 impl Windows {
     /// Makes the given number of new windows.
-    pub fn new(alloc: Global, elements: u16) -> Result<Windows, Refusal> {
-        Ok(Windows {
-            sessions: Sessions::new(alloc, elements)?,
+    pub fn new(alloc: Global, elements: u16, restores: bool) -> Option<Windows> {
+        Some(Windows {
+            sessions: Sessions::new(alloc, elements).ok()?,
             shown: Vec::new(alloc),
+            plain: begin(alloc)?,
+            restores,
         })
+    }
+
+    /// Makes a step of a walk. Returns whether the windows are as they are kept plainly.
+    pub fn step(&mut self, dice: &mut Dice) -> bool {
+        step(
+            &mut self.sessions,
+            self.plain.as_mut_slice(),
+            self.restores,
+            dice,
+        )
     }
 }
 
@@ -80,68 +94,44 @@ fn add_judged(said: &mut Saying, judged: Result<Judged, Refusal>) {
     }
 }
 
-// Tells how a request is judged, and keeps a new one with an entry.
-fn keep(sessions: &mut Sessions, entry: Entry, asked: &[&str], said: &mut Saying) {
-    match request(asked) {
-        Some(request) => add_judged(said, ask(sessions, &request, entry)),
-        None => said.fail("no request"),
+// Tells how requests are judged, and keeps new ones with this entry: one request, or those of an element from one
+// number to another, of which all have to be judged the same. This is the place of the first one's name.
+fn keep(sessions: &mut Sessions, entry: Entry, call: &Call, at: usize, said: &mut Saying) {
+    let numbers = at.saturating_sub(3);
+    let (who, last) = (call.waiter(numbers), call.number(numbers.saturating_add(2)));
+    let is_row = call.word(at.saturating_add(1)) == "to";
+    let (last, words) = if is_row { (last, 3) } else { (who.number, 1) };
+    let Some(op) = op(call.rest(at.saturating_add(words))) else {
+        return said.fail("no operation");
+    };
+    for number in who.number..=last {
+        let mut one = Saying::new(call.alloc());
+        add_judged(
+            &mut one,
+            ask(sessions, &asked(who.element, number, op), entry),
+        );
+        said.same(&one, number);
     }
 }
 
-// Asks the requests of an element from one number to another, and keeps new ones with this entry. Returns how many are
-// fresh.
-fn keep_each(sessions: &mut Sessions, entry: Entry, first: Waiter, last: u64, op: Op) -> u32 {
-    let mut fresh = 0u32;
-    for number in first.number..last.saturating_add(1) {
-        let request = Request {
-            element: first.element,
-            number,
-            op,
-        };
-        if ask(sessions, &request, entry) == Ok(Judged::Fresh) {
-            fresh = fresh.saturating_add(1);
-        }
-    }
-    fresh
-}
-
-// Does the same for the names and the operation of a call.
-fn tell_each(
-    sessions: &mut Sessions,
-    entry: Entry,
-    call: &Call,
-    asked: &[&str],
-    said: &mut Saying,
-) {
-    match op(asked) {
-        Some(op) => {
-            let fresh = keep_each(sessions, entry, call.waiter(0), call.number(2), op);
-            write!(said, "{fresh} fresh")
-        }
-        None => said.fail("no operation"),
-    }
-}
-
-// Adds one more entry that the next window is restored from.
-fn show(shown: &mut Vec<Kept>, entry: Entry, asked: &[&str], said: &mut Saying) {
-    match op(asked) {
-        Some(op) => said.so(shown.push(Kept { op, entry }).is_ok(), "shown"),
-        None => said.fail("no operation"),
+// Adds one more entry that the next window is restored from. Returns whether there is one.
+fn shows(shown: &mut Vec<Kept>, op: Option<Op>, entry: Entry) -> bool {
+    match op {
+        Some(op) => shown.push(Kept { op, entry }).is_ok(),
+        None => false,
     }
 }
 
 // Keeps or shows an entry for a request, for several ones, or for an operation.
 fn tell_entry(windows: &mut Windows, call: &Call, said: &mut Saying) {
-    let ([how, word, "for", asked @ ..] | [how, word, _, "for", asked @ ..]) = call.words() else {
-        return said.fail("no call of windows");
-    };
-    let Some(entry) = entry(word, call) else {
-        return said.fail("no entry");
-    };
-    match (*how, asked) {
-        ("show", _) => show(&mut windows.shown, entry, asked, said),
-        (_, [_, "to", _, asked @ ..]) => tell_each(&mut windows.sessions, entry, call, asked, said),
-        _ => keep(&mut windows.sessions, entry, asked, said),
+    let at = if call.word(2) == "for" { 3 } else { 4 };
+    match (call.word(0), entry(call.word(1), call)) {
+        ("show", Some(entry)) => {
+            let op = op(call.rest(at));
+            said.so(shows(&mut windows.shown, op, entry), "shown")
+        }
+        ("keep", Some(entry)) => keep(&mut windows.sessions, entry, call, at, said),
+        _ => said.fail("no call of windows"),
     }
 }
 
@@ -169,30 +159,15 @@ fn restore_shown(windows: &mut Windows, call: &Call, said: &mut Saying) {
     windows.shown.clear();
 }
 
-// Answers the requests of an element from one number to another with a value. Returns how many waited.
-fn answer_each(sessions: &mut Sessions, first: Waiter, last: u64, value: u64) -> u32 {
-    let mut answered = 0u32;
-    for number in first.number..last.saturating_add(1) {
-        let who = Waiter {
-            element: first.element,
-            number,
-        };
-        if answer(sessions, who, Reply::Value(value)) {
-            answered = answered.saturating_add(1);
-        }
+// Answers the requests of an element up to a number with a value. All of them have to wait, or none.
+fn tell_answers(sessions: &mut Sessions, first: Waiter, last: u64, value: u64, said: &mut Saying) {
+    let element = first.element;
+    for number in first.number..=last {
+        let is_answered = answer(sessions, Waiter { element, number }, Reply::Value(value));
+        let mut one = Saying::new(said.alloc());
+        one.either(is_answered, "answered", "nobody waits");
+        said.same(&one, number);
     }
-    answered
-}
-
-// Answers one request, or several ones.
-fn tell_answers(sessions: &mut Sessions, call: &Call, said: &mut Saying) {
-    let (first, value) = (call.waiter(0), call.number(2));
-    if let "answer _._ value _" = call.form() {
-        let waited = answer(sessions, first, Reply::Value(value));
-        return said.either(waited, "answered", "nobody waits");
-    }
-    let answered = answer_each(sessions, first, value, call.number(3));
-    write!(said, "{answered} answered")
 }
 
 /// Makes a call of windows.
@@ -200,10 +175,21 @@ pub fn tell(windows: &mut Windows, call: &Call, said: &mut Saying) {
     let sessions = &mut windows.sessions;
     let (element, number) = (call.element(0), call.number(1));
     match call.form() {
-        "answer _._ value _" | "answer _._ to _ value _" => tell_answers(sessions, call, said),
+        "answer _._ value _" => {
+            tell_answers(sessions, call.waiter(0), number, call.number(2), said)
+        }
+        "answer _._ to _ value _" => {
+            tell_answers(
+                sessions,
+                call.waiter(0),
+                call.number(2),
+                call.number(3),
+                said,
+            )
+        }
         "confirm _ _" => said.done(sessions.confirm(element, number), "confirmed"),
         "entry _._" => said.answer(sessions.entry(element, number)),
-        "kept _._" => add_kept(said, sessions.kept(element, number)),
+        "kept _._" => said.kept(sessions.kept(element, number)),
         "window _" => said.window(sessions.window(element)),
         "elements" => said.number(sessions.elements() as u64),
         "past _" => write!(said, "{} windows", past(sessions, call.number(0))),
@@ -217,8 +203,6 @@ fn tell_restored(windows: &mut Windows, call: &Call, said: &mut Saying) {
         "show _ fetches" => said.so(show_fetches(&mut windows.shown), "shown"),
         "restore _ from _" => restore_shown(windows, call, said),
         "restore each" => restore_each(windows, said),
-        "walk _ from _" => walk(&mut windows.sessions, call, false, said),
-        "walk _ from _ restored" => walk(&mut windows.sessions, call, true, said),
         _ => tell_entry(windows, call, said),
     }
 }
@@ -250,11 +234,7 @@ fn goes_on(sessions: &mut Sessions, base: u64, kept: &[Kept]) -> bool {
         at = at.saturating_add(1);
     }
     let before = sessions.entry(0, base.saturating_sub(1));
-    let request = Request {
-        element: 0,
-        number: next,
-        op: Op::Fetch(0),
-    };
+    let request = asked(0, next, Op::Fetch(0));
     let wanted = if (kept.len() as u64) < WINDOW {
         Ok(Judged::Fresh)
     } else {

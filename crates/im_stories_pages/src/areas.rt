@@ -1,10 +1,10 @@
 //! Areas. Their pages are made record by record.
 
-use crate::rows::Rows;
+use crate::rows::Records;
 use crate::values::Sizes;
 use im_records::{
     AreaRecords, CELLS_ON_A_PAGE, NODES_ON_A_PAGE, PAGE, SESSIONS_ON_A_PAGE, WindowRecord,
-    put_cell, put_node, put_session, read_area,
+    put_cell, put_node, put_session, read_area, spell_session,
 };
 use im_types::{CellRecord, NodeRecord, Refusal};
 use std::alloc::Global;
@@ -37,7 +37,7 @@ fn page_of_sessions(windows: &[WindowRecord]) -> [u8; PAGE] {
 }
 
 /// Returns the three pages of an area with few records. There are none if a page can't hold the records of its kind.
-pub fn pages(alloc: Global, rows: &Rows) -> Option<Vec<u8>> {
+pub fn pages(alloc: Global, rows: &Records) -> Option<Vec<u8>> {
     if rows.cells.len() > CELLS_ON_A_PAGE
         || rows.nodes.len() > NODES_ON_A_PAGE
         || rows.windows.len() > SESSIONS_ON_A_PAGE
@@ -53,8 +53,12 @@ pub fn pages(alloc: Global, rows: &Rows) -> Option<Vec<u8>> {
     Some(bytes)
 }
 
-/// Returns a page of old bytes, with a session record at one place. There is none if no page has such a place.
-pub fn page_with(alloc: Global, window: &WindowRecord, place: usize) -> Option<Vec<u8>> {
+/// Returns the bytes of a session record, or a page of old bytes with it at a place. There are none if no page has such
+/// a place.
+pub fn session(alloc: Global, window: &WindowRecord, place: Option<usize>) -> Option<Vec<u8>> {
+    let Some(place) = place else {
+        return Vec::from_slice(alloc, &spell_session(window)).ok();
+    };
     if place >= SESSIONS_ON_A_PAGE {
         return None;
     }

@@ -6,17 +6,17 @@
 #![tactic(auto)]
 
 mod areas;
+mod readings;
 mod rows;
 mod shown;
 mod spelled;
 mod texts;
 mod values;
-mod verdicts;
 
-use crate::rows::Rows;
-use crate::shown::Shown;
+use crate::rows::Records;
 use crate::spelled::Spelled;
 use crate::values::{Sizes, tell_refusal};
+use im_contents::Lists;
 use im_story::{Call, Saying, Scene, walk_files};
 use std::alloc::Global;
 use std::process::ExitCode;
@@ -24,41 +24,39 @@ use std::process::ExitCode;
 /// Records, bytes that may spell some, and the lists of waiters that were last read from the records.
 #[derive(Drop)]
 struct Pages {
+    alloc: Global,
     sizes: Sizes,
-    rows: Rows,
+    rows: Records,
     spelled: Spelled,
-    shown: Shown,
+    lists: Option<Lists>,
 }
 
 impl Pages {
     fn new(alloc: Global) -> Pages {
         Pages {
+            alloc,
             sizes: Sizes::new(),
-            rows: Rows::new(alloc),
+            rows: Records::new(alloc),
             spelled: Spelled::new(alloc),
-            shown: Shown::new(),
+            lists: None,
         }
     }
 }
 
 impl Scene for Pages {
     fn begin(&mut self) {
-        self.sizes = Sizes::new();
-        self.rows.clear();
-        self.spelled.clear();
-        self.shown.clear();
+        *self = Pages::new(self.alloc);
     }
 
     fn make(&mut self, call: &Call, said: &mut Saying) {
-        match call.words() {
-            ["limits" | "version", ..] => self.sizes.tell(call, said),
-            ["refusal", name] => tell_refusal(call.alloc(), name, said),
-            [
-                "cells" | "nodes" | "windows" | "cell" | "node" | "window" | "keep",
-                ..
-            ] => { self.rows.tell(call, said) }
-            ["blocks" | "lists" | "waiting" | "agree" | "contents", ..] => {
-                self.shown.tell(self.sizes.limits, &self.rows, call, said)
+        match call.word(0) {
+            "limits" | "version" => self.sizes.tell(call, said),
+            "refusal" => tell_refusal(call.alloc(), call.word(1), said),
+            "cells" | "nodes" | "windows" | "cell" | "node" | "window" | "keep" => {
+                self.rows.tell(call, said)
+            }
+            "blocks" | "lists" | "waiting" | "agree" | "contents" => {
+                shown::tell(&mut self.lists, self.sizes, &self.rows, call, said)
             }
             _ => self.spelled.tell(self.sizes, &self.rows, call, said),
         }

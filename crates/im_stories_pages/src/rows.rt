@@ -17,7 +17,7 @@ use std::alloc::Global;
 
 /// The records of cells, waiter nodes and windows.
 #[derive(Drop)]
-pub struct Rows {
+pub struct Records {
     pub cells: Vec<CellRecord>,
     pub nodes: Vec<NodeRecord>,
     pub windows: Vec<WindowRecord>,
@@ -31,76 +31,55 @@ pub fn clashing(value: u64) -> Kept {
     }
 }
 
-// Adds an entry to a window, if it has room. Returns the number of the entry.
-fn keep(window: &mut WindowRecord, entry: Kept) -> Option<u64> {
-    let count = window.kept().len();
-    if count >= WINDOW as usize {
-        return None;
-    }
-    window.push(entry);
-    Some(window.base().saturating_add(count as u64))
+/// Returns the number of a window's next entry.
+pub fn next(window: &WindowRecord) -> u64 {
+    window.base().saturating_add(window.kept().len() as u64)
 }
 
-// Keeps an entry, and tells its number: that of the window is told first.
-fn keep_one(window: &mut WindowRecord, call: &Call, said: &mut Saying) {
-    let ["keep", at, words @ ..] = call.words() else {
-        return said.fail("no record");
-    };
-    let Some(entry) = kept(words) else {
-        return said.fail("no entry");
-    };
-    match keep(window, entry) {
-        Some(number) => write!(said, "{at}.{number}"),
-        None => said.fail("the window is full"),
+// Adds an entry to a window. Returns whether there is one, and has room.
+fn keep(window: &mut WindowRecord, entry: Option<Kept>) -> bool {
+    match entry {
+        Some(entry) if window.kept().len() < WINDOW as usize => {
+            window.push(entry);
+            true
+        }
+        _ => false,
     }
 }
 
-// Keeps so many stores that clashed, and tells the numbers of the first and the last.
-fn keep_stores(window: &mut WindowRecord, call: &Call, said: &mut Saying) {
-    let (mut first, mut last) = (0, 0);
+// Adds entries to a window, and tells their numbers: that of the first, and of the last if they are several stores.
+fn keep_each(window: &mut WindowRecord, call: &Call, said: &mut Saying) {
+    said.name(call.element(0), next(window));
+    if call.form() != "keep _ _ stores" {
+        return said.check(keep(window, kept(call.rest(2))));
+    }
     for value in 0..call.number(1) {
-        let Some(number) = keep(window, clashing(value)) else {
-            return said.fail("the window is full");
-        };
-        last = number;
-        first = if value == 0 { last } else { first };
+        said.check(keep(window, Some(clashing(value))));
     }
-    said.name(call.element(0), first);
-    write!(said, " to {last}")
+    write!(said, " to {}", next(window).saturating_sub(1))
 }
 
-impl Rows {
-    pub fn new(alloc: Global) -> Rows {
-        Rows {
+// Puts a record in the place of another one. Returns whether there are both.
+fn put<T: Drop>(records: &mut [T], at: usize, record: Option<T>) -> bool {
+    match (records.get_mut(at), record) {
+        (Some(place), Some(record)) => {
+            *place = record;
+            true
+        }
+        _ => false,
+    }
+}
+
+impl Records {
+    pub fn new(alloc: Global) -> Records {
+        Records {
             cells: Vec::new(alloc),
             nodes: Vec::new(alloc),
             windows: Vec::new(alloc),
         }
     }
 
-    pub fn clear(&mut self) {
-        self.cells.clear();
-        self.nodes.clear();
-        self.windows.clear();
-    }
-
-    // Makes a row of free cells. Returns whether there is memory for it, as the next two do.
-    fn free_cells(&mut self, count: usize) -> bool {
-        self.cells.clear();
-        let free = CellRecord::Free {
-            hole: 0,
-            next: NONE,
-        };
-        self.cells.resize(count, free).is_ok()
-    }
-
-    fn free_nodes(&mut self, count: usize) -> bool {
-        self.nodes.clear();
-        self.nodes
-            .resize(count, NodeRecord::Free { next: NONE })
-            .is_ok()
-    }
-
+    // Makes a row of windows with no entry. Returns whether there is memory for it.
     fn new_windows(&mut self, count: usize) -> bool {
         self.windows.clear();
         for _ in 0..count {
@@ -111,57 +90,37 @@ impl Rows {
         true
     }
 
-    fn set_cell(&mut self, call: &Call, words: &[&str]) -> bool {
-        let (Some(here), Some(cell)) = (self.cells.get_mut(call.place(0)), cell(words)) else {
-            return false;
-        };
-        *here = cell;
-        true
-    }
-
-    fn set_node(&mut self, call: &Call, words: &[&str]) -> bool {
-        let (Some(here), Some(node)) = (self.nodes.get_mut(call.place(0)), node(words)) else {
-            return false;
-        };
-        *here = node;
-        true
-    }
-
-    fn set_window(&mut self, call: &Call) -> bool {
-        let Some(here) = self.windows.get_mut(call.place(0)) else {
-            return false;
-        };
-        *here = WindowRecord::new(call.number(1));
-        true
-    }
-
-    fn keep(&mut self, call: &Call, said: &mut Saying) {
-        let Some(window) = self.windows.get_mut(call.place(0)) else {
-            return said.fail("there is no such window");
-        };
-        match call.form() {
-            "keep _ _ stores" => keep_stores(window, call, said),
-            _ => keep_one(window, call, said),
-        }
-    }
-
-    // Makes a row of records. Returns whether there is memory for it.
+    // Makes a row of records in the same way.
     fn make(&mut self, what: &str, count: usize) -> bool {
+        let (hole, next) = (0, NONE);
         match what {
-            "cells" => self.free_cells(count),
-            "nodes" => self.free_nodes(count),
+            "cells" => {
+                self.cells.clear();
+                let free = CellRecord::Free { hole, next };
+                self.cells.resize(count, free).is_ok()
+            }
+            "nodes" => {
+                self.nodes.clear();
+                let free = NodeRecord::Free { next };
+                self.nodes.resize(count, free).is_ok()
+            }
             _ => self.new_windows(count),
         }
     }
 
     /// Makes rows of records, or sets one.
     pub fn tell(&mut self, call: &Call, said: &mut Saying) {
-        match call.words() {
-            ["keep", ..] => self.keep(call, said),
-            ["cell", _, of @ ..] => said.so(self.set_cell(call, of), "set"),
-            ["node", _, of @ ..] => said.so(self.set_node(call, of), "set"),
-            ["window", _, _] => said.so(self.set_window(call), "set"),
-            [what, count] => said.so(self.make(what, call.place(0)), count),
+        let at = call.place(0);
+        let (what, form) = call.form().split_once(" _ ").unwrap_or(("row", ""));
+        match (what, self.windows.get_mut(at)) {
+            ("row", _) => said.so(self.make(call.word(0), at), call.word(1)),
+            ("cell", _) => said.so(put(&mut self.cells, at, cell(call, form, 1)), "set"),
+            ("node", _) => said.so(put(&mut self.nodes, at, node(call, form, 1)), "set"),
+            ("keep", Some(window)) => keep_each(window, call, said),
+            ("window", Some(window)) => {
+                *window = WindowRecord::new(call.number(1));
+                said.text("set")
+            }
             _ => said.fail("no records"),
         }
     }

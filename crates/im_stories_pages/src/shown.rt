@@ -3,64 +3,53 @@
 //! ```text
 //! blocks = yes                             whether the cells lie in blocks
 //! lists = 2                                the lists of waiters of the cells, or why there are none
-//! waiting 0 = 1.1 2.1                      who waits in a list that was read
+//! waiting 0 = 1.1 2.1                      who waits in the list of a cell
 //! agree = no                               whether nobody waits, given that there is no window
 //! contents = 2                             the lists of the memory that cells, nodes and windows show under the limits
 //! ```
 
-use crate::rows::Rows;
+use crate::rows::Records;
+use crate::values::Sizes;
 use im_cell::CellRow;
 use im_contents::{Lists, agree, are_blocks, read_contents, read_lists};
 use im_story::{Call, Saying};
-use im_types::{Limits, NONE, Refusal};
+use im_types::{NONE, Refusal};
 
-/// The lists of waiters that were last read.
-#[derive(Drop)]
-pub struct Shown {
-    lists: Option<Lists>,
-}
-
-// Tells how many lists there are, or why there are none, and returns the lists.
-fn told(read: Result<Lists, Refusal>, said: &mut Saying) -> Option<Lists> {
-    match read {
-        Ok(lists) => {
-            said.number(lists.len() as u64);
-            Some(lists)
-        }
-        Err(refusal) => {
-            said.refusal(refusal);
-            None
-        }
-    }
-}
-
-// Returns the lists of waiters of some cells.
-fn lists_of(call: &Call, cells: &CellRow, rows: &Rows, said: &mut Saying) -> Option<Lists> {
-    if rows.nodes.len() > NONE as usize {
-        said.fail("too many nodes");
-        return None;
-    }
-    told(read_lists(call.alloc(), &rows.nodes, cells), said)
-}
-
-// Returns the lists of waiters of a memory.
-fn contents_of(
-    call: &Call,
-    limits: Option<Limits>,
+// Reads the lists of waiters of some cells, or of a memory. There are none if there are no limits, or too many nodes.
+fn read(
+    sizes: Sizes,
+    rows: &Records,
     cells: &CellRow,
-    rows: &Rows,
-    said: &mut Saying,
-) -> Option<Lists> {
-    let Some(limits) = limits else {
-        said.fail("there are no limits");
-        return None;
-    };
-    if rows.nodes.len() > NONE as usize {
-        said.fail("too many nodes");
+    call: &Call,
+) -> Option<Result<Lists, Refusal>> {
+    let (alloc, nodes) = (call.alloc(), &rows.nodes);
+    if nodes.len() > NONE as usize {
         return None;
     }
-    let read = read_contents(call.alloc(), limits, cells, &rows.nodes, &rows.windows);
-    told(read, said)
+    match (call.form(), sizes.limits) {
+        ("lists", _) => Some(read_lists(alloc, nodes, cells)),
+        ("contents", Some(limits)) => Some(read_contents(
+            alloc,
+            limits,
+            cells,
+            nodes,
+            &rows.windows,
+        )),
+        _ => None,
+    }
+}
+
+// Tells how many lists were read, or why none were.
+fn tell_read(lists: &mut Option<Lists>, read: Option<Result<Lists, Refusal>>, said: &mut Saying) {
+    *lists = None;
+    match read {
+        Some(Ok(found)) => {
+            said.number(found.len() as u64);
+            *lists = Some(found);
+        }
+        Some(Err(refusal)) => said.refusal(refusal),
+        None => said.fail("no such call"),
+    }
 }
 
 // Tells who waits in a list.
@@ -70,7 +59,7 @@ fn tell_waiting(lists: &Lists, cell: usize, said: &mut Saying) {
     }
     for who in lists.at(cell) {
         said.text(" ");
-        said.name(who.element, who.number);
+        said.waiter(Some(*who));
     }
 }
 
@@ -84,37 +73,21 @@ fn tell_agree(call: &Call, lists: &Lists, cells: &CellRow, said: &mut Saying) {
     }
 }
 
-impl Shown {
-    pub fn new() -> Shown {
-        Shown { lists: None }
-    }
-
-    pub fn clear(&mut self) {
-        self.lists = None;
-    }
-
-    // Tells of the lists that were read.
-    fn tell_of_lists(&self, cells: &CellRow, call: &Call, said: &mut Saying) {
-        let Some(lists) = &self.lists else {
-            return said.fail("no lists were read");
-        };
-        match call.form() {
-            "waiting _" => tell_waiting(lists, call.place(0), said),
-            "agree" => tell_agree(call, lists, cells, said),
-            _ => said.fail("no such call"),
-        }
-    }
-
-    /// Tells what the records show.
-    pub fn tell(&mut self, limits: Option<Limits>, rows: &Rows, call: &Call, said: &mut Saying) {
-        let Ok(cells) = CellRow::of(call.alloc(), &rows.cells) else {
-            return said.fail("no memory is left");
-        };
-        match call.form() {
-            "blocks" => said.either(are_blocks(&cells), "yes", "no"),
-            "lists" => self.lists = lists_of(call, &cells, rows, said),
-            "contents" => self.lists = contents_of(call, limits, &cells, rows, said),
-            _ => self.tell_of_lists(&cells, call, said),
-        }
+/// Tells what the records show. The lists are those that were last read.
+pub fn tell(
+    lists: &mut Option<Lists>,
+    sizes: Sizes,
+    rows: &Records,
+    call: &Call,
+    said: &mut Saying,
+) {
+    let Ok(cells) = CellRow::of(call.alloc(), &rows.cells) else {
+        return said.fail("no memory is left");
+    };
+    match (call.form(), &*lists) {
+        ("blocks", _) => said.either(are_blocks(&cells), "yes", "no"),
+        ("waiting _", Some(lists)) => tell_waiting(lists, call.place(0), said),
+        ("agree", Some(lists)) => tell_agree(call, lists, &cells, said),
+        _ => tell_read(lists, read(sizes, rows, &cells, call), said),
     }
 }

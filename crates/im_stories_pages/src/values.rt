@@ -32,7 +32,10 @@ impl Sizes {
         match call.form() {
             "limits _ _ _" => {
                 self.limits = call.limits(0);
-                add_limits(said, self.limits)
+                match self.limits {
+                    Some(made) => write!(said, "{} {} {}", made.cells, made.elements, made.slots),
+                    None => said.text("none"),
+                }
             }
             "version _" if call.number(0) == 1 || call.number(0) == 2 => {
                 self.version = Version::named(call.element(0));
@@ -40,17 +43,6 @@ impl Sizes {
             }
             _ => said.fail("no sizes"),
         }
-    }
-}
-
-// Adds limits, or `none` if they aren't allowed.
-fn add_limits(said: &mut Saying, limits: Option<Limits>) {
-    match limits {
-        Some(made) => {
-            let (cells, elements, slots) = (made.cells, made.elements, made.slots);
-            write!(said, "{cells} {elements} {slots}")
-        }
-        None => said.text("none"),
     }
 }
 

@@ -1,11 +1,11 @@
 //! The call of a line, taken apart once.
 
 use crate::says::Saying;
-use im_types::{Limits, Waiter};
+use im_types::{Limits, NONE, Waiter};
 use std::alloc::Global;
 
 /// The words of a call. Its form has `_` for each number and `_._` for each name of a request: that of `1.4 fetch 0` is
-/// `_._ fetch _`, with the numbers 1, 4 and 0.
+/// `_._ fetch _`, with the numbers 1, 4 and 0. A link that is `none` is a number too: that which leads nowhere.
 #[derive(Drop)]
 pub struct Call<'a> {
     words: &'a [&'a str],
@@ -35,6 +35,9 @@ fn has_named(numbers: &mut Vec<u64>, word: &str) -> bool {
 fn numbered<'w>(numbers: &mut Vec<u64>, word: &'w str) -> &'w str {
     if let Ok(number) = word.parse::<u64>() {
         keep(numbers, number);
+        "_"
+    } else if word == "none" {
+        keep(numbers, u64::from(NONE));
         "_"
     } else if has_named(numbers, word) {
         "_._"

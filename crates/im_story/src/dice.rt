@@ -2,7 +2,8 @@
 
 ghost use Rattle.std.specs.Prelude.{◌<◌};
 
-use im_types::{Command, Kind, Op, Request};
+use crate::words::asked;
+use im_types::{Command, Kind, Op};
 
 /// A linear congruential generator, with the constants of Knuth's MMIX.
 #[derive(Clone, Copy)]
@@ -83,10 +84,6 @@ impl Dice {
             let upto = window.0.saturating_add(self.long(18));
             return Command::Confirm { element, upto };
         }
-        Command::Request(Request {
-            element,
-            number: self.number(window),
-            op: self.operation(cells),
-        })
+        Command::Request(asked(element, self.number(window), self.operation(cells)))
     }
 }

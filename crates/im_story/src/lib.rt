@@ -18,20 +18,23 @@
 #![tactic(auto)]
 
 mod calls;
+mod cases;
 mod dice;
 mod files;
 mod old;
 mod paper;
+mod records;
 mod says;
 mod texts;
 mod walks;
 mod words;
 
 pub use calls::Call;
+pub use cases::Cases;
 pub use dice::Dice;
 pub use files::walk_files;
 pub use old::old_image;
 pub use paper::Paper;
 pub use says::Saying;
-pub use walks::Scene;
-pub use words::{bytes, change, command, hex, name, op, request};
+pub use walks::{Scene, Steps};
+pub use words::{asked, bytes, change, command, hex, name, op, request};

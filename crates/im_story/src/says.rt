@@ -56,6 +56,22 @@ impl Saying {
         self.is_wrong = self.is_wrong || other.is_wrong;
     }
 
+    /// Says what another one says, in place of all that was said.
+    pub fn repeat(&mut self, other: &Saying) {
+        self.text.clear();
+        self.also(other)
+    }
+
+    /// Says what another one says if nothing was said, or else checks that it says the same. The number tells of what.
+    pub fn same(&mut self, other: &Saying, number: u64) {
+        if self.is_empty() {
+            self.also(other)
+        } else if self.said() != other.said() || other.is_wrong() {
+            self.fail("not the same at ");
+            self.number(number)
+        }
+    }
+
     /// Adds a text.
     pub fn text(&mut self, text: &str) {
         if self.text.push_str(text).is_err() {
@@ -93,6 +109,13 @@ impl Saying {
             self.text(text)
         } else {
             self.fail("it can't be done")
+        }
+    }
+
+    /// Says that the call can't be made, unless this is so.
+    pub fn check(&mut self, is_so: bool) {
+        if !is_so {
+            self.fail("it isn't as it has to be")
         }
     }
 

@@ -1,6 +1,7 @@
 //! Walks through a text of stories.
 
 use crate::calls::Call;
+use crate::dice::Dice;
 use crate::says::Saying;
 use std::alloc::Global;
 
@@ -11,6 +12,28 @@ pub trait Scene {
 
     /// Makes the call, and says its answer, or that there is no such call.
     fn make(&mut self, call: &Call, said: &mut Saying);
+}
+
+/// Steps that are thrown, beside what has to come of them.
+pub trait Steps {
+    /// Makes the step of this number. Returns whether all is then as it has to be.
+    fn step(&mut self, number: u64, dice: &mut Dice) -> bool;
+}
+
+impl Call<'_> {
+    /// Makes as many steps as the call's first number says, thrown from its second one on. Tells how many of them are
+    /// right, up to the first that isn't.
+    pub fn walk<S: Steps>(&self, steps: &mut S, said: &mut Saying) {
+        let mut dice = Dice::new(self.number(1));
+        let mut right = 0u64;
+        for number in 0..self.number(0) {
+            if !steps.step(number, &mut dice) {
+                break;
+            }
+            right = number.saturating_add(1);
+        }
+        write!(said, "{right} steps agree")
+    }
 }
 
 /// What was read of a text, and how much of it was wrong.

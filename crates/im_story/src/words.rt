@@ -57,15 +57,20 @@ pub fn op(words: &[&str]) -> Option<Op> {
     }
 }
 
+/// Returns an element's request of this number.
+pub fn asked(element: u16, number: u64, op: Op) -> Request {
+    Request {
+        element,
+        number,
+        op,
+    }
+}
+
 /// A request: `ELEMENT.NUMBER`, and an operation.
 pub fn request(words: &[&str]) -> Option<Request> {
-    let (who, asked) = words.split_first()?;
-    match (name(who), op(asked)) {
-        (Some((element, number)), Some(op)) => Some(Request {
-            element,
-            number,
-            op,
-        }),
+    let (who, what) = words.split_first()?;
+    match (name(who), op(what)) {
+        (Some((element, number)), Some(op)) => Some(asked(element, number, op)),
         _ => None,
     }
 }
