@@ -312,6 +312,7 @@ impl Checkpoint {
     }
 
     // Does the work of `before` while pages are left.
+    #[inline(never)]
     fn copy_named(&mut self, memory: &Memory, command: &Command)
         requires step { IsPagesLeft self.old.state.step }
         requires sizes { HasSizes self.old.state.header.sizes memory.now.contents }

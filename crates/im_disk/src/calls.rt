@@ -3,6 +3,10 @@ ghost use Rattle.std.specs.Prelude.{◌≡◌, ◌∷◌, IsTrue};
 ghost use Rattle.im_disk.specs.Account.{event_of, is_measured, is_usable};
 
 use crate::account::Ledger;
+use std::fs::File;
+use std::io;
+use std::io::ErrorKind;
+use std::os::unix::fs::FileExt;
 
 // The numbers under which calls are noted.
 pub(crate) const MADE: u64 = 0;
@@ -36,4 +40,21 @@ pub(crate) fn note_written(ledger: &mut Ledger, numbers: &[u64], bytes: &[u8])
 pub(crate) fn is_inside(at: usize, size: usize, len: u64) -> bool {
     let (at, size) = (at as u64, size as u64);
     size <= len && at <= len - size
+}
+
+// Writes what is left of some bytes after a call that wrote so many of them.
+#[inline(never)]
+fn write_rest(file: &File, at: u64, bytes: &[u8], written: usize) -> io::Result<()> {
+    let written = written.min(bytes.len());
+    file.write_all_at(&bytes[written..], at.wrapping_add(written as u64))
+}
+
+// Writes bytes by one call of the system, or by more if that one writes only a part of them.
+pub(crate) fn write_whole(file: &File, at: u64, bytes: &[u8]) -> io::Result<()> {
+    match file.write_at(bytes, at) {
+        Ok(written) if written == bytes.len() => Ok(()),
+        Ok(written) => write_rest(file, at, bytes, written),
+        Err(error) if error.kind() == ErrorKind::Interrupted => write_rest(file, at, bytes, 0),
+        Err(error) => Err(error),
+    }
 }

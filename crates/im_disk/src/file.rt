@@ -5,7 +5,9 @@ ghost use Rattle.im_disk.specs.Account.{IsHonest, event_of, is_measured, is_usab
 ghost use Rattle.im_disk.specs.Failing.{is_of_sync};
 
 use crate::account::Ledger;
-use crate::calls::{MADE, MEASURED, READ, SYNCED, WRITTEN, is_inside, note, note_written};
+use crate::calls::{
+    MADE, MEASURED, READ, SYNCED, WRITTEN, is_inside, note, note_written, write_whole,
+};
 use crate::failing::Failing;
 use crate::opening::{made, made_new, readable, removed, settled};
 use crate::{DeviceFault, Disk, Failure, OpenFault, Start};
@@ -190,7 +192,7 @@ impl<S: Start> FileDisk<S> {
         if !self.usable || !is_inside(at, bytes.len(), self.len) {
             return Err(self.failing.fail(Failure::Length));
         }
-        match self.file.write_all_at(bytes, at as u64) {
+        match write_whole(&self.file, at as u64, bytes) {
             Ok(()) => {
                 note_written(&mut self.ledger, &[WRITTEN, at as u64, 1], bytes);
                 Ok(())

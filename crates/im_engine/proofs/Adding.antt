@@ -42,6 +42,9 @@ unchanged old new it =
     let recent : new.recent ≡ old.recent = same_set old.recent new.recent it.size it.kept (omega (arith, it.few)) in
     (λ i. record { recent = recent i; older = it.older i })
 
+pub none_added : (x : Changed) → AddsAtMost 0 x x
+none_added x = record { older = refl; size = refl; kept = λ page there. there; few = omega arith }
+
 -- where no command is put, no page is named
 pub none_named : (m : Contents) (left : ℕ) (cs : List Command) → commands_at m left cs ≡ []
     → most_pages_with m left cs ≡ 0

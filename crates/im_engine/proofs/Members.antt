@@ -21,6 +21,10 @@ use Rattle.im_journal.specs.Holding.{JournalState, IsJournal, room_after, longer
 use Rattle.im_image.specs.Reading.{HasSizes}
 use Rattle.im_checkpoint.specs.Step.{CheckpointState}
 use Rattle.im_groups.specs.Commands.{answer_with, contents_with, places_behind, answers_with, contents_after}
+use Rattle.im_groups.specs.Commands.{takes_place, takes_at, most_pages_at}
+use Rattle.im_memory.specs.Covering.{most_pages}
+use Rattle.im_laws.proofs.Tests.{and_both}
+use Rattle.im_laws.proofs.GroupLemmas.{above_zero}
 use Rattle.im_groups.specs.Ahead.{ServesPrefix}
 use Rattle.im_engine.specs.Commands.{each_refused}
 
@@ -37,19 +41,67 @@ told_next f g h xs rs i d a is_cons within is =
     ∙ ap (λ n. xs ++ f (get_or rs i d ∷ drop n rs)) next
     ∙ ap (λ l. xs ++ f l) (sym (drop-cons rs i d within))
 
--- a member that isn't accepted is answered by the step, and changes nothing
+-- a member that isn't accepted is answered by the step
 pub answer_unaccepted : (m : Contents) (left : ℕ) (c : Command) → is_accepted m c ≡ false
     → answer_with m left c ≡ (step m c).answer
 answer_unaccepted m left c un = ap
     (λ (b : Bool). if b && (left == 0) then Err JournalFull else (step m c).answer) un
 
-pub contents_unaccepted : (m : Contents) (left : ℕ) (c : Command) → is_accepted m c ≡ false
-    → contents_with m left c ≡ m
-contents_unaccepted m left c un = ap (λ (b : Bool). if b && nat_lt 0 left then (step m c).contents else m) un
+-- a member that takes a place is answered by the step, and acts
+pub taken_parts : (m : Contents) (left : ℕ) (c : Command) → takes_place m left c ≡ true
+    → (is_accepted m c ≡ true) × (nat_lt 0 left ≡ true)
+taken_parts m left c taken = and_both (is_accepted m c) (nat_lt 0 left) taken
 
-pub left_unaccepted : (m : Contents) (left : ℕ) (c : Command) → is_accepted m c ≡ false → places_behind m left c
-    ≡ left
-left_unaccepted m left c un = ap (λ (b : Bool). if b && nat_lt 0 left then left - 1 else left) un
+some_left : (left : ℕ) → nat_lt 0 left ≡ true → (left == 0) ≡ false
+some_left left some = grind (arith, nat_tests)
+
+none_left : (left : ℕ) → nat_lt 0 left ≡ false → (left == 0) ≡ true
+none_left left none = grind (arith, nat_tests)
+
+second_fails : (a b : Bool) → a ≡ true → (a && b) ≡ false → b ≡ false
+second_fails true b p q = q
+second_fails false b p q = absurd (cc)
+
+no_second : (a b : Bool) → b ≡ false → (a && b) ≡ false
+no_second true b q = q
+no_second false b q = refl
+
+pub answer_taken : (m : Contents) (left : ℕ) (c : Command) → takes_place m left c ≡ true
+    → (step m c).answer ≡ answer_with m left c
+answer_taken m left c taken = sym (ap (λ (b : Bool). if b then Err JournalFull else (step m c).answer)
+    (no_second (is_accepted m c) (left == 0) (some_left left (taken_parts m left c taken).1)))
+
+pub contents_taken : (m : Contents) (left : ℕ) (c : Command) → takes_place m left c ≡ true
+    → (step m c).contents ≡ contents_with m left c
+contents_taken m left c taken = sym (ap (λ (b : Bool). if b then (step m c).contents else m) taken)
+
+pub left_taken : (m : Contents) (left : ℕ) (c : Command) → takes_place m left c ≡ true → left - 1
+    ≡ places_behind m left c
+left_taken m left c taken = sym (ap (λ (b : Bool). if b then left - 1 else left) taken)
+
+pub pages_taken : (m : Contents) (left : ℕ) (c : Command) → takes_place m left c ≡ true → most_pages m c
+    ≡ most_pages_at m left c
+pages_taken m left c taken = sym (ap (λ (b : Bool). if b then most_pages m c else 0) taken)
+
+-- one that takes none and is accepted finds no place
+pub answer_full : (m : Contents) (left : ℕ) (c : Command) → takes_place m left c ≡ false → is_accepted m c ≡ true
+    → Err JournalFull ≡ answer_with m left c
+answer_full m left c none accepted = sym (ap (λ (b : Bool). if b then Err JournalFull else (step m c).answer)
+    (ap (λ (a : Bool). a && (left == 0)) accepted
+    ∙ none_left left (second_fails (is_accepted m c) (nat_lt 0 left) accepted none)))
+
+-- and changes nothing
+pub contents_none : (m : Contents) (left : ℕ) (c : Command) → takes_place m left c ≡ false → m
+    ≡ contents_with m left c
+contents_none m left c none = sym (ap (λ (b : Bool). if b then (step m c).contents else m) none)
+
+pub left_none : (m : Contents) (left : ℕ) (c : Command) → takes_place m left c ≡ false → left
+    ≡ places_behind m left c
+left_none m left c none = sym (ap (λ (b : Bool). if b then left - 1 else left) none)
+
+pub pages_none : (m : Contents) (left : ℕ) (c : Command) → takes_place m left c ≡ false → 0
+    ≡ most_pages_at m left c
+pages_none m left c none = sym (ap (λ (b : Bool). if b then most_pages m c else 0) none)
 
 -- the sizes of a memory stay
 pub sizes_after : (s t : CheckpointState) (m n : Contents) (command : Command) → t ≡ s → n
@@ -111,6 +163,48 @@ contents_next m left cs i d m2 left2 within contents less =
     ∙ ap (λ (n : ℕ). contents_after (contents_with m left (get_or cs i d)) n (drop (i + 1) cs)) less
     ∙ ap (λ (n : ℕ). contents_after m left (get_or cs i d ∷ drop n cs)) next
     ∙ ap (λ (l : List Command). contents_after m left l) (sym (drop-cons cs i d within))
+
+some_taken : (m : Contents) (left : ℕ) (cs : List Command) (i : ℕ) → i < length cs
+    → ◌≡◌ {A = List Bool} [] (takes_at m left (drop i cs)) → ⊥
+some_taken m left [] i within are = absurd (omega (arith, within))
+some_taken m left (c ∷ cs) zero within are = cc
+some_taken m left (c ∷ cs) (suc i) within are = some_taken m left cs i (omega (arith, within)) are
+
+-- whether the members that are left take a place: the first of them
+pub taken_first : (m : Contents) (left : ℕ) (cs : List Command) (ts : List Bool) (i : ℕ) (d : Command) (e : Bool)
+    → i < length cs → drop i ts ≡ takes_at m left (drop i cs) → get_or ts i e ≡ takes_place m left (get_or cs i d)
+taken_first m left [] ts i d e within are = absurd (omega (arith, within))
+taken_first m left (c ∷ cs) [] zero d e within are = absurd (cc)
+taken_first m left (c ∷ cs) [] (suc i) d e within are = absurd (some_taken m left cs i (omega (arith, within)) are)
+taken_first m left (c ∷ cs) (t ∷ ts) zero d e within are = cc
+taken_first m left (c ∷ cs) (t ∷ ts) (suc i) d e within are = taken_first m left cs ts i d e
+    (omega (arith, within)) are
+
+later_same : (t : Bool) (ts : List Bool) (us : List Bool) (u : Bool) → ◌≡◌ {A = List Bool} (t ∷ ts) (u ∷ us)
+    → ts ≡ us
+later_same t ts us u e = cc
+
+-- and the rest
+pub taken_next : (m : Contents) (left : ℕ) (cs : List Command) (ts : List Bool) (i : ℕ) (d : Command) (m2 : Contents)
+    (left2 : ℕ) → i < length cs → drop i ts ≡ takes_at m left (drop i cs) → m2 ≡ contents_with m left (get_or cs i d)
+    → left2 ≡ places_behind m left (get_or cs i d) → drop (i + 1) ts ≡ takes_at m2 left2 (drop (i + 1) cs)
+taken_next m left [] ts i d m2 left2 within are contents less = absurd (omega (arith, within))
+taken_next m left (c ∷ cs) [] zero d m2 left2 within are contents less = absurd (cc)
+taken_next m left (c ∷ cs) [] (suc i) d m2 left2 within are contents less = absurd
+    (some_taken m left cs i (omega (arith, within)) are)
+taken_next m left (c ∷ cs) (t ∷ ts) zero d m2 left2 within are contents less =
+    later_same t ts (takes_at (contents_with m left c) (places_behind m left c) cs) (takes_place m left c) are
+    ∙ ap (λ (n : Contents). takes_at n (places_behind m left c) cs) (sym contents)
+    ∙ ap (λ (n : ℕ). takes_at m2 n cs) (sym less)
+taken_next m left (c ∷ cs) (t ∷ ts) (suc i) d m2 left2 within are contents less =
+    let next : suc i + 1 ≡ suc (i + 1) = omega arith in
+    ap (λ (n : ℕ). drop n (t ∷ ts)) next
+    ∙ taken_next m left cs ts i d m2 left2 (omega (arith, within)) are contents less
+    ∙ ap (λ (n : ℕ). takes_at m2 left2 (drop n (c ∷ cs))) (sym next)
+
+pub length_taken : (m : Contents) (left : ℕ) (cs : List Command) → length (takes_at m left cs) ≡ length cs
+length_taken m left [] = refl
+length_taken m left (c ∷ cs) = ap suc (length_taken (contents_with m left c) (places_behind m left c) cs)
 
 pub length_map : (rs : List Request) → length (map Asks rs) ≡ length rs
 length_map [] = refl

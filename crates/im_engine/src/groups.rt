@@ -1,10 +1,10 @@
 //! The members of a group: what is put on the disk for them, how they act, and their answers.
 ghost use Rattle.std.specs.Prelude.{◌≡◌, ◌↔◌, ◌⊎◌, ◌+◌, ◌≤◌, ℕ, [], length, map};
-ghost use Rattle.std.specs.Prelude.{Some, Ok, OnOk, IsTrue};
+ghost use Rattle.std.specs.Prelude.{Some, Ok, OnOk, IsTrue, true, false};
 ghost use Rattle.std.specs.Prelude.{MatchResult};
 ghost use Rattle.im_types.specs.declared.commands.Command.TheVariants.{Request as Asks};
 ghost use Rattle.im_types.specs.Contents.{Contents};
-ghost use Rattle.im_types.specs.Step.{step};
+ghost use Rattle.im_types.specs.Step.{step, is_accepted};
 ghost use Rattle.im_types.specs.Groups.{AreOthers, AreApart, as_served};
 ghost use Rattle.im_disk.specs.Moment.{Moment, Faults};
 ghost use Rattle.im_journal.specs.Holding.{JournalState, IsJournal, AllHold, longer};
@@ -12,10 +12,10 @@ ghost use Rattle.im_image.specs.Reading.{HasSizes};
 ghost use Rattle.im_memory.specs.Covering.{most_pages};
 ghost use Rattle.im_checkpoint.specs.Keeping.{paged, IsKept};
 ghost use Rattle.im_groups.specs.Commands.{places, answer_with, contents_with, places_behind, answers_with};
-ghost use Rattle.im_groups.specs.Commands.{contents_after};
+ghost use Rattle.im_groups.specs.Commands.{contents_after, takes_place};
 ghost use Rattle.im_groups.specs.Commands.{most_pages_at, most_pages_with};
 ghost use Rattle.im_engine.specs.Groups.{FitsGroup, GroupPut, LeavesAllOrNone, KeepsAfter, StaysBut};
-ghost use Rattle.im_engine.specs.Commands.{each_refused};
+ghost use Rattle.im_engine.specs.Commands.{AreJudged, each_refused};
 
 use arrayvec::ArrayVec;
 use im_checkpoint::Checkpoint;
@@ -112,6 +112,7 @@ fn act(
     command: &Command,
 ) -> Result<Outcome, Refusal>
     requires sizes { HasSizes checkpoint.old.state.header.sizes memory.old.contents }
+    requires accepted { is_accepted memory.old.contents command.now ≡ true }
     ensures answer { result ≡ (step memory.old.contents command.now).answer }
     ensures contents { memory.new.contents ≡ (step memory.old.contents command.now).contents }
     ensures sizes { HasSizes checkpoint.new.state.header.sizes memory.new.contents }
@@ -122,17 +123,18 @@ fn act(
 {
     // If a checkpoint still has to write a page, it needs the page as it was before the command.
     checkpoint.before(memory, command);
-    memory.step(command)
+    memory.accept(command)
 }
 
-// Lets one member act, or answers it without acting.
-fn act_one(
+// Lets a member act that takes a place.
+fn act_taken(
     checkpoint: &mut Checkpoint,
     memory: &mut Memory,
     left: &mut u64,
     command: &Command,
 ) -> Result<Outcome, Refusal>
     requires sizes { HasSizes checkpoint.old.state.header.sizes memory.old.contents }
+    requires taken { takes_place memory.old.contents left.old command.now ≡ true }
     ensures answer { result ≡ answer_with memory.old.contents left.old command.now }
     ensures contents { memory.new.contents ≡ contents_with memory.old.contents left.old command.now }
     ensures left { left.new ≡ places_behind memory.old.contents left.old command.now }
@@ -142,16 +144,47 @@ fn act_one(
         → IsKept checkpoint.old.state (paged checkpoint.old memory.old) m j now
         → IsKept checkpoint.new.state (paged checkpoint.new memory.new) m j now }
 {
+    let less = left.saturating_sub(1);
+    *left = less;
+    act(checkpoint, memory, command)
+}
+
+// Answers a member that takes no place. Nothing changes.
+fn answer_alone(memory: &mut Memory, left: u64, command: &Command) -> Result<Outcome, Refusal>
+    requires { takes_place memory.old.contents left command.now ≡ false }
+    ensures answer { result ≡ answer_with memory.old.contents left command.now }
+    ensures same { memory.new ≡ memory.old }
+{
     match memory.judge(command) {
-        Ok(true) => {
-            if *left == 0 {
-                return Err(Refusal::JournalFull);
-            }
-            *left -= 1;
-            act(checkpoint, memory, command)
-        }
+        Ok(true) => Err(Refusal::JournalFull),
         Ok(false) => memory.step(command),
         Err(refusal) => Err(refusal),
+    }
+}
+
+// Lets one member act, or answers it without acting.
+fn act_one(
+    checkpoint: &mut Checkpoint,
+    memory: &mut Memory,
+    left: &mut u64,
+    taken: bool,
+    command: &Command,
+) -> Result<Outcome, Refusal>
+    requires sizes { HasSizes checkpoint.old.state.header.sizes memory.old.contents }
+    requires taken { taken ≡ takes_place memory.old.contents left.old command.now }
+    ensures answer { result ≡ answer_with memory.old.contents left.old command.now }
+    ensures contents { memory.new.contents ≡ contents_with memory.old.contents left.old command.now }
+    ensures left { left.new ≡ places_behind memory.old.contents left.old command.now }
+    ensures sizes { HasSizes checkpoint.new.state.header.sizes memory.new.contents }
+    ensures stays { StaysBut (most_pages_at memory.old.contents left.old command.now) checkpoint.old checkpoint.new }
+    ensures kept { (m : Contents) (j : JournalState) (now : Moment)
+        → IsKept checkpoint.old.state (paged checkpoint.old memory.old) m j now
+        → IsKept checkpoint.new.state (paged checkpoint.new memory.new) m j now }
+{
+    if taken {
+        act_taken(checkpoint, memory, left, command)
+    } else {
+        answer_alone(memory, *left, command)
     }
 }
 
@@ -164,28 +197,38 @@ fn as_served(answer: Result<Outcome, Refusal>) -> Served
     }
 }
 
+/// The members of a group, and of each whether it takes a place.
+#[derive(Clone, Copy)]
+pub(crate) struct Members<'a> {
+    pub(crate) all: &'a [Command],
+    pub(crate) taken: &'a [bool],
+}
+
 /// Lets all members act in their order. The disk already has the commands of those that are accepted and have a place.
 pub(crate) fn act_all(
     checkpoint: &mut Checkpoint,
     memory: &mut Memory,
     places: u64,
-    members: &[Command],
+    members: &Members,
     served: &mut ArrayVec<Served, 16>,
 )
-    requires fits { length members.now ≤ 16 }
+    requires judged { AreJudged memory.old.contents places members.now.all.now members.now.taken.now }
     requires empty { served.old.items ≡ [] }
     requires sizes { HasSizes checkpoint.old.state.header.sizes memory.old.contents }
-    ensures answers { served.new.items ≡ map as_served (answers_with memory.old.contents places members.now) }
-    ensures contents { memory.new.contents ≡ contents_after memory.old.contents places members.now }
+    ensures answers { served.new.items
+        ≡ map as_served (answers_with memory.old.contents places members.now.all.now) }
+    ensures contents { memory.new.contents ≡ contents_after memory.old.contents places members.now.all.now }
     ensures sizes { HasSizes checkpoint.new.state.header.sizes memory.new.contents }
-    ensures stays { StaysBut (most_pages_with memory.old.contents places members.now) checkpoint.old checkpoint.new }
+    ensures stays { StaysBut (most_pages_with memory.old.contents places members.now.all.now)
+        checkpoint.old checkpoint.new }
     ensures kept { (m : Contents) (j : JournalState) (now : Moment)
         → IsKept checkpoint.old.state (paged checkpoint.old memory.old) m j now
         → IsKept checkpoint.new.state (paged checkpoint.new memory.new) m j now }
 {
     let mut left = places;
-    for member in members {
-        let answer = act_one(checkpoint, memory, &mut left, member);
+    for i in 0..members.all.len() {
+        let taken = members.taken[i];
+        let answer = act_one(checkpoint, memory, &mut left, taken, &members.all[i]);
         served.push(as_served(answer));
     }
 }

@@ -6,8 +6,10 @@ mod apart;
 mod emptying;
 mod engine;
 mod format;
+mod grouping;
 mod groups;
 mod laws;
+mod looking;
 mod open;
 mod run;
 

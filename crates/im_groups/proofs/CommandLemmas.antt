@@ -11,7 +11,7 @@ use Rattle.im_types.specs.Meaning.{accept_each}
 use Rattle.im_laws.proofs.Tests.{and_both}
 use Rattle.im_laws.proofs.GroupLemmas.{above_zero}
 use Rattle.im_groups.specs.Commands.{takes_place, contents_with, places_behind, command_at, contents_after, left_after}
-use Rattle.im_groups.specs.Commands.{commands_at}
+use Rattle.im_groups.specs.Commands.{commands_at, takes_at}
 use Rattle.im_groups.specs.Ahead.{AreAccepted}
 
 -- no more commands than places
@@ -82,3 +82,10 @@ commands_behind m left (d ∷ cs) c =
     ∙ sym (append_assoc (command_at m left d) (commands_at (contents_with m left d) (places_behind m left d) cs)
     (command_at (contents_after (contents_with m left d) (places_behind m left d) cs)
     (left_after (contents_with m left d) (places_behind m left d) cs) c))
+
+pub takes_behind : (m : Contents) (left : ℕ) (cs : List Command) (c : Command)
+    → takes_at m left (cs ++ c ∷ []) ≡ takes_at m left cs
+    ++ takes_place (contents_after m left cs) (left_after m left cs) c ∷ []
+takes_behind m left [] c = refl
+takes_behind m left (d ∷ cs) c = ap (λ (l : List Bool). takes_place m left d ∷ l)
+    (takes_behind (contents_with m left d) (places_behind m left d) cs c)

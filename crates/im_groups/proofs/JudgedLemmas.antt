@@ -9,9 +9,9 @@ use Rattle.im_types.specs.declared.commands.Command.TheVariants.{Request as Asks
 use Rattle.im_types.specs.Contents.{Contents}
 use Rattle.im_types.specs.Step.{is_accepted}
 use Rattle.im_types.specs.Run.{after}
-use Rattle.im_groups.specs.Commands.{contents_after, left_after, command_at, commands_at}
+use Rattle.im_groups.specs.Commands.{contents_after, left_after, command_at, commands_at, takes_place, takes_at}
 use Rattle.im_groups.specs.Ahead.{IsUnsure, ServesPrefix}
-use Rattle.im_groups.proofs.CommandLemmas.{at-after, commands_behind, left_behind}
+use Rattle.im_groups.proofs.CommandLemmas.{at-after, commands_behind, left_behind, takes_behind}
 
 -- one member more is judged
 pub record JudgesOneMore (m : Contents) (places : ℕ) (members : List Command) (i : ℕ) (commands : List Command) (left
@@ -49,6 +49,24 @@ judged-next m places members ahead cs ds left left2 i d b within few same cs_are
           ∙ ap (λ (n : ℕ). if is_accepted c x && nat_lt 0 n then n - 1 else n) left_is
           ∙ sym (left_behind m places front x) ∙ ap (left_after m places) (sym more);
     }
+
+-- and it is known whether that member takes a place
+pub taken-next : (m : Contents) (places : ℕ) (members ahead cs : List Command) (ts : List Bool) (left i : ℕ)
+    (d : Command) (b taken : Bool) → i < length members → ahead ≡ cs → cs ≡ commands_at m places (take i members)
+    → left ≡ left_after m places (take i members) → ts ≡ takes_at m places (take i members)
+    → b ≡ is_accepted (after m ahead) (get_or members i d) → taken ≡ (b && nat_lt 0 left)
+    → ts ++ taken ∷ [] ≡ takes_at m places (take (i + 1) members)
+taken-next m places members ahead cs ts left i d b taken within same cs_are left_is ts_are b_is taken_is =
+    let x = get_or members i d in
+    let front = take i members in
+    let c = contents_after m places front in
+    let more : take (i + 1) members ≡ front ++ x ∷ [] = take_more members i d within in
+    let verdict : b ≡ is_accepted c x = b_is ∙ ap (λ n. is_accepted (after m n) x) (same ∙ cs_are)
+    ∙ ap (λ n. is_accepted n x) (at-after m places front) in
+    ap (λ (t : Bool). ts ++ t ∷ []) (taken_is ∙ ap (λ (v : Bool). v && nat_lt 0 left) verdict
+    ∙ ap (λ (n : ℕ). is_accepted c x && nat_lt 0 n) left_is)
+    ∙ ap (λ (k : List Bool). k ++ takes_place c (left_after m places front) x ∷ []) ts_are
+    ∙ sym (takes_behind m places front x) ∙ ap (takes_at m places) (sym more)
 
 -- where something isn't known, there is a command ahead
 pub unsure-behind : (m : Contents) (ahead : List Command) (c : Command) → IsUnsure m ahead c → 0 < length ahead

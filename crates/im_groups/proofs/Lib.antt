@@ -2,3 +2,4 @@ pub mod CommandLemmas
 pub mod RequestLemmas
 pub mod AheadLemmas
 pub mod JudgedLemmas
+pub mod MarkLemmas

@@ -60,6 +60,12 @@ commands_at m left [] = []
 commands_at m left (command ∷ commands) = command_at m left command ++ commands_at (contents_with m left command)
     (places_behind m left command) commands
 
+-- for each member, whether it takes a place, judged after the members before it
+abbrev pub takes_at : Contents → ℕ → List Command → List Bool
+takes_at m left [] = []
+takes_at m left (command ∷ commands) = takes_place m left command ∷ takes_at (contents_with m left command)
+    (places_behind m left command) commands
+
 -- the most pages on which a member may change a record
 abbrev pub most_pages_at : Contents → ℕ → Command → ℕ
 most_pages_at m left command = if takes_place m left command then most_pages m command else 0

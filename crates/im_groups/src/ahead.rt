@@ -9,7 +9,9 @@ ghost use Rattle.im_types.specs.Step.{is_accepted};
 ghost use Rattle.im_types.specs.Run.{after};
 ghost use Rattle.im_groups.specs.Ahead.{AreAccepted, bounds_behind, moved_by, is_next, is_at_once, asks_at_once};
 ghost use Rattle.im_groups.specs.Ahead.{is_sure, IsUnsure};
+ghost use Rattle.im_groups.specs.Marks.{HaveMarks};
 
+use crate::marks::has_mark;
 use im_memory::Memory;
 use im_types::{Command, Entry, LAST, Op, Refusal, Request, WINDOW};
 
@@ -184,6 +186,50 @@ fn judge_confirm(memory: &Memory, ahead: &[Command], element: u16, upto: u64) ->
         Some(true)
     } else {
         None
+    }
+}
+
+// Returns whether the memory accepts a request as it is.
+fn judge_alone(memory: &Memory, request: &Request) -> bool
+    ensures { result ≡ is_accepted memory.now.contents (Command.Request request.now) }
+{
+    match bounds_now(memory, request.element) {
+        Ok(bounds) => is_next(bounds, request),
+        Err(_) => false,
+    }
+}
+
+// Returns whether a request is accepted after these commands. Their elements are marked: behind commands of others the
+// request is judged by the memory as it is.
+fn judge_marked(memory: &Memory, ahead: &[Command], marks: &[bool], request: &Request) -> bool
+    requires few { length ahead.now ≤ 16 }
+    requires accepted { AreAccepted memory.now.contents ahead.now }
+    requires marked { HaveMarks marks.now ahead.now }
+    ensures { result ≡ is_accepted (after memory.now.contents ahead.now) (Command.Request request.now) }
+{
+    if has_mark(marks, request.element) {
+        judge_request(memory, ahead, request)
+    } else {
+        judge_alone(memory, request)
+    }
+}
+
+/// Returns what [`judge_behind`] does. The elements of the commands ahead are marked.
+pub(crate) fn judge_member(
+    memory: &Memory,
+    ahead: &[Command],
+    marks: &[bool],
+    command: &Command,
+) -> Option<bool>
+    requires few { length ahead.now ≤ 16 }
+    requires accepted { AreAccepted memory.now.contents ahead.now }
+    requires marked { HaveMarks marks.now ahead.now }
+    ensures found { IfSome result (λ b. b ≡ is_accepted (after memory.now.contents ahead.now) command.now) }
+    ensures unsure { IsNone result → IsUnsure memory.now.contents ahead.now command.now }
+{
+    match command {
+        Command::Request(request) => Some(judge_marked(memory, ahead, marks, request)),
+        Command::Confirm { .. } => judge_behind(memory, ahead, command),
     }
 }
 

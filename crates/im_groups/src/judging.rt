@@ -1,34 +1,41 @@
 //! The members of a group, judged in their order before any of them acts.
 ghost use Rattle.std.specs.Prelude.{◌≡◌, ◌+◌, ◌-◌, ◌<◌, ◌≤◌, ◌&&◌, ◌++◌, ◌∷◌, [], length, take, nat_lt, if◌then◌else◌};
-ghost use Rattle.im_groups.specs.Commands.{commands_at};
+ghost use Rattle.im_groups.specs.Commands.{commands_at, takes_at};
 ghost use Rattle.im_groups.specs.Ahead.{ServesPrefix};
 
-use crate::ahead::judge_behind;
+use crate::ahead::judge_member;
+use crate::marks::mark;
 use arrayvec::ArrayVec;
 use im_memory::Memory;
-use im_types::Command;
+use im_types::{Command, MAX_ELEMENTS};
 
-// Adds a member's command if it is accepted and has a place.
+const ELEMENTS: usize = MAX_ELEMENTS as usize;
+
+// Adds a member's command if it is accepted and has a place. Returns whether it has.
 fn add_member(
     accepted: bool,
     left: &mut u64,
     member: &Command,
     commands: &mut ArrayVec<Command, 16>,
-)
+) -> bool
     requires room { length commands.old.items < 16 }
     ensures commands { commands.new.items
         ≡ commands.old.items ++ (if accepted && nat_lt 0 left.old then member.now ∷ [] else []) }
     ensures left { left.new ≡ (if accepted && nat_lt 0 left.old then left.old - 1 else left.old) }
+    ensures taken { result ≡ (accepted && nat_lt 0 left.old) }
 {
     if accepted && *left > 0 {
         commands.push(*member);
         *left -= 1;
+        true
+    } else {
+        false
     }
 }
 
 /// Judges the members of a group, each after the members before it, with the given number of places for commands. It
-/// puts the commands that are accepted and have a place into `commands`, and returns the number of judged members. It
-/// takes no memory. (Own.)
+/// puts the commands that are accepted and have a place into `commands`, and for each judged member into `taken`
+/// whether it is one of these. It returns the number of judged members. It takes no memory. (Own.)
 ///
 /// It stops before the first member whose acceptance isn't known before the others act (`judge_behind`). It judges at
 /// least one member if there are any, and all of them if they are requests.
@@ -37,16 +44,23 @@ pub fn judge_members(
     places: u64,
     members: &[Command],
     commands: &mut ArrayVec<Command, 16>,
+    taken: &mut ArrayVec<bool, 16>,
 ) -> usize
     requires fits { length members.now ≤ 16 }
     requires empty { commands.old.items ≡ [] }
+    requires none { taken.old.items ≡ [] }
     ensures commands { commands.new.items ≡ commands_at memory.now.contents places (take result members.now) }
+    ensures taken { taken.new.items ≡ takes_at memory.now.contents places (take result members.now) }
     ensures begins { ServesPrefix memory.now.contents commands.new.items members.now result }
 {
     let mut left = places;
+    let mut marks = [false; ELEMENTS];
     for i in 0..members.len() {
-        match judge_behind(memory, commands.as_slice(), &members[i]) {
-            Some(accepted) => add_member(accepted, &mut left, &members[i], commands),
+        match judge_member(memory, commands.as_slice(), &marks, &members[i]) {
+            Some(accepted) => {
+                mark(&mut marks, &members[i]);
+                taken.push(add_member(accepted, &mut left, &members[i], commands));
+            }
             None => return i,
         }
     }

@@ -4,6 +4,7 @@
 
 mod ahead;
 mod judging;
+mod marks;
 
 pub use ahead::judge_behind;
 pub use judging::judge_members;

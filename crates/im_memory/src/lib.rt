@@ -6,6 +6,7 @@
 //! them, and `im_histories` the laws of whole histories.
 #![tactic(auto)]
 
+mod accepting;
 mod acts;
 mod memory;
 mod records;

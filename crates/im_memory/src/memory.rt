@@ -67,7 +67,7 @@ impl Model for Memory {
 }
 
 // Serves a new request: does its operation, keeps its entry, and answers the requests that it resumes.
-fn serve(
+pub(crate) fn serve(
     table: &mut CellTable,
     arena: &mut Arena,
     sessions: &mut Sessions,
@@ -180,7 +180,7 @@ impl Memory {
         }
     }
 
-    fn confirm(&mut self, element: u16, upto: u64) -> Result<Outcome, Refusal>
+    pub(crate) fn confirm(&mut self, element: u16, upto: u64) -> Result<Outcome, Refusal>
         ensures answer { result ≡ (step self.old.contents (Command.Confirm element upto)).answer }
         ensures contents { self.new.contents ≡ (step self.old.contents (Command.Confirm element upto)).contents }
         ensures was_memory { let m = self.old.contents in IsMemory (length m.cells) (length m.windows) m }

@@ -6,21 +6,23 @@ use Rattle.im_journal.specs.Holding.{JournalState}
 use Rattle.im_image.specs.Reading.{HasSizes}
 use Rattle.im_checkpoint.specs.Keeping.{paged, IsKept}
 use Rattle.im_checkpoint.specs.Step.{changed_in}
-use Rattle.im_groups.specs.Commands.{answers_with, contents_after, most_pages_with}
+use Rattle.im_groups.specs.Commands.{answers_with, contents_after, takes_at, most_pages_with}
 use Rattle.im_engine.proofs.Adding.{AddsSoFar}
 use Rattle.im_engine.proofs.groups.act_all.Given as goal
 
-abbrev pub invariant-loop-member : goal.invariant-loop-member
-invariant-loop-member l = record {
-  size : length l.served.items ≡ l.member-index;
-  answers : l.served.items ++ map as_served (answers_with l.memory.contents l.left (drop l.member-index l.members))
-      ≡ map as_served (answers_with l.fn.memory.contents l.places l.members);
-  contents : contents_after l.memory.contents l.left (drop l.member-index l.members)
-      ≡ contents_after l.fn.memory.contents l.places l.members;
+abbrev pub invariant-loop-i : goal.invariant-loop-i
+invariant-loop-i l = record {
+  size : length l.served.items ≡ l.i;
+  answers : l.served.items ++ map as_served (answers_with l.memory.contents l.left (drop l.i l.members.all.now))
+      ≡ map as_served (answers_with l.fn.memory.contents l.places l.members.all.now);
+  contents : contents_after l.memory.contents l.left (drop l.i l.members.all.now)
+      ≡ contents_after l.fn.memory.contents l.places l.members.all.now;
+  taken : drop l.i l.members.taken.now ≡ takes_at l.memory.contents l.left (drop l.i l.members.all.now);
   sizes : HasSizes l.checkpoint.state.header.sizes l.memory.contents;
   state : l.checkpoint.state ≡ l.fn.checkpoint.state;
-  pages : AddsSoFar (most_pages_with l.memory.contents l.left (drop l.member-index l.members))
-      (most_pages_with l.fn.memory.contents l.places l.members) (changed_in l.fn.checkpoint) (changed_in l.checkpoint);
+  pages : AddsSoFar (most_pages_with l.memory.contents l.left (drop l.i l.members.all.now))
+      (most_pages_with l.fn.memory.contents l.places l.members.all.now) (changed_in l.fn.checkpoint)
+      (changed_in l.checkpoint);
   kept : (m : Contents) (j : JournalState) (now : Moment)
       → IsKept l.fn.checkpoint.state (paged l.fn.checkpoint l.fn.memory) m j now
       → IsKept l.checkpoint.state (paged l.checkpoint l.memory) m j now;

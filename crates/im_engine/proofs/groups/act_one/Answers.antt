@@ -1,39 +1,40 @@
-use Rattle.std.proofs.Common.{◌≡◌, false, Ok, sym, ◌∙◌, ap, subst}
-use Rattle.im_types.specs.Step.{is_accepted}
+use Rattle.std.proofs.Common.{◌≡◌, ℕ, false, refl, sym, ◌∙◌, ap, subst}
+use Rattle.im_image.specs.Reading.{HasSizes}
 use Rattle.im_memory.specs.State.{MemoryState}
+use Rattle.im_checkpoint.specs.Step.{changed_in}
 use Rattle.im_checkpoint.specs.Keeping.{paged, IsKept}
-use Rattle.im_engine.proofs.Serving.{accepts, refused_acceptance, refused_unaccepted}
-use Rattle.im_engine.proofs.Members.{answer_unaccepted, contents_unaccepted, left_unaccepted}
+use Rattle.im_groups.specs.Commands.{takes_place}
+use Rattle.im_engine.specs.Groups.{StaysBut}
+use Rattle.im_engine.proofs.Adding.{none_added}
+use Rattle.im_engine.proofs.Members.{contents_none, left_none, pages_none}
 use Rattle.im_engine.proofs.groups.act_one.Goals as goal
 
-pub returns-in-Ok-false-clause-kept : goal.returns-in-Ok-false-clause-kept
-returns-in-Ok-false-clause-kept c = λ m j now kept.
-    let un : is_accepted c.args.memory.now.contents c.args.command.now
-    ≡ false = accepts c.args.memory.now.contents c.args.command.now false c.judge.result c.judge.ensures
-    (c.in-Ok-false.is ∙ ap (λ b. Ok b) c.in-Ok-false.field-0-test) in
+pub act_taken-requires-clause-taken : goal.act_taken-requires-clause-taken
+act_taken-requires-clause-taken c = sym c.requires.taken ∙ c.if-taken.true
+
+pub answer_alone-requires : goal.answer_alone-requires
+answer_alone-requires c = sym c.requires.taken ∙ c.if-taken.false
+
+pub returns-else-taken-clause-contents : goal.returns-else-taken-clause-contents
+returns-else-taken-clause-contents c = ap (λ (s : MemoryState). s.contents) c.answer_alone.ensures.same
+    ∙ contents_none c.args.memory.now.contents c.args.left.now c.args.command.now
+    (sym c.requires.taken ∙ c.if-taken.false)
+
+pub returns-else-taken-clause-left : goal.returns-else-taken-clause-left
+returns-else-taken-clause-left c = left_none c.args.memory.now.contents c.args.left.now c.args.command.now
+    (sym c.requires.taken ∙ c.if-taken.false)
+
+pub returns-else-taken-clause-sizes : goal.returns-else-taken-clause-sizes
+returns-else-taken-clause-sizes c = subst (λ (s : MemoryState). HasSizes c.args.checkpoint.now.state.header.sizes
+    s.contents) (sym c.answer_alone.ensures.same) c.requires.sizes
+
+pub returns-else-taken-clause-stays : goal.returns-else-taken-clause-stays
+returns-else-taken-clause-stays c = subst (λ (n : ℕ). StaysBut n c.args.checkpoint.now c.args.checkpoint.now)
+    (pages_none c.args.memory.now.contents c.args.left.now c.args.command.now
+    (sym c.requires.taken ∙ c.if-taken.false))
+    (record { state = refl; pages = none_added (changed_in c.args.checkpoint.now) })
+
+pub returns-else-taken-clause-kept : goal.returns-else-taken-clause-kept
+returns-else-taken-clause-kept c = λ m j now kept.
     subst (λ (n : MemoryState). IsKept c.args.checkpoint.now.state (paged c.args.checkpoint.now n) m j now)
-    (sym (c.step.ensures.unaccepted un)) kept
-
-pub returns-in-Err-clause-answer : goal.returns-in-Err-clause-answer
-returns-in-Err-clause-answer c =
-    let m = c.args.memory.now.contents in
-    let refused = refused_acceptance m
-    c.args.command.now c.in-Err.refusal c.judge.result c.judge.ensures c.in-Err.is in
-    sym refused ∙ sym (answer_unaccepted m c.args.left.now c.args.command.now
-    (refused_unaccepted m c.args.command.now c.in-Err.refusal refused))
-
-pub returns-in-Err-clause-contents : goal.returns-in-Err-clause-contents
-returns-in-Err-clause-contents c =
-    let m = c.args.memory.now.contents in
-    let refused = refused_acceptance m
-    c.args.command.now c.in-Err.refusal c.judge.result c.judge.ensures c.in-Err.is in
-    sym (contents_unaccepted m c.args.left.now c.args.command.now
-    (refused_unaccepted m c.args.command.now c.in-Err.refusal refused))
-
-pub returns-in-Err-clause-left : goal.returns-in-Err-clause-left
-returns-in-Err-clause-left c =
-    let m = c.args.memory.now.contents in
-    let refused = refused_acceptance m
-    c.args.command.now c.in-Err.refusal c.judge.result c.judge.ensures c.in-Err.is in
-    sym (left_unaccepted m c.args.left.now c.args.command.now
-    (refused_unaccepted m c.args.command.now c.in-Err.refusal refused))
+    (sym c.answer_alone.ensures.same) kept

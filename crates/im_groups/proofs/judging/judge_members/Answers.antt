@@ -1,15 +1,32 @@
-use Rattle.std.proofs.Common.{List, refl, sym, subst, take, ◌∙◌}
+use Rattle.std.proofs.Common.{List, refl, sym, subst, take, ◌∙◌, rules}
+use Rattle.std.specs.Prelude.{◌&&◌, nat_lt, replicate, false}
 use Rattle.im_types.specs.declared.commands.Command.{Command}
 use Rattle.im_groups.specs.Ahead.{AreAccepted}
+use Rattle.im_groups.specs.Marks.{HaveMarks}
 use Rattle.im_groups.proofs.CommandLemmas.{at-accepted}
-use Rattle.im_groups.proofs.JudgedLemmas.{judged-next, stops-begins, all-begins}
+use Rattle.im_groups.proofs.JudgedLemmas.{judged-next, taken-next, stops-begins, all-begins}
+use Rattle.im_groups.proofs.MarkLemmas.{none_marked, marked-next}
 use Rattle.im_groups.proofs.judging.judge_members.Goals as goal
 
-pub judge_behind-requires-clause-accepted : goal.judge_behind-requires-clause-accepted
-judge_behind-requires-clause-accepted c =
+pub loop-i-init : goal.loop-i-init
+loop-i-init c = record {
+  few = search rules;
+  size = search rules;
+  commands = search rules;
+  taken = search rules;
+  left = search rules;
+  marked = none_marked (replicate 64 false) _ c.requires.empty;
+}
+
+pub judge_member-requires-clause-accepted : goal.judge_member-requires-clause-accepted
+judge_member-requires-clause-accepted c =
     subst (λ (l : List Command). AreAccepted c.args.memory.now.contents l)
     (sym (c.as_slice.ensures.value ∙ c.loop-i.invariant.commands))
     (at-accepted c.args.memory.now.contents c.args.places (take c.loop-i.i c.args.members.now))
+
+pub judge_member-requires-clause-marked : goal.judge_member-requires-clause-marked
+judge_member-requires-clause-marked c =
+    subst (λ (l : List Command). HaveMarks c.loop-i.marks l) (sym c.as_slice.ensures.value) c.loop-i.invariant.marked
 
 pub returns-in-None-clause-begins : goal.returns-in-None-clause-begins
 returns-in-None-clause-begins c =
@@ -18,11 +35,25 @@ returns-in-None-clause-begins c =
 
 pub loop-i-preserved : goal.loop-i-preserved
 loop-i-preserved c =
+    let inv = c.loop-i.invariant in
+    let e = c.add_member.ensures in
     let next = judged-next c.args.memory.now.contents c.args.places c.args.members.now c.as_slice.result.now
     c.loop-i.commands.items c.add_member.new.commands.items c.loop-i.left c.add_member.new.left c.loop-i.i _
-    c.in-Some.accepted c.loop-i-test.true c.loop-i.invariant.few c.as_slice.ensures.value c.loop-i.invariant.commands
-    c.loop-i.invariant.left c.in-Some.ensures.found c.add_member.ensures.commands c.add_member.ensures.left in
-    record { few = next.few; commands = next.commands_are; left = next.left_is }
+    c.in-Some.accepted c.loop-i-test.true inv.few c.as_slice.ensures.value inv.commands
+    inv.left c.in-Some.ensures.found e.commands e.left in
+    record {
+      few = next.few;
+      size = search rules;
+      commands = next.commands_are;
+      taken = c.push.ensures.items
+          ∙ taken-next c.args.memory.now.contents c.args.places c.args.members.now c.as_slice.result.now
+          c.loop-i.commands.items c.loop-i.taken.items c.loop-i.left c.loop-i.i _ c.in-Some.accepted
+          c.add_member.result c.loop-i-test.true c.as_slice.ensures.value inv.commands inv.left inv.taken
+          c.in-Some.ensures.found e.taken;
+      left = next.left_is;
+      marked = marked-next c.loop-i.marks _ c.loop-i.commands.items c.add_member.new.commands.items _
+          (c.in-Some.accepted && nat_lt 0 c.loop-i.left) inv.marked c.mark.ensures e.commands;
+    }
 
 pub returns-clause-begins : goal.returns-clause-begins
 returns-clause-begins c = all-begins c.args.memory.now.contents c.loop-i.commands.items c.args.members.now _ refl

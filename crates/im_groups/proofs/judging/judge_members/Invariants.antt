@@ -1,10 +1,14 @@
 use Rattle.std.proofs.Common.{◌≡◌, ◌≤◌, length, take}
-use Rattle.im_groups.specs.Commands.{commands_at, left_after}
+use Rattle.im_groups.specs.Commands.{commands_at, left_after, takes_at}
+use Rattle.im_groups.specs.Marks.{HaveMarks}
 use Rattle.im_groups.proofs.judging.judge_members.Given as goal
 
 abbrev pub invariant-loop-i : goal.invariant-loop-i
 invariant-loop-i l = record {
   few : length l.commands.items ≤ l.i;
+  size : length l.taken.items ≡ l.i;
   commands : l.commands.items ≡ commands_at l.memory.contents l.places (take l.i l.members);
+  taken : l.taken.items ≡ takes_at l.memory.contents l.places (take l.i l.members);
   left : l.left ≡ left_after l.memory.contents l.places (take l.i l.members);
+  marked : HaveMarks l.marks l.commands.items;
 }

@@ -63,14 +63,16 @@ invariant_of-self-2 g c =
     ≡ true = ap (λ (s : EngineState g.row.D.Denot). is_accepted s.memory c.args.command.now) c.self.view_is
     ∙ c.requires.accepted in
     let done = c.in_default.ensures in (
-      subst (λ (s : CheckpointState). Fits s c.step.new.self.contents c.append.new.self) (sym c.before-2.ensures.state)
-          (fits_longer e.checkpoint.state e.memory.contents c.step.new.self.contents e.journal c.append.new.self c.args.command.now c.self.invariant.0 c.step.ensures.contents done.state),
-      λ h f. kept_prepared e.checkpoint c.before-2.new.self e.memory c.step.new.self c.args.command.now c.before-2.ensures
-          (record { cells = c.self.invariant.0.cells; elements = c.self.invariant.0.elements }) c.step.ensures.changes
-          c.step.new.self.contents c.append.new.self (g.D.Disk.now c.append.new.disk)
+      subst (λ (s : CheckpointState). Fits s c.accept.new.self.contents c.append.new.self)
+          (sym c.before-2.ensures.state)
+          (fits_longer e.checkpoint.state e.memory.contents c.accept.new.self.contents e.journal c.append.new.self c.args.command.now c.self.invariant.0 c.accept.ensures.contents done.state),
+      λ h f. kept_prepared e.checkpoint c.before-2.new.self e.memory c.accept.new.self c.args.command.now
+          c.before-2.ensures
+          (record { cells = c.self.invariant.0.cells; elements = c.self.invariant.0.elements }) c.accept.ensures.changes
+          c.accept.new.self.contents c.append.new.self (g.D.Disk.now c.append.new.disk)
           (kept_with_it e.checkpoint.state (paged e.checkpoint e.memory) e.memory.contents e.journal
           (g.D.Disk.now e.disk) (c.self.invariant.1 (c.append.ensures.runs.honest h) f) c.args.command.now accepted
-          c.step.new.self.contents c.step.ensures.contents c.append.new.self done.state
+          c.accept.new.self.contents c.accept.ensures.contents c.append.new.self done.state
           (g.D.Disk.now c.append.new.disk) (done.added h).kept (done.added h).calm (done.added h).added
           (done.added h).holds),
     )
@@ -93,8 +95,9 @@ returns-clause-leaves g c = λ h.
 
 pub returns-clause-calls : goal.returns-clause-calls
 returns-clause-calls g c = λ h.
-    subst (λ (s : EngineState g.row.D.Denot). CallsBy g.D.Disk.past s.disk c.append.new.disk 4 c.step.result) c.self.view_is
-    (calls_after g.D.Disk.past c.self.inside.disk c.append.new.disk 4 c.append.result _ c.step.result c.in_default.is
+    subst (λ (s : EngineState g.row.D.Denot). CallsBy g.D.Disk.past s.disk c.append.new.disk 4 c.accept.result)
+    c.self.view_is
+    (calls_after g.D.Disk.past c.self.inside.disk c.append.new.disk 4 c.append.result _ c.accept.result c.in_default.is
     (c.append.ensures.runs.calls h))
 
 pub returns-clause-means : goal.returns-clause-means
@@ -104,9 +107,15 @@ returns-clause-means g c = λ h f.
     ≡ true = ap (λ (s : EngineState g.row.D.Denot). is_accepted s.memory c.args.command.now) c.self.view_is
     ∙ c.requires.accepted in
     let done = c.in_default.ensures in
-    all_mean e.checkpoint.state (paged e.checkpoint e.memory) c.step.new.self.contents c.append.new.self
+    all_mean e.checkpoint.state (paged e.checkpoint e.memory) c.accept.new.self.contents c.append.new.self
     (g.D.Disk.now c.append.new.disk)
     (kept_with_it e.checkpoint.state (paged e.checkpoint e.memory) e.memory.contents e.journal (g.D.Disk.now e.disk)
     (c.self.invariant.1 (c.append.ensures.runs.honest h) f) c.args.command.now accepted
-    c.step.new.self.contents c.step.ensures.contents c.append.new.self done.state (g.D.Disk.now c.append.new.disk)
+    c.accept.new.self.contents c.accept.ensures.contents c.append.new.self done.state (g.D.Disk.now c.append.new.disk)
     (done.added h).kept (done.added h).calm (done.added h).added (done.added h).holds)
+
+pub accept-requires : goal.accept-requires
+accept-requires g c = record {
+  accepted = ap (λ (s : EngineState g.row.D.Denot). is_accepted s.memory c.args.command.now) c.self.view_is
+      ∙ c.requires.accepted;
+}

@@ -7,7 +7,7 @@ use Rattle.im_disk.proofs.SinceLemmas.{only_weaker}
 use Rattle.im_checkpoint.specs.Step.{changed_in}
 use Rattle.im_checkpoint.specs.Turns.{AddsAtMost}
 use Rattle.im_checkpoint.specs.Keeping.{paged, IsKept}
-use Rattle.im_groups.specs.Commands.{places, answers_with, contents_after, most_pages_with}
+use Rattle.im_groups.specs.Commands.{places, answers_with, contents_after, takes_at, most_pages_with}
 use Rattle.im_engine.specs.State.{EngineState, engine_of}
 use Rattle.im_engine.specs.Commands.{commands_put, MeansCommands, CommandsAnswered, ServesCommands}
 use Rattle.im_engine.proofs.Keeping.{all_mean, all_hold}
@@ -178,3 +178,16 @@ returns-clause-runs g c =
           (accepts e.disk e.checkpoint e.memory e.journal e.failed c.args.members.now known c.args.commands.now are)
           (c.self.invariant.1 (c.put_on.ensures.honest h) f))));
     })
+
+pub act_all-requires-clause-judged : goal.act_all-requires-clause-judged
+act_all-requires-clause-judged g c = record {
+  few = c.requires.members.few;
+  taken = c.requires.members.taken
+      ∙ ap (λ (s : EngineState g.row.D.Denot). takes_at s.memory (places s.count s.room) c.args.members.now)
+      (sym c.self.view_is)
+      ∙ ap (λ n. takes_at c.self.inside.memory.contents n c.args.members.now)
+      (sym c.places_in-places.ensures.places);
+}
+
+pub refuse_all-requires-clause-fits : goal.refuse_all-requires-clause-fits
+refuse_all-requires-clause-fits g c = c.requires.members.few

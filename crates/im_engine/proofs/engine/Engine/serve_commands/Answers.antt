@@ -1,0 +1,5 @@
+use Rattle.std.proofs.Common.{rules}
+use Rattle.im_engine.proofs.engine.Engine.serve_commands.Goals as goal
+
+pub serve_judged-requires-clause-members : goal.serve_judged-requires-clause-members
+serve_judged-requires-clause-members g c = record { few = search rules; taken = search rules }
