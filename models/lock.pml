@@ -238,7 +238,7 @@ inline may_fail() {
   skip
 #endif
 }
-/* of im_checkpoint::Checkpoint::turn 289b5895956f: with a page or none, and a slot for each sweep. */
+/* of im_checkpoint::Checkpoint::turn 588520e2a361: with a page or none, and a slot for each sweep. */
 inline turn() {
   if :: taken > 0 -> stale = taken; taken = 0; did = true
      :: taken == 0 && stale > 0 -> stale--; did = true

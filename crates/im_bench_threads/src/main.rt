@@ -1,16 +1,19 @@
 //! Workloads of threads, to count groups and to take times.
 //!
 //! `im_bench_threads WORKLOAD COUNT` passes COUNT items through a pipe, or reads or shows that many cells on a pane.
-//! `im_bench_threads WORKLOAD COUNT IMAGE` does COUNT stores, for one element or for each of sixteen, on the image in a
-//! file, whose memory is new. It prints a line with the result.
+//! `im_bench_threads WORKLOAD COUNT IMAGE` does COUNT requests, of one element or of each of sixteen, on the image in a
+//! file, whose memory is new. They are stores; those of `endless` put and take, and no trace of them is recorded. It
+//! prints a line with the result.
 #![tactic(auto)]
 
+mod errands;
 mod items;
 mod joining;
 mod ports;
 mod readings;
 mod stores;
 
+use crate::errands::{Load, kind_of};
 use crate::readings::Reading;
 use im_disk::{Disk, FileDisk, Start, Unknown};
 use im_engine::Engine;
@@ -67,14 +70,24 @@ fn with_no_image<R: Threads + Wait + Sync>(
     Ok(Some(done))
 }
 
-// Makes the block whose cells are stored into. Without it no store is answered.
-fn make_block<D: Disk>(engine: &mut Engine<D>) {
-    let op = Op::Alloc(Kind::I, engine.memory().cells());
+// Makes the block in which all cells lie. Without it no request is answered.
+fn make_block<D: Disk>(engine: &mut Engine<D>, kind: Kind) {
+    let op = Op::Alloc(kind, engine.memory().cells());
     let _base = engine.serve(&Command::Request(Request {
         element: 0,
         number: 1,
         op,
     }));
+}
+
+// Returns what a workload asks for through ports, if it is one of those.
+fn load_of(workload: &str) -> Option<Load> {
+    match workload {
+        "port" => Some(Load::Port),
+        "ports" => Some(Load::Ports),
+        "endless" => Some(Load::Endless),
+        _ => None,
+    }
 }
 
 // Returns the result of a workload on an image, or `None` if none has this name.
@@ -86,13 +99,15 @@ fn on_engine<D: Disk + Drop + Send, R: Threads + Wait + Sync>(
     count: u32,
 ) -> Result<Option<u64>, Refusal> {
     let mut engine = engine;
-    make_block(&mut engine);
-    match workload {
-        "serve" => Ok(Some(stores::serve(&mut engine, count))),
-        "port" => ports::stores(rt, alloc, engine, true, count).map(Some),
-        "ports" => ports::stores(rt, alloc, engine, false, count).map(Some),
-        _ => Ok(None),
+    if workload == "serve" {
+        make_block(&mut engine, Kind::I);
+        return Ok(Some(stores::serve(&mut engine, count)));
     }
+    let Some(load) = load_of(workload) else {
+        return Ok(None);
+    };
+    make_block(&mut engine, kind_of(load));
+    ports::ask(rt, alloc, engine, load, count).map(Some)
 }
 
 // Opens the image at a path, and does a workload on it. Returns `None` if no workload has this name.

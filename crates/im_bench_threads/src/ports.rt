@@ -1,22 +1,30 @@
-//! Stores through ports of one controller: with one thread alone, and with sixteen beside the thread that keeps
+//! Requests through ports of one controller: with one thread alone, and with sixteen beside the thread that keeps
 //! checkpoints.
 ghost use Rattle.std.specs.Prelude.{◌≡◌};
 ghost use Rattle.im_controller.specs.Kept.{begun_in};
 
+use crate::errands::{Errand, Load, op};
 use crate::joining::join_all;
-use crate::stores::{confirms, number, store};
-use im_controller::{Controller, Name, Opening, Port, finish, start};
+use crate::stores::{confirms, number};
+use im_controller::{Controller, Name, Opening, Port, finish, start, start_unrecorded};
 use im_disk::Disk;
 use im_engine::Engine;
-use im_types::Refusal;
+use im_types::{Op, Refusal};
 use std::alloc::Global;
 use std::marker::Brand;
 use std::sync::Wait;
 use std::thread;
 use std::thread::{JoinHandle, Scope, Threads};
 
-// How many elements store at once: 1, 2 and so on.
+// How many elements ask at once: 1, 2 and so on.
 const ELEMENTS: u16 = 16;
+
+// What is asked of a port.
+#[derive(Clone, Copy)]
+enum Deed {
+    Confirm, // All entries before the number.
+    Submit(Op),
+}
 
 // Returns how many lines the trace has room for: five for each store, and 32 for each element.
 fn trace_room(count: u32) -> usize {
@@ -34,18 +42,37 @@ fn is_helped<D: Disk, K: Name, R: Wait>(
     matches!(refusal, Refusal::JournalFull) && port.help(rt, controller).is_ok()
 }
 
-// Stores a value, and asks again after each turn that the full journal needs. Returns whether it was answered.
-fn submit<D: Disk, K: Name, R: Wait>(
+// Asks once for a deed under a number.
+fn ask_once<D: Disk, K: Name, R: Wait>(
     rt: &R,
     controller: &Controller<D, K>,
     port: &mut Port<K>,
-    element: u16,
-    index: u32,
-    count: u32,
+    number: u64,
+    deed: Deed,
+) -> Result<(), Refusal> {
+    match deed {
+        Deed::Confirm => match port.confirm(rt, controller, number) {
+            Ok(_) => Ok(()),
+            Err(refusal) => Err(refusal),
+        },
+        Deed::Submit(op) => match port.submit(rt, controller, number, op) {
+            Ok(_) => Ok(()),
+            Err(refusal) => Err(refusal),
+        },
+    }
+}
+
+// Asks for a deed again after each turn that the full journal needs. Returns whether it was answered.
+fn insist<D: Disk, K: Name, R: Wait>(
+    rt: &R,
+    controller: &Controller<D, K>,
+    port: &mut Port<K>,
+    number: u64,
+    deed: Deed,
 ) -> bool {
     for _ in rt.forever() {
-        match port.submit(rt, controller, number(index), store(element, index, count)) {
-            Ok(_) => return true,
+        match ask_once(rt, controller, port, number, deed) {
+            Ok(()) => return true,
             Err(refusal) => {
                 if !is_helped(rt, controller, port, refusal) {
                     return false;
@@ -56,42 +83,27 @@ fn submit<D: Disk, K: Name, R: Wait>(
     false
 }
 
-// Confirms all entries before a store, and asks again after each turn that the full journal needs. Returns whether it
-// was answered.
-fn confirm<D: Disk, K: Name, R: Wait>(
-    rt: &R,
-    controller: &Controller<D, K>,
-    port: &mut Port<K>,
-    index: u32,
-) -> bool {
-    for _ in rt.forever() {
-        match port.confirm(rt, controller, number(index)) {
-            Ok(_) => return true,
-            Err(refusal) => {
-                if !is_helped(rt, controller, port, refusal) {
-                    return false;
-                }
-            }
-        }
-    }
-    false
-}
-
-// Does the stores of an element, up to the first that is refused, and retires its port. Returns how many were answered.
-fn store_all<D: Disk, K: Name, R: Wait>(
+// Does an errand, up to the first request that is refused, and retires its port. Returns how many were answered.
+fn ask_all<D: Disk, K: Name, R: Wait>(
     rt: &R,
     controller: &Controller<D, K>,
     port: Port<K>,
-    element: u16,
-    count: u32,
+    errand: Errand,
 ) -> u64 {
     let mut port = port;
     let mut done = 0u64;
-    for index in 0..count {
-        if confirms(index) && !confirm(rt, controller, &mut port, index) {
+    for index in 0..errand.count {
+        let number = number(index);
+        if confirms(index) && !insist(rt, controller, &mut port, number, Deed::Confirm) {
             break;
         }
-        if !submit(rt, controller, &mut port, element, index, count) {
+        if !insist(
+            rt,
+            controller,
+            &mut port,
+            number,
+            Deed::Submit(op(errand, index)),
+        ) {
             break;
         }
         done = done.saturating_add(1);
@@ -100,18 +112,17 @@ fn store_all<D: Disk, K: Name, R: Wait>(
     done
 }
 
-// Starts a thread that stores, if there is a port and a thread for it.
+// Starts a thread for an errand, if there is a port and a thread for it.
 fn begin<'s, E, D: Disk + Drop + Send, K: Name + Send + Sync, R: Threads + Wait + Sync>(
     rt: &'s R,
     scope: &Scope<'s, E>,
     controller: &'s Controller<D, K>,
-    element: u16,
-    count: u32,
+    errand: Errand,
 ) -> Option<JoinHandle<u64>> {
-    let Ok(port) = controller.port(rt, element) else {
+    let Ok(port) = controller.port(rt, errand.element) else {
         return None;
     };
-    match scope.spawn(move || store_all(rt, controller, port, element, count)) {
+    match scope.spawn(move || ask_all(rt, controller, port, errand)) {
         Ok(thread) => Some(thread),
         Err(_) => None,
     }
@@ -131,51 +142,50 @@ fn begin_all<'s, E, D: Disk + Drop + Send, K: Name + Send + Sync, R: Threads + W
     rt: &'s R,
     scope: &Scope<'s, E>,
     controller: &'s Controller<D, K>,
-    count: u32,
+    errand: Errand,
     threads: &mut Vec<Option<JoinHandle<u64>>>,
 ) {
     for before in 0..ELEMENTS {
         let element = before.saturating_add(1);
-        let _kept = threads.push(begin(rt, scope, controller, element, count));
+        let _kept = threads.push(begin(rt, scope, controller, Errand { element, ..errand }));
     }
 }
 
-// Stores with a thread for each element, beside the one that keeps checkpoints.
-fn store_at_once<D: Disk + Drop + Send, K: Name + Send + Sync, R: Threads + Wait + Sync>(
+// Does the errand of each element with a thread of its own, beside the one that keeps checkpoints.
+fn ask_at_once<D: Disk + Drop + Send, K: Name + Send + Sync, R: Threads + Wait + Sync>(
     rt: &R,
     alloc: Global,
     controller: &Controller<D, K>,
-    count: u32,
+    errand: Errand,
 ) -> u64 {
     let mut threads = Vec::new(alloc);
     thread::scope(thread::scope_env(), rt, move |scope| {
         let _keeps = keep(rt, scope, controller);
-        begin_all(rt, scope, controller, count, &mut threads);
+        begin_all(rt, scope, controller, errand, &mut threads);
         let done = join_all(rt, threads);
         controller.end(rt);
         done
     })
 }
 
-// Stores with this thread alone.
-fn store_alone<D: Disk, K: Name, R: Wait>(
+// Does an errand with this thread alone.
+fn ask_alone<D: Disk, K: Name, R: Wait>(
     rt: &R,
     controller: &Controller<D, K>,
-    count: u32,
+    errand: Errand,
 ) -> u64 {
-    match controller.port(rt, 1) {
-        Ok(port) => store_all(rt, controller, port, 1, count),
+    match controller.port(rt, errand.element) {
+        Ok(port) => ask_all(rt, controller, port, errand),
         Err(_) => 0,
     }
 }
 
-// Stores, alone or at once, through a controller that has a name.
-fn store_named<D: Disk + Drop + Send, K: Name + Send + Sync, R: Threads + Wait + Sync>(
+// Does element 1's errand alone, or that of each element at once, through a controller that has a name.
+fn ask_named<D: Disk + Drop + Send, K: Name + Send + Sync, R: Threads + Wait + Sync>(
     rt: &R,
     alloc: Global,
     opening: Opening<D>,
-    is_alone: bool,
-    count: u32,
+    errand: Errand,
 ) -> u64
     requires memory { opening.engine.memory ≡ K.memory }
     requires lines { opening.lines_name ≡ K.lines_name }
@@ -187,26 +197,44 @@ fn store_named<D: Disk + Drop + Send, K: Name + Send + Sync, R: Threads + Wait +
     requires honest { D.honest opening.engine.disk → K.honest }
 {
     let controller = opening.named::<K>();
-    let done = if is_alone {
-        store_alone(rt, &controller, count)
-    } else {
-        store_at_once(rt, alloc, &controller, count)
+    let done = match errand.load {
+        Load::Port => ask_alone(rt, &controller, errand),
+        Load::Ports | Load::Endless => ask_at_once(rt, alloc, &controller, errand),
     };
     let _finished = finish(rt, controller, Vec::new(alloc));
     done
 }
 
-/// Does `count` stores of element 1 with this thread alone, or of each of sixteen elements with a thread for each.
-/// Returns how many were answered.
-pub fn stores<D: Disk + Drop + Send, R: Threads + Wait + Sync>(
+// Makes room for a trace, or for none that is recorded if the requests are endless.
+fn start_for<D: Disk + Drop, R: Wait>(
     rt: &R,
     alloc: Global,
     engine: Engine<D>,
-    is_alone: bool,
+    load: Load,
+    count: u32,
+) -> Result<Opening<D>, (Refusal, Engine<D>)> {
+    match load {
+        Load::Port | Load::Ports => start(rt, alloc, engine, trace_room(count)),
+        Load::Endless => start_unrecorded(rt, alloc, engine),
+    }
+}
+
+/// Does `count` requests of element 1 with this thread alone, or of each of sixteen elements with a thread for each.
+/// Returns how many were answered.
+pub fn ask<D: Disk + Drop + Send, R: Threads + Wait + Sync>(
+    rt: &R,
+    alloc: Global,
+    engine: Engine<D>,
+    load: Load,
     count: u32,
 ) -> Result<u64, Refusal> {
-    match start(rt, alloc, engine, trace_room(count)) {
-        Ok(opening) => Ok(store_named::<D, Brand, R>(rt, alloc, opening, is_alone, count)),
+    let errand = Errand {
+        element: 1,
+        count,
+        load,
+    };
+    match start_for(rt, alloc, engine, load, count) {
+        Ok(opening) => Ok(ask_named::<D, Brand, R>(rt, alloc, opening, errand)),
         Err((refusal, _)) => Err(refusal),
     }
 }

@@ -19,7 +19,7 @@ use Rattle.im_cell.specs.declared.state.State.TheVariants.{Free, EmptyI, Waiting
 use Rattle.im_cell.specs.declared.state.State.TheVariants.{FullM, ClashedM}
 use Rattle.im_cell.specs.declared.state.TheConstants.{NOWHERE}
 use Rattle.im_cell.specs.Slots.{slot_at, new_slot, with_cell, is_waiting}
-use Rattle.im_cell.specs.Cells.{block_of, state_slot, state_for, value_of, kind_of, slots_in, IsFilled}
+use Rattle.im_cell.specs.Cells.{block_by_extent, state_slot, state_for, value_of, kind_of, slots_in, IsFilled}
 use Rattle.im_cell.specs.Table.{base_in}
 
 pub length-slots : (states : List State) (values : List ℕ) (extents : List Extent) → length values ≡ length states
@@ -61,7 +61,7 @@ set-slots (t ∷ states) (w ∷ values) (x ∷ extents) (suc k) s v dx slot ev e
 
 -- a state that is made for a kind and a cell
 pub state-made : (kind : Kind) (cell : Cell) (x : Extent) → state_slot (state_for kind cell) (value_of cell) x
-    ≡ new_slot (block_of x kind) cell
+    ≡ new_slot (block_by_extent x kind) cell
 state-made I Empty x = refl
 state-made I Waiting x = refl
 state-made I (Full v) x = refl

@@ -17,20 +17,20 @@ use Rattle.im_cell.specs.declared.state.State.TheVariants.{FullM, ClashedM}
 use Rattle.im_cell.specs.Slots.{new_slot}
 
 -- the block of this kind at this place
-abbrev pub block_of : Extent → Kind → Block
-block_of extent kind = record { base = extent.base; length = extent.length; kind = kind }
+abbrev pub block_by_extent : Extent → Kind → Block
+block_by_extent extent kind = record { base = extent.base; length = extent.length; kind = kind }
 
 -- the slot of a cell in this state, with this value, in a block at this place
 abbrev pub state_slot : State → ℕ → Extent → Option Slot
 state_slot Free v extent = None
-state_slot EmptyI v extent = new_slot (block_of extent I) Empty
-state_slot WaitingI v extent = new_slot (block_of extent I) Waiting
-state_slot FullI v extent = new_slot (block_of extent I) (Full v)
-state_slot ClashedI v extent = new_slot (block_of extent I) (Clashed v)
-state_slot EmptyM v extent = new_slot (block_of extent M) Empty
-state_slot WaitingM v extent = new_slot (block_of extent M) Waiting
-state_slot FullM v extent = new_slot (block_of extent M) (Full v)
-state_slot ClashedM v extent = new_slot (block_of extent M) (Clashed v)
+state_slot EmptyI v extent = new_slot (block_by_extent extent I) Empty
+state_slot WaitingI v extent = new_slot (block_by_extent extent I) Waiting
+state_slot FullI v extent = new_slot (block_by_extent extent I) (Full v)
+state_slot ClashedI v extent = new_slot (block_by_extent extent I) (Clashed v)
+state_slot EmptyM v extent = new_slot (block_by_extent extent M) Empty
+state_slot WaitingM v extent = new_slot (block_by_extent extent M) Waiting
+state_slot FullM v extent = new_slot (block_by_extent extent M) (Full v)
+state_slot ClashedM v extent = new_slot (block_by_extent extent M) (Clashed v)
 
 -- the state of a cell in a block of a kind
 abbrev pub state_for : Kind → Cell → State
@@ -74,14 +74,14 @@ slots_in (state ∷ states) (value ∷ values) (extent ∷ extents) =
 -- waiting cell's value is the first node of its list.
 abbrev pub record_shown : State → ℕ → Extent → ℕ → CellRecord
 record_shown Free v extent last = FreeCell extent.base extent.length
-record_shown EmptyI v extent last = BlockCell (block_of extent I) TagEmpty
-record_shown WaitingI v extent last = BlockCell (block_of extent I) (TagWaiting (v % 2 ^ 32) last)
-record_shown FullI v extent last = BlockCell (block_of extent I) (TagFull v)
-record_shown ClashedI v extent last = BlockCell (block_of extent I) (TagClashed v)
-record_shown EmptyM v extent last = BlockCell (block_of extent M) TagEmpty
-record_shown WaitingM v extent last = BlockCell (block_of extent M) (TagWaiting (v % 2 ^ 32) last)
-record_shown FullM v extent last = BlockCell (block_of extent M) (TagFull v)
-record_shown ClashedM v extent last = BlockCell (block_of extent M) (TagClashed v)
+record_shown EmptyI v extent last = BlockCell (block_by_extent extent I) TagEmpty
+record_shown WaitingI v extent last = BlockCell (block_by_extent extent I) (TagWaiting (v % 2 ^ 32) last)
+record_shown FullI v extent last = BlockCell (block_by_extent extent I) (TagFull v)
+record_shown ClashedI v extent last = BlockCell (block_by_extent extent I) (TagClashed v)
+record_shown EmptyM v extent last = BlockCell (block_by_extent extent M) TagEmpty
+record_shown WaitingM v extent last = BlockCell (block_by_extent extent M) (TagWaiting (v % 2 ^ 32) last)
+record_shown FullM v extent last = BlockCell (block_by_extent extent M) (TagFull v)
+record_shown ClashedM v extent last = BlockCell (block_by_extent extent M) (TagClashed v)
 
 -- the records of cells, from the parts that are kept for each
 unfoldable pub rows_in : List State → List ℕ → List Extent → List ℕ → List CellRecord
@@ -98,7 +98,7 @@ pub record IsFilled {X : Type 0} (d : X) (old new : List X) (from to : ℕ) (x :
   pub others : (k : ℕ) → (from ≤ k → k < to → ⊥) → slice_index_or new k d ≡ slice_index_or old k d
 
 -- the four lists of a row have the same length, and each has room for this number of cells
-pub record IsRow (states values extents lasts room fit_states fit_values fit_extents fit_lasts : ℕ) : Type 0 where
+pub record IsCellRow (states values extents lasts room fit_states fit_values fit_extents fit_lasts : ℕ) : Type 0 where
   pub values_are : values ≡ states
   pub extents_are : extents ≡ states
   pub lasts_are : lasts ≡ states

@@ -1,7 +1,7 @@
 //! The part of a cell that is kept in one byte, and the place of its block.
 ghost use Rattle.std.specs.Prelude.{◌≡◌, ℕ, Some};
 ghost use Rattle.im_cell.specs.Slots.{new_slot, is_waiting, is_waiting_cell, with_cell};
-ghost use Rattle.im_cell.specs.Cells.{block_of, state_slot, state_for, value_of, kind_of};
+ghost use Rattle.im_cell.specs.Cells.{block_by_extent, state_slot, state_for, value_of, kind_of};
 
 use crate::slots::Slot;
 use im_types::{Block, Cell, Kind};
@@ -40,7 +40,7 @@ impl Extent {
     /// Returns the block of this kind at this place.
     #[inline(always)]
     pub(crate) fn block(self, kind: Kind) -> Block
-        ensures { result ≡ block_of self kind }
+        ensures { result ≡ block_by_extent self kind }
     {
         let Extent { base, length } = self;
         Block { base, length, kind }

@@ -33,7 +33,8 @@ same_then at n c d e first second = record {
 
 pub same_overlaid : (c : List ℕ) (at : ℕ) (bytes : List ℕ) → at + length bytes ≤ length c
     → SameBut at (length bytes) c (overlaid c at bytes)
-same_overlaid c at bytes fits = record { size = length-overlaid c at bytes fits; same = λ i out. overlaid_outside c at bytes fits i out }
+same_overlaid c at bytes fits =
+    record { size = length-overlaid c at bytes fits; same = λ i out. overlaid_outside c at bytes fits i out }
 
 -- parts of a file
 

@@ -22,8 +22,8 @@ use Rattle.im_meaning.specs.Images.{other}
 use Rattle.im_checkpoint.specs.Copied.{copy_of}
 use Rattle.im_checkpoint.specs.Step.{Step, NoCheckpoint, PagesLeft, PagesDone, Synced, left_in}
 use Rattle.im_checkpoint.specs.Turns.{next_header}
-use Rattle.im_checkpoint.specs.Keeping.{Paged, changed, changed_lately, own_page, other_area, other_page, Stand}
-use Rattle.im_checkpoint.specs.Keeping.{IsTaken, IsWriting, IsResting, KeepsStep}
+use Rattle.im_checkpoint.specs.Keeping.{Paged, has_changed, changed_lately, own_page, other_area, other_page, Stand}
+use Rattle.im_checkpoint.specs.Keeping.{IsTakenAt, IsWriting, IsResting, KeepsStep}
 
 pub SameOn-itself : (s : Sizes) (r : Records) (p : ℕ) → SameOn s r r p
 SameOn-itself s r p = record { to = λ bytes it. it; from = λ bytes it. it }
@@ -107,16 +107,16 @@ module _ (h : Header) (x : Paged) (copies : List (List ℕ)) (file : List ℕ)
       slice_or : List Bool → ℕ → Bool
       slice_or set at = slice_index_or set at false
 
-  not_left : (p : ℕ) → p < area_pages layout_in_use h.sizes → (Contains left p → ⊥) → changed x p ≡ false
+  not_left : (p : ℕ) → p < area_pages layout_in_use h.sizes → (Contains left p → ⊥) → has_changed x p ≡ false
   not_left p lt out = ⊎_elim
       (λ there. absurd (out
       (lists-each (union x.older x.recent) 0 p (omega arith)
       (omega (arith, lt, length-union x.older x.recent, older_size)) (has_union p lt ∙ there))))
       (λ none. none)
-      (true_or_false (changed x p))
+      (true_or_false (has_changed x p))
 
   pub begins : (shown : Contents) (commands : List Command) (count : ℕ)
-      → (is_taken : IsTaken h shown commands count x.records)
+      → (is_taken : IsTakenAt h shown commands count x.records)
       → IsBoundary (ring_of layout_in_use h.sizes) h.count is_taken.many file → IsResting h x file
       → IsWriting h shown commands begun count left file
   begins shown commands count is_taken boundary it = record {
@@ -143,13 +143,13 @@ pub record IsPrepared (s : Sizes) (left : List ℕ) (x y : Paged) : Type 0 where
   pub stay : (p : ℕ) → p < area_pages layout_in_use s → has x.recent p ≡ true → copy_of y.copies p ≡ copy_of x.copies p
 
 module _ (h : Header) (x y : Paged) (file : List ℕ) (left : List ℕ) (prepared : IsPrepared h.sizes left x y) where
-  unchanged : (p : ℕ) → p < area_pages layout_in_use h.sizes → changed y p ≡ false → changed x p ≡ false
+  unchanged : (p : ℕ) → p < area_pages layout_in_use h.sizes → has_changed y p ≡ false → has_changed x p ≡ false
   unchanged p lt out =
       neither (has x.older p) (has x.recent p)
       (ap (λ (set : List Bool). has set p) (sym prepared.older) ∙ or_left (has y.older p) (has y.recent p) out)
       (prepared.kept p lt (or_right (has y.older p) (has y.recent p) out))
 
-  stands : (on : ℕ → List ℕ) → Stand h.sizes (changed x) x.records on → Stand h.sizes (changed y) y.records on
+  stands : (on : ℕ → List ℕ) → Stand h.sizes (has_changed x) x.records on → Stand h.sizes (has_changed y) y.records on
   stands on it p lt out = (prepared.same p lt (or_right (has y.older p) (has y.recent p) out)).to (on p)
       (it p lt (unchanged p lt out))
 
@@ -250,7 +250,7 @@ module _ (h : Header) (x : Paged) (file : List ℕ) (shown : Contents) (commands
       let back : 1 - (1 - h.area) ≡ h.area = omega (arith, low) in
       record {
         own = λ p lt out. (it.others.same p lt out).to (other_page h file p) (it.others.written p lt (contains_none p));
-        others = subst (λ (area : ℕ). Stand h.sizes (changed x) x.records
+        others = subst (λ (area : ℕ). Stand h.sizes (has_changed x) x.records
             (λ p. record_at page_bytes (area_of layout_in_use h.sizes area file) p)) (sym back) it.own;
       }
 

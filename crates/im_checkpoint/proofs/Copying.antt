@@ -15,11 +15,11 @@ use Rattle.im_pages.specs.PageSets.{has, union, size_of, IsNext, HasNoneFrom, Is
 use Rattle.im_pages.proofs.SetLemmas.{length-union, read-union}
 use Rattle.im_image.specs.Encoding.{IsAreaPage}
 use Rattle.im_image.proofs.Outside.{outside-stays}
-use Rattle.im_checkpoint.specs.declared.checkpoint.Step.{Step as Mark}
-use Rattle.im_checkpoint.specs.declared.checkpoint.Step.TheVariants.{NoCheckpoint as None_yet, PagesLeft as Some_left}
-use Rattle.im_checkpoint.specs.declared.checkpoint.Step.TheVariants.{PagesDone as All_written, Synced as On_disk}
+use Rattle.im_checkpoint.specs.declared.checkpoint.Phase.{Phase}
+use Rattle.im_checkpoint.specs.declared.checkpoint.Phase.TheVariants.{NoCheckpoint as None_yet, PagesLeft as Some_left}
+use Rattle.im_checkpoint.specs.declared.checkpoint.Phase.TheVariants.{PagesDone as All_written, Synced as On_disk}
 use Rattle.im_checkpoint.specs.Copied.{copy_of}
-use Rattle.im_checkpoint.specs.Step.{PagedCheckpoint, step_of, left_in}
+use Rattle.im_checkpoint.specs.Step.{PagedCheckpoint, step_by_phase, left_in}
 use Rattle.im_checkpoint.specs.Keeping.{paged, Prepares}
 use Rattle.im_checkpoint.proofs.Copies.{IsPrepared}
 
@@ -107,7 +107,8 @@ size_none (suc n) = size_none n
 
 -- ---- what is left
 
-pub left_none : (p : Mark) (count : ℕ) (left : List ℕ) → (p ≡ Some_left → ⊥) → left_in (step_of p count left) ≡ []
+pub left_none : (p : Phase) (count : ℕ) (left : List ℕ) → (p ≡ Some_left → ⊥)
+    → left_in (step_by_phase p count left) ≡ []
 left_none None_yet count left other = refl
 left_none Some_left count left other = absurd (other refl)
 left_none All_written count left other = refl

@@ -1,4 +1,5 @@
--- After a turn the memory and the journal are still those of the checkpoint's image, and a checkpoint has a turn less to go.
+-- After a turn the memory and the journal are still those of the checkpoint's image, and a checkpoint has a turn less
+-- to go.
 use Rattle.std.proofs.Common.{◌≡◌, ◌⊎◌, inl, inr, ⊎_elim, ℕ, zero, suc, ◌+◌, ◌<◌, ◌≤◌, Bool, true, false, ◌&&◌}
 use Rattle.std.proofs.Common.{nat_lt, List, [], ◌∷◌, length, Result, Ok, Err, IfOk, refl, sym, ◌∙◌, ap, subst, arith}
 use Rattle.std.proofs.lemmas.Bool.Decides.{nat_tests}

@@ -6,11 +6,11 @@ use Rattle.im_disk.specs.Moment.{Moment}
 use Rattle.im_journal.specs.Holding.{JournalState}
 use Rattle.im_memory.specs.State.{MemoryState}
 use Rattle.im_pages.specs.PageSets.{union}
-use Rattle.im_checkpoint.specs.declared.checkpoint.Step.{Step as Mark}
-use Rattle.im_checkpoint.specs.declared.checkpoint.Step.TheVariants.{NoCheckpoint as None_yet, PagesLeft as Some_left}
-use Rattle.im_checkpoint.specs.declared.checkpoint.Step.TheVariants.{PagesDone as All_written, Synced as On_disk}
+use Rattle.im_checkpoint.specs.declared.checkpoint.Phase.{Phase}
+use Rattle.im_checkpoint.specs.declared.checkpoint.Phase.TheVariants.{NoCheckpoint as None_yet, PagesLeft as Some_left}
+use Rattle.im_checkpoint.specs.declared.checkpoint.Phase.TheVariants.{PagesDone as All_written, Synced as On_disk}
 use Rattle.im_checkpoint.specs.Step.{Step, NoCheckpoint, PagesLeft, PagesDone, Synced, PagedCheckpoint, with_left}
-use Rattle.im_checkpoint.specs.Step.{left_in, step_of, IsPagesLeft, IsPagesDone, IsSynced}
+use Rattle.im_checkpoint.specs.Step.{left_in, step_by_phase, IsPagesLeft, IsPagesDone, IsSynced}
 use Rattle.im_checkpoint.specs.Keeping.{paged, IsKept}
 
 -- a set with no page adds none
@@ -23,18 +23,24 @@ left_with count [] = refl
 left_with count (page ∷ left) = refl
 
 -- what a checkpoint's fields stand for
-abbrev pub view_of : Header → Mark → ℕ → List ℕ → List Bool → List Bool → List (List ℕ) → PagedCheckpoint
-view_of h p count left recent older copies = record { state = record { header = h; step = step_of p count left }; recent = recent; older = older; copies = copies }
+abbrev pub view_of : Header → Phase → ℕ → List ℕ → List Bool → List Bool → List (List ℕ) → PagedCheckpoint
+view_of h p count left recent older copies =
+    record {
+      state = record { header = h; step = step_by_phase p count left };
+      recent = recent;
+      older = older;
+      copies = copies;
+    }
 
-module _ (s : PagedCheckpoint) (h : Header) (p : Mark) (count : ℕ) (left : List ℕ) (recent older : List Bool)
+module _ (s : PagedCheckpoint) (h : Header) (p : Phase) (count : ℕ) (left : List ℕ) (recent older : List Bool)
     (copies : List (List ℕ)) (view : view_of h p count left recent older copies ≡ s) where
-  step_is : s.state.step ≡ step_of p count left
+  step_is : s.state.step ≡ step_by_phase p count left
   step_is = sym (ap (λ (x : PagedCheckpoint). x.state.step) view)
 
   pub mark_left : IsPagesLeft s.state.step → p ≡ Some_left
   mark_left is = by_mark p (subst IsPagesLeft step_is is)
     where
-      by_mark : (q : Mark) → IsPagesLeft (step_of q count left) → q ≡ Some_left
+      by_mark : (q : Phase) → IsPagesLeft (step_by_phase q count left) → q ≡ Some_left
       by_mark None_yet it = absurd it
       by_mark Some_left it = refl
       by_mark All_written it = absurd it
@@ -43,7 +49,7 @@ module _ (s : PagedCheckpoint) (h : Header) (p : Mark) (count : ℕ) (left : Lis
   pub mark_done : IsPagesDone s.state.step → p ≡ All_written
   mark_done is = by_mark p (subst IsPagesDone step_is is)
     where
-      by_mark : (q : Mark) → IsPagesDone (step_of q count left) → q ≡ All_written
+      by_mark : (q : Phase) → IsPagesDone (step_by_phase q count left) → q ≡ All_written
       by_mark None_yet it = absurd it
       by_mark Some_left it = absurd it
       by_mark All_written it = refl
@@ -52,7 +58,7 @@ module _ (s : PagedCheckpoint) (h : Header) (p : Mark) (count : ℕ) (left : Lis
   pub mark_synced : IsSynced s.state.step → p ≡ On_disk
   mark_synced is = by_mark p (subst IsSynced step_is is)
     where
-      by_mark : (q : Mark) → IsSynced (step_of q count left) → q ≡ On_disk
+      by_mark : (q : Phase) → IsSynced (step_by_phase q count left) → q ≡ On_disk
       by_mark None_yet it = absurd it
       by_mark Some_left it = absurd it
       by_mark All_written it = absurd it
@@ -67,20 +73,20 @@ module _ (s : PagedCheckpoint) (h : Header) (p : Mark) (count : ℕ) (left : Lis
       IsNone (PagesDone n) = ⊥
       IsNone (Synced n) = ⊥
 
-      by_mark : (q : Mark) → IsNone (step_of q count left) → q ≡ None_yet
+      by_mark : (q : Phase) → IsNone (step_by_phase q count left) → q ≡ None_yet
       by_mark None_yet it = refl
       by_mark Some_left it = absurd it
       by_mark All_written it = absurd it
       by_mark On_disk it = absurd it
 
   pub step_left : IsPagesLeft s.state.step → s.state.step ≡ PagesLeft count left
-  step_left is = step_is ∙ ap (λ (q : Mark). step_of q count left) (mark_left is)
+  step_left is = step_is ∙ ap (λ (q : Phase). step_by_phase q count left) (mark_left is)
 
   pub step_done : IsPagesDone s.state.step → s.state.step ≡ PagesDone count
-  step_done is = step_is ∙ ap (λ (q : Mark). step_of q count left) (mark_done is)
+  step_done is = step_is ∙ ap (λ (q : Phase). step_by_phase q count left) (mark_done is)
 
   pub step_synced : IsSynced s.state.step → s.state.step ≡ Synced count
-  step_synced is = step_is ∙ ap (λ (q : Mark). step_of q count left) (mark_synced is)
+  step_synced is = step_is ∙ ap (λ (q : Phase). step_by_phase q count left) (mark_synced is)
 
   pub header_is : h ≡ s.state.header
   header_is = ap (λ (x : PagedCheckpoint). x.state.header) view
@@ -88,11 +94,11 @@ module _ (s : PagedCheckpoint) (h : Header) (p : Mark) (count : ℕ) (left : Lis
   -- the invariant, of the fields
   module _ (n : MemoryState) (m : Contents) (j : JournalState) (now : Moment)
       (kept : IsKept s.state (paged s n) m j now) where
-    kept_fields : (q : Mark) → p ≡ q
-        → IsKept (record { header = h; step = step_of q count left })
+    kept_fields : (q : Phase) → p ≡ q
+        → IsKept (record { header = h; step = step_by_phase q count left })
         (record { recent = recent; older = older; copies = copies; records = n.records }) m j now
     kept_fields q is = subst
-        (λ (q : Mark). IsKept (record { header = h; step = step_of q count left })
+        (λ (q : Phase). IsKept (record { header = h; step = step_by_phase q count left })
         (record { recent = recent; older = older; copies = copies; records = n.records }) m j now) is
         (subst (λ (x : PagedCheckpoint). IsKept x.state (paged x n) m j now) (sym view) kept)
 

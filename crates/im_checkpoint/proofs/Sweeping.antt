@@ -14,10 +14,10 @@ use Rattle.im_disk.proofs.SinceLemmas.{left_now, left_settled, leaves_start}
 use Rattle.im_journal.specs.Holding.{JournalState, AllHold, with_room, KeepsBoundaries, SameRun, MaySweep, IsSweptBy}
 use Rattle.im_journal.specs.Holding.{Sweeps}
 use Rattle.im_meaning.specs.Images.{other, IsBelow, InForce, IsImage}
-use Rattle.im_checkpoint.specs.declared.checkpoint.Step.{Step as Mark}
-use Rattle.im_checkpoint.specs.declared.checkpoint.Step.TheVariants.{NoCheckpoint as None_yet, PagesLeft as Some_left}
-use Rattle.im_checkpoint.specs.declared.checkpoint.Step.TheVariants.{PagesDone as All_written, Synced as On_disk}
-use Rattle.im_checkpoint.specs.Step.{Step, NoCheckpoint, PagesLeft, PagesDone, Synced, CheckpointState, step_of}
+use Rattle.im_checkpoint.specs.declared.checkpoint.Phase.{Phase}
+use Rattle.im_checkpoint.specs.declared.checkpoint.Phase.TheVariants.{NoCheckpoint as None_yet, PagesLeft as Some_left}
+use Rattle.im_checkpoint.specs.declared.checkpoint.Phase.TheVariants.{PagesDone as All_written, Synced as On_disk}
+use Rattle.im_checkpoint.specs.Step.{Step, NoCheckpoint, PagesLeft, PagesDone, Synced, CheckpointState, step_by_phase}
 use Rattle.im_checkpoint.specs.Keeping.{Paged, MeansWith, Keeps, IsCalm, IsKept, KeepsMeaning}
 use Rattle.im_checkpoint.proofs.Bytes.{range_outside}
 use Rattle.im_checkpoint.proofs.Headers.{area_before, place_to}
@@ -146,7 +146,8 @@ module _ (c : CheckpointState) (x : Paged) (m : Contents) (j : JournalState) (m0
         journal = holds m1.bytes (left_now m1);
       })
       (step_moved c.header x m0.bytes m1.bytes
-      (area_before_stays c.header m j m0.bytes kept.read m1.bytes run.same c.header.area kept.read.image.in_force.number)
+      (area_before_stays c.header m j m0.bytes kept.read m1.bytes run.same c.header.area
+      kept.read.image.in_force.number)
       (area_before_stays c.header m j m0.bytes kept.read m1.bytes run.same (other c.header)
       (omega arith)) kept.read.shown kept.read.commands c.step
       (other_place_stays c.header m j m0.bytes kept.read m1.bytes run.same)
@@ -169,7 +170,7 @@ none_more j = (λ i. record j { room = same i })
 -- where a checkpoint is under way, a number that is none then
 pub none_under_way : (n : Step → ℕ) → ((count : ℕ) (left : List ℕ) → 0 ≡ n (PagesLeft count left))
     → ((count : ℕ) → 0 ≡ n (PagesDone count)) → ((count : ℕ) → 0 ≡ n (Synced count))
-    → (mark : Mark) (count : ℕ) (left : List ℕ) → (mark ≡ None_yet → ⊥) → 0 ≡ n (step_of mark count left)
+    → (mark : Phase) (count : ℕ) (left : List ℕ) → (mark ≡ None_yet → ⊥) → 0 ≡ n (step_by_phase mark count left)
 none_under_way n some all synced None_yet count left other = absurd (other refl)
 none_under_way n some all synced Some_left count left other = some count left
 none_under_way n some all synced All_written count left other = all count

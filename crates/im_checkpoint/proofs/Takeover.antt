@@ -104,16 +104,28 @@ module _ (h : Header) (x : Paged) (m : Contents) (j : JournalState) (file : List
   follow = follows h count (facts h m j file it) known.0.is_taken.later known.0.is_taken.to_last
 
   left_over : accept_each known.0.is_taken.memory (drop known.0.is_taken.many it.commands) ≡ Some m
-  left_over = accept_later known.0.is_taken.many it.shown known.0.is_taken.memory m it.commands known.0.is_taken.accepts it.accepts
+  left_over =
+      accept_later known.0.is_taken.many it.shown known.0.is_taken.memory m it.commands known.0.is_taken.accepts
+      it.accepts
 
   left_count : j.count ≡ count + length (drop known.0.is_taken.many it.commands)
-  left_count = omega (arith, it.count, known.0.is_taken.count_is, known.0.is_taken.few, length-drop known.0.is_taken.many it.commands)
+  left_count =
+      omega (
+        arith,
+        it.count,
+        known.0.is_taken.count_is,
+        known.0.is_taken.few,
+        length-drop known.0.is_taken.many
+            it.commands,
+      )
 
   -- the gate is being opened
   module _ (d : List ℕ) (but : SameBut (4096 * other h) 1 staged d) where
     either : IsImage layout_in_use h it.shown it.commands it.there d
         ⊎ IsImage layout_in_use next known.0.is_taken.memory (drop known.0.is_taken.many it.commands) it.there d
-    either = one_of_two layout_in_use h next it.shown known.0.is_taken.memory it.commands it.there known.0.is_taken.many staged d staged_still.image (some h m j file it) follow prepared but known.0.is_taken.count_is staged_boundary
+    either =
+        one_of_two layout_in_use h next it.shown known.0.is_taken.memory it.commands it.there known.0.is_taken.many staged
+        d staged_still.image (some h m j file it) follow prepared but known.0.is_taken.count_is staged_boundary
 
     gate_torn : MeansWith m j d
     gate_torn = ⊎_elim
@@ -204,7 +216,10 @@ module _ (h : Header) (x : Paged) (m : Contents) (j : JournalState) (file : List
     shown = known.0.is_taken.memory;
     commands = drop known.0.is_taken.many it.commands;
     there = it.there;
-    image = opened_image layout_in_use h next it.shown known.0.is_taken.memory it.commands it.there known.0.is_taken.many staged opened_file staged_still.image (some h m j file it) follow prepared opened_but known.0.is_taken.count_is staged_boundary opened_gate;
+    image =
+        opened_image layout_in_use h next it.shown known.0.is_taken.memory it.commands it.there known.0.is_taken.many
+        staged opened_file staged_still.image
+        (some h m j file it) follow prepared opened_but known.0.is_taken.count_is staged_boundary opened_gate;
     accepts = left_over;
     count = left_count;
     ring = it.ring;

@@ -20,7 +20,7 @@ use Rattle.im_pages.specs.PageSets.{union, pages_from}
 use Rattle.im_image.specs.Encoding.{AreCounted}
 use Rattle.im_checkpoint.specs.Step.{NoCheckpoint, Synced, CheckpointState, with_left}
 use Rattle.im_checkpoint.specs.Turns.{next_header, begun_at}
-use Rattle.im_checkpoint.specs.Keeping.{Paged, MeansWith, IsTaken, IsWriting, KeepsStep, IsKept}
+use Rattle.im_checkpoint.specs.Keeping.{Paged, MeansWith, IsTakenAt, IsWriting, KeepsStep, IsKept}
 use Rattle.im_journal.proofs.Rings.{other_number}
 use Rattle.im_journal.proofs.Tails.{boundary_end}
 use Rattle.im_checkpoint.proofs.Files.{gate_is}
@@ -75,7 +75,8 @@ module _ (y : Header) (spelled : List ℕ) (spelled_is : spelled ≡ open_gate �
   pub opening_done : ((f : List ℕ) → Holds j f → IsBoundary j.ring j.first (count - j.first) f
       → Holds (begun_at count j) f) → (m1 : Moment) → m1 ≡ synced (written (4096 * y.area) spelled m0)
       → IsKept (record { header = next_header h count; step = NoCheckpoint }) x m (begun_at count j) m1
-  opening_done later m1 is_written = in_force_done at_sync x m j m0 kept count refl body refl body_size spelled spelled_next later m1
+  opening_done later m1 is_written =
+      in_force_done at_sync x m j m0 kept count refl body refl body_size spelled spelled_next later m1
       (subst (λ (n : ℕ). m1 ≡ synced (written (4096 * n) spelled m0)) area_is is_written)
 
 -- where all pages are on the disk, the other header's gate is closed there
@@ -99,12 +100,13 @@ pub begun_kept : (h : Header) (x : Paged) (copies : List (List ℕ)) (m : Conten
 begun_kept h x copies m j now kept to_last later counted shows older_size recent_size = record {
   read = kept.read;
   step = by_left (pages_from 0 (union x.older x.recent))
-      (begins h x copies now.bytes older_size recent_size kept.read.shown kept.read.commands j.count is_taken ends kept.step);
+      (begins h x copies now.bytes older_size recent_size kept.read.shown kept.read.commands j.count is_taken ends
+      kept.step);
   elsewhere = kept.elsewhere;
   calm = calm_left j.count (pages_from 0 (union x.older x.recent)) now;
 }
   where
-    is_taken : IsTaken h kept.read.shown kept.read.commands j.count x.records
+    is_taken : IsTakenAt h kept.read.shown kept.read.commands j.count x.records
     is_taken = record {
       many = length kept.read.commands;
       few = omega arith;

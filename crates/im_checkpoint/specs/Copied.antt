@@ -1,41 +1,41 @@
 -- Copies of pages, in the order in which they were made. (Own.)
 use Rattle.std.specs.Prelude.{◌≡◌, ℕ, suc, ◌<◌, ◌≤◌, List, [], ◌∷◌, length, replicate, slice_index_or, Bool, true}
 use Rattle.std.specs.Prelude.{false}
-use Rattle.im_checkpoint.specs.declared.page_copies.Place.{Place}
-use Rattle.im_checkpoint.specs.declared.page_copies.Place.TheVariants.{Nowhere, At}
+use Rattle.im_checkpoint.specs.declared.page_copies.CopyPlace.{CopyPlace}
+use Rattle.im_checkpoint.specs.declared.page_copies.CopyPlace.TheVariants.{Nowhere, At}
 use Rattle.im_types.specs.Layout.{Sizes, layout_in_use, page_bytes, area_pages}
 use Rattle.im_types.specs.Pages.{Records}
 use Rattle.im_pages.specs.PageSets.{has}
 use Rattle.im_image.specs.Encoding.{IsAreaPage}
 
 -- the bytes of a page without a copy
-abbrev pub blank : List ℕ
-blank = replicate page_bytes 0
+abbrev pub blank_page : List ℕ
+blank_page = replicate page_bytes 0
 
 -- the copy that stands at a place, if there is one
-abbrev pub copy_at : List (List ℕ) → Place → List ℕ
-copy_at pages Nowhere = blank
-copy_at pages (At place) = slice_index_or pages place blank
+abbrev pub copy_at : List (List ℕ) → CopyPlace → List ℕ
+copy_at pages Nowhere = blank_page
+copy_at pages (At place) = slice_index_or pages place blank_page
 
 -- the copy of a page
 abbrev pub copy_of : List (List ℕ) → ℕ → List ℕ
 copy_of copies page = slice_index_or copies page []
 
 -- how many pages have a place
-abbrev pub taken : List Place → ℕ
+abbrev pub taken : List CopyPlace → ℕ
 taken [] = 0
 taken (Nowhere ∷ places) = taken places
 taken (At place ∷ places) = suc (taken places)
 
 -- the place of a page's copy
-abbrev pub place_of : List Place → ℕ → Place
-place_of places i = slice_index_or places i Nowhere
+abbrev pub copy_place : List CopyPlace → ℕ → CopyPlace
+copy_place places i = slice_index_or places i Nowhere
 
 -- each copy is that of one page, and there is room for a copy of each page
-pub record AreCopies (places : List Place) (pages : List (List ℕ)) (capacity : ℕ) : Type 0 where
+pub record AreCopies (places : List CopyPlace) (pages : List (List ℕ)) (capacity : ℕ) : Type 0 where
   pub count : length pages ≡ taken places
-  pub within : (i place : ℕ) → place_of places i ≡ At place → place < length pages
-  pub apart : (i j place : ℕ) → place_of places i ≡ At place → place_of places j ≡ At place → i ≡ j
+  pub within : (i place : ℕ) → copy_place places i ≡ At place → place < length pages
+  pub apart : (i j place : ℕ) → copy_place places i ≡ At place → copy_place places j ≡ At place → i ≡ j
   pub room : length places ≤ capacity
 
 -- each page from `from` on that is named, is left and hasn't changed lately has a copy, as these records show the page

@@ -95,8 +95,8 @@ abbrev pub paged : PagedCheckpoint → MemoryState → Paged
 paged c m = record { recent = c.recent; older = c.older; copies = c.copies; records = m.records }
 
 -- the page changed since the start of the checkpoint before the last one
-abbrev pub changed : Paged → ℕ → Bool
-changed x page = has x.older page || has x.recent page
+abbrev pub has_changed : Paged → ℕ → Bool
+has_changed x page = has x.older page || has x.recent page
 
 -- the page changed since the last checkpoint began
 abbrev pub changed_lately : Paged → ℕ → Bool
@@ -135,7 +135,7 @@ pub record AreTaken (s : Sizes) (x : Paged) (taken : Records) (left : List ℕ) 
 
 -- what the checkpoint took: the records of the memory after some of the commands since the header's count; a later
 -- generation is possible
-pub record IsTaken (h : Header) (shown : Contents) (commands : List Command) (count : ℕ)
+pub record IsTakenAt (h : Header) (shown : Contents) (commands : List Command) (count : ℕ)
     (taken : Records) : Type 0 where
   pub many : ℕ
   pub few : many ≤ length commands
@@ -151,16 +151,16 @@ pub record IsTaken (h : Header) (shown : Contents) (commands : List Command) (co
 pub record IsWriting (h : Header) (shown : Contents) (commands : List Command) (x : Paged) (count : ℕ) (left : List ℕ)
     (file : List ℕ) : Type 0 where
   pub taken : Records
-  pub is_taken : IsTaken h shown commands count taken
+  pub is_taken : IsTakenAt h shown commands count taken
   -- no group continues behind the commands that the checkpoint took
   pub boundary : IsBoundary (ring_of layout_in_use h.sizes) h.count is_taken.many file
-  pub own : Stand h.sizes (changed x) x.records (own_page h file)
+  pub own : Stand h.sizes (has_changed x) x.records (own_page h file)
   pub others : AreTaken h.sizes x taken left (other_page h file)
 
 -- the pages of both areas while no checkpoint is under way
 pub record IsResting (h : Header) (x : Paged) (file : List ℕ) : Type 0 where
   pub own : Stand h.sizes (changed_lately x) x.records (own_page h file)
-  pub others : Stand h.sizes (changed x) x.records (other_page h file)
+  pub others : Stand h.sizes (has_changed x) x.records (other_page h file)
 
 -- what the state of a checkpoint says of the file that a read gives
 abbrev pub KeepsStep : Header → Contents → List Command → Paged → Step → List ℕ → Type 0
@@ -240,6 +240,12 @@ module _ {D : Type 0} (disk : Ghosts D) (old new : D) where
   abbrev pub TurnKeeps : {T E : Type 0} → Result T E → PagedCheckpoint → PagedCheckpoint → MemoryState → Contents
       → JournalState → JournalState → Type 0
   TurnKeeps result c d n m j k = StaysMeant result c.state (paged c n) d.state (paged d n) m j k
+
+  -- if the disk is honest at the end of a turn, what the image means stays, and the new checkpoint then keeps it
+  abbrev pub TurnLeaves : {T E : Type 0} → Result T E → MemoryState → JournalState → PagedCheckpoint → JournalState
+      → Type 0
+  TurnLeaves result n j d k = disk.honest new
+      → KeepsMeaning disk.now disk.past old new n.contents j result d.state (paged d n) k
 
 -- What is done before a command acts.
 pub record Prepares (old : PagedCheckpoint) (m : MemoryState) (command : Command) (new : PagedCheckpoint) : Type 0 where

@@ -4,9 +4,9 @@ use Rattle.im_types.specs.declared.TheConstants.{LAST}
 use Rattle.im_types.specs.Layout.{layout_in_use, area_pages}
 use Rattle.im_types.specs.Header.{Header}
 use Rattle.im_pages.specs.PageSets.{has}
-use Rattle.im_checkpoint.specs.declared.checkpoint.Step.{Step as Mark}
-use Rattle.im_checkpoint.specs.declared.checkpoint.Step.TheVariants.{NoCheckpoint as None_yet, PagesLeft as Some_left}
-use Rattle.im_checkpoint.specs.declared.checkpoint.Step.TheVariants.{PagesDone as All_written, Synced as On_disk}
+use Rattle.im_checkpoint.specs.declared.checkpoint.Phase.{Phase}
+use Rattle.im_checkpoint.specs.declared.checkpoint.Phase.TheVariants.{NoCheckpoint as None_yet, PagesLeft as Some_left}
+use Rattle.im_checkpoint.specs.declared.checkpoint.Phase.TheVariants.{PagesDone as All_written, Synced as On_disk}
 
 -- No checkpoint. Or, of the memory after this count of commands: these pages are left to be written, or all are
 -- written, or all are on the disk with the other header's gate closed.
@@ -67,11 +67,11 @@ left_in (PagesDone count) = []
 left_in (Synced count) = []
 
 -- the state that a checkpoint's fields stand for
-abbrev pub step_of : Mark → ℕ → List ℕ → Step
-step_of None_yet count left = NoCheckpoint
-step_of Some_left count left = PagesLeft count left
-step_of All_written count left = PagesDone count
-step_of On_disk count left = Synced count
+abbrev pub step_by_phase : Phase → ℕ → List ℕ → Step
+step_by_phase None_yet count left = NoCheckpoint
+step_by_phase Some_left count left = PagesLeft count left
+step_by_phase All_written count left = PagesDone count
+step_by_phase On_disk count left = Synced count
 
 -- pages are left
 abbrev pub IsPagesLeft : Step → Type 0
@@ -95,7 +95,7 @@ IsSynced (PagesDone count) = ⊥
 IsSynced (Synced count) = Unit {0}
 
 -- a checkpoint under way leads to a generation that is possible
-abbrev pub HasNext : Header → Mark → Type 0
+abbrev pub HasNext : Header → Phase → Type 0
 HasNext h None_yet = Unit {0}
 HasNext h Some_left = h.generation < LAST
 HasNext h All_written = h.generation < LAST
@@ -103,7 +103,7 @@ HasNext h On_disk = h.generation < LAST
 
 -- The fields of a checkpoint. Its area is one of two, and each set is of an area's pages. The next page is one of those
 -- left, if there are any. There is a place for a copy of each page.
-pub record IsCheckpoint (h : Header) (mark : Mark) (recent older left named : List Bool) (next : ℕ)
+pub record IsCheckpoint (h : Header) (mark : Phase) (recent older left named : List Bool) (next : ℕ)
     (copies : List (List ℕ)) : Type 0 where
   pub number : h.area ≤ 1
   pub recent_size : length recent ≡ area_pages layout_in_use h.sizes

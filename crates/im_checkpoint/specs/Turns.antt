@@ -48,7 +48,7 @@ pub record IsIdle (h : Header) (other_alone : Bool) (c : PagedCheckpoint) : Type
 
 -- A checkpoint at its start. It has the current count. A set of the area's pages is left, to be written in rising
 -- order, each once. It ends after at most one turn for each page of an area and two more.
-pub record Begins (h : Header) (count : ℕ) (new : CheckpointState) : Type 0 where
+pub record BeginsCheckpoint (h : Header) (count : ℕ) (new : CheckpointState) : Type 0 where
   pub changed : List Bool
   pub size : length changed ≡ area_pages layout_in_use h.sizes
   pub state : new ≡ record { header = h; step = with_left count (pages_from 0 changed) }
@@ -79,7 +79,7 @@ pub record Turned (old : CheckpointState) (j : JournalState) (answer : TurnDone)
   pub swept : old.step ≡ NoCheckpoint → 0 < to_sweep j → (answer ≡ Swept) × (new ≡ old)
       × (k ≡ with_room j (min 3 (to_sweep j)))
   pub began : old.step ≡ NoCheckpoint → to_sweep j ≡ 0 → is_due old.header j ≡ true → (answer ≡ Began)
-      × Begins old.header j.count new × (k ≡ j)
+      × BeginsCheckpoint old.header j.count new × (k ≡ j)
   pub idle : old.step ≡ NoCheckpoint → to_sweep j ≡ 0 → is_due old.header j ≡ false → (answer ≡ Idle) × (new ≡ old)
       × (k ≡ j)
   pub page : (count : ℕ) (i : ℕ) (left : List ℕ) → old.step ≡ PagesLeft count (i ∷ left)

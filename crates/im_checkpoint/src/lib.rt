@@ -7,6 +7,9 @@
 
 mod checkpoint;
 mod header;
+mod left_pages;
+mod old_slots;
 mod page_copies;
+mod steps;
 
 pub use checkpoint::{Checkpoint, TurnDone};

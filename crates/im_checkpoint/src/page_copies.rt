@@ -1,6 +1,6 @@
 //! Copies of an area's pages. Their space is taken once and not filled.
 ghost use Rattle.std.specs.Prelude.{◌≡◌, ◌<◌, length, slice_set, IfOk};
-ghost use Rattle.im_checkpoint.specs.Copied.{blank, copy_of};
+ghost use Rattle.im_checkpoint.specs.Copied.{blank_page, copy_of};
 
 use im_types::layout::PAGE;
 use std::alloc::{AllocError, Global};
@@ -8,7 +8,7 @@ use std::marker::Model;
 
 // The place of a page's copy.
 #[derive(Clone, Copy, Debug, PartialEq, Eq)]
-enum Place {
+enum CopyPlace {
     Nowhere,
     At(usize),
 }
@@ -20,7 +20,7 @@ enum Place {
 #[derive(Drop)]
 pub(crate) struct PageCopies {
     // The place of the copy of each page of an area.
-    places: Vec<Place>,
+    places: Vec<CopyPlace>,
     pages: Vec<[u8; PAGE]>,
 }
 
@@ -36,8 +36,8 @@ impl Model for PageCopies {
 }
 
 // The bytes of a page without a copy.
-fn blank() -> [u8; PAGE]
-    ensures { result ≡ blank }
+fn blank_page() -> [u8; PAGE]
+    ensures { result ≡ blank_page }
 {
     [0; PAGE]
 }
@@ -48,7 +48,7 @@ impl PageCopies {
     pub(crate) fn new(alloc: Global, pages: usize) -> Result<PageCopies, AllocError>
         ensures { IfOk result (λ copies. length copies ≡ pages) }
     {
-        let places = vec![in alloc; Place::Nowhere; pages]?;
+        let places = vec![in alloc; CopyPlace::Nowhere; pages]?;
         let pages = Vec::with_capacity(alloc, pages)?;
         Ok(PageCopies { places, pages })
     }
@@ -59,8 +59,8 @@ impl PageCopies {
         ensures { result ≡ copy_of self.now i }
     {
         match self.places[i] {
-            Place::At(place) => self.pages[place],
-            Place::Nowhere => blank(),
+            CopyPlace::At(place) => self.pages[place],
+            CopyPlace::Nowhere => blank_page(),
         }
     }
 
@@ -70,13 +70,13 @@ impl PageCopies {
         ensures { self.new ≡ slice_set self.old i page.now }
     {
         match self.places[i] {
-            Place::At(place) => self.pages[place] = *page,
-            Place::Nowhere => {
+            CopyPlace::At(place) => self.pages[place] = *page,
+            CopyPlace::Nowhere => {
                 let place = self.pages.len();
                 let Ok(()) = self.pages.push(*page) else {
                     unreachable!()
                 };
-                self.places[i] = Place::At(place);
+                self.places[i] = CopyPlace::At(place);
             }
         }
     }

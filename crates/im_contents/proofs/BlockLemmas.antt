@@ -10,7 +10,7 @@ use Rattle.im_types.specs.declared.records.CellRecord.{CellRecord}
 use Rattle.im_types.specs.declared.records.CellRecord.TheVariants.{Free as FreeCell, Held as BlockCell}
 use Rattle.im_types.specs.Contents.{block_at, HasBlocks}
 use Rattle.im_types.specs.Pages.{cells_shown}
-use Rattle.im_contents.specs.Local.{block_of, block_in, AreIn, IsBlockAt, EndsBefore, HaveBlocksBelow}
+use Rattle.im_contents.specs.Local.{recorded_block, recorded_block_at, LieIn, IsBlockAt, EndsBefore, HaveBlocksBelow}
 use Rattle.im_contents.proofs.MarkLemmas.{none_some}
 
 pub length-cells_shown : (cells : List CellRecord) (lists : List (List Waiter)) → length (cells_shown cells lists)
@@ -21,7 +21,7 @@ length-cells_shown (cell ∷ cells) (waiters ∷ lists) = ap suc (length-cells_s
 
 -- who waits has no part in a block
 block_at-shown : (cells : List CellRecord) (lists : List (List Waiter)) (a : ℕ)
-    → block_at (cells_shown cells lists) a ≡ block_in cells a
+    → block_at (cells_shown cells lists) a ≡ recorded_block_at cells a
 block_at-shown [] lists a = refl
 block_at-shown (FreeCell hole next ∷ cells) [] zero = refl
 block_at-shown (FreeCell hole next ∷ cells) (waiters ∷ lists) zero = refl
@@ -31,15 +31,17 @@ block_at-shown (cell ∷ cells) [] (suc a) = block_at-shown cells [] a
 block_at-shown (cell ∷ cells) (waiters ∷ lists) (suc a) = block_at-shown cells lists a
 
 -- a cell of a block is one of the cells
-pub in_cells : (cells : List CellRecord) (a : ℕ) (block : Block) → block_in cells a ≡ Some block → a < length cells
+pub in_cells : (cells : List CellRecord) (a : ℕ) (block : Block) → recorded_block_at cells a ≡ Some block
+    → a < length cells
 in_cells cells a block e = ⊎_elim
     (λ (lt : a < length cells). lt)
     (λ (past : length cells ≤ a). absurd
-    (none_some block (sym (ap block_of (get_or_past cells a (FreeCell 0 NONE) past)) ∙ e)))
+    (none_some block (sym (ap recorded_block (get_or_past cells a (FreeCell 0 NONE) past)) ∙ e)))
     (cases_lt a (length cells))
 
 -- a free cell is no part of a block
-pub free_below : (cells : List CellRecord) (place : ℕ) → HaveBlocksBelow cells place → None ≡ block_in cells place
+pub free_below : (cells : List CellRecord) (place : ℕ) → HaveBlocksBelow cells place
+    → None ≡ recorded_block_at cells place
     → HaveBlocksBelow cells (place + 1)
 free_below cells place below free a block lt here = ⊎_elim
     (λ (less : a < place). let e = below a block less here in record {
@@ -50,17 +52,17 @@ free_below cells place below free a block lt here = ⊎_elim
       whole = e.whole;
     })
     (λ (past : place ≤ a). absurd
-    (none_some block (free ∙ ap (block_in cells) (let same : place ≡ a = omega arith in same) ∙ here)))
+    (none_some block (free ∙ ap (recorded_block_at cells) (let same : place ≡ a = omega arith in same) ∙ here)))
     (cases_lt a place)
 
 -- where cells lie in blocks, the first cell behind some of them begins one
 pub begins_block : (cells : List CellRecord) (lists : List (List Waiter)) (place : ℕ) (block : Block)
     → HasBlocks (cells_shown cells lists) → HaveBlocksBelow cells place
-    → block_in cells place ≡ Some block → IsBlockAt cells place block
+    → recorded_block_at cells place ≡ Some block → IsBlockAt cells place block
 begins_block cells lists place block blocks below here =
     let w = blocks.within place block (block_at-shown cells lists place ∙ here) in
     let count = length-cells_shown cells lists in
-    let whole : AreIn cells block.base (block.base + block.length) block =
+    let whole : LieIn cells block.base (block.base + block.length) block =
     λ a le lt. sym (block_at-shown cells lists a)
     ∙ blocks.whole place block (block_at-shown cells lists place ∙ here) a le lt in
     let from : block.base ≡ place = ⊎_elim

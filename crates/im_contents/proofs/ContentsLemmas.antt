@@ -11,7 +11,7 @@ use Rattle.im_types.specs.Agreement.{WaitersAgree}
 use Rattle.im_types.specs.Layout.{Sizes}
 use Rattle.im_types.specs.Chains.{ShowLists}
 use Rattle.im_types.specs.Pages.{Records, ShowsRecords, cells_shown}
-use Rattle.im_contents.specs.Parts.{AreWindows, HaveParts}
+use Rattle.im_contents.specs.Parts.{WindowsFit, HaveParts}
 use Rattle.im_contents.proofs.BlockLemmas.{length-cells_shown, blocks_of_others}
 use Rattle.im_contents.proofs.ListLemmas.{lists_unique}
 
@@ -36,7 +36,7 @@ module _ (s : Sizes) (r : Records) where
   parts_of m shown = record {
     cell_count = sym (length-cells_shown r.cells shown.lists) ∙ ap length (sym shown.cells) ∙ shown.memory.cell_count;
     window_count = ap length (sym shown.windows) ∙ shown.memory.window_count;
-    within = subst AreWindows shown.windows shown.memory.windows;
+    within = subst WindowsFit shown.windows shown.memory.windows;
     blocks = λ lists. blocks_of_others r.cells shown.lists lists (subst HasBlocks shown.cells shown.memory.blocks);
   }
 

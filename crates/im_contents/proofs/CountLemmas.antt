@@ -32,7 +32,8 @@ pub record Waits (a : ℕ) (entry : Option Kept) : Type 0 where
 
 pub waits_at : (a : ℕ) (held : Option Held) (entry : Option Kept) → waits_in a held entry ≡ true → Waits a entry
 waits_at a None entry e = absurd (true≢false (sym e))
-waits_at a (Some held) entry e = let w = waits_for-kept held.block.kind a entry e in record { kept = w.0; is = w.1; waits = w.2; there = w.3 }
+waits_at a (Some held) entry e =
+    let w = waits_for-kept held.block.kind a entry e in record { kept = w.0; is = w.1; waits = w.2; there = w.3 }
 
 same_kept : (x y : Kept) (o : Option Kept) → o ≡ Some x → o ≡ Some y → x ≡ y
 same_kept x y o a b = cc

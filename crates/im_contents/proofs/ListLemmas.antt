@@ -12,7 +12,7 @@ use Rattle.im_types.specs.declared.records.CellRecord.{CellRecord}
 use Rattle.im_types.specs.declared.records.CellRecord.TheVariants.{Free as FreeCell, Held as BlockCell}
 use Rattle.im_types.specs.declared.records.NodeRecord.{NodeRecord}
 use Rattle.im_types.specs.Chains.{HasNoChain, HasChain, HaveChains, uses, all_uses, is_listed, ShowLists}
-use Rattle.im_contents.specs.Walk.{Walked, walk, walk_cell, AllWalked, with_list, walk_all, are_reached}
+use Rattle.im_contents.specs.Walk.{Walked, walk, walk_cell, AllWalked, after_list, walk_all, are_reached}
 use Rattle.im_contents.specs.Walk.{lists_if_reached, lists_in}
 use Rattle.im_contents.proofs.MarkLemmas.{none_some, some_same, when, unless, bool_cases, bit_few, marked, unmarked}
 use Rattle.im_contents.proofs.MarkLemmas.{marked-none, node_at, reached_marks, marks_reached}
@@ -137,7 +137,7 @@ record WithList (waiters : List Waiter) (o : Option AllWalked) (r : AllWalked) :
   pub is : o ≡ Some rest
   pub whole : record { lists = waiters ∷ rest.lists; marks = rest.marks } ≡ r
 
-with_list_some : (waiters : List Waiter) (o : Option AllWalked) (r : AllWalked) → with_list waiters o ≡ Some r
+with_list_some : (waiters : List Waiter) (o : Option AllWalked) (r : AllWalked) → after_list waiters o ≡ Some r
     → WithList waiters o r
 with_list_some waiters None r e = absurd (none_some r e)
 with_list_some waiters (Some x) r e = record {
@@ -153,7 +153,7 @@ walk_all_sound nodes [] marks r size e =
     subst (λ (x : AllWalked). Trails nodes [] marks x) (some_same (record { lists = []; marks = marks }) r e)
     (record { chains = []; have = tt; size = refl; counts = λ n. omega arith })
 walk_all_sound nodes (cell ∷ cells) marks r size e =
-    let first = then_some (λ w. with_list w.waiters (walk_all nodes cells w.marks)) (walk_cell nodes cell marks) r e in
+    let first = then_some (λ w. after_list w.waiters (walk_all nodes cells w.marks)) (walk_cell nodes cell marks) r e in
     let w : Walked = first.value in
     let t = cell_sound nodes cell marks w size first.is in
     let more = with_list_some w.waiters (walk_all nodes cells w.marks) r first.gives in
@@ -179,7 +179,14 @@ module _ (nodes : List NodeRecord) (few : length nodes ≤ NONE) where
       (lists : List (List Waiter)) → length marks ≡ length nodes
       → HaveChains nodes cells chains lists → ((n : ℕ) → all_uses n chains + marked marks n ≤ 1)
       → AllDone nodes cells marks chains lists
-  walk_all_complete [] marks [] [] size have once = record { walked = record { lists = []; marks = marks }; is = refl; lists_are = refl; size = refl; counts = λ n. omega arith }
+  walk_all_complete [] marks [] [] size have once =
+      record {
+        walked = record { lists = []; marks = marks };
+        is = refl;
+        lists_are = refl;
+        size = refl;
+        counts = λ n. omega arith;
+      }
   walk_all_complete [] marks [] (waiters ∷ lists) size have once = absurd have
   walk_all_complete [] marks (chain ∷ chains) [] size have once = absurd have
   walk_all_complete [] marks (chain ∷ chains) (waiters ∷ lists) size have once = absurd have
@@ -194,8 +201,8 @@ module _ (nodes : List NodeRecord) (few : length nodes ≤ NONE) where
       record {
         walked = record { lists = w.waiters ∷ later.walked.lists; marks = later.walked.marks };
         is = ap (λ (o : Option Walked). option_and_then
-            (λ v. with_list v.waiters (walk_all nodes cells v.marks)) o) here.is
-            ∙ ap (λ (o : Option AllWalked). with_list w.waiters o) later.is;
+            (λ v. after_list v.waiters (walk_all nodes cells v.marks)) o) here.is
+            ∙ ap (λ (o : Option AllWalked). after_list w.waiters o) later.is;
         lists_are = ap (λ (l : List Waiter). l ∷ later.walked.lists) here.waiters_are
             ∙ ap (λ (l : List (List Waiter)). waiters ∷ l) later.lists_are;
         size = later.size ∙ here.size;

@@ -11,7 +11,7 @@ use Rattle.im_types.specs.declared.operations.Waiter.{Waiter}
 use Rattle.im_types.specs.declared.records.NodeRecord.{NodeRecord}
 use Rattle.im_types.specs.declared.records.NodeRecord.TheVariants.{Free as FreeNode, Listed as ListNode}
 use Rattle.im_types.specs.Chains.{bit, is_listed}
-use Rattle.im_contents.specs.Walk.{fresh, same_mark, are_reached}
+use Rattle.im_contents.specs.Walk.{unvisited_node, same_mark, are_reached}
 
 module _ {X : Type 0} where
   pub none_some : (x : X) → None ≡ Some x → ⊥
@@ -134,7 +134,8 @@ pub record IsFresh (marks : List Bool) (nodes : List NodeRecord) (at next : ℕ)
   pub mark : get_or marks at true ≡ false
   pub node : node_at nodes at ≡ ListNode next who
 
-pub fresh_node : (marks : List Bool) (nodes : List NodeRecord) (at next : ℕ) (who : Waiter) → fresh marks nodes at
+pub fresh_node : (marks : List Bool) (nodes : List NodeRecord) (at next : ℕ) (who : Waiter)
+    → unvisited_node marks nodes at
     ≡ ListNode next who → IsFresh marks nodes at next who
 fresh_node marks nodes at next who e = by_mark (get_or marks at true) refl e
   where

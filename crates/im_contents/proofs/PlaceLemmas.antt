@@ -1,4 +1,5 @@
--- The places of entries' marks: those of entries that wait are apart. And who waits agrees with what waits exactly where
+-- The places of entries' marks: those of entries that wait are apart. And who waits agrees with what waits exactly
+-- where
 -- all can be marked, and all that wait are.
 use Rattle.std.proofs.Common.{◌≡◌, ℕ, zero, suc, ◌+◌, ◌*◌, ◌-◌, ◌<◌, ◌≤◌, Bool, true, false, List, [], ◌∷◌, Option}
 use Rattle.std.proofs.Common.{None, Some, length, get_or, drop, replicate, refl, sym, ap, ◌∙◌, subst, arith}
@@ -21,7 +22,7 @@ use Rattle.im_types.specs.Agreement.{WaitersAgree}
 use Rattle.im_types.specs.Pages.{cell_shown, cells_shown}
 use Rattle.im_types.specs.Chains.{bit}
 use Rattle.im_contents.specs.Counting.{waiting}
-use Rattle.im_contents.specs.Marking.{AreFew, place_in, mark_held, mark_all, HavePlaces, AreMarked}
+use Rattle.im_contents.specs.Marking.{AreFew, place_of_mark, mark_held, mark_all, HavePlaces, AreMarked}
 use Rattle.im_contents.proofs.RowLemmas.{none-behind}
 use Rattle.im_contents.proofs.MarkLemmas.{none_some, some_same, unless, bit_one}
 use Rattle.im_contents.proofs.MarkingLemmas.{agree_of_marks, marks_of_agree}
@@ -112,7 +113,7 @@ is_one windows who one = by_entry (kept_for windows who) refl one
     by_entry (Some k) is h = record { kept = k; stands = stands windows who k is; waits = bit_one (is_waiting k) h }
 
 place_is : (windows : List Window) (who : Waiter) (w : Window) → slice_get windows who.element ≡ Some w
-    → place_in windows who ≡ WINDOW * who.element + (who.number - w.base)
+    → place_of_mark windows who ≡ WINDOW * who.element + (who.number - w.base)
 place_is windows who w there = ap (λ (v : Window). WINDOW * who.element + (who.number - v.base))
     (get_or_from_slice_get windows who.element w new_window there)
 
@@ -128,7 +129,7 @@ module _ (windows : List Window) (few : AreFew windows) where
       let at_most = few who.element s.window s.there in
       omega (arith, within, at_most)
 
-  have_places : HavePlaces (kept_for windows) (place_in windows) (WINDOW * length windows)
+  have_places : HavePlaces (kept_for windows) (place_of_mark windows) (WINDOW * length windows)
   have_places = record {
     apart = λ v w vw ww same. apart v w (is_one windows v vw) (is_one windows w ww) same;
     within = λ w ww. let one = is_one windows w ww in
@@ -141,7 +142,8 @@ module _ (windows : List Window) (few : AreFew windows) where
       numbers : (a b m n : ℕ) → a ≤ m → b ≤ n → a ≡ b → m - a ≡ n - b → m ≡ n
       numbers a b m n le also same e = omega arith
 
-      apart : (v w : Waiter) → IsWaiting windows v → IsWaiting windows w → place_in windows v ≡ place_in windows w
+      apart : (v w : Waiter) → IsWaiting windows v → IsWaiting windows w
+          → place_of_mark windows v ≡ place_of_mark windows w
           → v ≡ w
       apart v w one two same =
           let places = same_place v.element w.element (v.number - one.stands.window.base)
@@ -152,11 +154,13 @@ module _ (windows : List Window) (few : AreFew windows) where
           (sym one.stands.there ∙ ap (slice_get windows) places.0 ∙ two.stands.there) in
           let elements : v.element ≡ w.element = places.0 in
           let same_number : v.number
-          ≡ w.number = numbers one.stands.window.base two.stands.window.base v.number w.number one.stands.base two.stands.base (ap (λ (x : Window). x.base) windows_same) places.1 in
+          ≡ w.number =
+          numbers one.stands.window.base two.stands.window.base v.number w.number one.stands.base two.stands.base
+          (ap (λ (x : Window). x.base) windows_same) places.1 in
           λ i. record { element = elements i; number = same_number i }
 
   all_of_marked : (marks : List Bool) → AreMarked windows marks → (who : Waiter) → waiting (kept_for windows who) ≡ 1
-      → get_or marks (place_in windows who) false ≡ true
+      → get_or marks (place_of_mark windows who) false ≡ true
   all_of_marked marks marked who ww =
       let one = is_one windows who ww in
       ap (λ (n : ℕ). get_or marks n false) (place_is windows who one.stands.window one.stands.there)
@@ -164,7 +168,7 @@ module _ (windows : List Window) (few : AreFew windows) where
       (who.number - one.stands.window.base) one.kept one.stands.entry one.waits
 
   marked_of_all : (marks : List Bool)
-      → ((who : Waiter) → waiting (kept_for windows who) ≡ 1 → get_or marks (place_in windows who) false ≡ true)
+      → ((who : Waiter) → waiting (kept_for windows who) ≡ 1 → get_or marks (place_of_mark windows who) false ≡ true)
       → AreMarked windows marks
   marked_of_all marks all = λ element w there i k is waits.
       let who : Waiter = record { element = element; number = w.base + i } in
@@ -182,20 +186,21 @@ module _ (windows : List Window) (few : AreFew windows) where
   module _ (cells : List (Option Held)) (none : List Bool)
       (none_is : none ≡ replicate (WINDOW * length windows) false) where
     abbrev marking : Option (List Bool)
-    marking = mark_all (kept_for windows) (place_in windows) 0 none cells
+    marking = mark_all (kept_for windows) (place_of_mark windows) 0 none cells
 
     begun : (now : Option (List Bool)) → marking ≡ now
-        → mark_all (kept_for windows) (place_in windows) 0 (replicate (WINDOW * length windows) false) cells ≡ now
-    begun now e = ap (λ (m : List Bool). mark_all (kept_for windows) (place_in windows) 0 m cells) (sym none_is) ∙ e
+        → mark_all (kept_for windows) (place_of_mark windows) 0 (replicate (WINDOW * length windows) false) cells ≡ now
+    begun now e =
+        ap (λ (m : List Bool). mark_all (kept_for windows) (place_of_mark windows) 0 m cells) (sym none_is) ∙ e
 
     -- all could be marked
     pub agrees_where_marked : (after : List Bool) → marking ≡ Some after
         → (AreMarked windows after) ↔ (WaitersAgree cells (kept_for windows))
     agrees_where_marked after e = (
-      λ marked. agree_of_marks (kept_for windows) (place_in windows) (WINDOW * length windows) have_places cells
+      λ marked. agree_of_marks (kept_for windows) (place_of_mark windows) (WINDOW * length windows) have_places cells
           (record { after = after; is = begun (Some after) e; all = all_of_marked after marked }),
       λ agree.
-          let by = marks_of_agree (kept_for windows) (place_in windows)
+          let by = marks_of_agree (kept_for windows) (place_of_mark windows)
           (WINDOW * length windows) have_places cells agree in
           let same : by.after ≡ after = some_same by.after after (sym by.is ∙ begun (Some after) e) in
           subst (λ (m : List Bool). AreMarked windows m) same (marked_of_all by.after by.all),
@@ -204,6 +209,6 @@ module _ (windows : List Window) (few : AreFew windows) where
     -- one couldn't
     pub disagrees : marking ≡ None → WaitersAgree cells (kept_for windows) → ⊥
     disagrees e agree =
-        let by = marks_of_agree (kept_for windows) (place_in windows)
+        let by = marks_of_agree (kept_for windows) (place_of_mark windows)
         (WINDOW * length windows) have_places cells agree in
         none_some by.after (sym (begun None e) ∙ by.is)

@@ -10,34 +10,36 @@ use Rattle.im_types.specs.declared.records.CellRecord.{CellRecord}
 use Rattle.im_types.specs.declared.records.NodeRecord.{NodeRecord}
 use Rattle.im_types.specs.declared.records.NodeRecord.TheVariants.{Free as FreeNode, Listed as ListNode}
 use Rattle.im_contents.specs.Row.{cut, Rise}
-use Rattle.im_contents.specs.Walk.{Walked, fresh, next_of, behind, visit, walk, walk_cell, AllWalked, with_list}
+use Rattle.im_contents.specs.Walk.{Walked, unvisited_node, node_behind, met_after, visit, walk, walk_cell}
+use Rattle.im_contents.specs.Walk.{AllWalked, after_list}
 use Rattle.im_contents.specs.Walk.{after_lists, walk_all, are_reached, lists_if_reached, lists_in}
 use Rattle.im_contents.proofs.MarkLemmas.{none_some, some_same, when, unless}
 use Rattle.im_contents.proofs.RowLemmas.{Rise-push, cut-push}
 
-behind-behind : (front : List Waiter) (who : Waiter) (rest : Option Walked) → behind front (behind (who ∷ []) rest)
-    ≡ behind (front ++ who ∷ []) rest
+behind-behind : (front : List Waiter) (who : Waiter) (rest : Option Walked)
+    → met_after front (met_after (who ∷ []) rest)
+    ≡ met_after (front ++ who ∷ []) rest
 behind-behind front who None = refl
 behind-behind front who (Some w) = ap (λ (l : List Waiter). Some (record { waiters = l; marks = w.marks }))
     (sym (append_assoc front (who ∷ []) w.waiters))
 
 -- a walk has come to a node
 module _ (nodes : List NodeRecord) (last n i : ℕ) (lt : i < n) (marks : List Bool) (at : ℕ) (front : List Waiter)
-    (whole : Option Walked) (inv : whole ≡ behind front (walk nodes last (n - i) marks at)) where
-  seen : (f : NodeRecord) → fresh marks nodes at ≡ f → whole
-      ≡ behind front (visit last at (set marks at true) f
-      (walk nodes last (n - (i + 1)) (set marks at true) (next_of f)))
+    (whole : Option Walked) (inv : whole ≡ met_after front (walk nodes last (n - i) marks at)) where
+  seen : (f : NodeRecord) → unvisited_node marks nodes at ≡ f → whole
+      ≡ met_after front (visit last at (set marks at true) f
+      (walk nodes last (n - (i + 1)) (set marks at true) (node_behind f)))
   seen f is =
       let left : n - i ≡ suc (n - (i + 1)) = omega arith in
       inv
-      ∙ ap (λ (k : ℕ). behind front (walk nodes last k marks at)) left
-      ∙ ap (λ (r : NodeRecord). behind front
-      (visit last at (set marks at true) r (walk nodes last (n - (i + 1)) (set marks at true) (next_of r)))) is
+      ∙ ap (λ (k : ℕ). met_after front (walk nodes last k marks at)) left
+      ∙ ap (λ (r : NodeRecord). met_after front
+      (visit last at (set marks at true) r (walk nodes last (n - (i + 1)) (set marks at true) (node_behind r)))) is
 
-  pub lost : (next : ℕ) → fresh marks nodes at ≡ FreeNode next → whole ≡ None
+  pub lost : (next : ℕ) → unvisited_node marks nodes at ≡ FreeNode next → whole ≡ None
   lost next is = seen (FreeNode next) is
 
-  module _ (next : ℕ) (who : Waiter) (is : fresh marks nodes at ≡ ListNode next who) where
+  module _ (next : ℕ) (who : Waiter) (is : unvisited_node marks nodes at ≡ ListNode next who) where
     abbrev further : Option Walked
     further = walk nodes last (n - (i + 1)) (set marks at true) next
 
@@ -47,7 +49,7 @@ module _ (nodes : List NodeRecord) (last n i : ℕ) (lt : i < n) (marks : List B
     abbrev at_end : Option Walked
     at_end = if at == last then Some alone else None
 
-    behind_if : (b : Bool) → behind front (if b then Some alone else None)
+    behind_if : (b : Bool) → met_after front (if b then Some alone else None)
         ≡ (if b then Some (record { waiters = front ++ who ∷ []; marks = set marks at true }) else None)
     behind_if true = refl
     behind_if false = refl
@@ -55,18 +57,20 @@ module _ (nodes : List NodeRecord) (last n i : ℕ) (lt : i < n) (marks : List B
     pub ended : (next == NONE) ≡ true → whole
         ≡ (if at == last then Some (record { waiters = front ++ who ∷ []; marks = set marks at true }) else None)
     ended e = seen (ListNode next who) is
-        ∙ ap (λ (o : Option Walked). behind front o) (when (next == NONE) at_end (behind (who ∷ []) further) e)
+        ∙ ap (λ (o : Option Walked). met_after front o)
+        (when (next == NONE) at_end (met_after (who ∷ []) further) e)
         ∙ behind_if (at == last)
 
     pub went : (next == NONE) ≡ false → whole
-        ≡ behind (front ++ who ∷ []) (walk nodes last (n - (i + 1)) (set marks at true) next)
+        ≡ met_after (front ++ who ∷ []) (walk nodes last (n - (i + 1)) (set marks at true) next)
     went ne =
         seen (ListNode next who) is
-        ∙ ap (λ (o : Option Walked). behind front o) (unless (next == NONE) at_end (behind (who ∷ []) further) ne)
+        ∙ ap (λ (o : Option Walked). met_after front o)
+        (unless (next == NONE) at_end (met_after (who ∷ []) further) ne)
         ∙ behind-behind front who further
 
 after_after : (front : List (List Waiter)) (waiters : List Waiter) (rest : Option AllWalked)
-    → after_lists front (with_list waiters rest) ≡ after_lists (front ++ waiters ∷ []) rest
+    → after_lists front (after_list waiters rest) ≡ after_lists (front ++ waiters ∷ []) rest
 after_after front waiters None = refl
 after_after front waiters (Some r) = ap (λ (l : List (List Waiter)). Some (record { lists = l; marks = r.marks }))
     (sym (append_assoc front (waiters ∷ []) r.lists))
@@ -76,12 +80,12 @@ module _ (nodes : List NodeRecord) (cell : CellRecord) (cells : List CellRecord)
     (waiters : List Waiter) (ends : List ℕ) (whole : Option AllWalked)
     (inv : whole ≡ after_lists (cut waiters 0 ends) (walk_all nodes (cell ∷ cells) marks)) where
   -- there is no list for it
-  pub cell_lost : behind waiters (walk_cell nodes cell marks) ≡ None → whole ≡ None
+  pub cell_lost : met_after waiters (walk_cell nodes cell marks) ≡ None → whole ≡ None
   cell_lost e = inv ∙ ap (λ (o : Option Walked). after_lists (cut waiters 0 ends)
-      (option_and_then (λ w. with_list w.waiters (walk_all nodes cells w.marks)) o))
+      (option_and_then (λ w. after_list w.waiters (walk_all nodes cells w.marks)) o))
       (none_behind (walk_cell nodes cell marks) e)
     where
-      none_behind : (o : Option Walked) → behind waiters o ≡ None → o ≡ None
+      none_behind : (o : Option Walked) → met_after waiters o ≡ None → o ≡ None
       none_behind None e = refl
       none_behind (Some w) e = absurd (none_some (record { waiters = waiters ++ w.waiters; marks = w.marks }) (sym e))
 
@@ -91,7 +95,7 @@ module _ (nodes : List NodeRecord) (cell : CellRecord) (cells : List CellRecord)
     pub is : whole ≡ after_lists (cut now 0 (ends ++ length now ∷ [])) (walk_all nodes cells marked)
 
   pub cell_found : Rise 0 ends (length waiters) → (now : List Waiter) (marked : List Bool)
-      → behind waiters (walk_cell nodes cell marks) ≡ Some (record { waiters = now; marks = marked })
+      → met_after waiters (walk_cell nodes cell marks) ≡ Some (record { waiters = now; marks = marked })
       → IsFurther now marked
   cell_found rise now marked e = by_walk (walk_cell nodes cell marks) refl e
     where
@@ -101,13 +105,13 @@ module _ (nodes : List NodeRecord) (cell : CellRecord) (cells : List CellRecord)
             (omega (arith, length-append waiters w.waiters));
         is = inv
             ∙ ap (λ (o : Option Walked). after_lists (cut waiters 0 ends)
-            (option_and_then (λ v. with_list v.waiters (walk_all nodes cells v.marks)) o)) is
+            (option_and_then (λ v. after_list v.waiters (walk_all nodes cells v.marks)) o)) is
             ∙ after_after (cut waiters 0 ends) w.waiters (walk_all nodes cells w.marks)
             ∙ ap (λ (l : List (List Waiter)). after_lists l (walk_all nodes cells w.marks))
             (sym (cut-push waiters w.waiters 0 ends rise));
       }
 
-      by_walk : (o : Option Walked) → walk_cell nodes cell marks ≡ o → behind waiters o
+      by_walk : (o : Option Walked) → walk_cell nodes cell marks ≡ o → met_after waiters o
           ≡ Some (record { waiters = now; marks = marked }) → IsFurther now marked
       by_walk None is f = absurd (none_some (record { waiters = now; marks = marked }) f)
       by_walk (Some w) is f = subst (λ (x : Walked). IsFurther x.waiters x.marks)

@@ -9,7 +9,7 @@ use Rattle.im_types.specs.declared.operations.Waiter.{Waiter}
 use Rattle.im_types.specs.declared.records.NodeRecord.{NodeRecord}
 use Rattle.im_types.specs.declared.records.NodeRecord.TheVariants.{Free as FreeNode, Listed as ListNode}
 use Rattle.im_types.specs.Chains.{first_of, last_of, Holds, IsChain, uses}
-use Rattle.im_contents.specs.Walk.{Walked, fresh, next_of, behind, visit, walk}
+use Rattle.im_contents.specs.Walk.{Walked, unvisited_node, node_behind, met_after, visit, walk}
 use Rattle.im_contents.proofs.MarkLemmas.{none_some, some_same, when, unless, bool_cases, bit_same, marked, unmarked}
 use Rattle.im_contents.proofs.MarkLemmas.{in_nodes, marked-set, unmarked-set, not_marked, node_at, IsFresh}
 use Rattle.im_contents.proofs.MarkLemmas.{fresh_node}
@@ -33,7 +33,7 @@ record Behind (front : List Waiter) (rest : Option Walked) (w : Walked) : Type 0
   pub rest_is : rest ≡ Some walked
   pub is : record { waiters = front ++ walked.waiters; marks = walked.marks } ≡ w
 
-behind_some : (front : List Waiter) (rest : Option Walked) (w : Walked) → behind front rest ≡ Some w
+behind_some : (front : List Waiter) (rest : Option Walked) (w : Walked) → met_after front rest ≡ Some w
     → Behind front rest w
 behind_some front None w e = absurd (none_some w e)
 behind_some front (Some v) w e = record {
@@ -83,8 +83,8 @@ module _ (nodes : List NodeRecord) (last : ℕ) where
   module _ (most : ℕ) (ih : (m : List Bool) (a : ℕ) (v : Walked) → length m ≡ length nodes → walk nodes last most m a
       ≡ Some v → Trail nodes m a last v) where
     visited : (marks : List Bool) (at : ℕ) (w : Walked) → length marks ≡ length nodes → (f : NodeRecord)
-        → fresh marks nodes at ≡ f
-        → visit last at (set marks at true) f (walk nodes last most (set marks at true) (next_of f)) ≡ Some w
+        → unvisited_node marks nodes at ≡ f
+        → visit last at (set marks at true) f (walk nodes last most (set marks at true) (node_behind f)) ≡ Some w
         → Trail nodes marks at last w
     visited marks at w size (FreeNode next) is e = absurd (none_some w e)
     visited marks at w size (ListNode next who) is e =
@@ -94,7 +94,7 @@ module _ (nodes : List NodeRecord) (last : ℕ) where
         let at_end : Option Walked = if at == last then Some alone else None in
         ⊎_elim
         (λ (ends : (next == NONE) ≡ true).
-        let e1 : at_end ≡ Some w = sym (when (next == NONE) at_end (behind (who ∷ []) rest) ends) ∙ e in
+        let e1 : at_end ≡ Some w = sym (when (next == NONE) at_end (met_after (who ∷ []) rest) ends) ∙ e in
         ⊎_elim
         (λ (good : (at == last) ≡ true).
         let same : alone ≡ w = some_same alone w (sym (when (at == last) (Some alone) None good) ∙ e1) in
@@ -103,7 +103,8 @@ module _ (nodes : List NodeRecord) (last : ℕ) where
         (λ (bad : (at == last) ≡ false). absurd (none_some w (sym (unless (at == last) (Some alone) None bad) ∙ e1)))
         (bool_cases (at == last)))
         (λ (goes : (next == NONE) ≡ false).
-        let e2 : behind (who ∷ []) rest ≡ Some w = sym (unless (next == NONE) at_end (behind (who ∷ []) rest) goes)
+        let e2 : met_after (who ∷ []) rest ≡ Some w =
+        sym (unless (next == NONE) at_end (met_after (who ∷ []) rest) goes)
         ∙ e in
         let b = behind_some (who ∷ []) rest w e2 in
         subst (λ (x : Walked). Trail nodes marks at last x) b.is
@@ -115,7 +116,7 @@ pub walk_sound : (nodes : List NodeRecord) (last most : ℕ) (marks : List Bool)
     ≡ length nodes → walk nodes last most marks at ≡ Some w → Trail nodes marks at last w
 walk_sound nodes last zero marks at w size e = absurd (none_some w e)
 walk_sound nodes last (suc most) marks at w size e = visited nodes last most
-    (λ m a v s h. walk_sound nodes last most m a v s h) marks at w size (fresh marks nodes at) refl e
+    (λ m a v s h. walk_sound nodes last most m a v s h) marks at w size (unvisited_node marks nodes at) refl e
 
 -- the walk over a chain
 pub record Done (nodes : List NodeRecord) (last most : ℕ) (marks : List Bool) (at : ℕ) (chain : List ℕ)
@@ -147,10 +148,10 @@ module _ (nodes : List NodeRecord) (few : length nodes ≤ NONE) where
       → walk nodes last (suc most) marks at
       ≡ visit last at (set marks at true) (ListNode next who) (walk nodes last most (set marks at true) next)
   takes last most marks at next who open_mark is =
-      let f : fresh marks nodes at
+      let f : unvisited_node marks nodes at
       ≡ ListNode next who = unless (get_or marks at true) (FreeNode NONE) (node_at nodes at) open_mark ∙ is in
       ap (λ (r : NodeRecord). visit last at (set marks at true) r
-      (walk nodes last most (set marks at true) (next_of r))) f
+      (walk nodes last most (set marks at true) (node_behind r))) f
 
   pub walk_complete : (most : ℕ) (marks : List Bool) (at : ℕ) (chain : List ℕ) (waiters : List Waiter) → length marks
       ≡ length nodes
@@ -168,7 +169,7 @@ module _ (nodes : List NodeRecord) (few : length nodes ≤ NONE) where
         walked = alone;
         is = takes at most marks at NONE who mark holds.0
             ∙ when (NONE == NONE) (if at == at then Some alone else None)
-            (behind (who ∷ []) (walk nodes at most (set marks at true) NONE)) (eq-eqb NONE NONE refl)
+            (met_after (who ∷ []) (walk nodes at most (set marks at true) NONE)) (eq-eqb NONE NONE refl)
             ∙ when (at == at) (Some alone) None (eq-eqb at at refl);
         waiters_are = ap (λ (l : List Waiter). who ∷ l) (holds_nil nodes waiters holds.1);
         size = length-set marks at true;
@@ -187,8 +188,8 @@ module _ (nodes : List NodeRecord) (few : length nodes ≤ NONE) where
         is = takes last most marks at next who mark holds.0
             ∙ unless (next == NONE)
             (if at == last then Some (record { waiters = who ∷ []; marks = set marks at true }) else None)
-            (behind (who ∷ []) rest) (ne_eqb next NONE (λ e. omega arith))
-            ∙ ap (λ (o : Option Walked). behind (who ∷ []) o) done.is;
+            (met_after (who ∷ []) rest) (ne_eqb next NONE (λ e. omega arith))
+            ∙ ap (λ (o : Option Walked). met_after (who ∷ []) o) done.is;
         waiters_are = ap (λ (l : List Waiter). who ∷ l) done.waiters_are;
         size = done.size ∙ length-set marks at true;
         counts = λ n. let more = marked-set marks at mark n in let d = done.counts n in omega arith;

@@ -16,8 +16,8 @@ abbrev pub AreFew : List Window → Type 0
 AreFew windows = (element : ℕ) (w : Window) → slice_get windows element ≡ Some w → length w.kept ≤ WINDOW
 
 -- the place of a request's mark: there is one for each entry that its window may keep
-abbrev pub place_in : List Window → Waiter → ℕ
-place_in windows who = WINDOW * who.element + (who.number - (slice_index_or windows who.element new_window).base)
+abbrev pub place_of_mark : List Window → Waiter → ℕ
+place_of_mark windows who = WINDOW * who.element + (who.number - (slice_index_or windows who.element new_window).base)
 
 module _ (kept : Waiter → Option Kept) (place : Waiter → ℕ) where
   -- whether an entry waits for a cell of this kind and isn't marked

@@ -17,32 +17,33 @@ pub record Walked : Type 0 where
   pub marks : List Bool
 
 -- the content of a node that no walk has visited; a node that was visited, or isn't there, counts as free
-abbrev pub fresh : List Bool → List NodeRecord → ℕ → NodeRecord
-fresh marks nodes at = if slice_index_or marks at true then FreeNode NONE else slice_index_or nodes at (FreeNode NONE)
+abbrev pub unvisited_node : List Bool → List NodeRecord → ℕ → NodeRecord
+unvisited_node marks nodes at =
+    if slice_index_or marks at true then FreeNode NONE else slice_index_or nodes at (FreeNode NONE)
 
 -- the node behind
-abbrev pub next_of : NodeRecord → ℕ
-next_of (FreeNode next) = next
-next_of (ListNode next who) = next
+abbrev pub node_behind : NodeRecord → ℕ
+node_behind (FreeNode next) = next
+node_behind (ListNode next who) = next
 
 -- these waiters, and then those that a walk has met
-abbrev pub behind : List Waiter → Option Walked → Option Walked
-behind front None = None
-behind front (Some w) = Some (record { waiters = front ++ w.waiters; marks = w.marks })
+abbrev pub met_after : List Waiter → Option Walked → Option Walked
+met_after front None = None
+met_after front (Some w) = Some (record { waiters = front ++ w.waiters; marks = w.marks })
 
 -- a walk from a node on: it depends on the node and on the walk from the next node on
 abbrev pub visit : ℕ → ℕ → List Bool → NodeRecord → Option Walked → Option Walked
 visit last at marks (FreeNode next) rest = None
 visit last at marks (ListNode next who) rest =
     if next == NONE then (if at == last then Some (record { waiters = who ∷ []; marks = marks }) else None)
-    else behind (who ∷ []) rest
+    else met_after (who ∷ []) rest
 
 -- a walk from a node on to the last one, over at most this many nodes
 abbrev pub walk : List NodeRecord → ℕ → ℕ → List Bool → ℕ → Option Walked
 walk nodes last zero marks at = None
 walk nodes last (suc most) marks at =
-    visit last at (slice_set marks at true) (fresh marks nodes at)
-    (walk nodes last most (slice_set marks at true) (next_of (fresh marks nodes at)))
+    visit last at (slice_set marks at true) (unvisited_node marks nodes at)
+    (walk nodes last most (slice_set marks at true) (node_behind (unvisited_node marks nodes at)))
 
 -- the walk over the list of a cell; there is none if nobody waits
 unfoldable pub walk_cell : List NodeRecord → CellRecord → List Bool → Option Walked
@@ -58,9 +59,9 @@ pub record AllWalked : Type 0 where
   pub marks : List Bool
 
 -- one more list, before the others
-abbrev pub with_list : List Waiter → Option AllWalked → Option AllWalked
-with_list waiters None = None
-with_list waiters (Some r) = Some (record { lists = waiters ∷ r.lists; marks = r.marks })
+abbrev pub after_list : List Waiter → Option AllWalked → Option AllWalked
+after_list waiters None = None
+after_list waiters (Some r) = Some (record { lists = waiters ∷ r.lists; marks = r.marks })
 
 -- some lists, before the others
 abbrev pub after_lists : List (List Waiter) → Option AllWalked → Option AllWalked
@@ -71,7 +72,7 @@ after_lists front (Some r) = Some (record { lists = front ++ r.lists; marks = r.
 abbrev pub walk_all : List NodeRecord → List CellRecord → List Bool → Option AllWalked
 walk_all nodes [] marks = Some (record { lists = []; marks = marks })
 walk_all nodes (cell ∷ cells) marks =
-    option_and_then (λ w. with_list w.waiters (walk_all nodes cells w.marks)) (walk_cell nodes cell marks)
+    option_and_then (λ w. after_list w.waiters (walk_all nodes cells w.marks)) (walk_cell nodes cell marks)
 
 -- whether a mark is right
 abbrev pub same_mark : Bool → Bool → Bool

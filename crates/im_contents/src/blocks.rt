@@ -3,14 +3,14 @@ ghost use Rattle.std.specs.Prelude.{◌≡◌, ◌<◌, ◌↔◌, List, Some, I
 ghost use Rattle.im_types.specs.declared.operations.Waiter.{Waiter};
 ghost use Rattle.im_types.specs.Contents.{HasBlocks};
 ghost use Rattle.im_types.specs.Pages.{cells_shown};
-ghost use Rattle.im_contents.specs.Local.{block_of, block_in, AreIn, IsBlockAt};
+ghost use Rattle.im_contents.specs.Local.{recorded_block, recorded_block_at, LieIn, IsBlockAt};
 
 use im_cell::CellRow;
 use im_types::{Block, CellRecord, Kind};
 
 // The block of a record's cell.
-fn block_of(cell: &CellRecord) -> Option<Block>
-    ensures { result ≡ block_of cell.now }
+fn recorded_block(cell: &CellRecord) -> Option<Block>
+    ensures { result ≡ recorded_block cell.now }
 {
     match *cell {
         CellRecord::Free { .. } => None,
@@ -19,11 +19,11 @@ fn block_of(cell: &CellRecord) -> Option<Block>
 }
 
 // The block of the cell at an address.
-fn block_in(cells: &CellRow, at: usize) -> Option<Block>
+fn recorded_block_at(cells: &CellRow, at: usize) -> Option<Block>
     requires { at < length cells.now }
-    ensures { result ≡ block_in cells.now at }
+    ensures { result ≡ recorded_block_at cells.now at }
 {
-    block_of(&cells.at(at))
+    recorded_block(&cells.at(at))
 }
 
 fn is_same_kind(kind: Kind, other: Kind) -> bool
@@ -37,12 +37,12 @@ fn is_same_kind(kind: Kind, other: Kind) -> bool
 
 // Returns whether a cell lies in this block.
 fn is_in(cells: &CellRow, cell: usize, block: &Block) -> bool
-    ensures { IsTrue result ↔ (block_in cells.now cell ≡ Some block.now) }
+    ensures { IsTrue result ↔ (recorded_block_at cells.now cell ≡ Some block.now) }
 {
     if cell >= cells.len() {
         return false;
     }
-    match block_of(&cells.at(cell)) {
+    match recorded_block(&cells.at(cell)) {
         Some(other) => {
             other.base == block.base
                 && other.length == block.length
@@ -54,7 +54,7 @@ fn is_in(cells: &CellRow, cell: usize, block: &Block) -> bool
 
 // Returns whether the cells from `from` up to `to` all lie in this block.
 fn are_in(cells: &CellRow, from: usize, to: usize, block: &Block) -> bool
-    ensures { IsTrue result ↔ AreIn cells.now from to block.now }
+    ensures { IsTrue result ↔ LieIn cells.now from to block.now }
 {
     for cell in from..to {
         if !is_in(cells, cell, block) {
@@ -66,7 +66,7 @@ fn are_in(cells: &CellRow, from: usize, to: usize, block: &Block) -> bool
 
 // Returns whether a block begins at `at`, ends within the cells, and is whole. The cell at `at` lies in the block.
 fn is_block_at(cells: &CellRow, at: usize, block: &Block) -> bool
-    requires { block_in cells.now at ≡ Some block.now }
+    requires { recorded_block_at cells.now at ≡ Some block.now }
     ensures { IsTrue result ↔ IsBlockAt cells.now at block.now }
 {
     let base = block.base as usize;
@@ -81,7 +81,7 @@ pub fn are_blocks(cells: &CellRow) -> bool
 {
     let mut at = 0;
     while at < cells.len() {
-        match block_in(cells, at) {
+        match recorded_block_at(cells, at) {
             Some(block) => {
                 if !is_block_at(cells, at, &block) {
                     return false;

@@ -6,7 +6,7 @@ ghost use Rattle.im_types.specs.Memory.{IsWindow};
 ghost use Rattle.im_types.specs.Layout.{Sizes, sizes_of};
 ghost use Rattle.im_types.specs.Chains.{ShowLists};
 ghost use Rattle.im_types.specs.Pages.{Records, ShowsRecords, cells_shown};
-ghost use Rattle.im_contents.specs.Parts.{AreWindows, HaveParts};
+ghost use Rattle.im_contents.specs.Parts.{WindowsFit, HaveParts};
 
 use crate::blocks::are_blocks;
 use crate::lists::Lists;
@@ -28,7 +28,7 @@ fn is_window(window: &WindowRecord) -> bool
 
 // Returns whether each window is within its bounds.
 fn are_windows(windows: &[WindowRecord]) -> bool
-    ensures { IsTrue result ↔ AreWindows windows.now }
+    ensures { IsTrue result ↔ WindowsFit windows.now }
 {
     for element in 0..windows.len() {
         if !is_window(&windows[element]) {

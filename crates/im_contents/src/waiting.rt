@@ -5,7 +5,8 @@ ghost use Rattle.im_types.specs.Contents.{kept_under, kept_for};
 ghost use Rattle.im_types.specs.Window.{is_waiting};
 ghost use Rattle.im_types.specs.Agreement.{awaiting, waits_for, WaitersAgree};
 ghost use Rattle.im_types.specs.Pages.{cell_shown, cells_shown};
-ghost use Rattle.im_contents.specs.Marking.{place_in, AreFew, mark_one, mark_list, mark_held, mark_all, ListMarked};
+ghost use Rattle.im_contents.specs.Marking.{place_of_mark, AreFew, mark_one, mark_list, mark_held, mark_all};
+ghost use Rattle.im_contents.specs.Marking.{ListMarked};
 ghost use Rattle.im_contents.specs.Marking.{AreMarked};
 
 use crate::lists::Lists;
@@ -64,7 +65,7 @@ fn waits_for(kind: Kind, address: usize, kept: &Kept) -> bool
 fn place_of(windows: &[WindowRecord], who: Waiter) -> usize
     requires few { AreFew windows.now }
     requires kept { IsSome (kept_for windows.now who) }
-    ensures place { result ≡ place_in windows.now who }
+    ensures place { result ≡ place_of_mark windows.now who }
     ensures within { result < WINDOW * length windows.now }
 {
     let element = who.element as usize;
@@ -81,7 +82,7 @@ fn mark(
 ) -> bool
     requires few { AreFew windows.now }
     requires places { length marks.old ≡ WINDOW * length windows.now }
-    ensures { mark_one (kept_for windows.now) (place_in windows.now) kind address marks.old who
+    ensures { mark_one (kept_for windows.now) (place_of_mark windows.now) kind address marks.old who
         ≡ (if result then Some marks.new else None) }
 {
     let Some(kept) = kept_for(windows, who) else {
@@ -108,7 +109,7 @@ fn mark_list(
 ) -> bool
     requires few { AreFew windows.now }
     requires places { length marks.old ≡ WINDOW * length windows.now }
-    ensures { mark_list (kept_for windows.now) (place_in windows.now) kind address marks.old waiters.now
+    ensures { mark_list (kept_for windows.now) (place_of_mark windows.now) kind address marks.old waiters.now
         ≡ (if result then Some marks.new else None) }
 {
     for who in waiters {
@@ -130,7 +131,7 @@ fn mark_cell(
     requires few { AreFew windows.now }
     requires places { length marks.old ≡ WINDOW * length windows.now }
     requires listed { address < length lists.now }
-    ensures { mark_held (kept_for windows.now) (place_in windows.now) address marks.old
+    ensures { mark_held (kept_for windows.now) (place_of_mark windows.now) address marks.old
         (cell_shown cell.now (slice_index_or lists.now address []))
         ≡ (if result then Some marks.new else None) }
 {
@@ -148,7 +149,7 @@ fn mark_all(cells: &CellRow, lists: &Lists, windows: &[WindowRecord], marks: &mu
     requires few { AreFew windows.now }
     requires places { length marks.old ≡ WINDOW * length windows.now }
     requires count { length lists.now ≡ length cells.now }
-    ensures { mark_all (kept_for windows.now) (place_in windows.now) 0 marks.old (cells_shown cells.now lists.now)
+    ensures { mark_all (kept_for windows.now) (place_of_mark windows.now) 0 marks.old (cells_shown cells.now lists.now)
         ≡ (if result then Some marks.new else None) }
 {
     if lists.has_nobody() {

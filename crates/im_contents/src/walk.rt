@@ -5,7 +5,7 @@ ghost use Rattle.im_types.specs.declared.operations.Waiter.{Waiter};
 ghost use Rattle.im_types.specs.declared.records.CellRecord.{CellRecord};
 ghost use Rattle.im_types.specs.declared.records.NodeRecord.{NodeRecord};
 ghost use Rattle.im_types.specs.Chains.{ShowLists, is_listed};
-ghost use Rattle.im_contents.specs.Walk.{fresh, behind, walk, walk_cell, are_reached, lists_in};
+ghost use Rattle.im_contents.specs.Walk.{unvisited_node, met_after, walk, walk_cell, are_reached, lists_in};
 
 use crate::lists::Lists;
 use im_cell::CellRow;
@@ -13,8 +13,8 @@ use im_types::{CellRecord, NONE, NodeRecord, PresenceTag, Refusal, Waiter};
 use std::alloc::{AllocError, Global};
 
 // The content of a node that no walk has visited. A node that was visited, or isn't there, counts as free.
-fn fresh(marks: &[bool], nodes: &[NodeRecord], at: u32) -> NodeRecord
-    ensures { result ≡ fresh marks.now nodes.now at }
+fn unvisited_node(marks: &[bool], nodes: &[NodeRecord], at: u32) -> NodeRecord
+    ensures { result ≡ unvisited_node marks.now nodes.now at }
 {
     let at = at as usize;
     if at < marks.len() && at < nodes.len() && !marks[at] {
@@ -34,12 +34,13 @@ fn walk(
     waiters: &mut Vec<Waiter>,
 ) -> Result<bool, AllocError>
     requires { length marks.old ≡ length nodes.now }
-    ensures { IfOk result (λ found. behind waiters.old.items (walk nodes.now last (length nodes.now) marks.old first)
+    ensures { IfOk result (λ found. met_after waiters.old.items
+        (walk nodes.now last (length nodes.now) marks.old first)
         ≡ (if found then Some (record { waiters = waiters.new.items; marks = marks.new }) else None)) }
 {
     let mut at = first;
     for _step in 0..nodes.len() {
-        let NodeRecord::Listed { next, waiter } = fresh(marks, nodes, at) else {
+        let NodeRecord::Listed { next, waiter } = unvisited_node(marks, nodes, at) else {
             return Ok(false);
         };
         marks[at as usize] = true;
@@ -61,7 +62,7 @@ fn walk_cell(
     waiters: &mut Vec<Waiter>,
 ) -> Result<bool, AllocError>
     requires { length marks.old ≡ length nodes.now }
-    ensures { IfOk result (λ found. behind waiters.old.items (walk_cell nodes.now cell.now marks.old)
+    ensures { IfOk result (λ found. met_after waiters.old.items (walk_cell nodes.now cell.now marks.old)
         ≡ (if found then Some (record { waiters = waiters.new.items; marks = marks.new }) else None)) }
 {
     match *cell {

@@ -13,7 +13,7 @@ use Rattle.im_types.specs.Pages.{Records, IsRow, SpellsArea}
 use Rattle.im_records.specs.Paging.{bytes_or_zeros}
 use Rattle.im_records.proofs.Pieces.{record_is, of_page, record_behind}
 use Rattle.im_records.proofs.Joining.{page_of_take, page_of_drop, length_of_take}
-use Rattle.im_image.specs.Encoding.{Spells, IsAreaPage}
+use Rattle.im_image.specs.Encoding.{SpellsPage, IsAreaPage}
 
 -- a record of zeros
 zeros_at : (size n i : ℕ) → size * i + size ≤ n → record_at size (zeros n) i ≡ zeros size
@@ -58,7 +58,7 @@ module _ {X : Type 0} (size : ℕ) (spelled : X → List ℕ) (Fits : X → Type
 
   -- so a page of it spells its records
   page_spells : (per pages i : ℕ) → all ≡ per * pages → per * i + per ≤ all → (page : List ℕ) → length page
-      ≡ page_bytes → page ≡ record_at (size * per) bytes i → Spells size per spelled Fits none row i page
+      ≡ page_bytes → page ≡ record_at (size * per) bytes i → SpellsPage size per spelled Fits none row i page
   page_spells per pages i whole inside page size_is page_is = record {
     is_page = record {
       long = size_is;

@@ -1,5 +1,7 @@
--- The laws of areas, here and of im_records, say no more than they do: each one with a premise less, or with one that is weaker,
--- fails at an area that is written out here. Of two areas with other windows each shows a memory, so the laws of one area are met.
+-- The laws of areas, here and of im_records, say no more than they do: each one with a premise less, or with one that
+-- is weaker,
+-- fails at an area that is written out here. Of two areas with other windows each shows a memory, so the laws of one
+-- area are met.
 use Rattle.std.proofs.Common.{◌≡◌, ℕ, zero, suc, ◌+◌, ◌-◌, ◌<◌, nat_lt, Bool, true, false, List, [], ◌∷◌, get_or}
 use Rattle.std.proofs.Common.{replicate, Option, None, Some, if◌then◌else◌, refl, sym, ap, ◌∙◌, subst, arith}
 use Rattle.std.specs.Prelude.{slice_get, slice_index_or}
@@ -29,13 +31,29 @@ abbrev least : Sizes
 least = record { cells = 1; elements = 1; slots = 16 }
 
 least_limits : AreLimits 1 1 16
-least_limits = record { some_cell = omega arith; few_cells = omega arith; some_element = omega arith; few_elements = omega arith; enough_slots = omega arith; few_slots = omega arith }
+least_limits =
+    record {
+      some_cell = omega arith;
+      few_cells = omega arith;
+      some_element = omega arith;
+      few_elements = omega arith;
+      enough_slots = omega arith;
+      few_slots = omega arith;
+    }
 
 abbrev confirmed : Window
 confirmed = record { base = 2; kept = [] }
 
 confirmed_fits : FitsWindow layout_in_use confirmed
-confirmed_fits = record { base_from = omega arith; base_to = omega arith; few = omega arith; numbers = omega arith; known = refl; fields = λ i k e. absurd (no_kept i k e) }
+confirmed_fits =
+    record {
+      base_from = omega arith;
+      base_to = omega arith;
+      few = omega arith;
+      numbers = omega arith;
+      known = refl;
+      fields = λ i k e. absurd (no_kept i k e);
+    }
 
 confirmed_is_one : IsWindow confirmed
 confirmed_is_one = record { from_one = omega arith; few = omega arith; to_last = omega arith }
@@ -92,10 +110,20 @@ unfolding contents_with empty_contents
 new_memory s = empty-memory s.cells s.elements
 
 shows_new : (s : Sizes) → Shows layout_in_use s (area_with new_window s) (contents_with new_window s)
-shows_new s = record { records = records_with new_window s; spelled = area_spelled new_window s refl new_window_fits; shown = records_show new_window s (new_memory s) }
+shows_new s =
+    record {
+      records = records_with new_window s;
+      spelled = area_spelled new_window s refl new_window_fits;
+      shown = records_show new_window s (new_memory s);
+    }
 
 shows_confirmed : (s : Sizes) → Shows layout_in_use s (area_with confirmed s) (contents_with confirmed s)
-shows_confirmed s = record { records = records_with confirmed s; spelled = area_spelled confirmed s refl confirmed_fits; shown = records_show confirmed s (confirmed_memory s) }
+shows_confirmed s =
+    record {
+      records = records_with confirmed s;
+      spelled = area_spelled confirmed s refl confirmed_fits;
+      shown = records_show confirmed s (confirmed_memory s);
+    }
 
 -- `areas_spell_one_list_of_records`: two areas may spell two lists.
 two_areas_spell_two_lists :

@@ -19,7 +19,7 @@ use Rattle.im_types.specs.Pages.{Records, ShowsRecords, Shows}
 use Rattle.im_laws.proofs.WindowLemmas.{kept_under-from, kept_for-here}
 use Rattle.im_records.specs.Paging.{bytes_or_zeros, ArePages, FitRecords, joined}
 use Rattle.im_records.proofs.Joining.{joined_is_area, area_of_pages}
-use Rattle.im_image.specs.Encoding.{Spells, SpellsCells, SpellsNodes, SpellsSessions, IsAreaPage, AreCounted}
+use Rattle.im_image.specs.Encoding.{SpellsPage, SpellsCells, SpellsNodes, SpellsSessions, IsAreaPage, AreCounted}
 
 -- records that are put on a page one by one
 module _ {X : Type 0} (size per : ℕ) (spelled : X → List ℕ) (Fits : X → Type 0) (none : X) (row : List X) (i : ℕ) where
@@ -48,7 +48,7 @@ module _ {X : Type 0} (size per : ℕ) (spelled : X → List ℕ) (Fits : X → 
   }
 
   pub spelled-all : (page : List ℕ) → length page ≡ 4096 → Spelled page per
-      → Spells size per spelled Fits none row i page
+      → SpellsPage size per spelled Fits none row i page
   spelled-all page long all = record { is_page = record { long = long; each = all.each }; fits = all.fits }
 
 -- a window with one entry more

@@ -19,7 +19,7 @@ use Rattle.im_types.specs.Records.{cell_bytes, node_bytes, session_bytes, FitsCe
 use Rattle.im_types.specs.Chains.{HaveChains, all_uses, bit, is_listed}
 use Rattle.im_types.specs.Pages.{Records, IsRow, SpellsArea, ShowsRecords, Shows, cells_shown}
 use Rattle.im_records.proofs.Parts.{cells_fit}
-use Rattle.im_image.specs.Fresh.{repeated, new_cell, new_node, new_row, new_area}
+use Rattle.im_image.specs.Fresh.{repeated, new_cell_record, new_node_record, new_row, new_area}
 use Rattle.im_image.proofs.Rows.{length-repeated}
 
 less : (a b : ℕ) → (a + b) - a ≡ b
@@ -104,10 +104,11 @@ sessions_fit : (n : ℕ) → 4096 * n ≤ 4096 * ((n + 1 - 1) / 1)
 sessions_fit n = omega arith
 
 abbrev cell_row : Sizes → List ℕ
-cell_row s = new_row (cell_pages s) cell_record_bytes (cell_bytes new_cell) s.cells
+cell_row s = new_row (cell_pages s) cell_record_bytes (cell_bytes new_cell_record) s.cells
 
 abbrev node_row : Sizes → List ℕ
-node_row s = new_row (node_pages layout_in_use s) node_record_bytes (node_bytes new_node) (node_count layout_in_use s)
+node_row s =
+    new_row (node_pages layout_in_use s) node_record_bytes (node_bytes new_node_record) (node_count layout_in_use s)
 
 abbrev window_row : Window → Sizes → List ℕ
 window_row w s = new_row (session_pages layout_in_use s) (session_record_bytes layout_in_use)
@@ -118,10 +119,11 @@ abbrev pub area_with : Window → Sizes → List ℕ
 area_with w s = cell_row s ++ node_row s ++ window_row w s
 
 length-cells : (s : Sizes) → length (cell_row s) ≡ 4096 * cell_pages s
-length-cells s = length-row (cell_pages s) 32 s.cells (cell_bytes new_cell) refl (cells_fit s.cells)
+length-cells s = length-row (cell_pages s) 32 s.cells (cell_bytes new_cell_record) refl (cells_fit s.cells)
 
 length-nodes : (s : Sizes) → length (node_row s) ≡ 4096 * node_pages layout_in_use s
-length-nodes s = length-row (node_pages layout_in_use s) 16 (node_count layout_in_use s) (node_bytes new_node) refl
+length-nodes s =
+    length-row (node_pages layout_in_use s) 16 (node_count layout_in_use s) (node_bytes new_node_record) refl
     (nodes_fit (node_count layout_in_use s))
 
 length-sessions : (s : Sizes) → length (window_row new_window s) ≡ 4096 * session_pages layout_in_use s
@@ -160,9 +162,9 @@ session_part-with w s =
 
 unfoldable pub records_with : Window → Sizes → Records
 records_with w s = record {
-  cells = replicate s.cells new_cell;
+  cells = replicate s.cells new_cell_record;
   nodes = replicate
-      (node_count layout_in_use s) new_node;
+      (node_count layout_in_use s) new_node_record;
   windows = replicate s.elements w;
 }
 
@@ -173,21 +175,29 @@ no_kept i k e = none_some k e
     none_some k e = cc
 
 pub new_window_fits : FitsWindow layout_in_use new_window
-new_window_fits = record { base_from = omega arith; base_to = omega arith; few = omega arith; numbers = omega arith; known = refl; fields = λ i k e. absurd (no_kept i k e) }
+new_window_fits =
+    record {
+      base_from = omega arith;
+      base_to = omega arith;
+      few = omega arith;
+      numbers = omega arith;
+      known = refl;
+      fields = λ i k e. absurd (no_kept i k e);
+    }
 
 pub area_spelled : (w : Window) (s : Sizes) → length (session_bytes layout_in_use w) ≡ 4096
     → FitsWindow layout_in_use w → SpellsArea layout_in_use s (area_with w s) (records_with w s)
 unfolding records_with
 area_spelled w s long fits = record {
   cells = subst (λ (l : List ℕ). IsRow cell_record_bytes cell_bytes (FitsCell s.cells (node_count layout_in_use s))
-      (FreeCell 0 NONE) s.cells l (replicate s.cells new_cell)) (sym (cell_part-with w s))
+      (FreeCell 0 NONE) s.cells l (replicate s.cells new_cell_record)) (sym (cell_part-with w s))
       (is_new_row (cell_pages s) 32 s.cells cell_bytes (FitsCell s.cells (node_count layout_in_use s))
-      (FreeCell 0 NONE) new_cell refl (none_yet s.cells, inl refl));
+      (FreeCell 0 NONE) new_cell_record refl (none_yet s.cells, inl refl));
   nodes = subst (λ (l : List ℕ). IsRow node_record_bytes node_bytes (FitsNode (node_count layout_in_use s))
-      (FreeNode NONE) (node_count layout_in_use s) l (replicate (node_count layout_in_use s) new_node))
+      (FreeNode NONE) (node_count layout_in_use s) l (replicate (node_count layout_in_use s) new_node_record))
       (sym (node_part-with w s))
       (is_new_row (node_pages layout_in_use s) 16 (node_count layout_in_use s) node_bytes
-      (FitsNode (node_count layout_in_use s)) (FreeNode NONE) new_node refl (inl refl));
+      (FitsNode (node_count layout_in_use s)) (FreeNode NONE) new_node_record refl (inl refl));
   sessions = subst (λ (l : List ℕ). IsRow (session_record_bytes layout_in_use) (session_bytes layout_in_use)
       (FitsWindow layout_in_use) new_window s.elements l (replicate s.elements w)) (sym (session_part-with w s))
       (is_new_row (session_pages layout_in_use s) 4096 s.elements (session_bytes layout_in_use)
@@ -199,7 +209,7 @@ area_spelled w s long fits = record {
 
 -- nobody waits
 have_none : (nodes : List NodeRecord) (n : ℕ)
-    → HaveChains nodes (replicate n new_cell) (replicate n []) (replicate n [])
+    → HaveChains nodes (replicate n new_cell_record) (replicate n []) (replicate n [])
 have_none nodes zero = tt
 have_none nodes (suc n) = ((refl, refl), have_none nodes n)
 
@@ -207,7 +217,7 @@ no_uses : (node n : ℕ) → all_uses node (replicate n []) ≡ 0
 no_uses node zero = refl
 no_uses node (suc n) = zero-add (all_uses node (replicate n [])) ∙ no_uses node n
 
-no_cells : (n : ℕ) → replicate n None ≡ cells_shown (replicate n new_cell) (replicate n [])
+no_cells : (n : ℕ) → replicate n None ≡ cells_shown (replicate n new_cell_record) (replicate n [])
 no_cells zero = refl
 no_cells (suc n) = ap (λ (l : List (Option Held)). None ∷ l) (no_cells n)
 
@@ -222,10 +232,10 @@ records_show w s memory = record {
   lists = replicate s.cells [];
   chained = record {
     chains = replicate s.cells [];
-    have = have_none (replicate (node_count layout_in_use s) new_node) s.cells;
+    have = have_none (replicate (node_count layout_in_use s) new_node_record) s.cells;
     once = λ n. no_uses n s.cells
         ∙ ap (λ (node : NodeRecord). bit (is_listed node))
-        (sym (get-replicate_default (node_count layout_in_use s) n new_node));
+        (sym (get-replicate_default (node_count layout_in_use s) n new_node_record));
   };
   cells = no_cells s.cells;
   windows = refl;

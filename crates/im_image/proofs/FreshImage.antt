@@ -77,8 +77,10 @@ le_is m n le = grind (arith, nat_tests)
 
 pub sizes_are : (s : Sizes) → AreLimits s.cells s.elements s.slots → are_sizes layout_in_use s ≡ true
 sizes_are s limits =
-    ap (λ (b : Bool). b && nat_le s.cells MAX_CELLS && nat_le 1 s.elements && nat_le s.elements MAX_ELEMENTS && nat_le MIN_SLOTS s.slots && nat_le s.slots MAX_SLOTS) (le_is 1 s.cells limits.some_cell)
-    ∙ ap (λ (b : Bool). b && nat_le 1 s.elements && nat_le s.elements MAX_ELEMENTS && nat_le MIN_SLOTS s.slots && nat_le s.slots MAX_SLOTS) (le_is s.cells MAX_CELLS limits.few_cells)
+    ap (λ (b : Bool). b && nat_le s.cells MAX_CELLS && nat_le 1 s.elements && nat_le s.elements MAX_ELEMENTS
+    && nat_le MIN_SLOTS s.slots && nat_le s.slots MAX_SLOTS) (le_is 1 s.cells limits.some_cell)
+    ∙ ap (λ (b : Bool). b && nat_le 1 s.elements && nat_le s.elements MAX_ELEMENTS && nat_le MIN_SLOTS s.slots
+    && nat_le s.slots MAX_SLOTS) (le_is s.cells MAX_CELLS limits.few_cells)
     ∙ ap (λ (b : Bool). b && nat_le s.elements MAX_ELEMENTS && nat_le MIN_SLOTS s.slots && nat_le s.slots MAX_SLOTS)
     (le_is 1 s.elements limits.some_element)
     ∙ ap (λ (b : Bool). b && nat_le MIN_SLOTS s.slots && nat_le s.slots MAX_SLOTS)

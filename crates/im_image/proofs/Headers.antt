@@ -24,8 +24,12 @@ pub sizes_in_range : (number : ℕ) (s : Sizes) → are_sizes (layout_named numb
     → AreLimits s.cells s.elements s.slots
 sizes_in_range number s e =
     let most : ℕ = (layout_named number).most_cells in
-    let a = both_true (nat_le 1 s.cells && nat_le s.cells most && nat_le 1 s.elements && nat_le s.elements MAX_ELEMENTS && nat_le MIN_SLOTS s.slots) (nat_le s.slots MAX_SLOTS) e in
-    let b = both_true (nat_le 1 s.cells && nat_le s.cells most && nat_le 1 s.elements && nat_le s.elements MAX_ELEMENTS) (nat_le MIN_SLOTS s.slots) a.0 in
+    let a =
+    both_true (nat_le 1 s.cells && nat_le s.cells most && nat_le 1 s.elements && nat_le s.elements MAX_ELEMENTS
+    && nat_le MIN_SLOTS s.slots) (nat_le s.slots MAX_SLOTS) e in
+    let b =
+    both_true (nat_le 1 s.cells && nat_le s.cells most && nat_le 1 s.elements && nat_le s.elements MAX_ELEMENTS)
+    (nat_le MIN_SLOTS s.slots) a.0 in
     let d = both_true (nat_le 1 s.cells && nat_le s.cells most && nat_le 1 s.elements)
     (nat_le s.elements MAX_ELEMENTS) b.0 in
     let f = both_true (nat_le 1 s.cells && nat_le s.cells most) (nat_le 1 s.elements) d.0 in

@@ -1,5 +1,5 @@
 pub mod Headers
-pub mod Beginning
+pub mod ImageStart
 pub mod Rows
 pub mod FreshArea
 pub mod FreshImage

@@ -14,13 +14,13 @@ use Rattle.im_types.specs.Header.{is_open_header, are_ambiguous, spells_header, 
 use Rattle.im_types.specs.Header.{place_fault, layout_in, or_else}
 use Rattle.im_types.specs.Meaning.{Reads}
 use Rattle.im_disk.specs.Moment.{Moment}
-use Rattle.im_image.specs.declared.in_force.Beginning.{Beginning}
+use Rattle.im_image.specs.declared.in_force.ImageStart.{ImageStart}
 use Rattle.im_image.specs.declared.header.Header.{Header as CodeHeader}
 use Rattle.im_image.specs.declared.reading.Image.{Image}
 use Rattle.im_image.specs.Headers.{beginning_fault, layout_at}
-use Rattle.im_image.specs.Beginning.{IsBeginning}
+use Rattle.im_image.specs.ImageStart.{IsImageStart}
 use Rattle.im_image.specs.Reading.{IsImageOf, reached}
-use Rattle.im_image.proofs.Beginning.{long}
+use Rattle.im_image.proofs.ImageStart.{long}
 use Rattle.im_image.proofs.Outcomes.{reads-fault}
 
 named_by : (b : Bool) → b ≡ true → (if b then layout_1 else layout_2) ≡ layout_1
@@ -43,7 +43,8 @@ not_spelled number bytes other =
     (nat_le 1 h.generation) (nat_le h.generation LAST) (nat_le h.count LAST) (are_sizes layout_1 h.sizes) other
 
 abbrev fault_by : Bool → Bool → Bool → Option Refusal
-fault_by closed ambiguous spelled = if closed then Some NoHeader else if ambiguous || not spelled then Some BadHeader else None
+fault_by closed ambiguous spelled =
+    if closed then Some NoHeader else if ambiguous || not spelled then Some BadHeader else None
 
 some_fault : (closed ambiguous spelled : Bool) (e : Refusal) → fault_by closed ambiguous spelled ≡ Some e
     → fault_by closed ambiguous false ≡ Some e
@@ -62,7 +63,8 @@ module _ (zero one : List ℕ) where
   abbrev version : ℕ
   version = (header_in (place_in_force zero one)).version
 
-  -- of two header places whose header in force is of another version the fault is the one of a header that isn't spelled
+  -- of two header places whose header in force is of another version the fault is the one of a header that isn't
+  -- spelled
   unspelled : (version == 1) ≡ false → place_fault layout_1 zero one
       ≡ fault_by (not (is_open_header zero || is_open_header one)) (are_ambiguous zero one) false
   unspelled other = ap (λ (b : Bool). fault_by (not (is_open_header zero || is_open_header one))
@@ -131,7 +133,7 @@ module _ (zero one : List ℕ) where
         isnt_same a b e = grind (arith, nat_tests)
 
 -- the file's first fault, by the rules of the first version, is the one of its beginning
-fault-beginning : (b : Beginning) (file : List ℕ) → IsBeginning b file
+fault-beginning : (b : ImageStart) (file : List ℕ) → IsImageStart b file
     → beginning_fault layout_1 b.length b.zero b.one ≡ header_fault layout_1 file
 fault-beginning b file is =
     ap (λ (n : ℕ). beginning_fault layout_1 n b.zero b.one) is.length_is
@@ -140,14 +142,14 @@ fault-beginning b file is =
     ∙ sym (ap (λ (b : Bool). if b then Some WrongLength else beginning_fault layout_1 (length file)
     (header_place 0 file) (header_place 1 file)) (long (length file) is.room))
 
-pub good_old : {H : Type 0} (r : Result CodeHeader Refusal) (b : Beginning) (file : List ℕ)
-    → (H → IsBeginning b file) → OnOk r (beginning_fault layout_1 b.length b.zero b.one ≡ None)
+pub good_old : {H : Type 0} (r : Result CodeHeader Refusal) (b : ImageStart) (file : List ℕ)
+    → (H → IsImageStart b file) → OnOk r (beginning_fault layout_1 b.length b.zero b.one ≡ None)
     → OnOk r (H → header_fault layout_1 file ≡ None)
 good_old (Ok h) b file is good = λ honest. sym (fault-beginning b file (is honest)) ∙ good
 good_old (Err e) b file is good = tt
 
-pub fault_of_old : {H : Type 0} (r : Result CodeHeader Refusal) (b : Beginning) (file : List ℕ)
-    → (H → IsBeginning b file) → IfErr r (λ e. beginning_fault layout_1 b.length b.zero b.one ≡ Some e)
+pub fault_of_old : {H : Type 0} (r : Result CodeHeader Refusal) (b : ImageStart) (file : List ℕ)
+    → (H → IsImageStart b file) → IfErr r (λ e. beginning_fault layout_1 b.length b.zero b.one ≡ Some e)
     → IfErr r (λ e. (e ≡ Device) ⊎ (H → header_fault layout_1 file ≡ Some e))
 fault_of_old (Ok h) b file is fault = tt
 fault_of_old (Err e) b file is fault = inr (λ honest. sym (fault-beginning b file (is honest)) ∙ fault)

@@ -6,7 +6,7 @@ use Rattle.im_types.specs.Layout.{Sizes}
 use Rattle.im_types.specs.Pages.{Records}
 use Rattle.im_pages.specs.Places.{AgreeOnPage}
 use Rattle.im_records.specs.Paging.{bytes_or_zeros}
-use Rattle.im_image.specs.Encoding.{Spells, IsAreaPage, SameOn}
+use Rattle.im_image.specs.Encoding.{SpellsPage, IsAreaPage, SameOn}
 
 module _ {X : Type 0} (size per : ℕ) (spelled : X → List ℕ) (Fits : X → Type 0) (none : X) (row other : List X) (i : ℕ)
     (agree : (k : ℕ) → k < per → slice_get other (per * i + k) ≡ slice_get row (per * i + k)) where
@@ -19,8 +19,8 @@ module _ {X : Type 0} (size per : ℕ) (spelled : X → List ℕ) (Fits : X → 
   there k lt inside = slice_get_within row (per * i + k) (get_or other (per * i + k) none)
       (sym (agree k lt) ∙ slice_get-get_or other (per * i + k) none inside)
 
-  spells : (page : List ℕ) → Spells size per spelled Fits none row i page
-      → Spells size per spelled Fits none other i page
+  spells : (page : List ℕ) → SpellsPage size per spelled Fits none row i page
+      → SpellsPage size per spelled Fits none other i page
   spells page it = record {
     is_page = record {
       long = it.is_page.long;

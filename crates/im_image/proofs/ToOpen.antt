@@ -10,13 +10,13 @@ use Rattle.im_types.specs.Header.{Header, header_in, header_of, header_place, pl
 use Rattle.im_types.specs.Header.{is_old, or_else}
 use Rattle.im_types.specs.Meaning.{Reached, Reads, Opens, OpensBy}
 use Rattle.im_disk.specs.Moment.{Moment}
-use Rattle.im_image.specs.declared.in_force.Beginning.{Beginning}
+use Rattle.im_image.specs.declared.in_force.ImageStart.{ImageStart}
 use Rattle.im_image.specs.declared.header.Header.{Header as CodeHeader}
 use Rattle.im_image.specs.declared.reading.Image.{Image}
 use Rattle.im_image.specs.Headers.{MayNotOpen, layout_at}
-use Rattle.im_image.specs.Beginning.{IsBeginning}
+use Rattle.im_image.specs.ImageStart.{IsImageStart}
 use Rattle.im_image.specs.Reading.{IsImageOf, reached}
-use Rattle.im_image.proofs.Beginning.{fault_of_long, long}
+use Rattle.im_image.proofs.ImageStart.{fault_of_long, long}
 use Rattle.im_image.proofs.Outcomes.{reads-fault}
 
 -- a number that isn't the first version's stands for the layout in use
@@ -69,8 +69,8 @@ not_open_in file e room (inr (other, fault)) =
     (is_none (place_fault (layout_in file) (header_place 0 file) (header_place 1 file))) other)
     (reads-fault (layout_in file) file e (fault_of_long file room ∙ fault))
 
-pub not_open : {H : Type 0} (r : Result CodeHeader Refusal) (b : Beginning) (file : List ℕ)
-    → (H → IsBeginning b file) → IfErr r (λ e. MayNotOpen b.length b.zero b.one e)
+pub not_open : {H : Type 0} (r : Result CodeHeader Refusal) (b : ImageStart) (file : List ℕ)
+    → (H → IsImageStart b file) → IfErr r (λ e. MayNotOpen b.length b.zero b.one e)
     → IfErr r (λ e. (e ≡ Device) ⊎ (H → Opens file (Err e)))
 not_open (Ok h) b file is may = tt
 not_open (Err e) b file is may = inr (λ honest.

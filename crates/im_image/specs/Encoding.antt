@@ -12,7 +12,7 @@ use Rattle.im_types.specs.Pages.{Records}
 use Rattle.im_records.specs.Paging.{IsPageOf}
 
 -- page i of a row has its records, each within its bounds
-pub record Spells {X : Type 0} (size per : ℕ) (spelled : X → List ℕ) (Fits : X → Type 0) (none : X) (row : List X)
+pub record SpellsPage {X : Type 0} (size per : ℕ) (spelled : X → List ℕ) (Fits : X → Type 0) (none : X) (row : List X)
     (i : ℕ) (page : List ℕ) : Type 0 where
   pub is_page : IsPageOf size per spelled row i page
   pub fits : (k : ℕ) → k < per → per * i + k < length row → Fits (slice_index_or row (per * i + k) none)
@@ -20,19 +20,20 @@ pub record Spells {X : Type 0} (size per : ℕ) (spelled : X → List ℕ) (Fits
 -- page i of the cells
 abbrev pub SpellsCells : Sizes → Records → ℕ → List ℕ → Type 0
 SpellsCells s r i page =
-    Spells cell_record_bytes (on_a_page cell_record_bytes) cell_bytes (FitsCell s.cells (node_count layout_in_use s))
+    SpellsPage cell_record_bytes (on_a_page cell_record_bytes) cell_bytes
+    (FitsCell s.cells (node_count layout_in_use s))
     (FreeCell 0 NONE) r.cells i page
 
 -- page i of the waiter nodes
 abbrev pub SpellsNodes : Sizes → Records → ℕ → List ℕ → Type 0
 SpellsNodes s r i page =
-    Spells node_record_bytes (on_a_page node_record_bytes) node_bytes (FitsNode (node_count layout_in_use s))
+    SpellsPage node_record_bytes (on_a_page node_record_bytes) node_bytes (FitsNode (node_count layout_in_use s))
     (FreeNode NONE) r.nodes i page
 
 -- page i of the sessions
 abbrev pub SpellsSessions : Records → ℕ → List ℕ → Type 0
 SpellsSessions r i page =
-    Spells (session_record_bytes layout_in_use) (on_a_page (session_record_bytes layout_in_use))
+    SpellsPage (session_record_bytes layout_in_use) (on_a_page (session_record_bytes layout_in_use))
     (session_bytes layout_in_use) (FitsWindow layout_in_use) new_window r.windows i page
 
 -- page i of an area: first come the pages of cells, then those of waiter nodes, then those of sessions

@@ -18,12 +18,12 @@ repeated zero bytes = []
 repeated (suc n) bytes = bytes ++ repeated n bytes
 
 -- a new free cell
-abbrev pub new_cell : CellRecord
-new_cell = FreeCell 0 NONE
+abbrev pub new_cell_record : CellRecord
+new_cell_record = FreeCell 0 NONE
 
 -- a new free node
-abbrev pub new_node : NodeRecord
-new_node = FreeNode NONE
+abbrev pub new_node_record : NodeRecord
+new_node_record = FreeNode NONE
 
 -- this many pages, which begin with a record repeated
 abbrev pub new_row : ℕ → ℕ → List ℕ → ℕ → List ℕ
@@ -32,8 +32,8 @@ new_row pages size record_bytes count = repeated count record_bytes ++ zeros (pa
 -- the pages of a new area
 abbrev pub new_area : Sizes → List ℕ
 new_area s =
-    new_row (cell_pages s) cell_record_bytes (cell_bytes new_cell) s.cells
-    ++ new_row (node_pages layout_in_use s) node_record_bytes (node_bytes new_node) (node_count layout_in_use s)
+    new_row (cell_pages s) cell_record_bytes (cell_bytes new_cell_record) s.cells
+    ++ new_row (node_pages layout_in_use s) node_record_bytes (node_bytes new_node_record) (node_count layout_in_use s)
     ++ new_row (session_pages layout_in_use s) (session_record_bytes layout_in_use)
     (session_bytes layout_in_use new_window) s.elements
 

@@ -1,5 +1,5 @@
 pub mod Headers
-pub mod Beginning
+pub mod ImageStart
 pub mod Fresh
 pub mod Encoding
 pub mod Reading

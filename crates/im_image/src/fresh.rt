@@ -6,7 +6,8 @@ ghost use Rattle.im_types.specs.Layout.{layout_in_use, area_bytes};
 ghost use Rattle.im_types.specs.Header.{header_body};
 ghost use Rattle.im_types.specs.Records.{cell_bytes, node_bytes, session_bytes};
 ghost use Rattle.im_types.specs.Layout.{sizes_of};
-ghost use Rattle.im_image.specs.Fresh.{repeated, new_cell, new_node, new_row, new_area, new_header, new_image};
+ghost use Rattle.im_image.specs.Fresh.{repeated, new_cell_record, new_node_record, new_row, new_area, new_header};
+ghost use Rattle.im_image.specs.Fresh.{new_image};
 ghost use Rattle.im_types.specs.declared.refusals.Refusal.TheVariants.{NoMemory};
 
 use crate::header::{Header, VERSION};
@@ -18,8 +19,8 @@ use im_types::{Limits, Refusal};
 use std::alloc::{AllocError, Global};
 
 // The record of a free cell that names no hole.
-pub(crate) fn new_cell() -> [u8; CELL_RECORD]
-    ensures { result ≡ cell_bytes new_cell }
+pub(crate) fn new_cell_record() -> [u8; CELL_RECORD]
+    ensures { result ≡ cell_bytes new_cell_record }
 {
     let mut bytes = [0; CELL_RECORD];
     bytes[8..20].fill(0xFF);
@@ -27,8 +28,8 @@ pub(crate) fn new_cell() -> [u8; CELL_RECORD]
 }
 
 // The record of a free node that names no other.
-fn new_node() -> [u8; NODE_RECORD]
-    ensures { result ≡ node_bytes new_node }
+fn new_node_record() -> [u8; NODE_RECORD]
+    ensures { result ≡ node_bytes new_node_record }
 {
     let mut bytes = [0; NODE_RECORD];
     bytes[0..4].fill(0xFF);
@@ -88,10 +89,15 @@ fn push_area(image: &mut Vec<u8>, limits: Limits) -> Result<(), AllocError>
     push_row(
         image,
         cell_pages(limits),
-        &new_cell(),
+        &new_cell_record(),
         limits.cells as usize,
     )?;
-    push_row(image, node_pages(limits), &new_node(), node_count(limits))?;
+    push_row(
+        image,
+        node_pages(limits),
+        &new_node_record(),
+        node_count(limits),
+    )?;
     push_row(
         image,
         session_pages(limits),

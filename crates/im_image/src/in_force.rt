@@ -11,7 +11,7 @@ ghost use Rattle.im_types.specs.Header.{are_ambiguous, number_in_force, place_in
 ghost use Rattle.im_types.specs.Meaning.{Opens};
 ghost use Rattle.im_disk.specs.Runs.{ReadsOrFails, ReadsOrRefuses};
 ghost use Rattle.im_image.specs.Headers.{seen, IsHeaderFault, MayNotOpen, beginning_fault, layout_at};
-ghost use Rattle.im_image.specs.Beginning.{IsBeginning};
+ghost use Rattle.im_image.specs.ImageStart.{IsImageStart};
 ghost use Rattle.im_types.specs.declared.TheConstants.{LAST};
 
 use crate::header::Header;
@@ -69,7 +69,7 @@ fn read_in_force(zero: &[u8; 64], one: &[u8; 64]) -> Option<Header>
 
 // What is read of an image first: its length, and the places of its two headers.
 #[derive(Drop)]
-struct Beginning {
+struct ImageStart {
     length: usize,
     zero: [u8; 64],
     one: [u8; 64],
@@ -96,7 +96,7 @@ fn header_of_places(zero: &[u8; 64], one: &[u8; 64]) -> Result<Header, Refusal>
 }
 
 // The header in force of an image with this beginning, or the first fault.
-fn header_of(beginning: &Beginning) -> Result<Header, Refusal>
+fn header_of(beginning: &ImageStart) -> Result<Header, Refusal>
     ensures found { IfOk result (λ h. seen h ≡ header_in (place_in_force beginning.now.zero beginning.now.one)) }
     ensures range { IfOk result (λ h. (h.area ≤ 1) × (h.count ≤ LAST)) }
     ensures good { OnOk result (beginning_fault (layout_at beginning.now.zero beginning.now.one)
@@ -120,9 +120,9 @@ fn header_of(beginning: &Beginning) -> Result<Header, Refusal>
 }
 
 // Reads the beginning of an image. Returns `None` if the file is shorter than two header places.
-fn read_beginning<D: Disk>(disk: &mut D) -> Result<Option<Beginning>, DeviceFault>
+fn read_beginning<D: Disk>(disk: &mut D) -> Result<Option<ImageStart>, DeviceFault>
     ensures short { IfOk result (λ o. D.honest disk.new → o ≡ None → length (D.now disk.old).bytes < 8192) }
-    ensures found { IfOk result (λ o. IfSome o (λ b. D.honest disk.new → IsBeginning b (D.now disk.old).bytes)) }
+    ensures found { IfOk result (λ o. IfSome o (λ b. D.honest disk.new → IsImageStart b (D.now disk.old).bytes)) }
     ensures reads { ReadsOrFails D.Disk disk.old disk.new result }
 {
     let length = disk.len()?;
@@ -134,7 +134,7 @@ fn read_beginning<D: Disk>(disk: &mut D) -> Result<Option<Beginning>, DeviceFaul
     // A read changes nothing, so a stop before or within it leaves what was there.
     disk.read(0, &mut zero)?;
     disk.read(PAGE, &mut one)?;
-    Ok(Some(Beginning { length, zero, one }))
+    Ok(Some(ImageStart { length, zero, one }))
 }
 
 /// Returns the header in force of an image, or the first fault of its length and its headers.
@@ -159,7 +159,7 @@ pub fn read_header<D: Disk>(disk: &mut D) -> Result<Header, Refusal>
 
 // The header in force of an image with this beginning, or why the image isn't opened. A sound header of the first
 // version is refused before the length is compared.
-fn header_to_open(beginning: &Beginning) -> Result<Header, Refusal>
+fn header_to_open(beginning: &ImageStart) -> Result<Header, Refusal>
     ensures found { IfOk result (λ h. seen h ≡ header_in (place_in_force beginning.now.zero beginning.now.one)) }
     ensures range { IfOk result (λ h. (h.area ≤ 1) × (h.count ≤ LAST)) }
     ensures young { IfOk result (λ h. (h.version == 1) ≡ false) }
@@ -203,7 +203,7 @@ pub(crate) fn read_header_to_open<D: Disk>(disk: &mut D) -> Result<Header, Refus
 
 // The header in force of an image with this beginning, by the rules of the first version. Any other version is a fault
 // of it, before the length is compared.
-fn old_header_of(beginning: &Beginning) -> Result<Header, Refusal>
+fn old_header_of(beginning: &ImageStart) -> Result<Header, Refusal>
     ensures found { IfOk result (λ h. seen h ≡ header_in (place_in_force beginning.now.zero beginning.now.one)) }
     ensures range { IfOk result (λ h. (h.area ≤ 1) × (h.count ≤ LAST)) }
     ensures old { IfOk result (λ h. (h.version == 1) ≡ true) }

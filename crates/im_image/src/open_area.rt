@@ -23,24 +23,32 @@ use std::alloc::{AllocError, Global};
 // The cells of 64 pages are read at a time.
 const PIECE_CELLS: usize = 64 * CELLS_ON_A_PAGE;
 
-// Reads a part of an area, from behind its first `cells` cells on.
-fn read_part<D: Disk>(
-    disk: &mut D,
+// One of the two areas of an image: by the version of its layout, its limits, and its number.
+#[derive(Clone, Copy)]
+struct Area {
     version: Version,
     limits: Limits,
     number: u8,
+}
+
+// Reads a part of an area, from behind its first `cells` cells on.
+fn read_part<D: Disk>(
+    disk: &mut D,
+    area: Area,
     cells: usize,
     part: &mut [u8],
 ) -> Result<(), DeviceFault>
-    requires area { IsAreaOf (layout_of version) (sizes_of limits) number (D.honest disk.old) (D.now disk.old).bytes }
-    requires few { cells ≤ limits.cells }
+    requires area { IsAreaOf (layout_of area.version) (sizes_of area.limits) area.number
+        (D.honest disk.old) (D.now disk.old).bytes }
+    requires few { cells ≤ area.limits.cells }
     requires inside { CELL_RECORD * cells + length part.old
-        ≤ layout.area_bytes (layout_of version) (sizes_of limits) }
-    ensures read { OnOk result (D.honest disk.new → part.new ≡ take (length part.old)
-        (drop (CELL_RECORD * cells) (area_of (layout_of version) (sizes_of limits) number (D.now disk.old).bytes))) }
+        ≤ layout.area_bytes (layout_of area.version) (sizes_of area.limits) }
+    ensures read { OnOk result (D.honest disk.new
+        → part.new ≡ take (length part.old) (drop (CELL_RECORD * cells)
+        (area_of (layout_of area.version) (sizes_of area.limits) area.number (D.now disk.old).bytes))) }
     ensures reads { ReadsOrFails D.Disk disk.old disk.new result }
 {
-    let begin = version.area_at(limits, number as usize);
+    let begin = area.version.area_at(area.limits, area.number as usize);
     // A read changes nothing, so a stop before or within it leaves what was there.
     disk.read(begin + CELL_RECORD * cells, part)
 }
@@ -61,23 +69,23 @@ fn piece_count(limits: Limits) -> usize
 // Reads a piece of an area's cells, and puts them behind those of earlier pieces.
 fn read_piece<D: Disk>(
     disk: &mut D,
-    version: Version,
-    limits: Limits,
-    number: u8,
+    area: Area,
     piece: &mut [u8],
     cells: &mut CellRow,
 ) -> Result<(), Refusal>
-    requires area { IsAreaOf (layout_of version) (sizes_of limits) number (D.honest disk.old) (D.now disk.old).bytes }
-    requires few { CELL_RECORD * length cells.old + length piece.old ≤ CELL_RECORD * limits.cells }
-    ensures found { OnOk result (D.honest disk.new → StayFirstCells (layout_of version) (sizes_of limits) number
+    requires area { IsAreaOf (layout_of area.version) (sizes_of area.limits) area.number
+        (D.honest disk.old) (D.now disk.old).bytes }
+    requires few { CELL_RECORD * length cells.old + length piece.old ≤ CELL_RECORD * area.limits.cells }
+    ensures found { OnOk result (D.honest disk.new
+        → StayFirstCells (layout_of area.version) (sizes_of area.limits) area.number
         (D.now disk.old).bytes cells.old cells.new) }
     ensures count { OnOk result (length cells.new ≡ length cells.old + length piece.old / CELL_RECORD) }
     ensures bad { IsErrOf result Refusal.BadPage → D.honest disk.new → (r : Records)
-        → HasRecords (layout_of version) (sizes_of limits) number (D.now disk.old).bytes r → ⊥ }
+        → HasRecords (layout_of area.version) (sizes_of area.limits) area.number (D.now disk.old).bytes r → ⊥ }
     ensures reads { ReadsOrRefuses D.Disk disk.old disk.new result MayRefuseArea }
 {
-    match read_part(disk, version, limits, number, cells.len(), piece) {
-        Ok(()) => read_more_cells(cells, version, limits, piece),
+    match read_part(disk, area, cells.len(), piece) {
+        Ok(()) => read_more_cells(cells, area.version, area.limits, piece),
         Err(_) => Err(Refusal::Device),
     }
 }
@@ -87,26 +95,25 @@ fn read_piece<D: Disk>(
 fn read_pieces<D: Disk>(
     alloc: Global,
     disk: &mut D,
-    version: Version,
-    limits: Limits,
-    number: u8,
+    area: Area,
     cells: &mut CellRow,
 ) -> Result<(), Refusal>
-    requires area { IsAreaOf (layout_of version) (sizes_of limits) number (D.honest disk.old) (D.now disk.old).bytes }
+    requires area { IsAreaOf (layout_of area.version) (sizes_of area.limits) area.number
+        (D.honest disk.old) (D.now disk.old).bytes }
     requires none { cells.old ≡ [] }
     ensures found { OnOk result (D.honest disk.new
-        → HasFirstCells (layout_of version) (sizes_of limits) number (D.now disk.old).bytes cells.new) }
-    ensures few { OnOk result (length cells.new ≤ limits.cells) }
+        → HasFirstCells (layout_of area.version) (sizes_of area.limits) area.number (D.now disk.old).bytes cells.new) }
+    ensures few { OnOk result (length cells.new ≤ area.limits.cells) }
     ensures bad { IsErrOf result Refusal.BadPage → D.honest disk.new → (r : Records)
-        → HasRecords (layout_of version) (sizes_of limits) number (D.now disk.old).bytes r → ⊥ }
+        → HasRecords (layout_of area.version) (sizes_of area.limits) area.number (D.now disk.old).bytes r → ⊥ }
     ensures reads { ReadsOrRefuses D.Disk disk.old disk.new result MayRefuseArea }
 {
     let Ok(mut piece) = zeros(alloc, CELL_RECORD * PIECE_CELLS) else {
         return Err(Refusal::NoMemory);
     };
-    for i in 0..piece_count(limits) {
+    for i in 0..piece_count(area.limits) {
         let part = piece.as_mut_slice();
-        if let Err(refusal) = read_piece(disk, version, limits, number, part, cells) {
+        if let Err(refusal) = read_piece(disk, area, part, cells) {
             return Err(refusal);
         }
     }
@@ -114,28 +121,23 @@ fn read_pieces<D: Disk>(
 }
 
 // The cells of an area's pieces, in a row with room for all cells.
-fn first_cells<D: Disk>(
-    alloc: Global,
-    disk: &mut D,
-    version: Version,
-    limits: Limits,
-    number: u8,
-) -> Result<CellRow, Refusal>
-    requires area { IsAreaOf (layout_of version) (sizes_of limits) number (D.honest disk.old) (D.now disk.old).bytes }
+fn first_cells<D: Disk>(alloc: Global, disk: &mut D, area: Area) -> Result<CellRow, Refusal>
+    requires area { IsAreaOf (layout_of area.version) (sizes_of area.limits) area.number
+        (D.honest disk.old) (D.now disk.old).bytes }
     ensures found { IfOk result (λ cells. D.honest disk.new
-        → HasFirstCells (layout_of version) (sizes_of limits) number (D.now disk.old).bytes cells) }
-    ensures few { IfOk result (λ cells. length cells ≤ limits.cells) }
+        → HasFirstCells (layout_of area.version) (sizes_of area.limits) area.number (D.now disk.old).bytes cells) }
+    ensures few { IfOk result (λ cells. length cells ≤ area.limits.cells) }
     ensures bad { IsErrOf result Refusal.BadPage → D.honest disk.new → (r : Records)
-        → HasRecords (layout_of version) (sizes_of limits) number (D.now disk.old).bytes r → ⊥ }
+        → HasRecords (layout_of area.version) (sizes_of area.limits) area.number (D.now disk.old).bytes r → ⊥ }
     ensures reads { ReadsOrRefuses D.Disk disk.old disk.new result MayRefuseArea }
 {
-    let Ok(mut cells) = CellRow::with_capacity(alloc, limits.cells as usize) else {
+    let Ok(mut cells) = CellRow::with_capacity(alloc, area.limits.cells as usize) else {
         return Err(Refusal::NoMemory);
     };
-    if piece_count(limits) == 0 {
+    if piece_count(area.limits) == 0 {
         return Ok(cells);
     }
-    match read_pieces(alloc, disk, version, limits, number, &mut cells) {
+    match read_pieces(alloc, disk, area, &mut cells) {
         Ok(()) => Ok(cells),
         Err(refusal) => Err(refusal),
     }
@@ -145,52 +147,47 @@ fn first_cells<D: Disk>(
 fn read_rest<D: Disk>(
     alloc: Global,
     disk: &mut D,
-    version: Version,
-    limits: Limits,
-    number: u8,
+    area: Area,
     cells: usize,
 ) -> Result<Vec<u8>, Refusal>
-    requires area { IsAreaOf (layout_of version) (sizes_of limits) number (D.honest disk.old) (D.now disk.old).bytes }
-    requires few { cells ≤ limits.cells }
-    ensures rest { IfOk result (λ v. D.honest disk.new → v.items
-        ≡ drop (CELL_RECORD * cells) (area_of (layout_of version) (sizes_of limits) number (D.now disk.old).bytes)) }
+    requires area { IsAreaOf (layout_of area.version) (sizes_of area.limits) area.number
+        (D.honest disk.old) (D.now disk.old).bytes }
+    requires few { cells ≤ area.limits.cells }
+    ensures rest { IfOk result (λ v. D.honest disk.new → v.items ≡ drop (CELL_RECORD * cells)
+        (area_of (layout_of area.version) (sizes_of area.limits) area.number (D.now disk.old).bytes)) }
     ensures size { IfOk result (λ v. CELL_RECORD * cells + length v.items
-        ≡ layout.area_bytes (layout_of version) (sizes_of limits)) }
+        ≡ layout.area_bytes (layout_of area.version) (sizes_of area.limits)) }
     ensures reads { ReadsOrRefuses D.Disk disk.old disk.new result
         (λ e. (e ≡ Refusal.NoMemory) ⊎ (e ≡ Refusal.Device)) }
 {
-    let left = PAGE * version.area_pages(limits) - CELL_RECORD * cells;
+    let left = PAGE * area.version.area_pages(area.limits) - CELL_RECORD * cells;
     let Ok(mut rest) = zeros(alloc, left) else {
         return Err(Refusal::NoMemory);
     };
-    match read_part(disk, version, limits, number, cells, rest.as_mut_slice()) {
+    match read_part(disk, area, cells, rest.as_mut_slice()) {
         Ok(()) => Ok(rest),
         Err(_) => Err(Refusal::Device),
     }
 }
 
 // The records of an area.
-fn read_records<D: Disk>(
-    alloc: Global,
-    disk: &mut D,
-    version: Version,
-    limits: Limits,
-    number: u8,
-) -> Result<AreaRecords, Refusal>
-    requires area { IsAreaOf (layout_of version) (sizes_of limits) number (D.honest disk.old) (D.now disk.old).bytes }
+fn read_records<D: Disk>(alloc: Global, disk: &mut D, area: Area) -> Result<AreaRecords, Refusal>
+    requires area { IsAreaOf (layout_of area.version) (sizes_of area.limits) area.number
+        (D.honest disk.old) (D.now disk.old).bytes }
     ensures found { IfOk result (λ r. D.honest disk.new
-        → HasRecords (layout_of version) (sizes_of limits) number (D.now disk.old).bytes r) }
-    ensures count { IfOk result (λ r. length r.nodes ≡ layout.node_count (layout_of version) (sizes_of limits)) }
+        → HasRecords (layout_of area.version) (sizes_of area.limits) area.number (D.now disk.old).bytes r) }
+    ensures count { IfOk result (λ r. length r.nodes
+        ≡ layout.node_count (layout_of area.version) (sizes_of area.limits)) }
     ensures bad { IsErrOf result Refusal.BadPage → D.honest disk.new → (r : Records)
-        → HasRecords (layout_of version) (sizes_of limits) number (D.now disk.old).bytes r → ⊥ }
+        → HasRecords (layout_of area.version) (sizes_of area.limits) area.number (D.now disk.old).bytes r → ⊥ }
     ensures reads { ReadsOrRefuses D.Disk disk.old disk.new result MayRefuseArea }
 {
-    let cells = match first_cells(alloc, disk, version, limits, number) {
+    let cells = match first_cells(alloc, disk, area) {
         Ok(cells) => cells,
         Err(refusal) => return Err(refusal),
     };
-    match read_rest(alloc, disk, version, limits, number, cells.len()) {
-        Ok(rest) => read_rest_of_area(alloc, version, limits, cells, &rest),
+    match read_rest(alloc, disk, area, cells.len()) {
+        Ok(rest) => read_rest_of_area(alloc, area.version, area.limits, cells, &rest),
         Err(refusal) => Err(refusal),
     }
 }
@@ -211,8 +208,12 @@ pub fn read_memory<D: Disk>(alloc: Global, disk: &mut D, header: &Header) -> Res
         → (m : Contents) → IsShown (layout_in (D.now disk.old).bytes) (D.now disk.old).bytes m → ⊥ }
     ensures reads { ReadsOrRefuses D.Disk disk.old disk.new result MayRefuseArea }
 {
-    let version = header.layout();
-    match read_records(alloc, disk, version, header.limits, header.area) {
+    let area = Area {
+        version: header.layout(),
+        limits: header.limits,
+        number: header.area,
+    };
+    match read_records(alloc, disk, area) {
         Ok(records) => show(alloc, header.limits, records),
         Err(refusal) => Err(refusal),
     }

@@ -14,14 +14,15 @@ use Rattle.im_checkpoint.specs.declared.checkpoint.TurnDone.{TurnDone}
 use Rattle.im_engine.specs.State.{EngineState, MeansState, IsFirstFault}
 use Rattle.im_engine.specs.Run.{Answered, SweepAnswered, TurnAnswered, TurnTaken, is_device}
 use Rattle.im_listed.specs.History.{given}
-use Rattle.im_listed.specs.Numbers.{told}
+use Rattle.im_listed.specs.Numbers.{told_number}
 use Rattle.im_listed.specs.Listing.{Listing, carried, over, with_no_steps, LeftOnTheWay, Accounts}
 use Rattle.im_listed.specs.Image.{ImageState, Carries, IsFaultOf, IsWant, begun_in, tells_device}
 use Rattle.im_listed.proofs.NumberLemmas.{told_same}
 
 -- what is known after a call, of the engine as it began
 pub record Facts (s : EngineState Listing) (new : ImageState) (P : EngineState Listing → List ℕ → Type 0) : Type 0 where
-  pub same : new.lost ≡ false → told new.engine.disk.failed new.engine.disk.begun ≡ told s.disk.failed s.disk.begun
+  pub same : new.lost ≡ false
+      → told_number new.engine.disk.failed new.engine.disk.begun ≡ told_number s.disk.failed s.disk.begun
   pub leaves : Leaves s.disk.now new.engine.disk.now s.disk.past new.engine.disk.past (P s)
   pub start : LeavesNow s.disk.now (P s)
   pub account : Accounts new.engine.disk
@@ -54,7 +55,9 @@ carries : (old new : ImageState) (P : EngineState Listing → List ℕ → Type 
     → Carries old.engine.disk.now new (P (begun_in old))
 carries old new P f =
     let here : new.lost ≡ false → old.engine.disk.now
-    ≡ new.engine.disk.begun = λ is. told_same old.engine.disk.failed new.engine.disk.failed old.engine.disk.now new.engine.disk.begun (sym (f.same is)) in
+    ≡ new.engine.disk.begun =
+    λ is. told_same old.engine.disk.failed new.engine.disk.failed old.engine.disk.now new.engine.disk.begun
+    (sym (f.same is)) in
     record {
       ends = ends_of new.lost old.engine.disk.now new.engine.disk here f.account;
       way = way_of new.lost old.engine.disk.now new.engine.disk (P (begun_in old)) here f.account f.leaves f.start;
@@ -66,11 +69,13 @@ pub carries_on : (old new : ImageState) (P : EngineState Listing → List ℕ �
 carries_on old new P s e f = carries old new P (subst (λ (t : EngineState Listing). Facts t new P) e f)
 
 pub begun_with : (bytes : List ℕ) (d start : Listing) → (start.failed ≡ false) × (start.begun ≡ given bytes)
-    → told d.failed d.begun ≡ told start.failed start.begun → Accounts d → d.now ≡ carried (given bytes) d.steps
+    → told_number d.failed d.begun ≡ told_number start.failed start.begun → Accounts d
+    → d.now ≡ carried (given bytes) d.steps
 begun_with bytes d start e same account =
     let lives = e.0 in
     let began = e.1 in
-    let there : told d.failed d.begun ≡ told false (given bytes) = same ∙ (λ i. told (lives i) (began i)) in
+    let there : told_number d.failed d.begun ≡ told_number false (given bytes) =
+    same ∙ (λ i. told_number (lives i) (began i)) in
     account.ends ∙ ap (λ (b : Moment). carried b d.steps) (told_same d.failed false d.begun (given bytes) there)
 
 -- what is read of bytes that are all on the disk is what they themselves are

@@ -1,7 +1,7 @@
 -- Moments with one number are the same.
 use Rattle.std.proofs.Common.{◌≡◌, ℕ, zero, suc, ◌+◌, Bool, true, false, List, [], ◌∷◌, refl, sym, ap, arith}
 use Rattle.im_disk.specs.Moment.{Moment}
-use Rattle.im_listed.specs.Numbers.{pair, bytes_number, ranges_number, moment_number, told}
+use Rattle.im_listed.specs.Numbers.{pair, bytes_number, ranges_number, moment_number, told_number}
 
 pair_some : (a b : ℕ) → pair a b ≡ 0 → ⊥
 pair_some zero b e = absurd (omega arith)
@@ -55,7 +55,7 @@ odd a b e = omega arith
 above : (a b : ℕ) → a + a + 18446744073709551617 ≡ b + b + 18446744073709551617 → a ≡ b
 above a b e = omega arith
 
-pub told_same : (b c : Bool) (m n : Moment) → told b m ≡ told c n → m ≡ n
+pub told_same : (b c : Bool) (m n : Moment) → told_number b m ≡ told_number c n → m ≡ n
 told_same false false m n e = moment_same m n (halves (moment_number m) (moment_number n) e)
 told_same false true m n e = absurd (odd (moment_number m) (moment_number n) e)
 told_same true false m n e = absurd (odd (moment_number n) (moment_number m) (sym e))

@@ -6,8 +6,8 @@ use Rattle.std.proofs.lemmas.List.{take-append-le, take_all}
 use Rattle.std.proofs.lemmas.Bool.{false≢true}
 use Rattle.im_disk.specs.Moment.{Moment, Left, synced}
 use Rattle.im_listed.specs.declared.step.Step.{Step}
-use Rattle.im_listed.specs.History.{History, later}
-use Rattle.im_listed.specs.Listing.{Task, Settles, task_of, stepped, carried, Listing, later_with, shown, no_range}
+use Rattle.im_listed.specs.History.{CallHistory, later}
+use Rattle.im_listed.specs.Listing.{Task, Settles, task_of, stepped, carried, Listing, later_with, listing_of, no_range}
 use Rattle.im_listed.specs.Listing.{is_calm, settled, Accounts, Agrees}
 
 carried_more : (m : Moment) (ts : List Task) (t : Task) → carried m (ts ++ t ∷ []) ≡ stepped t (carried m ts)
@@ -34,7 +34,7 @@ accounts_more d t a =
           (cases_lt (length d.steps) many);
     }
 
-pub agrees_more : (bytes new_bytes : List ℕ) (steps new_steps : List Step) (calm : Bool) (h : History) (t : Task)
+pub agrees_more : (bytes new_bytes : List ℕ) (steps new_steps : List Step) (calm : Bool) (h : CallHistory) (t : Task)
     → Agrees bytes steps calm h → map task_of new_steps ≡ map task_of steps ++ t ∷ [] → new_bytes
     ≡ (stepped t h.now).bytes → Agrees new_bytes new_steps (is_calm (stepped t h.now)) (later (stepped t h.now) h)
 agrees_more bytes new_bytes steps new_steps calm h t a more same = record {
@@ -42,7 +42,7 @@ agrees_more bytes new_bytes steps new_steps calm h t a more same = record {
   calm_is = refl;
   accounts = subst (λ (ts : List Task). Accounts
       (record { now = stepped t h.now; past = h.now ∷ h.past; begun = h.begun; steps = ts; failed = false }))
-      (sym more) (accounts_more (shown h steps false) t a.accounts);
+      (sym more) (accounts_more (listing_of h steps false) t a.accounts);
 }
 
 none_is : (ranges : List (ℕ × ℕ)) → no_range ranges ≡ true → ranges ≡ []
@@ -62,14 +62,15 @@ accounts_later d same a = record {
 }
 
 -- a sync, which lists a step where not all was synced
-pub agrees_synced : (bytes : List ℕ) (steps new_steps : List Step) (calm : Bool) (h : History)
+pub agrees_synced : (bytes : List ℕ) (steps new_steps : List Step) (calm : Bool) (h : CallHistory)
     → Agrees bytes steps calm h → map task_of new_steps ≡ settled calm (map task_of steps)
     → Agrees bytes new_steps true (later (synced h.now) h)
-agrees_synced bytes steps new_steps false h a more = agrees_more bytes bytes steps new_steps false h Settles a more a.same
+agrees_synced bytes steps new_steps false h a more =
+    agrees_more bytes bytes steps new_steps false h Settles a more a.same
 agrees_synced bytes steps new_steps true h a same = record {
   same = a.same;
   calm_is = refl;
   accounts = subst (λ (ts : List Task). Accounts
       (record { now = synced h.now; past = h.now ∷ h.past; begun = h.begun; steps = ts; failed = false })) (sym same)
-      (accounts_later (shown h steps false) (calm_synced h.now (sym a.calm_is)) a.accounts);
+      (accounts_later (listing_of h steps false) (calm_synced h.now (sym a.calm_is)) a.accounts);
 }

@@ -3,7 +3,7 @@ use Rattle.std.specs.Prelude.{ℕ, zero, suc, List, [], ◌∷◌, length, slice
 use Rattle.im_disk.specs.Moment.{Moment, written, synced}
 
 -- the file now, the moments before it since the list was last emptied, newest first, and the moment of that emptying
-pub record History : Type 0 where
+pub record CallHistory : Type 0 where
   pub now : Moment
   pub past : List Moment
   pub begun : Moment
@@ -13,32 +13,32 @@ abbrev pub given : List ℕ → Moment
 given bytes = record { bytes = bytes; ranges = (0, length bytes) ∷ [] }
 
 -- the list was emptied at this moment
-abbrev pub begun_at : Moment → History
-begun_at m = record { now = m; past = []; begun = m }
+abbrev pub history_from : Moment → CallHistory
+history_from m = record { now = m; past = []; begun = m }
 
 -- a moment later
-abbrev pub later : Moment → History → History
+abbrev pub later : Moment → CallHistory → CallHistory
 later m h = record { now = m; past = h.now ∷ h.past; begun = h.begun }
 
 -- A call: its number, an offset, and the bytes.
-pub record Event : Type 0 where
+pub record ListedCall : Type 0 where
   pub call : ℕ
   pub at : ℕ
   pub bytes : List ℕ
 
 -- the call with these numbers
-abbrev pub event_of : List ℕ → List ℕ → Event
-event_of numbers bytes = record { call = slice_index numbers 0; at = slice_index numbers 1; bytes = bytes }
+abbrev pub listed_call : List ℕ → List ℕ → ListedCall
+listed_call numbers bytes = record { call = slice_index numbers 0; at = slice_index numbers 1; bytes = bytes }
 
 -- After a call, by its number: the list was emptied, the file was handed in, read, written or synced.
-abbrev pub after_call : ℕ → ℕ → List ℕ → History → History
-after_call zero at bytes h = begun_at h.now
-after_call (suc zero) at bytes h = begun_at (given bytes)
-after_call (suc (suc zero)) at bytes h = later h.now h
-after_call (suc (suc (suc zero))) at bytes h = later (written at bytes h.now) h
-after_call (suc (suc (suc (suc more)))) at bytes h = later (synced h.now) h
+abbrev pub history_after : ℕ → ℕ → List ℕ → CallHistory → CallHistory
+history_after zero at bytes h = history_from h.now
+history_after (suc zero) at bytes h = history_from (given bytes)
+history_after (suc (suc zero)) at bytes h = later h.now h
+history_after (suc (suc (suc zero))) at bytes h = later (written at bytes h.now) h
+history_after (suc (suc (suc (suc more)))) at bytes h = later (synced h.now) h
 
 -- after these calls, newest first
-abbrev pub history_of : List Event → History
-history_of [] = begun_at (given [])
-history_of (e ∷ earlier) = after_call e.call e.at e.bytes (history_of earlier)
+abbrev pub history_of : List ListedCall → CallHistory
+history_of [] = history_from (given [])
+history_of (e ∷ earlier) = history_after e.call e.at e.bytes (history_of earlier)

@@ -4,7 +4,7 @@ use Rattle.std.specs.Prelude.{MatchResult, if◌then◌else◌}
 use Rattle.im_disk.specs.Moment.{Moment, Left, LeftSince, written, synced}
 use Rattle.im_listed.specs.declared.step.Step.{Step}
 use Rattle.im_listed.specs.declared.step.Step.TheVariants.{Write, Sync}
-use Rattle.im_listed.specs.History.{History, given}
+use Rattle.im_listed.specs.History.{CallHistory, given}
 
 -- a step on the file: write these bytes at this place, or put all that was written on the disk
 pub data Task : Type 0 where
@@ -39,8 +39,8 @@ pub record Listing : Type 0 where
   pub failed : Bool
 
 -- what the disk shows, by the history of its calls
-abbrev pub shown : History → List Step → Bool → Listing
-shown h steps failed =
+abbrev pub listing_of : CallHistory → List Step → Bool → Listing
+listing_of h steps failed =
     record { now = h.now; past = h.past; begun = h.begun; steps = map task_of steps; failed = failed }
 
 -- a moment later, with these steps
@@ -73,8 +73,8 @@ abbrev pub broken : Listing → Listing
 broken d = record { now = d.now; past = d.past; begun = d.begun; steps = d.steps; failed = true }
 
 -- at `Ok` the disk is as told here; at `Err` the list could not grow
-abbrev pub Lists : {T E : Type 0} → Result T E → Listing → Listing → Listing → Type 0
-Lists result told old new = MatchResult result (λ _. new ≡ told) (λ _. new ≡ broken old)
+abbrev pub ListsStep : {T E : Type 0} → Result T E → Listing → Listing → Listing → Type 0
+ListsStep result told old new = MatchResult result (λ _. new ≡ told) (λ _. new ≡ broken old)
 
 -- After any prefix of these steps, from this moment on, each file that a crash may leave has P.
 abbrev pub LeftOnTheWay : Moment → List Task → (List ℕ → Type 0) → Type 0
@@ -87,7 +87,7 @@ pub record Accounts (d : Listing) : Type 0 where
   pub way : LeftOnTheWay d.begun d.steps (LeftSince (d.now ∷ d.past) 0)
 
 -- the bytes, the list, whether all was synced, and the history agree
-pub record Agrees (bytes : List ℕ) (steps : List Step) (calm : Bool) (h : History) : Type 0 where
+pub record Agrees (bytes : List ℕ) (steps : List Step) (calm : Bool) (h : CallHistory) : Type 0 where
   pub same : bytes ≡ h.now.bytes
   pub calm_is : calm ≡ is_calm h.now
-  pub accounts : Accounts (shown h steps false)
+  pub accounts : Accounts (listing_of h steps false)

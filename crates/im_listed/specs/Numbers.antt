@@ -23,6 +23,6 @@ moment_number m = pair (bytes_number m.bytes) (ranges_number m.ranges)
 
 -- The number is even if no call has failed. After a failure it is odd and larger than before, so half of it is no
 -- moment's number.
-abbrev pub told : Bool → Moment → ℕ
-told false m = moment_number m + moment_number m
-told true m = moment_number m + moment_number m + 18446744073709551617
+abbrev pub told_number : Bool → Moment → ℕ
+told_number false m = moment_number m + moment_number m
+told_number true m = moment_number m + moment_number m + 18446744073709551617

@@ -1,14 +1,14 @@
 //! The calls on a disk, as a list. Only clauses read it; it takes no memory.
 ghost use Rattle.std.specs.Prelude.{◌≡◌, List, [], ◌∷◌};
 ghost use Rattle.std.specs.Borrow.{ftrue};
-ghost use Rattle.im_listed.specs.History.{Event, event_of};
+ghost use Rattle.im_listed.specs.History.{ListedCall, listed_call};
 
 use std::marker::{Model, PhantomData};
 
 #[derive(Drop)]
 pub(crate) struct Ledger {
     marker: PhantomData<u8>,
-    pub(crate) ghost events: { List Event },
+    pub(crate) ghost events: { List ListedCall },
 }
 
 impl Model for Ledger {
@@ -30,6 +30,6 @@ impl Ledger {
 
     // The numbers are the kind of the call and an offset.
     pub(crate) fn note(&mut self, _numbers: &[u64], _bytes: &[u8])
-        ensures { self.new.events ≡ event_of _numbers.now _bytes.now ∷ self.old.events }
+        ensures { self.new.events ≡ listed_call _numbers.now _bytes.now ∷ self.old.events }
     {}
 }

@@ -2,9 +2,9 @@
 ghost use Rattle.std.specs.Prelude.{◌≡◌, ◌+◌, ◌≤◌, ◌∷◌, ◌++◌, [], false, true, map, length, take, drop, Ok, OnOk};
 ghost use Rattle.std.specs.Prelude.{OnErr};
 ghost use Rattle.im_disk.specs.Moment.{Counts, written, synced};
-ghost use Rattle.im_listed.specs.Listing.{Puts, task_of, over, with_no_steps, later_with, settled, is_calm, Lists};
+ghost use Rattle.im_listed.specs.Listing.{Puts, task_of, over, with_no_steps, later_with, settled, is_calm, ListsStep};
 ghost use Rattle.im_listed.specs.Listing.{Accounts};
-ghost use Rattle.im_listed.specs.Numbers.{told};
+ghost use Rattle.im_listed.specs.Numbers.{told_number};
 
 use crate::account::Ledger;
 use crate::step::Step;
@@ -40,12 +40,12 @@ pub struct Listed {
 }
 
 impl Model for Listed {
-    ghost use Rattle.im_listed.specs.Listing.{Listing, shown, Agrees};
+    ghost use Rattle.im_listed.specs.Listing.{Listing, listing_of, Agrees};
     ghost use Rattle.im_listed.specs.History.{history_of};
 
     ghost Value = { Listing };
 
-    ghost view = { λ d. shown (history_of d.ledger.events) d.steps.items d.failed };
+    ghost view = { λ d. listing_of (history_of d.ledger.events) d.steps.items d.failed };
 
     ghost invariant = { λ d. Agrees d.bytes.items d.steps.items d.calm (history_of d.ledger.events) };
 }
@@ -132,7 +132,7 @@ impl Disk for Listed {
     ghost past = { λ d. d.past };
 
     // The number stays exactly while no call fails and the list begins where it began.
-    ghost failures = { λ d. told d.failed d.begun };
+    ghost failures = { λ d. told_number d.failed d.begun };
 
     ghost honest = { λ _. Unit {0} };
 
@@ -158,10 +158,11 @@ impl Disk for Listed {
 
     fn write_at(&mut self, at: usize, bytes: &[u8]) -> Result<(), DeviceFault>
         requires { at + length bytes.now ≤ length self.old.now.bytes }
-        ensures answer { Lists result
+        ensures answer { ListsStep result
             (later_with (written at bytes.now self.old.now) (self.old.steps ++ Puts at bytes.now ∷ []) self.old)
             self.old self.new }
-        ensures failures { Counts result (told self.old.failed self.old.begun) (told self.new.failed self.new.begun) }
+        ensures failures { Counts result
+            (told_number self.old.failed self.old.begun) (told_number self.new.failed self.new.begun) }
         ensures honest { ⟦<Listed as Disk>⟧.honest self.new }
     {
         if let Err(_) = add_write(&mut self.steps, at, bytes) {
@@ -175,10 +176,11 @@ impl Disk for Listed {
     }
 
     fn sync(&mut self) -> Result<(), DeviceFault>
-        ensures answer { Lists result
+        ensures answer { ListsStep result
             (later_with (synced self.old.now) (settled (is_calm self.old.now) self.old.steps) self.old)
             self.old self.new }
-        ensures failures { Counts result (told self.old.failed self.old.begun) (told self.new.failed self.new.begun) }
+        ensures failures { Counts result
+            (told_number self.old.failed self.old.begun) (told_number self.new.failed self.new.begun) }
         ensures honest { ⟦<Listed as Disk>⟧.honest self.new }
     {
         if let Err(_) = add_sync(&mut self.steps, self.calm) {

@@ -1,6 +1,8 @@
--- A memory with other numbers of cells and elements is a memory, and is shown by its cells and lists, cut or lengthened.
+-- A memory with other numbers of cells and elements is a memory, and is shown by its cells and lists, cut or
+-- lengthened.
 use Rattle.std.proofs.Common.{◌≡◌, ⊎_elim, ℕ, zero, suc, ◌+◌, ◌-◌, ◌*◌, ◌<◌, ◌≤◌, Bool, true, false, List, [], ◌∷◌}
-use Rattle.std.proofs.Common.{Some, None, length, get_or, replicate, refl, sym, ◌∙◌, ap, subst, arith, slice_get, nat_lt}
+use Rattle.std.proofs.Common.{Some, None, length, get_or, replicate, refl, sym, ◌∙◌, ap, subst, arith, slice_get}
+use Rattle.std.proofs.Common.{nat_lt}
 use Rattle.std.proofs.Common.{if◌then◌else◌, option_map, Ok, Err}
 use Rattle.std.specs.Prelude.{Option}
 use Rattle.std.specs.Option.{option_and_then}
@@ -25,7 +27,7 @@ use Rattle.im_types.specs.declared.refusals.Refusal.{Refusal}
 use Rattle.im_types.specs.Window.{bounds}
 use Rattle.im_image.proofs.Encoding.{bounds-none, bounds-some, past-new}
 use Rattle.im_image.proofs.Restored.{ListsPut, records-fit}
-use Rattle.im_migration.specs.Resizing.{Fits, IsResized, fitted, lists_of, window_at}
+use Rattle.im_migration.specs.Resizing.{FitsSizes, IsResized, fitted, lists_of, window_at}
 use Rattle.im_migration.proofs.Chained.{free_cell, list-is, lists-fitted, nobody, shown-fitted}
 use Rattle.im_migration.proofs.Fitted.{fitted-at, fitted-below, length-fitted}
 
@@ -148,7 +150,8 @@ module _ (s : Sizes) (cells elements : ℕ) (m new : Contents) (memory : IsMemor
           ∙ memory.blocks.whole a block (sym (block-same a) ∙ here) b from to;
     };
     windows = λ e w there.
-        let same : window_at m.windows e ≡ w = sym (is.windows e) ∙ get_or_from_slice_get new.windows e w new_window there in
+        let same : window_at m.windows e ≡ w =
+        sym (is.windows e) ∙ get_or_from_slice_get new.windows e w new_window there in
         subst IsWindow same (is-window m.windows memory.windows e);
     agrees = record {
       listed = λ who a.
@@ -163,7 +166,7 @@ module _ (s : Sizes) (cells elements : ℕ) (m new : Contents) (memory : IsMemor
   }
 
 -- where the memory can have these sizes
-module _ (s : Sizes) (m : Contents) (fits : Fits s m) where
+module _ (s : Sizes) (m : Contents) (fits : FitsSizes s m) where
   -- the memory, cut or lengthened
   abbrev pub resized : Contents
   resized = record { cells = fitted no_cell s.cells m.cells; windows = fitted new_window s.elements m.windows }

@@ -11,7 +11,7 @@ use Rattle.im_disk.proofs.SinceLemmas.{leaves_weaker}
 use Rattle.im_image.specs.declared.reading.Image.{Image}
 use Rattle.im_image.specs.Headers.{seen}
 use Rattle.im_image.specs.Reading.{reached}
-use Rattle.im_migration.specs.Migration.{BlankOrLaid, BlankOrSame, HasCount, IsLaidDown, IsNoPlace, IsRefused}
+use Rattle.im_migration.specs.Migration.{BlankOrLaid, BlankOrSame, HasCount, IsLaidDown, IsNoPlace, IsMigrationFault}
 use Rattle.im_migration.specs.Migration.{MeansSame, moved_header}
 
 module _ (i : Image) (old : List ℕ) (H : Type 0) (means : H → Reads layout_1 old (Ok (reached i)))
@@ -47,14 +47,14 @@ module _ (i : Image) (old : List ℕ) (H : Type 0) (means : H → Reads layout_1
 
   -- where the new file is no place for it
   pub refused_place : (G : Type 0) (new : List ℕ) (e : Refusal) (s : Sizes) → s ≡ sizes_of i.header.limits
-      → (e ≡ Device) ⊎ (G → IsNoPlace e s new) → (e ≡ NoMemory) ⊎ (e ≡ Device) ⊎ (H → G → IsRefused e old new)
+      → (e ≡ Device) ⊎ (G → IsNoPlace e s new) → (e ≡ NoMemory) ⊎ (e ≡ Device) ⊎ (H → G → IsMigrationFault e old new)
   refused_place G new e s is (inl device) = inr (inl device)
   refused_place G new e s is (inr none) = inr (inr (λ honest here. inr
       ((reached i, means honest), subst (λ (t : Sizes). IsNoPlace e t new) (same_sizes s is honest) (none here))))
 
 -- where the old file is at fault
 pub refused_old : (H G : Type 0) (old new : List ℕ) (e : Refusal) → (e ≡ NoMemory) ⊎ (e ≡ Device)
-    ⊎ (H → Reads layout_1 old (Err e)) → (e ≡ NoMemory) ⊎ (e ≡ Device) ⊎ (H → G → IsRefused e old new)
+    ⊎ (H → Reads layout_1 old (Err e)) → (e ≡ NoMemory) ⊎ (e ≡ Device) ⊎ (H → G → IsMigrationFault e old new)
 refused_old H G old new e (inl none) = inl none
 refused_old H G old new e (inr (inl device)) = inr (inl device)
 refused_old H G old new e (inr (inr fault)) = inr (inr (λ honest here. inl (fault honest)))

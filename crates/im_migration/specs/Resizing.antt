@@ -31,7 +31,7 @@ abbrev pub HasNoCopy : Sizes → Contents → Type 0
 HasNoCopy s m = AreLimits s.cells s.elements s.slots → (new : Contents) → IsResized s m new → ⊥
 
 -- no block lies past the last of these cells, and no window past the last of these elements was used
-pub record Fits (s : Sizes) (m : Contents) : Type 0 where
+pub record FitsSizes (s : Sizes) (m : Contents) : Type 0 where
   pub cells : (a : ℕ) → s.cells ≤ a → held_at m.cells a ≡ None
   pub windows : (element : ℕ) → s.elements ≤ element → window_at m.windows element ≡ new_window
 

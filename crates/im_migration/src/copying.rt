@@ -4,7 +4,7 @@ ghost use Rattle.im_types.specs.declared.refusals.Refusal.TheVariants.{BadLimits
 ghost use Rattle.im_types.specs.Layout.{layout_in_use, sizes_of};
 ghost use Rattle.im_disk.specs.Runs.{ReadsAlone, ReadsOrRefuses};
 ghost use Rattle.im_migration.specs.Migration.{FaultsOfTwo, HasCountIn, UnwrittenOrDevice};
-ghost use Rattle.im_migration.specs.Resizing.{Fits, HasNoCopy, IsResized, sizes_asked};
+ghost use Rattle.im_migration.specs.Resizing.{FitsSizes, HasNoCopy, IsResized, sizes_asked};
 ghost use Rattle.im_migration.specs.Copying.{CopyFails, IsLengthFor, IsWhole, LeavesBlankOrCopy, LeavesCopy};
 ghost use Rattle.im_migration.specs.Copying.{MayBeSource, MayRefuseCopy, MayRefuseSource, SourceFails};
 
@@ -22,7 +22,7 @@ use std::alloc::Global;
 // The limits of a copy of an image. The only refusal is `BadLimits`, and the follower is told why.
 fn limits_for<F: Follower>(image: &Image, asked: Asked, follower: &F) -> Result<Limits, Refusal>
     ensures sizes { IfOk result (λ l. sizes_of l ≡ sizes_asked asked (sizes_of image.now.header.limits)) }
-    ensures fits { IfOk result (λ l. Fits (sizes_of l) image.now.memory.contents) }
+    ensures fits { IfOk result (λ l. FitsSizes (sizes_of l) image.now.memory.contents) }
     ensures none { IfErr result (λ e. (e ≡ BadLimits)
         × HasNoCopy (sizes_asked asked (sizes_of image.now.header.limits)) image.now.memory.contents) }
 {
@@ -31,7 +31,7 @@ fn limits_for<F: Follower>(image: &Image, asked: Asked, follower: &F) -> Result<
 
 // The memory of an image in these sizes, with the header of its copy. The only refusal is `NoMemory`.
 fn resize_image(alloc: Global, image: &Image, limits: Limits) -> Result<Resized, Refusal>
-    requires { Fits (sizes_of limits) image.now.memory.contents }
+    requires { FitsSizes (sizes_of limits) image.now.memory.contents }
     ensures whole { IfOk result (λ r. IsWhole r) }
     ensures sizes { IfOk result (λ r. r.header.limits ≡ limits) }
     ensures count { IfOk result (λ r. r.header.count ≡ image.now.journal.count) }

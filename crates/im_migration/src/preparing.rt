@@ -8,7 +8,7 @@ ghost use Rattle.im_image.specs.Reading.{HasSizes};
 ghost use Rattle.im_disk.specs.Since.{LeavesNow};
 ghost use Rattle.im_migration.specs.Migration.{GivesBackBlankOrLaid, IsLaidDown, IsNoPlace, MayRefusePlace};
 ghost use Rattle.im_migration.specs.Migration.{LeavesLaid, PlaceFails, UnwrittenOrDevice, moved_header};
-ghost use Rattle.im_migration.specs.Resizing.{Fits, HasNoCopy, IsResized, sizes_asked};
+ghost use Rattle.im_migration.specs.Resizing.{FitsSizes, HasNoCopy, IsResized, sizes_asked};
 ghost use Rattle.im_migration.specs.Copying.{IsWhole};
 
 use crate::asked::Asked;
@@ -32,7 +32,7 @@ pub(crate) fn limits_asked<F: Follower>(
     follower: &F,
 ) -> Result<Limits, Refusal>
     ensures sizes { IfOk result (λ l. sizes_of l ≡ sizes_asked asked (sizes_of old)) }
-    ensures fits { IfOk result (λ l. Fits (sizes_of l) memory.now.contents) }
+    ensures fits { IfOk result (λ l. FitsSizes (sizes_of l) memory.now.contents) }
     ensures none { IfErr result (λ e. (e ≡ BadLimits)
         × HasNoCopy (sizes_asked asked (sizes_of old)) memory.now.contents) }
 {
@@ -56,7 +56,7 @@ pub(crate) fn resized_to(
     count: u64,
     limits: Limits,
 ) -> Result<Resized, Refusal>
-    requires fits { Fits (sizes_of limits) memory.now.contents }
+    requires fits { FitsSizes (sizes_of limits) memory.now.contents }
     requires last { count ≤ LAST }
     ensures whole { IfOk result (λ r. IsWhole r) }
     ensures sizes { IfOk result (λ r. r.header.limits ≡ limits) }

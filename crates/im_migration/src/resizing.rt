@@ -8,7 +8,7 @@ ghost use Rattle.im_types.specs.declared.records.CellRecord.TheVariants.{Free as
 ghost use Rattle.im_types.specs.declared.refusals.Refusal.TheVariants.{NoMemory};
 ghost use Rattle.im_types.specs.Contents.{held_at, new_window, waiters_at};
 ghost use Rattle.im_types.specs.Layout.{sizes_of};
-ghost use Rattle.im_migration.specs.Resizing.{Fits, IsResized, fitted, lists_of, window_at};
+ghost use Rattle.im_migration.specs.Resizing.{FitsSizes, IsResized, fitted, lists_of, window_at};
 
 use crate::misfits::Misfit;
 use im_cell::CellRow;
@@ -60,8 +60,8 @@ fn elements_needed(memory: &Memory) -> u16
 
 /// Returns why a memory can't have these sizes, or `None` if it can.
 pub(crate) fn misfit_of(memory: &Memory, limits: Limits) -> Option<Misfit>
-    ensures none { IfNone result (Fits (sizes_of limits) memory.now.contents) }
-    ensures some { IfSome result (λ _. Fits (sizes_of limits) memory.now.contents → ⊥) }
+    ensures none { IfNone result (FitsSizes (sizes_of limits) memory.now.contents) }
+    ensures some { IfSome result (λ _. FitsSizes (sizes_of limits) memory.now.contents → ⊥) }
 {
     let cells = cells_needed(memory);
     if cells > limits.cells {
@@ -159,7 +159,7 @@ fn put_windows(restoring: &mut Restoring, memory: &Memory, elements: u16)
 
 /// Returns the same memory with these numbers of cells and elements. Its only refusal is `NoMemory`.
 pub(crate) fn resize(alloc: Global, memory: &Memory, limits: Limits) -> Result<Memory, Refusal>
-    requires { Fits (sizes_of limits) memory.now.contents }
+    requires { FitsSizes (sizes_of limits) memory.now.contents }
     ensures resized { IfOk result (λ new. IsResized (sizes_of limits) memory.now.contents new.contents) }
     ensures only { IfErr result (λ e. e ≡ NoMemory) }
 {

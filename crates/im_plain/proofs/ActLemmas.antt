@@ -24,20 +24,22 @@ use Rattle.im_types.specs.Act.{block_with_base, is_waiting_cell}
 use Rattle.im_types.specs.Place.{place, fill, change_each}
 use Rattle.im_laws.proofs.Tests.{or_left, or_right}
 use Rattle.im_laws.proofs.PlaceLemmas.{get_or-fill, get_or-change_each, place-free}
-use Rattle.im_plain.specs.declared.cells.State.{State}
-use Rattle.im_plain.specs.declared.cells.State.TheVariants.{Empty as HasNothing, Full as HasValue, Clashed as HasClash}
-use Rattle.im_plain.specs.declared.cells.Slot.{Slot}
+use Rattle.im_plain.specs.declared.cells.Content.{Content}
+use Rattle.im_plain.specs.declared.cells.Content.TheVariants.{Empty as HasNothing, Full as HasValue}
+use Rattle.im_plain.specs.declared.cells.Content.TheVariants.{Clashed as HasClash}
+use Rattle.im_plain.specs.declared.cells.PlainSlot.{PlainSlot}
 use Rattle.im_plain.specs.declared.queue.Deferred.{Deferred}
-use Rattle.im_plain.specs.declared.acts.Served.{Served}
-use Rattle.im_plain.specs.declared.acts.Acted.{Acted}
-use Rattle.im_plain.specs.Waiting.{waiting_at, without, parked, with_asker, replies_to}
-use Rattle.im_plain.specs.Joined.{state_of, emptied_slot, held_of, joined, is_open_state, is_open, Fits}
+use Rattle.im_plain.specs.declared.effects.CellEffect.{CellEffect}
+use Rattle.im_plain.specs.declared.acts.Effect.{Effect}
+use Rattle.im_plain.specs.Waiting.{waiting_at, without, parked, with_asker, each_given}
+use Rattle.im_plain.specs.Joined.{state_with, emptied_slot, plain_held, plain_cells, lets_wait, lets_wait_at, QueueFits}
 use Rattle.im_laws.specs.Blocks.{IsRefused}
-use Rattle.im_plain.specs.Served.{AreWaiting, HasServed, HasActed, IsUnwaited}
+use Rattle.im_plain.specs.CellEffects.{AreWaiting, HasCellEffect, HasEffect, IsUnwaited}
 use Rattle.im_plain.proofs.QueueLemmas.{waiting_at-without, waiting_at-without_other, waiting_at-parked}
 use Rattle.im_plain.proofs.QueueLemmas.{waiting_at-parked_other}
-use Rattle.im_plain.proofs.JoinedLemmas.{NobodyWaits, held_at-joined, held_at-None, held_at-Some, length-joined}
-use Rattle.im_plain.proofs.JoinedLemmas.{place-joined, joined-fill, joined-emptied, joined-set}
+use Rattle.im_plain.proofs.JoinedLemmas.{NobodyWaits, held_at-plain_cells, held_at-None, held_at-Some}
+use Rattle.im_plain.proofs.JoinedLemmas.{length-plain_cells}
+use Rattle.im_plain.proofs.JoinedLemmas.{place-plain_cells, plain_cells-fill, plain_cells-emptied, plain_cells-set}
 
 -- a test that fails of all fails of each
 none_of : {X : Type 0} (p : X → Bool) (d : X) → p d ≡ false → (xs : List X) (base n : ℕ)
@@ -51,17 +53,17 @@ none_of p d q (x ∷ xs) (suc base) n e zero lo hi = absurd (omega arith)
 none_of p d q (x ∷ xs) (suc base) n e (suc a) lo hi = none_of p d q xs base n e a (omega arith) (omega arith)
 
 -- what is told at once, to the asker alone
-abbrev pub telling : Reply → Acted
+abbrev pub telling : Reply → Effect
 telling reply = record { entry = Answered reply; address = 0; count = 0; value = 0 }
 
-module _ (slots : List (Option Slot)) (queue : List Deferred) (fits : Fits slots queue) where
+module _ (slots : List (Option PlainSlot)) (queue : List Deferred) (fits : QueueFits slots queue) where
   abbrev cells : List (Option Held)
-  cells = joined slots queue
+  cells = plain_cells slots queue
 
   -- only an answer is given
-  pub tells-HasActed : (reply : Reply) (was : ActedCells) → was ≡ only_tells cells reply
-      → HasActed slots queue (telling reply) was
-  tells-HasActed reply was e = record {
+  pub tells-HasEffect : (reply : Reply) (was : ActedCells) → was ≡ only_tells cells reply
+      → HasEffect slots queue (telling reply) was
+  tells-HasEffect reply was e = record {
     cells = sym (ap (λ a. a.cells) e);
     fits = fits;
     told = sym (ap (λ a. a.entry) e);
@@ -74,31 +76,32 @@ module _ (slots : List (Option Slot)) (queue : List Deferred) (fits : Fits slots
         ≡ only_tells cells NoCell
     at_cell-absent e = ap (at_cell kind serve cells a) (held_at-None slots queue a e)
 
-    at_cell-held : (slot : Slot) → get_or slots a None ≡ Some slot → (b : Bool) → same_kind kind slot.block.kind ≡ b
+    at_cell-held : (slot : PlainSlot) → get_or slots a None ≡ Some slot → (b : Bool)
+        → same_kind kind slot.block.kind ≡ b
         → at_cell kind serve cells a (held_at cells a)
-        ≡ cond b (serve_cell cells a slot.block (serve (state_of slot.state (waiting_at a queue))))
+        ≡ cond b (serve_cell cells a slot.block (serve (state_with slot.state (waiting_at a queue))))
         (only_tells cells WrongKind)
     at_cell-held slot e b k =
         ap (at_cell kind serve cells a) (held_at-Some slots queue a slot e)
-        ∙ ap (λ b. cond b (serve_cell cells a slot.block (serve (state_of slot.state (waiting_at a queue))))
+        ∙ ap (λ b. cond b (serve_cell cells a slot.block (serve (state_with slot.state (waiting_at a queue))))
         (only_tells cells WrongKind)) k
 
-    pub at_cell-other : (slot : Slot) → get_or slots a None ≡ Some slot → same_kind kind slot.block.kind ≡ false
+    pub at_cell-other : (slot : PlainSlot) → get_or slots a None ≡ Some slot → same_kind kind slot.block.kind ≡ false
         → at_cell kind serve cells a (held_at cells a) ≡ only_tells cells WrongKind
     at_cell-other slot e k = at_cell-held slot e false k
 
-    pub at_cell-serves : (slot : Slot) → get_or slots a None ≡ Some slot → same_kind kind slot.block.kind ≡ true
+    pub at_cell-serves : (slot : PlainSlot) → get_or slots a None ≡ Some slot → same_kind kind slot.block.kind ≡ true
         → a < length slots
-        → (served : Served) (who : Waiter)
-        → HasServed served who (waiting_at a queue) (serve (state_of slot.state (waiting_at a queue)))
-        → HasActed (set slots a (Some (record { block = slot.block; state = served.state })))
+        → (served : CellEffect) (who : Waiter)
+        → HasCellEffect served who (waiting_at a queue) (serve (state_with slot.state (waiting_at a queue)))
+        → HasEffect (set slots a (Some (record { block = slot.block; state = served.state })))
         (parked served.entry a who queue)
         (record { entry = served.entry; address = a; count = served.count; value = served.value })
         (at_cell kind serve cells a (held_at cells a))
     at_cell-serves slot e k within served who has = record {
-      cells = joined-set slots queue a new left (record { block = slot.block; state = was.state }) within
+      cells = plain_cells-set slots queue a new left (record { block = slot.block; state = was.state }) within
           (ap (λ state. Some (record { block = slot.block; state = state }))
-          (sym has.state ∙ ap (state_of served.state) (sym here))) others
+          (sym has.state ∙ ap (state_with served.state) (sym here))) others
           ∙ sym (ap (λ (acted : ActedCells). acted.cells) same);
       fits = λ b. ⊎_elim (at_it b) (at_another b) (cases_eq b a);
       told = has.told ∙ sym (ap (λ (acted : ActedCells). acted.entry) same);
@@ -107,16 +110,16 @@ module _ (slots : List (Option Slot)) (queue : List Deferred) (fits : Fits slots
     }
       where
         was : ServedCell
-        was = serve (state_of slot.state (waiting_at a queue))
+        was = serve (state_with slot.state (waiting_at a queue))
 
-        new : Slot
+        new : PlainSlot
         new = record { block = slot.block; state = served.state }
 
         left : List Deferred
         left = without served.count a (parked served.entry a who queue)
 
         replies_of : List Waiter → List (Waiter × Reply)
-        replies_of waiters = replies_to waiters served.value
+        replies_of waiters = each_given waiters served.value
 
         same : at_cell kind serve cells a (held_at cells a) ≡ serve_cell cells a slot.block was
         same = at_cell-held slot e true k
@@ -129,16 +132,17 @@ module _ (slots : List (Option Slot)) (queue : List Deferred) (fits : Fits slots
         others b n = waiting_at-without_other served.count a b (parked served.entry a who queue) n
             ∙ waiting_at-parked_other served.entry a b who queue n
 
-        at_it : (b : ℕ) → b ≡ a → is_open (get_or (set slots a (Some new)) b None) ≡ false → waiting_at b left ≡ []
+        at_it : (b : ℕ) → b ≡ a → lets_wait_at (get_or (set slots a (Some new)) b None) ≡ false → waiting_at b left ≡ []
         at_it b e closed =
             ap (λ b. waiting_at b left) e ∙ here
             ∙ has.quiet (sym
-            (ap (λ b. is_open (get_or (set slots a (Some new)) b None)) e
-            ∙ ap is_open (get_or-set_same slots a (Some new) None within)) ∙ closed)
+            (ap (λ b. lets_wait_at (get_or (set slots a (Some new)) b None)) e
+            ∙ ap lets_wait_at (get_or-set_same slots a (Some new) None within)) ∙ closed)
 
-        at_another : (b : ℕ) → b ≢ a → is_open (get_or (set slots a (Some new)) b None) ≡ false → waiting_at b left ≡ []
+        at_another : (b : ℕ) → b ≢ a → lets_wait_at (get_or (set slots a (Some new)) b None) ≡ false
+            → waiting_at b left ≡ []
         at_another b n closed = others b n
-            ∙ fits b (sym (ap is_open (get_or-set_other slots a b (Some new) None n)) ∙ closed)
+            ∙ fits b (sym (ap lets_wait_at (get_or-set_other slots a b (Some new) None n)) ∙ closed)
 
   -- a new block
   pub allocate-placed : (kind : Kind) (n : ℕ) → n ≢ 0 → (o : Option ℕ) → place n slots ≡ o → allocate cells kind n
@@ -146,22 +150,23 @@ module _ (slots : List (Option Slot)) (queue : List Deferred) (fits : Fits slots
   allocate-placed kind n some o e =
       let t : (n == 0) ≡ false = grind (arith, nat_tests) in
       ap (λ b. cond b (only_tells cells BadLength) (allocate_at cells kind n (place n cells))) t
-      ∙ ap (allocate_at cells kind n) (place-joined slots queue n ∙ e)
+      ∙ ap (allocate_at cells kind n) (place-plain_cells slots queue n ∙ e)
 
-  pub allocate-HasActed : (kind : Kind) (n base : ℕ) → n ≢ 0 → place n slots ≡ Some base
-      → HasActed (fill slots base n
+  pub allocate-HasEffect : (kind : Kind) (n base : ℕ) → n ≢ 0 → place n slots ≡ Some base
+      → HasEffect (fill slots base n
       (Some (record { block = record { base = base; length = n; kind = kind }; state = HasNothing }))) queue
       (telling (Base base)) (allocate cells kind n)
-  allocate-HasActed kind n base some e = record {
-    cells = joined-fill slots queue base n new (λ a lo hi. fits a (ap is_open (place-free n slots base e a lo hi)))
+  allocate-HasEffect kind n base some e = record {
+    cells =
+        plain_cells-fill slots queue base n new (λ a lo hi. fits a (ap lets_wait_at (place-free n slots base e a lo hi)))
         ∙ sym (ap (λ (acted : ActedCells). acted.cells) same);
-    fits = λ a closed. ⊎_elim (λ old. fits a (ap is_open (sym old) ∙ closed))
-        (λ h. absurd (true_false (ap is_open (sym h.2) ∙ closed))) (get_or-fill slots base n new a);
+    fits = λ a closed. ⊎_elim (λ old. fits a (ap lets_wait_at (sym old) ∙ closed))
+        (λ h. absurd (true_false (ap lets_wait_at (sym h.2) ∙ closed))) (get_or-fill slots base n new a);
     told = sym (ap (λ (acted : ActedCells). acted.entry) same);
     replies = sym (ap (λ (acted : ActedCells). acted.resumed) same);
   }
     where
-      new : Option Slot
+      new : Option PlainSlot
       new = Some (record { block = record { base = base; length = n; kind = kind }; state = HasNothing })
 
       same : allocate cells kind n ≡ allocate_at cells kind n (Some base)
@@ -172,49 +177,49 @@ module _ (slots : List (Option Slot)) (queue : List Deferred) (fits : Fits slots
   absent-refused a e after reply = ap (λ held. unless_waited_for after reply cells a (block_with_base a held))
       (held_at-None slots queue a e)
 
-  block_found : (a : ℕ) (slot : Slot) → get_or slots a None ≡ Some slot → (b : Bool) → (slot.block.base == a) ≡ b
+  block_found : (a : ℕ) (slot : PlainSlot) → get_or slots a None ≡ Some slot → (b : Bool) → (slot.block.base == a) ≡ b
       → block_with_base a (held_at cells a) ≡ cond b (Some slot.block) None
   block_found a slot e b q = ap (block_with_base a) (held_at-Some slots queue a slot e)
       ∙ ap (λ b. cond b (Some slot.block) None) q
 
-  pub inner-refused : (a : ℕ) (slot : Slot) → get_or slots a None ≡ Some slot → (slot.block.base == a) ≡ false
+  pub inner-refused : (a : ℕ) (slot : PlainSlot) → get_or slots a None ≡ Some slot → (slot.block.base == a) ≡ false
       → IsRefused cells a NoBlock
   inner-refused a slot e q after reply = ap (unless_waited_for after reply cells a) (block_found a slot e false q)
 
-  pub waiting-refused : (a : ℕ) (slot : Slot) → get_or slots a None ≡ Some slot → (slot.block.base == a) ≡ true
+  pub waiting-refused : (a : ℕ) (slot : PlainSlot) → get_or slots a None ≡ Some slot → (slot.block.base == a) ≡ true
       → list_any is_waiting_cell (take slot.block.length (drop a cells)) ≡ true → IsRefused cells a StillWaiting
   waiting-refused a slot e q w after reply =
       ap (unless_waited_for after reply cells a) (block_found a slot e true q)
       ∙ ap (λ b. cond b (only_tells cells StillWaiting)
       (record { cells = after slot.block; entry = Answered reply; resumed = [] })) w
 
-  pub unwaited : (a : ℕ) (slot : Slot) → get_or slots a None ≡ Some slot → (slot.block.base == a) ≡ true
+  pub unwaited : (a : ℕ) (slot : PlainSlot) → get_or slots a None ≡ Some slot → (slot.block.base == a) ≡ true
       → list_any is_waiting_cell (take slot.block.length (drop a cells)) ≡ false → IsUnwaited cells a slot.block.length
   unwaited a slot e q w = record { block = slot.block; found = block_found a slot e true q; long = refl; nobody = w }
 
-  pub refused-HasActed : (a : ℕ) (reply : Reply) → IsRefused cells a reply
+  pub refused-HasEffect : (a : ℕ) (reply : Reply) → IsRefused cells a reply
       → (after : Block → List (Option Held)) (meant : Reply)
-      → HasActed slots queue (telling reply)
+      → HasEffect slots queue (telling reply)
       (unless_waited_for after meant cells a (block_with_base a (held_at cells a)))
-  refused-HasActed a reply refused after meant = tells-HasActed reply _ (refused after meant)
+  refused-HasEffect a reply refused after meant = tells-HasEffect reply _ (refused after meant)
 
   module _ (a n : ℕ) (is : IsUnwaited cells a n) where
-    by_state : (slot : Slot) (state : State) (waiters : List Waiter)
-        → is_waiting_cell (Some (record { block = slot.block; state = state_of state waiters })) ≡ false
-        → (is_open_state state ≡ false → waiters ≡ []) → waiters ≡ []
+    by_state : (slot : PlainSlot) (state : Content) (waiters : List Waiter)
+        → is_waiting_cell (Some (record { block = slot.block; state = state_with state waiters })) ≡ false
+        → (lets_wait state ≡ false → waiters ≡ []) → waiters ≡ []
     by_state slot HasNothing [] e quiet = refl
     by_state slot HasNothing (who ∷ waiters) e quiet = absurd (cc)
     by_state slot (HasValue v) waiters e quiet = quiet refl
     by_state slot (HasClash v) waiters e quiet = quiet refl
 
-    by_slot : (slot : Option Slot) (waiters : List Waiter) → is_waiting_cell (held_of slot waiters) ≡ false
-        → (is_open slot ≡ false → waiters ≡ []) → waiters ≡ []
+    by_slot : (slot : Option PlainSlot) (waiters : List Waiter) → is_waiting_cell (plain_held slot waiters) ≡ false
+        → (lets_wait_at slot ≡ false → waiters ≡ []) → waiters ≡ []
     by_slot None waiters e quiet = quiet refl
     by_slot (Some slot) waiters e quiet = by_state slot slot.state waiters e quiet
 
     nobody : NobodyWaits queue a n
     nobody b lo hi = by_slot (get_or slots b None) (waiting_at b queue)
-        (ap is_waiting_cell (sym (held_at-joined slots queue b))
+        (ap is_waiting_cell (sym (held_at-plain_cells slots queue b))
         ∙ none_of is_waiting_cell None refl cells a n is.nobody b lo hi) (fits b)
 
     becomes : (after : Block → List (Option Held)) (reply : Reply)
@@ -227,12 +232,12 @@ module _ (slots : List (Option Slot)) (queue : List Deferred) (fits : Fits slots
         ∙ ap (λ b. cond b (only_tells cells StillWaiting)
         (record { cells = after is.block; entry = Answered reply; resumed = [] })) quiet
 
-    pub released-HasActed : HasActed (fill slots a n None) queue (telling Released)
+    pub released-HasEffect : HasEffect (fill slots a n None) queue (telling Released)
         (release_block cells a (block_with_base a (held_at cells a)))
-    released-HasActed = record {
-      cells = joined-fill slots queue a n None nobody ∙ ap (λ n. fill cells a n None) (sym is.long)
+    released-HasEffect = record {
+      cells = plain_cells-fill slots queue a n None nobody ∙ ap (λ n. fill cells a n None) (sym is.long)
           ∙ sym (ap (λ (acted : ActedCells). acted.cells) same);
-      fits = λ b closed. ⊎_elim (λ old. fits b (ap is_open (sym old) ∙ closed)) (λ h. nobody b h.0 h.1)
+      fits = λ b closed. ⊎_elim (λ old. fits b (ap lets_wait_at (sym old) ∙ closed)) (λ h. nobody b h.0 h.1)
           (get_or-fill slots a n None b);
       told = sym (ap (λ (acted : ActedCells). acted.entry) same);
       replies = sym (ap (λ (acted : ActedCells). acted.resumed) same);
@@ -242,12 +247,12 @@ module _ (slots : List (Option Slot)) (queue : List Deferred) (fits : Fits slots
             ≡ record { cells = fill cells a is.block.length None; entry = Answered Released; resumed = [] }
         same = becomes (λ block. fill cells a block.length None) Released
 
-    pub reset-HasActed : HasActed (change_each emptied_slot slots a n) queue (telling Cleared)
+    pub reset-HasEffect : HasEffect (change_each emptied_slot slots a n) queue (telling Cleared)
         (reset_block cells a (block_with_base a (held_at cells a)))
-    reset-HasActed = record {
-      cells = joined-emptied slots queue a n nobody ∙ ap (λ n. change_each emptied cells a n) (sym is.long)
+    reset-HasEffect = record {
+      cells = plain_cells-emptied slots queue a n nobody ∙ ap (λ n. change_each emptied cells a n) (sym is.long)
           ∙ sym (ap (λ (acted : ActedCells). acted.cells) same);
-      fits = λ b closed. ⊎_elim (λ old. fits b (ap is_open (sym old) ∙ closed)) (λ h. nobody b h.0 h.1)
+      fits = λ b closed. ⊎_elim (λ old. fits b (ap lets_wait_at (sym old) ∙ closed)) (λ h. nobody b h.0 h.1)
           (get_or-change_each emptied_slot slots a n b);
       told = sym (ap (λ (acted : ActedCells). acted.entry) same);
       replies = sym (ap (λ (acted : ActedCells). acted.resumed) same);
@@ -299,21 +304,22 @@ waits-step cells base n i h b e =
     (take (n - (i + 1)) (drop k cells))) k
     ∙ ap (λ b. b || list_any is_waiting_cell (take (n - (i + 1)) (drop (base + (i + 1)) cells))) e
 
-pub AreWaiting-Fits : (slots : List (Option Slot)) (queue : List Deferred) → Fits slots queue → (a : ℕ) (slot : Slot)
+pub AreWaiting-QueueFits : (slots : List (Option PlainSlot)) (queue : List Deferred) → QueueFits slots queue
+    → (a : ℕ) (slot : PlainSlot)
     → get_or slots a None ≡ Some slot
     → (count : ℕ) → count ≡ length (waiting_at a queue) → AreWaiting slot.state count (waiting_at a queue)
-AreWaiting-Fits slots queue fits a slot at count e = record {
+AreWaiting-QueueFits slots queue fits a slot at count e = record {
   counted = sym e;
   quiet = λ closed. fits a
-      (ap is_open at ∙ closed);
+      (ap lets_wait_at at ∙ closed);
 }
 
 -- a block that is released lies below the cell count
-pub released_within : (slots : List (Option Slot)) (queue : List Deferred) → HasBlocks (joined slots queue)
-    → (a : ℕ) (slot : Slot) → get_or slots a None ≡ Some slot → slot.block.base ≡ a
+pub released_within : (slots : List (Option PlainSlot)) (queue : List Deferred) → HasBlocks (plain_cells slots queue)
+    → (a : ℕ) (slot : PlainSlot) → get_or slots a None ≡ Some slot → slot.block.base ≡ a
     → a + slot.block.length ≤ length slots
 released_within slots queue blocks a slot at base =
     let w = blocks.within a slot.block
     (ap (option_map (λ (held : Held). held.block)) (held_at-Some slots queue a slot at)) in
     let h = w.2 in
-    omega (arith, length-joined slots queue)
+    omega (arith, length-plain_cells slots queue)

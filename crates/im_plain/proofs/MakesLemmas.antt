@@ -14,39 +14,39 @@ use Rattle.im_types.specs.Window.{judge, note, answer_each, confirm_window}
 use Rattle.im_types.specs.Act.{Acted as ActedCells, act}
 use Rattle.im_types.specs.Step.{asker, serve, step, step_request, step_confirm}
 use Rattle.im_types.specs.Memory.{IsMemory}
-use Rattle.im_plain.specs.declared.cells.Slot.{Slot}
+use Rattle.im_plain.specs.declared.cells.PlainSlot.{PlainSlot}
 use Rattle.im_plain.specs.declared.queue.Deferred.{Deferred}
-use Rattle.im_plain.specs.declared.acts.Acted.{Acted}
-use Rattle.im_plain.specs.Waiting.{waiting_at, without, replies_to}
-use Rattle.im_plain.specs.Joined.{joined_from, joined, Fits}
-use Rattle.im_plain.specs.Served.{HasActed}
-use Rattle.im_plain.specs.MakesMemory.{contents_of, MakesMemory}
-use Rattle.im_plain.proofs.JoinedLemmas.{length-joined}
+use Rattle.im_plain.specs.declared.acts.Effect.{Effect}
+use Rattle.im_plain.specs.Waiting.{waiting_at, without, each_given}
+use Rattle.im_plain.specs.Joined.{plain_cells_from, plain_cells, QueueFits}
+use Rattle.im_plain.specs.CellEffects.{HasEffect}
+use Rattle.im_plain.specs.MakesPlain.{plain_contents, MakesPlain}
+use Rattle.im_plain.proofs.JoinedLemmas.{length-plain_cells}
 use Rattle.im_laws.proofs.MemoryLemmas.{step-memory, empty-memory}
 
 -- the counts of a memory are those of its slots and windows
-own-IsMemory : (cells elements : ℕ) (slots : List (Option Slot)) (queue : List Deferred) (windows : List Window)
-    → IsMemory cells elements (contents_of slots queue windows)
-    → IsMemory (length slots) (length windows) (contents_of slots queue windows)
+own-IsMemory : (cells elements : ℕ) (slots : List (Option PlainSlot)) (queue : List Deferred) (windows : List Window)
+    → IsMemory cells elements (plain_contents slots queue windows)
+    → IsMemory (length slots) (length windows) (plain_contents slots queue windows)
 own-IsMemory cells elements slots queue windows is = record {
-  cell_count = length-joined slots queue;
+  cell_count = length-plain_cells slots queue;
   window_count = refl;
   blocks = is.blocks;
   windows = is.windows;
   agrees = is.agrees;
 }
 
-module _ (slots : List (Option Slot)) (queue : List Deferred) (capacity : ℕ) (windows : List Window)
-    (makes : MakesMemory slots queue capacity windows) where
+module _ (slots : List (Option PlainSlot)) (queue : List Deferred) (capacity : ℕ) (windows : List Window)
+    (makes : MakesPlain slots queue capacity windows) where
   abbrev was : Contents
-  was = contents_of slots queue windows
+  was = plain_contents slots queue windows
 
   -- after a change that keeps the memory one
-  pub makes-after : (slots' : List (Option Slot)) (queue' : List Deferred) (capacity' : ℕ) (windows' : List Window)
-      → Fits slots' queue' → IsMemory (length slots) (length windows) (contents_of slots' queue' windows')
-      → capacity ≤ capacity' → MakesMemory slots' queue' capacity' windows'
+  pub makes-after : (slots' : List (Option PlainSlot)) (queue' : List Deferred) (capacity' : ℕ) (windows' : List Window)
+      → QueueFits slots' queue' → IsMemory (length slots) (length windows) (plain_contents slots' queue' windows')
+      → capacity ≤ capacity' → MakesPlain slots' queue' capacity' windows'
   makes-after slots' queue' capacity' windows' fits is more =
-      let cells = sym (length-joined slots' queue') ∙ is.cell_count in
+      let cells = sym (length-plain_cells slots' queue') ∙ is.cell_count in
       let elements = is.window_count in
       let few_cells = makes.few_cells in
       let few_elements = makes.few_elements in
@@ -60,29 +60,29 @@ module _ (slots : List (Option Slot)) (queue : List Deferred) (capacity : ℕ) (
       }
 
   -- after a new request
-  module _ (r : Request) (acted : Acted) (slots' : List (Option Slot)) (parked' queue' : List Deferred)
+  module _ (r : Request) (acted : Effect) (slots' : List (Option PlainSlot)) (parked' queue' : List Deferred)
       (windows' : List Window)
-      (has : HasActed slots' parked' acted (act (joined slots queue) (asker r) r.op))
+      (has : HasEffect slots' parked' acted (act (plain_cells slots queue) (asker r) r.op))
       (left : queue' ≡ without acted.count acted.address parked')
       (answered : windows'
       ≡ answer_each (note windows r acted.entry)
-      (replies_to (take acted.count (waiting_at acted.address parked')) acted.value)) where
+      (each_given (take acted.count (waiting_at acted.address parked')) acted.value)) where
     abbrev done : ActedCells
-    done = act (joined slots queue) (asker r) r.op
+    done = act (plain_cells slots queue) (asker r) r.op
 
-    served-contents : contents_of slots' queue' windows' ≡ (serve was r done).contents
+    served-contents : plain_contents slots' queue' windows' ≡ (serve was r done).contents
     served-contents =
-        let cells = ap (joined slots') left ∙ has.cells in
+        let cells = ap (plain_cells slots') left ∙ has.cells in
         let kept = answered
         ∙ ap (λ entry. answer_each (note windows r entry)
-        (replies_to (take acted.count (waiting_at acted.address parked')) acted.value)) has.told
+        (each_given (take acted.count (waiting_at acted.address parked')) acted.value)) has.told
         ∙ ap (answer_each (note windows r done.entry)) has.replies in
         λ i. record { cells = cells i; windows = kept i }
 
     pub makes-served : judge windows r ≡ Ok Fresh → (capacity' : ℕ) → capacity ≤ capacity'
-        → MakesMemory slots' queue' capacity' windows'
+        → MakesPlain slots' queue' capacity' windows'
     makes-served fresh capacity' more =
-        makes-after slots' queue' capacity' windows' (subst (Fits slots') (sym left) has.fits)
+        makes-after slots' queue' capacity' windows' (subst (QueueFits slots') (sym left) has.fits)
         (subst (IsMemory (length slots) (length windows))
         (ap (λ j. (step_request was r j).contents) fresh ∙ sym served-contents)
         (step-memory (length slots) (length windows) was (Asks r) makes.memory))
@@ -94,7 +94,7 @@ module _ (slots : List (Option Slot)) (queue : List Deferred) (capacity : ℕ) (
       × (windows' ≡ set windows element w)))
       (err : IfErr result
       (λ refusal. (confirm_window upto (slice_get windows element) ≡ Err refusal) × (windows' ≡ windows))) where
-    confirmed-contents : contents_of slots queue windows' ≡ (step was (Confirm element upto)).contents
+    confirmed-contents : plain_contents slots queue windows' ≡ (step was (Confirm element upto)).contents
     confirmed-contents = by_result result ok err
       where
         by_result : (result : Result (Unit {0}) Refusal)
@@ -103,13 +103,13 @@ module _ (slots : List (Option Slot)) (queue : List Deferred) (capacity : ℕ) (
             × (windows' ≡ set windows element w))
             → IfErr result
             (λ refusal. (confirm_window upto (slice_get windows element) ≡ Err refusal) × (windows' ≡ windows))
-            → contents_of slots queue windows' ≡ (step was (Confirm element upto)).contents
-        by_result (Ok u) ok err = ap (contents_of slots queue) ok.2
+            → plain_contents slots queue windows' ≡ (step was (Confirm element upto)).contents
+        by_result (Ok u) ok err = ap (plain_contents slots queue) ok.2
             ∙ sym (ap (λ c. (step_confirm was element c).contents) ok.1)
-        by_result (Err refusal) ok err = ap (contents_of slots queue) err.1
+        by_result (Err refusal) ok err = ap (plain_contents slots queue) err.1
             ∙ sym (ap (λ c. (step_confirm was element c).contents) err.0)
 
-    pub makes-confirmed : MakesMemory slots queue capacity windows'
+    pub makes-confirmed : MakesPlain slots queue capacity windows'
     makes-confirmed =
         makes-after slots queue capacity windows' makes.fits
         (subst (IsMemory (length slots) (length windows)) (sym confirmed-contents)
@@ -126,25 +126,29 @@ module _ (slots : List (Option Slot)) (queue : List Deferred) (capacity : ℕ) (
         ∙ take-length windows'
 
 -- nothing in any block, and nobody waits
-joined_from-replicate : (k n : ℕ) → joined_from k (replicate n None) [] ≡ replicate n None
-joined_from-replicate k zero = refl
-joined_from-replicate k (suc n) = ap (λ cells. None ∷ cells) (joined_from-replicate (suc k) n)
+plain_cells_from-replicate : (k n : ℕ) → plain_cells_from k (replicate n None) [] ≡ replicate n None
+plain_cells_from-replicate k zero = refl
+plain_cells_from-replicate k (suc n) = ap (λ cells. None ∷ cells) (plain_cells_from-replicate (suc k) n)
 
-pub contents_of-empty : (cells elements : ℕ) → contents_of (replicate cells None) [] (replicate elements new_window)
+pub plain_contents-empty : (cells elements : ℕ)
+    → plain_contents (replicate cells None) [] (replicate elements new_window)
     ≡ empty_contents cells elements
 unfolding empty_contents
-contents_of-empty cells elements = ap
-    (λ (cells : List (Option Held)). let m : Contents = record { cells = cells; windows = replicate elements new_window } in m) (joined_from-replicate 0 cells)
+plain_contents-empty cells elements = ap
+    (λ (cells : List (Option Held)). let m : Contents = record {
+      cells = cells;
+      windows = replicate elements new_window;
+    } in m) (plain_cells_from-replicate 0 cells)
 
 pub makes-empty : (cells elements capacity : ℕ) → cells ≤ MAX_CELLS → elements ≤ MAX_ELEMENTS
-    → WINDOW * elements ≤ capacity → MakesMemory (replicate cells None) [] capacity (replicate elements new_window)
+    → WINDOW * elements ≤ capacity → MakesPlain (replicate cells None) [] capacity (replicate elements new_window)
 makes-empty cells elements capacity few_cells few_elements room =
-    let c = length-replicate cells (none_of Slot) in
+    let c = length-replicate cells (none_of PlainSlot) in
     let e = length-replicate elements new_window in
     record {
       fits = λ a closed. refl;
       memory = own-IsMemory cells elements (replicate cells None) [] (replicate elements new_window)
-          (subst (IsMemory cells elements) (sym (contents_of-empty cells elements)) (empty-memory cells elements));
+          (subst (IsMemory cells elements) (sym (plain_contents-empty cells elements)) (empty-memory cells elements));
       few_cells = omega arith;
       few_elements = omega arith;
       room = omega arith;

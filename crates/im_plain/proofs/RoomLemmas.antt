@@ -18,13 +18,13 @@ use Rattle.im_laws.proofs.StepLemmas.{judge-fresh, answer-other}
 use Rattle.im_laws.proofs.StepAgrees.{one_if-true, one_if-most}
 use Rattle.im_laws.proofs.WaitingCounts.{waiting_counts, waiting_counts-less, waiting_counts-answer, AwaitsOne}
 use Rattle.im_laws.proofs.WaitingCounts.{waits_in-AwaitsOne}
-use Rattle.im_plain.specs.declared.cells.Slot.{Slot}
+use Rattle.im_plain.specs.declared.cells.PlainSlot.{PlainSlot}
 use Rattle.im_plain.specs.declared.queue.Deferred.{Deferred}
 use Rattle.im_plain.specs.Waiting.{waiting_at}
-use Rattle.im_plain.specs.Joined.{joined, Fits}
-use Rattle.im_plain.specs.MakesMemory.{MakesMemory}
+use Rattle.im_plain.specs.Joined.{plain_cells, QueueFits}
+use Rattle.im_plain.specs.MakesPlain.{MakesPlain}
 use Rattle.im_plain.proofs.QueueLemmas.{and_waits}
-use Rattle.im_plain.proofs.JoinedLemmas.{waiters_at-joined}
+use Rattle.im_plain.proofs.JoinedLemmas.{waiters_at-plain_cells}
 
 -- among those that wait at a cell
 times-first : (d : Deferred) (queue : List Deferred) → times d.waiter (waiting_at d.address (d ∷ queue))
@@ -120,19 +120,20 @@ module _ (cells : List (Option Held)) where
       omega arith
 
 -- in a memory
-agrees-AreAwaited : (slots : List (Option Slot)) (queue : List Deferred) (windows : List Window) → Fits slots queue
-    → WaitersAgree (joined slots queue) (kept_for windows) → AreAwaited (joined slots queue) queue windows
+agrees-AreAwaited : (slots : List (Option PlainSlot)) (queue : List Deferred) (windows : List Window)
+    → QueueFits slots queue
+    → WaitersAgree (plain_cells slots queue) (kept_for windows) → AreAwaited (plain_cells slots queue) queue windows
 agrees-AreAwaited slots queue windows fits agrees who a =
-    let listed = ap (times who) (sym (waiters_at-joined slots queue fits a)) ∙ agrees.listed who a in
+    let listed = ap (times who) (sym (waiters_at-plain_cells slots queue fits a)) ∙ agrees.listed who a in
     omega arith
 
 -- where a request is new, the queue has room for it
-pub room-fresh : (slots : List (Option Slot)) (queue : List Deferred) (capacity : ℕ) (windows : List Window)
-    → MakesMemory slots queue capacity windows
+pub room-fresh : (slots : List (Option PlainSlot)) (queue : List Deferred) (capacity : ℕ) (windows : List Window)
+    → MakesPlain slots queue capacity windows
     → (r : Request) → judge windows r ≡ Ok Fresh → length queue < capacity
 room-fresh slots queue capacity windows makes r fresh =
     let next = judge-fresh windows r fresh in
-    let all = length-queue (joined slots queue) queue windows
+    let all = length-queue (plain_cells slots queue) queue windows
     (agrees-AreAwaited slots queue windows makes.fits makes.memory.agrees) in
     let less = waiting_counts-less windows makes.memory.windows r.element next.window next.there next.room in
     let room = makes.room in

@@ -4,10 +4,10 @@ use Rattle.im_types.specs.declared.refusals.Refusal.{Refusal}
 use Rattle.im_types.specs.Contents.{Window}
 
 -- the window without its entries below a number
-abbrev pub confirmed : ℕ → Window → Window
-confirmed upto w = record { base = max w.base upto; kept = drop (upto - w.base) w.kept }
+abbrev pub window_from : ℕ → Window → Window
+window_from upto w = record { base = max w.base upto; kept = drop (upto - w.base) w.kept }
 
 -- whether a confirmation with this result drops an entry
-abbrev pub forgets : ℕ → Window → Result Window Refusal → Result Bool Refusal
-forgets upto w (Ok now) = Ok (nat_lt w.base upto)
-forgets upto w (Err refusal) = Err refusal
+abbrev pub drops_entry : ℕ → Window → Result Window Refusal → Result Bool Refusal
+drops_entry upto w (Ok now) = Ok (nat_lt w.base upto)
+drops_entry upto w (Err refusal) = Err refusal

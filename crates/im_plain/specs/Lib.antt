@@ -1,5 +1,5 @@
 pub mod Waiting
 pub mod Joined
-pub mod Served
+pub mod CellEffects
 pub mod Confirming
-pub mod MakesMemory
+pub mod MakesPlain

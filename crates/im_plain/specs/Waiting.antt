@@ -31,5 +31,5 @@ with_asker Waiting who waiters = waiters ++ who ∷ []
 with_asker (Answered reply) who waiters = waiters
 
 -- each of these requests is given the value
-abbrev pub replies_to : List Waiter → ℕ → List (Waiter × Reply)
-replies_to waiters value = map (λ who. (who, Value value)) waiters
+abbrev pub each_given : List Waiter → ℕ → List (Waiter × Reply)
+each_given waiters value = map (λ who. (who, Value value)) waiters

@@ -1,7 +1,7 @@
 //! The cells by address, without the requests that wait for them.
 ghost use Rattle.std.specs.Prelude.{◌≡◌, ℕ, ◌+◌, ◌<◌, ◌≤◌, length, List, Some, None, IfSome, slice_index_or};
 ghost use Rattle.im_types.specs.declared.operations.Waiter.{Waiter};
-ghost use Rattle.im_plain.specs.Joined.{state_of, emptied_slot};
+ghost use Rattle.im_plain.specs.Joined.{state_with, emptied_slot};
 ghost use Rattle.im_types.specs.Presences.{presence_of};
 ghost use Rattle.im_types.specs.Place.{begins_free, place, fill, change_each};
 
@@ -9,7 +9,7 @@ use im_types::{Block, Cell, MAX_CELLS};
 
 /// The content of a cell, whether or not requests wait for it.
 #[derive(Clone, Copy)]
-pub enum State {
+pub enum Content {
     Empty,
     Full(u64),
     Clashed(u64),
@@ -17,25 +17,25 @@ pub enum State {
 
 /// A cell of a block.
 #[derive(Clone, Copy)]
-pub struct Slot {
+pub struct PlainSlot {
     pub block: Block,
-    pub state: State,
+    pub state: Content,
 }
 
 /// Returns a cell with this state at which `waiting` requests wait.
-pub fn presence_of(state: State, waiting: usize) -> Cell
-    ensures { (waiters : List Waiter) → length waiters ≡ waiting → result ≡ presence_of (state_of state waiters) }
+pub fn presence_of(state: Content, waiting: usize) -> Cell
+    ensures { (waiters : List Waiter) → length waiters ≡ waiting → result ≡ presence_of (state_with state waiters) }
 {
     match state {
-        State::Empty if waiting == 0 => Cell::Empty,
-        State::Empty => Cell::Waiting,
-        State::Full(value) => Cell::Full(value),
-        State::Clashed(value) => Cell::Clashed(value),
+        Content::Empty if waiting == 0 => Cell::Empty,
+        Content::Empty => Cell::Waiting,
+        Content::Full(value) => Cell::Full(value),
+        Content::Clashed(value) => Cell::Clashed(value),
     }
 }
 
 /// Returns the slot at an address, or `None` if it is in no block.
-pub fn slot_at(slots: &[Option<Slot>], a: u32) -> Option<Slot>
+pub fn slot_at(slots: &[Option<PlainSlot>], a: u32) -> Option<PlainSlot>
     ensures value { result ≡ slice_index_or slots.now a None }
     ensures within { IfSome result (λ _. a < length slots.now) }
 {
@@ -44,7 +44,7 @@ pub fn slot_at(slots: &[Option<Slot>], a: u32) -> Option<Slot>
 }
 
 /// Returns whether the first `n` slots exist and are in no block.
-pub fn begins_free(slots: &[Option<Slot>], n: u32) -> bool
+pub fn begins_free(slots: &[Option<PlainSlot>], n: u32) -> bool
     ensures { result ≡ begins_free n slots.now }
 {
     for i in 0..n as usize {
@@ -56,7 +56,7 @@ pub fn begins_free(slots: &[Option<Slot>], n: u32) -> bool
 }
 
 /// Returns the least base from which `n` slots are in no block, or `None` if there is none.
-pub fn place(slots: &[Option<Slot>], n: u32) -> Option<u32>
+pub fn place(slots: &[Option<PlainSlot>], n: u32) -> Option<u32>
     requires { length slots.now ≤ MAX_CELLS }
     ensures { result ≡ place n slots.now }
 {
@@ -69,20 +69,20 @@ pub fn place(slots: &[Option<Slot>], n: u32) -> Option<u32>
 }
 
 // Returns a block's slot with an empty cell. A slot in no block stays as it is.
-fn emptied(slot: Option<Slot>) -> Option<Slot>
+fn emptied(slot: Option<PlainSlot>) -> Option<PlainSlot>
     ensures { result ≡ emptied_slot slot }
 {
     match slot {
-        Some(slot) => Some(Slot {
+        Some(slot) => Some(PlainSlot {
             block: slot.block,
-            state: State::Empty,
+            state: Content::Empty,
         }),
         None => None,
     }
 }
 
 /// Empties the cells of `n` slots from `base` on. Slots past the end are left out.
-pub fn empty(slots: &mut [Option<Slot>], base: u32, n: u32)
+pub fn empty(slots: &mut [Option<PlainSlot>], base: u32, n: u32)
     ensures { slots.new ≡ change_each emptied_slot slots.old base n }
 {
     for i in 0..n {
@@ -94,7 +94,7 @@ pub fn empty(slots: &mut [Option<Slot>], base: u32, n: u32)
 }
 
 /// Sets `n` slots from `base` on. Slots past the end are left out.
-pub fn fill(slots: &mut [Option<Slot>], base: u32, n: u32, slot: Option<Slot>)
+pub fn fill(slots: &mut [Option<PlainSlot>], base: u32, n: u32, slot: Option<PlainSlot>)
     ensures { slots.new ≡ fill slots.old base n slot }
 {
     for i in 0..n {

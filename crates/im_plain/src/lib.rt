@@ -3,6 +3,7 @@
 
 mod acts;
 mod cells;
+mod effects;
 mod memory;
 mod queue;
 mod windows;

@@ -9,10 +9,10 @@ ghost use Rattle.im_types.specs.Act.{act};
 ghost use Rattle.im_types.specs.Agreement.{WaitingAgrees, KeepsEntries};
 ghost use Rattle.im_types.specs.Memory.{IsMemory};
 ghost use Rattle.im_types.specs.Presences.{presence_in};
-ghost use Rattle.im_plain.specs.MakesMemory.{contents_of, MakesMemory};
+ghost use Rattle.im_plain.specs.MakesPlain.{plain_contents, MakesPlain};
 
 use crate::acts::act;
-use crate::cells::{Slot, presence_of, slot_at};
+use crate::cells::{PlainSlot, presence_of, slot_at};
 use crate::queue::{Deferred, count_at, nth_at};
 use crate::windows::{
     KeptWindow, ask, bounds, confirm, judge, judge_confirm, kept_for, note, resume,
@@ -26,7 +26,7 @@ use std::marker::Model;
 
 /// A plain memory. Contracts see its contents, which are always those of a memory.
 pub struct PlainMemory {
-    slots: Vec<Option<Slot>>,
+    slots: Vec<Option<PlainSlot>>,
     queue: Vec<Deferred>,
     windows: Vec<KeptWindow>,
 }
@@ -48,28 +48,28 @@ impl Model for PlainMemory {
 
     ghost Value = { Contents };
 
-    ghost use Rattle.im_plain.specs.MakesMemory.{contents_of, MakesMemory};
+    ghost use Rattle.im_plain.specs.MakesPlain.{plain_contents, MakesPlain};
 
-    ghost view = { λ m. contents_of m.slots.items m.queue.items m.windows.items };
+    ghost view = { λ m. plain_contents m.slots.items m.queue.items m.windows.items };
 
-    ghost invariant = { λ m. MakesMemory m.slots.items m.queue.items (vec_capacity m.queue) m.windows.items };
+    ghost invariant = { λ m. MakesPlain m.slots.items m.queue.items (vec_capacity m.queue) m.windows.items };
 }
 
-// Serves a new request: does its operation, keeps its entry, and answers the requests that it resumes.
+// GivesEffect a new request: does its operation, keeps its entry, and answers the requests that it resumes.
 fn serve(
-    slots: &mut [Option<Slot>],
+    slots: &mut [Option<PlainSlot>],
     queue: &mut Vec<Deferred>,
     windows: &mut [KeptWindow],
     request: &Request,
 ) -> Entry
-    requires memory { MakesMemory slots.old queue.old.items (vec_capacity queue.old) windows.old }
+    requires memory { MakesPlain slots.old queue.old.items (vec_capacity queue.old) windows.old }
     requires fresh { judge windows.old request.now ≡ Ok Fresh }
-    ensures answer { let m = contents_of slots.old queue.old.items windows.old in result
+    ensures answer { let m = plain_contents slots.old queue.old.items windows.old in result
         ≡ (act m.cells (asker request.now) request.now.op).entry }
-    ensures contents { let m = contents_of slots.old queue.old.items windows.old in
-        contents_of slots.new queue.new.items windows.new
+    ensures contents { let m = plain_contents slots.old queue.old.items windows.old in
+        plain_contents slots.new queue.new.items windows.new
         ≡ (serve m request.now (act m.cells (asker request.now) request.now.op)).contents }
-    ensures memory { MakesMemory slots.new queue.new.items (vec_capacity queue.new) windows.new }
+    ensures memory { MakesPlain slots.new queue.new.items (vec_capacity queue.new) windows.new }
 {
     let who = Waiter {
         element: request.element,
@@ -109,7 +109,8 @@ impl PlainMemory {
         })
     }
 
-    /// Serves one command, and returns its outcome or its refusal. A refusal changes nothing. The call takes no memory.
+    /// GivesEffect one command, and returns its outcome or its refusal. A refusal changes nothing. The call takes no
+    /// memory.
     ///
     /// A command of an element that doesn't exist is refused with `NoElement`. A request is refused with `Forgotten`
     /// below its window, and with `Mismatch` under a number that is kept for another operation. It is refused with
@@ -251,7 +252,7 @@ impl PlainMemory {
 }
 
 // Makes the given number of slots, all in no block.
-fn no_slots(alloc: Global, cells: u32) -> Result<Vec<Option<Slot>>, AllocError>
+fn no_slots(alloc: Global, cells: u32) -> Result<Vec<Option<PlainSlot>>, AllocError>
     ensures { IfOk result (λ slots. slots.items ≡ replicate cells None) }
 {
     let mut slots = Vec::with_capacity(alloc, cells as usize)?;

@@ -6,8 +6,8 @@ ghost use Rattle.std.specs.List.{list_any};
 ghost use Rattle.im_types.specs.Contents.{Window, new_window, kept_under, kept_for};
 ghost use Rattle.im_types.specs.Window.{next_number, judge_window, judge, confirm_window, ask_window, ask, bounds_of};
 ghost use Rattle.im_types.specs.Window.{bounds, note_in, note, answer_in, answer, answer_each, is_waiting};
-ghost use Rattle.im_plain.specs.Waiting.{waiting_at, without, replies_to};
-ghost use Rattle.im_plain.specs.Confirming.{confirmed, forgets};
+ghost use Rattle.im_plain.specs.Waiting.{waiting_at, without, each_given};
+ghost use Rattle.im_plain.specs.Confirming.{window_from, drops_entry};
 
 use crate::queue::{Deferred, pop_first};
 use im_types::{Entry, Judged, Kept, LAST, Op, Refusal, Reply, Request, WINDOW, Waiter};
@@ -128,7 +128,7 @@ impl KeptWindow {
     fn count_below(&self, upto: u64) -> Result<usize, Refusal>
         ensures count { IfOk result (λ count. count ≡ upto - self.now.base) }
         ensures within { IfOk result (λ count. count ≤ length self.now.kept) }
-        ensures window { MatchResult result (λ _. confirm_window upto (Some self.now) ≡ Ok (confirmed upto self.now))
+        ensures window { MatchResult result (λ _. confirm_window upto (Some self.now) ≡ Ok (window_from upto self.now))
             (λ refusal. confirm_window upto (Some self.now) ≡ Err refusal) }
     {
         let count = upto.saturating_sub(self.base);
@@ -143,7 +143,7 @@ impl KeptWindow {
 
     /// Returns whether a confirmation would drop an entry, or why it would be refused.
     pub fn judge_confirm(&self, upto: u64) -> Result<bool, Refusal>
-        ensures { result ≡ forgets upto self.now (confirm_window upto (Some self.now)) }
+        ensures { result ≡ drops_entry upto self.now (confirm_window upto (Some self.now)) }
     {
         self.count_below(upto)?;
         Ok(self.base < upto)
@@ -230,8 +230,8 @@ pub fn bounds(windows: &[KeptWindow], element: u16) -> Result<(u64, u64), Refusa
 
 /// Returns whether a confirmation would drop an entry, or why it would be refused.
 pub fn judge_confirm(windows: &[KeptWindow], element: u16, upto: u64) -> Result<bool, Refusal>
-    ensures { let windows = windows.now in result
-        ≡ forgets upto (slice_index_or windows element new_window) (confirm_window upto (slice_get windows element)) }
+    ensures { result ≡ drops_entry upto (slice_index_or windows.now element new_window)
+        (confirm_window upto (slice_get windows.now element)) }
 {
     let at = element as usize;
     if at >= windows.len() {
@@ -288,7 +288,7 @@ pub fn resume(
     value: u64,
 )
     ensures windows { windows.new ≡ answer_each windows.old
-        (replies_to (take count (waiting_at a queue.old.items)) value) }
+        (each_given (take count (waiting_at a queue.old.items)) value) }
     ensures queue { queue.new.items ≡ without count a queue.old.items }
     ensures room { vec_capacity queue.old ≤ vec_capacity queue.new }
 {

@@ -1,5 +1,7 @@
 -- How the events of a run were answered, and what is in doubt of them.
-use Rattle.std.proofs.Common.{◌≡◌, ◌⊎◌, inl, inr, ⊎_elim, ℕ, zero, suc, ◌+◌, ◌<◌, ◌≤◌, Bool, true, false, ◌&&◌, List, [], ◌∷◌, ◌++◌, length, map, Result, Ok, Err, refl, sym, ap, ◌∙◌, subst, arith, length-append, if◌then◌else◌}
+use Rattle.std.proofs.Common.{◌≡◌, ◌⊎◌, inl, inr, ⊎_elim, ℕ, zero, suc, ◌+◌, ◌<◌, ◌≤◌, Bool, true, false, ◌&&◌, List}
+use Rattle.std.proofs.Common.{[], ◌∷◌, ◌++◌, length, map, Result, Ok, Err, refl, sym, ap, ◌∙◌, subst, arith}
+use Rattle.std.proofs.Common.{length-append, if◌then◌else◌}
 use Rattle.std.specs.Prelude.{IsTrue, IsOk}
 use Rattle.im_types.specs.declared.commands.Request.{Request}
 use Rattle.im_types.specs.declared.commands.Command.{Command}
@@ -17,12 +19,15 @@ use Rattle.arrayvec.specs.ArrayVec.{ArrayVec}
 use Rattle.im_engine.specs.declared.run.Event.{Event}
 use Rattle.im_engine.specs.declared.run.Event.TheVariants.{Command as Serve, Group as Together, Turn, Sweep}
 use Rattle.im_engine.specs.declared.run.Answer.{Answer}
-use Rattle.im_engine.specs.declared.run.Answer.TheVariants.{Served as Told, Grouped, Turned as TookTurn, Swept as DidSweep}
+use Rattle.im_engine.specs.declared.run.Answer.TheVariants.{Served as Told, Grouped, Turned as TookTurn}
+use Rattle.im_engine.specs.declared.run.Answer.TheVariants.{Swept as DidSweep}
 use Rattle.im_engine.specs.State.{EngineState, with_command}
 use Rattle.im_engine.specs.Groups.{reached_in, after_group, group_put, all_refused, answers_in, GroupAnswered}
-use Rattle.im_engine.specs.Run.{Answered, TurnAnswered, SweepAnswered, AnsweredInTurn, is_device, has_device, acknowledged_members, acknowledged_by, is_doubt, reached_at, in_doubt_by, in_doubt}
+use Rattle.im_engine.specs.Run.{Answered, TurnAnswered, SweepAnswered, AnsweredInTurn, is_device, has_device}
+use Rattle.im_engine.specs.Run.{acknowledged_members, acknowledged_by, is_doubt, reached_at, in_doubt_by, in_doubt}
 use Rattle.im_engine.proofs.Members.{puts_few}
-use Rattle.im_promise.specs.Acknowledged.{calls_in_doubt, most_of, most_of_one, is_fault, IsFailed, IsAnswer, AreAnswers}
+use Rattle.im_promise.specs.Acknowledged.{calls_in_doubt, most_of, most_of_one, is_fault, IsFailed, IsAnswer}
+use Rattle.im_promise.specs.Acknowledged.{AreAnswers}
 
 bool_cases : (b : Bool) → (b ≡ true) ⊎ (b ≡ false)
 bool_cases true = inl refl
@@ -55,11 +60,15 @@ is_true false e = absurd (cc)
 pub record Known : Type 0 where
   pub ok : (m : Contents) (c : Command) → IsTrue (is_accepted m c) → IsOk (step m c).answer
   pub step : (m : Contents) (c : Command) (e : Refusal) → (step m c).answer ≡ Err e → is_device e ≡ false
-  pub memory : (s : Reached) (members : List Request) → (reached_by_all s members).contents ≡ after s.contents (puts_of s members)
-  pub count : (s : Reached) (members : List Request) → (reached_by_all s members).count ≡ s.count + length (puts_of s members)
-  pub put : (s : Reached) (members : List Request) → acknowledged_members s.contents members (map as_served (answers_of s members)) ≡ puts_of s members
+  pub memory : (s : Reached) (members : List Request)
+      → (reached_by_all s members).contents ≡ after s.contents (puts_of s members)
+  pub count : (s : Reached) (members : List Request)
+      → (reached_by_all s members).count ≡ s.count + length (puts_of s members)
+  pub put : (s : Reached) (members : List Request)
+      → acknowledged_members s.contents members (map as_served (answers_of s members)) ≡ puts_of s members
   pub works : (s : Reached) (members : List Request) → has_device (map as_served (answers_of s members)) ≡ false
-  pub fault : (s : Reached) (members : List Request) → 0 < length (puts_of s members) → has_device (all_refused Device members) ≡ true
+  pub fault : (s : Reached) (members : List Request) → 0 < length (puts_of s members)
+      → has_device (all_refused Device members) ≡ true
   pub dead : (members : List Request) → has_device (all_refused Failed members) ≡ false
 
 -- ---- once the engine has failed
@@ -75,22 +84,28 @@ no_call true n is none = absurd (cc)
 no_call false n is none = omega (arith, none)
 
 module _ (known : Known) where
-  over_more : (e : Event) (a : Answer) (events : List Event) (answers : List Answer) (m : Contents) (n : ℕ) → is_doubt a ≡ false → in_doubt_by m n e a ≡ [] → IsFailed e a → ((k : Contents) (j : ℕ) → IsOver k j events answers) → IsOver m n (e ∷ events) (a ∷ answers)
+  over_more : (e : Event) (a : Answer) (events : List Event) (answers : List Answer) (m : Contents) (n : ℕ)
+      → is_doubt a ≡ false → in_doubt_by m n e a ≡ [] → IsFailed e a
+      → ((k : Contents) (j : ℕ) → IsOver k j events answers) → IsOver m n (e ∷ events) (a ∷ answers)
   over_more e a events answers m n sure none failed rest = record {
     calls_none = no_call (is_doubt a) (calls_in_doubt answers) sure (rest m n).calls_none;
-    doubt_none = no_more (in_doubt_by m n e a) (in_doubt (after m (acknowledged_by m e a)) (n + length (acknowledged_by m e a)) events answers) none
+    doubt_none =
+        no_more (in_doubt_by m n e a)
+        (in_doubt (after m (acknowledged_by m e a)) (n + length (acknowledged_by m e a)) events answers) none
         (rest (after m (acknowledged_by m e a)) (n + length (acknowledged_by m e a))).doubt_none;
     answered = (failed, (rest m n).answered);
   }
 
-  over : {D : Type 0} (old new : EngineState D) (events : List Event) (answers : List Answer) → old.failed ≡ true → AnsweredInTurn old events answers new → (m : Contents) (n : ℕ) → IsOver m n events answers
+  over : {D : Type 0} (old new : EngineState D) (events : List Event) (answers : List Answer) → old.failed ≡ true
+      → AnsweredInTurn old events answers new → (m : Contents) (n : ℕ) → IsOver m n events answers
   over old new [] [] dead it m n = record { calls_none = refl; doubt_none = refl; answered = tt }
   over old new [] (a ∷ answers) dead it m n = absurd it
   over old new (e ∷ events) [] dead it m n = absurd it
   over {D} old new (Serve c ∷ events) (Told a ∷ answers) dead (mid, one, rest) m n =
       let is = one.dead dead in
       over_more (Serve c) (Told a) events answers m n (ap (λ (x : Result Outcome Refusal). is_doubt (Told x)) is.0)
-      (none_if c (is_accepted m c) (is_doubt (Told a)) (ap (λ (x : Result Outcome Refusal). is_doubt (Told x)) is.0)) is.0
+      (none_if c (is_accepted m c) (is_doubt (Told a)) (ap (λ (x : Result Outcome Refusal). is_doubt (Told x)) is.0))
+      is.0
       (over mid new events answers (ap (λ (s : EngineState D). s.failed) is.1 ∙ dead) rest)
   over old new (Serve c ∷ events) (Grouped room served ∷ answers) dead (mid, one, rest) m n = absurd one
   over old new (Serve c ∷ events) (TookTurn a ∷ answers) dead (mid, one, rest) m n = absurd one
@@ -105,7 +120,8 @@ module _ (known : Known) where
   over old new (Turn ∷ events) (Told a ∷ answers) dead (mid, one, rest) m n = absurd one
   over old new (Turn ∷ events) (Grouped room served ∷ answers) dead (mid, one, rest) m n = absurd one
   over {D} old new (Turn ∷ events) (TookTurn a ∷ answers) dead (mid, one, rest) m n =
-      over_more Turn (TookTurn a) events answers m n refl refl (one.dead dead).0 (over mid new events answers (ap (λ (s : EngineState D). s.failed) (one.dead dead).1 ∙ dead) rest)
+      over_more Turn (TookTurn a) events answers m n refl refl (one.dead dead).0
+      (over mid new events answers (ap (λ (s : EngineState D). s.failed) (one.dead dead).1 ∙ dead) rest)
   over old new (Serve c ∷ events) (DidSweep a ∷ answers) dead (mid, one, rest) m n = absurd one
   over old new (Together members ∷ events) (DidSweep a ∷ answers) dead (mid, one, rest) m n = absurd one
   over old new (Turn ∷ events) (DidSweep a ∷ answers) dead (mid, one, rest) m n = absurd one
@@ -113,7 +129,8 @@ module _ (known : Known) where
   over old new (Sweep most ∷ events) (Grouped room served ∷ answers) dead (mid, one, rest) m n = absurd one
   over old new (Sweep most ∷ events) (TookTurn a ∷ answers) dead (mid, one, rest) m n = absurd one
   over {D} old new (Sweep most ∷ events) (DidSweep a ∷ answers) dead (mid, one, rest) m n =
-      over_more (Sweep most) (DidSweep a) events answers m n refl refl (one.dead dead).0 (over mid new events answers (ap (λ (s : EngineState D). s.failed) (one.dead dead).1 ∙ dead) rest)
+      over_more (Sweep most) (DidSweep a) events answers m n refl refl (one.dead dead).0
+      (over mid new events answers (ap (λ (s : EngineState D). s.failed) (one.dead dead).1 ∙ dead) rest)
 
 -- ---- as long as it works
 
@@ -147,33 +164,58 @@ one_call : (b : Bool) (n : ℕ) → n ≡ 0 → (if b then 1 else 0) + n ≤ 1
 one_call true n none = omega (arith, none)
 one_call false n none = omega (arith, none)
 
-goes_on : {D : Type 0} (old mid : EngineState D) (e : Event) (a : Answer) (events : List Event) (answers : List Answer) → GoesOn old mid e a → AreTold mid.memory mid.count events answers → AreTold old.memory old.count (e ∷ events) (a ∷ answers)
-goes_on old mid e a events answers it rest = by_rest (subst (λ (m : Contents). AreTold m (old.count + length sure) events answers) it.memory (subst (λ (n : ℕ). AreTold mid.memory n events answers) it.count rest))
+goes_on : {D : Type 0} (old mid : EngineState D) (e : Event) (a : Answer) (events : List Event) (answers : List Answer)
+    → GoesOn old mid e a → AreTold mid.memory mid.count events answers
+    → AreTold old.memory old.count (e ∷ events) (a ∷ answers)
+goes_on old mid e a events answers it rest =
+    by_rest (subst (λ (m : Contents). AreTold m (old.count + length sure) events answers) it.memory
+    (subst (λ (n : ℕ). AreTold mid.memory n events answers) it.count rest))
   where
     sure : List Command
     sure = acknowledged_by old.memory e a
 
-    by_rest : AreTold (after old.memory sure) (old.count + length sure) events answers → AreTold old.memory old.count (e ∷ events) (a ∷ answers)
+    by_rest : AreTold (after old.memory sure) (old.count + length sure) events answers
+        → AreTold old.memory old.count (e ∷ events) (a ∷ answers)
     by_rest far = record {
       one = no_call_more (is_doubt a) (calls_in_doubt answers) it.sure far.one;
-      few = omega (arith, length-append (in_doubt_by old.memory old.count e a) (in_doubt (after old.memory sure) (old.count + length sure) events answers), ap length it.none, far.few);
-      answered = (it.answer, subst (λ (b : Bool). AreAnswers b (after old.memory sure) (old.count + length sure) events answers) (sym it.calm) far.answered);
+      few =
+          omega (
+            arith,
+            length-append (in_doubt_by old.memory old.count e a)
+                (in_doubt (after old.memory sure) (old.count + length sure) events answers),
+            ap length it.none,
+            far.few,
+          );
+      answered = (
+        it.answer,
+        subst (λ (b : Bool). AreAnswers b (after old.memory sure) (old.count + length sure) events answers)
+            (sym it.calm) far.answered,
+      );
     }
 
-ends : {D : Type 0} (old mid : EngineState D) (e : Event) (a : Answer) (events : List Event) (answers : List Answer) → Fails old mid e a → ((m : Contents) (n : ℕ) → IsOver m n events answers) → AreTold old.memory old.count (e ∷ events) (a ∷ answers)
+ends : {D : Type 0} (old mid : EngineState D) (e : Event) (a : Answer) (events : List Event) (answers : List Answer)
+    → Fails old mid e a → ((m : Contents) (n : ℕ) → IsOver m n events answers)
+    → AreTold old.memory old.count (e ∷ events) (a ∷ answers)
 ends old mid e a events answers it rest =
     let sure : List Command = acknowledged_by old.memory e a in
-    let far : IsOver (after old.memory (acknowledged_by old.memory e a)) (old.count + length (acknowledged_by old.memory e a)) events answers =
+    let far : IsOver (after old.memory (acknowledged_by old.memory e a))
+    (old.count + length (acknowledged_by old.memory e a)) events answers =
     rest (after old.memory (acknowledged_by old.memory e a)) (old.count + length (acknowledged_by old.memory e a)) in
     record {
       one = one_call (is_doubt a) (calls_in_doubt answers) far.calls_none;
       few = omega (
         arith,
-        length-append (in_doubt_by old.memory old.count e a) (in_doubt (after old.memory (acknowledged_by old.memory e a)) (old.count + length (acknowledged_by old.memory e a)) events answers),
+        length-append (in_doubt_by old.memory old.count e a)
+            (in_doubt (after old.memory (acknowledged_by old.memory e a))
+            (old.count + length (acknowledged_by old.memory e a)) events answers),
         ap length far.doubt_none,
         it.few,
       );
-      answered = (it.answer, subst (λ (b : Bool). AreAnswers b (after old.memory (acknowledged_by old.memory e a)) (old.count + length (acknowledged_by old.memory e a)) events answers) (sym it.fault) far.answered);
+      answered = (
+        it.answer,
+        subst (λ (b : Bool). AreAnswers b (after old.memory (acknowledged_by old.memory e a))
+            (old.count + length (acknowledged_by old.memory e a)) events answers) (sym it.fault) far.answered,
+      );
     }
 
 nothing_more : (n : ℕ) → n ≡ n + 0
@@ -182,16 +224,20 @@ nothing_more n = omega arith
 module _ (known : Known) {D : Type 0} (old mid : EngineState D) (f : old.failed ≡ false) where
   -- the engine is as it was
   same_memory : mid ≡ old → (l : List Command) → l ≡ [] → mid.memory ≡ after old.memory l
-  same_memory same l none = ap (λ (s : EngineState D). s.memory) same ∙ ap (λ (k : List Command). after old.memory k) (sym none)
+  same_memory same l none =
+      ap (λ (s : EngineState D). s.memory) same ∙ ap (λ (k : List Command). after old.memory k) (sym none)
 
   same_count : mid ≡ old → (l : List Command) → l ≡ [] → mid.count ≡ old.count + length l
-  same_count same l none = ap (λ (s : EngineState D). s.count) same ∙ nothing_more old.count ∙ ap (λ (k : List Command). old.count + length k) (sym none)
+  same_count same l none =
+      ap (λ (s : EngineState D). s.count) same ∙ nothing_more old.count ∙ ap (λ (k : List Command). old.count + length k)
+      (sym none)
 
   module _ (c : Command) (a : Result Outcome Refusal) (it : Answered old c a mid) where
     abbrev sure_c : List Command
     sure_c = acknowledged_by old.memory (Serve c) (Told a)
 
-    still_command : mid ≡ old → acknowledged_by old.memory (Serve c) (Told a) ≡ [] → is_doubt (Told a) ≡ false → is_fault (Told a) ≡ false → IsAnswer old.memory old.count (Serve c) (Told a) → GoesOn old mid (Serve c) (Told a)
+    still_command : mid ≡ old → acknowledged_by old.memory (Serve c) (Told a) ≡ [] → is_doubt (Told a) ≡ false
+        → is_fault (Told a) ≡ false → IsAnswer old.memory old.count (Serve c) (Told a) → GoesOn old mid (Serve c) (Told a)
     still_command same none sure calm answer = record {
       works = ap (λ (s : EngineState D). s.failed) same ∙ f;
       memory = same_memory same sure_c none;
@@ -202,26 +248,35 @@ module _ (known : Known) {D : Type 0} (old mid : EngineState D) (f : old.failed 
       calm = calm;
     }
 
-    unaccepted_none : (b : Result Outcome Refusal) → is_accepted old.memory c ≡ false → acknowledged_by old.memory (Serve c) (Told b) ≡ []
+    unaccepted_none : (b : Result Outcome Refusal) → is_accepted old.memory c ≡ false
+        → acknowledged_by old.memory (Serve c) (Told b) ≡ []
     unaccepted_none (Ok o) un = ap (λ (x : Bool). if x then c ∷ [] else []) un
     unaccepted_none (Err e) un = refl
 
-    step_sure : (b : Result Outcome Refusal) → b ≡ (step old.memory c).answer → (is_doubt (Told b) ≡ false) × (is_fault (Told b) ≡ false)
+    step_sure : (b : Result Outcome Refusal) → b ≡ (step old.memory c).answer
+        → (is_doubt (Told b) ≡ false) × (is_fault (Told b) ≡ false)
     step_sure (Ok o) is = (refl, refl)
     step_sure (Err e) is = let none = known.step old.memory c e (sym is) in (none, none)
 
     put_command : is_accepted old.memory c ≡ true
-        → ((a ≡ (step old.memory c).answer) × (mid ≡ record (with_command old c) { disk = mid.disk; pages = mid.pages })) ⊎ ((a ≡ Err Device) × (mid ≡ record old { disk = mid.disk; failed = true }))
+        → ((a ≡ (step old.memory c).answer)
+        × (mid ≡ record (with_command old c) { disk = mid.disk; pages = mid.pages }))
+        ⊎ ((a ≡ Err Device) × (mid ≡ record old { disk = mid.disk; failed = true }))
         → GoesOn old mid (Serve c) (Told a) ⊎ Fails old mid (Serve c) (Told a)
     put_command accepted (inl done) =
-        let told = ok_of (step old.memory c).answer (known.ok old.memory c (is_true (is_accepted old.memory c) accepted)) in
+        let told =
+        ok_of (step old.memory c).answer (known.ok old.memory c (is_true (is_accepted old.memory c) accepted)) in
         let is : a ≡ Ok told.0 = done.0 ∙ told.1 in
-        let all : acknowledged_by old.memory (Serve c) (Told a) ≡ c ∷ [] = ap (λ (x : Result Outcome Refusal). acknowledged_by old.memory (Serve c) (Told x)) is ∙ ap (λ (x : Bool). if x then c ∷ [] else []) accepted in
+        let all : acknowledged_by old.memory (Serve c) (Told a) ≡ c ∷ [] =
+        ap (λ (x : Result Outcome Refusal). acknowledged_by old.memory (Serve c) (Told x)) is ∙ ap
+        (λ (x : Bool). if x then c ∷ [] else []) accepted in
         let sure : is_doubt (Told a) ≡ false = ap (λ (x : Result Outcome Refusal). is_doubt (Told x)) is in
         inl (record {
           works = ap (λ (s : EngineState D). s.failed) done.1 ∙ f;
-          memory = ap (λ (s : EngineState D). s.memory) done.1 ∙ ap (λ (l : List Command). after old.memory l) (sym all);
-          count = ap (λ (s : EngineState D). s.count) done.1 ∙ ap (λ (l : List Command). old.count + length l) (sym all);
+          memory =
+              ap (λ (s : EngineState D). s.memory) done.1 ∙ ap (λ (l : List Command). after old.memory l) (sym all);
+          count =
+              ap (λ (s : EngineState D). s.count) done.1 ∙ ap (λ (l : List Command). old.count + length l) (sym all);
           sure = sure;
           none = none_if c (is_accepted old.memory c) (is_doubt (Told a)) sure;
           answer = inl (sym done.0);
@@ -244,10 +299,12 @@ module _ (known : Known) {D : Type 0} (old mid : EngineState D) (f : old.failed 
         (inr (yes, inl full.0))))
         (λ some. put_command yes (it.put f yes some))
         (none_or_some old.room))
-        (λ un. let is = it.unaccepted f un in inl (still_command is.1 (unaccepted_none a un) (step_sure a is.0).0 (step_sure a is.0).1 (inl (sym is.0))))
+        (λ un. let is = it.unaccepted f un
+        in inl (still_command is.1 (unaccepted_none a un) (step_sure a is.0).0 (step_sure a is.0).1 (inl (sym is.0))))
         (bool_cases (is_accepted old.memory c))
 
-  module _ (members : List Request) (room : ℕ) (served : ArrayVec ServedMember) (same : room ≡ old.room) (it : GroupAnswered old members served.items mid) where
+  module _ (members : List Request) (room : ℕ) (served : ArrayVec ServedMember) (same : room ≡ old.room)
+      (it : GroupAnswered old members served.items mid) where
     abbrev sure_g : List Command
     sure_g = acknowledged_by old.memory (Together members) (Grouped room served)
 
@@ -255,10 +312,14 @@ module _ (known : Known) {D : Type 0} (old mid : EngineState D) (f : old.failed 
     found_here : reached_at old.memory old.count room ≡ reached_in old
     found_here = ap (λ (k : ℕ). reached_at old.memory old.count k) same
 
-    sure_is : served.items ≡ answers_in old members → acknowledged_members old.memory members served.items ≡ group_put old members
-    sure_is told = ap (λ (l : List ServedMember). acknowledged_members old.memory members l) told ∙ known.put (reached_in old) members
+    sure_is : served.items ≡ answers_in old members
+        → acknowledged_members old.memory members served.items ≡ group_put old members
+    sure_is told =
+        ap (λ (l : List ServedMember). acknowledged_members old.memory members l) told ∙ known.put
+        (reached_in old) members
 
-    told_goes : served.items ≡ answers_in old members → mid.failed ≡ false → mid.memory ≡ after old.memory (group_put old members) → mid.count ≡ old.count + length (group_put old members)
+    told_goes : served.items ≡ answers_in old members → mid.failed ≡ false
+        → mid.memory ≡ after old.memory (group_put old members) → mid.count ≡ old.count + length (group_put old members)
         → GoesOn old mid (Together members) (Grouped room served)
     told_goes told works memory count =
         let calm : has_device served.items ≡ false = ap has_device told ∙ known.works (reached_in old) members in
@@ -272,15 +333,20 @@ module _ (known : Known) {D : Type 0} (old mid : EngineState D) (f : old.failed 
           calm = calm;
         }
 
-    few_if : (b : Bool) → length (if b then puts_of (reached_at old.memory old.count room) members else []) ≤ length members
+    few_if : (b : Bool) → length (if b then puts_of (reached_at old.memory old.count room) members else [])
+        ≤ length members
     few_if true = puts_few (reached_at old.memory old.count room) members
     few_if false = omega arith
 
     put_group : 0 < length (group_put old members)
-        → ((served.items ≡ answers_in old members) × (mid ≡ record (after_group old members) { disk = mid.disk; pages = mid.pages })) ⊎ ((served.items ≡ all_refused Device members) × (mid ≡ record old { disk = mid.disk; failed = true }))
-        → GoesOn old mid (Together members) (Grouped room served) ⊎ Fails old mid (Together members) (Grouped room served)
+        → ((served.items ≡ answers_in old members)
+        × (mid ≡ record (after_group old members) { disk = mid.disk; pages = mid.pages }))
+        ⊎ ((served.items ≡ all_refused Device members) × (mid ≡ record old { disk = mid.disk; failed = true }))
+        → GoesOn old mid (Together members) (Grouped room served)
+        ⊎ Fails old mid (Together members) (Grouped room served)
     put_group some (inl done) = inl (told_goes done.0 (ap (λ (s : EngineState D). s.failed) done.1 ∙ f)
-        (ap (λ (s : EngineState D). s.memory) done.1 ∙ known.memory (reached_in old) members) (ap (λ (s : EngineState D). s.count) done.1 ∙ known.count (reached_in old) members))
+        (ap (λ (s : EngineState D). s.memory) done.1 ∙ known.memory (reached_in old) members)
+        (ap (λ (s : EngineState D). s.count) done.1 ∙ known.count (reached_in old) members))
     put_group some (inr fault) = inr (record {
       dead = ap (λ (s : EngineState D). s.failed) fault.1;
       few = few_if (has_device served.items);
@@ -288,16 +354,21 @@ module _ (known : Known) {D : Type 0} (old mid : EngineState D) (f : old.failed 
       fault = ap has_device fault.0 ∙ known.fault (reached_in old) members some;
     })
 
-    by_put : (put : List Command) → group_put old members ≡ put → GoesOn old mid (Together members) (Grouped room served) ⊎ Fails old mid (Together members) (Grouped room served)
+    by_put : (put : List Command) → group_put old members ≡ put
+        → GoesOn old mid (Together members) (Grouped room served) ⊎ Fails old mid (Together members) (Grouped room served)
     by_put [] none =
         let is = it.none f none in
-        inl (told_goes is.0 (ap (λ (s : EngineState D). s.failed) is.1 ∙ f) (same_memory is.1 (group_put old members) none) (same_count is.1 (group_put old members) none))
-    by_put (command ∷ commands) is = let some : 0 < length (group_put old members) = omega (arith, ap length is) in put_group some (it.put f some)
+        inl (told_goes is.0 (ap (λ (s : EngineState D). s.failed) is.1 ∙ f)
+        (same_memory is.1 (group_put old members) none) (same_count is.1 (group_put old members) none))
+    by_put (command ∷ commands) is =
+        let some : 0 < length (group_put old members) = omega (arith, ap length is) in put_group some (it.put f some)
 
-    group_goes : GoesOn old mid (Together members) (Grouped room served) ⊎ Fails old mid (Together members) (Grouped room served)
+    group_goes : GoesOn old mid (Together members) (Grouped room served)
+        ⊎ Fails old mid (Together members) (Grouped room served)
     group_goes = by_put (group_put old members) refl
 
-  turn_goes : (a : Result TurnDone Refusal) → TurnAnswered old a mid → GoesOn old mid Turn (TookTurn a) ⊎ Fails old mid Turn (TookTurn a)
+  turn_goes : (a : Result TurnDone Refusal) → TurnAnswered old a mid
+      → GoesOn old mid Turn (TookTurn a) ⊎ Fails old mid Turn (TookTurn a)
   turn_goes a it = ⊎_elim
       (λ done. inl (record {
         works = done.2.alive;
@@ -316,7 +387,8 @@ module _ (known : Known) {D : Type 0} (old mid : EngineState D) (f : old.failed 
       }))
       (it.alive f)
 
-  sweep_goes : (most : ℕ) (a : Result ℕ Refusal) → SweepAnswered old most a mid → GoesOn old mid (Sweep most) (DidSweep a) ⊎ Fails old mid (Sweep most) (DidSweep a)
+  sweep_goes : (most : ℕ) (a : Result ℕ Refusal) → SweepAnswered old most a mid
+      → GoesOn old mid (Sweep most) (DidSweep a) ⊎ Fails old mid (Sweep most) (DidSweep a)
   sweep_goes most a it = ⊎_elim
       (λ done. inl (record {
         works = ap (λ (s : EngineState D). s.failed) done.1 ∙ f;
@@ -336,20 +408,24 @@ module _ (known : Known) {D : Type 0} (old mid : EngineState D) (f : old.failed 
       (it.alive f)
 
 module _ (known : Known) where
-  pub told : {D : Type 0} (old new : EngineState D) (events : List Event) (answers : List Answer) → old.failed ≡ false → AnsweredInTurn old events answers new → AreTold old.memory old.count events answers
+  pub told : {D : Type 0} (old new : EngineState D) (events : List Event) (answers : List Answer) → old.failed ≡ false
+      → AnsweredInTurn old events answers new → AreTold old.memory old.count events answers
   told old new [] [] f it = record { one = omega arith; few = omega arith; answered = tt }
   told old new [] (a ∷ answers) f it = absurd it
   told old new (e ∷ events) [] f it = absurd it
   told old new (Serve c ∷ events) (Told a ∷ answers) f (mid, one, rest) = ⊎_elim
       (λ goes. goes_on old mid (Serve c) (Told a) events answers goes (told mid new events answers goes.works rest))
-      (λ fails. ends old mid (Serve c) (Told a) events answers fails (over known mid new events answers fails.dead rest))
+      (λ fails. ends old mid (Serve c) (Told a) events answers fails
+      (over known mid new events answers fails.dead rest))
       (command_goes known old mid f c a one)
   told old new (Serve c ∷ events) (Grouped room served ∷ answers) f (mid, one, rest) = absurd one
   told old new (Serve c ∷ events) (TookTurn a ∷ answers) f (mid, one, rest) = absurd one
   told old new (Together members ∷ events) (Told a ∷ answers) f (mid, one, rest) = absurd one
   told old new (Together members ∷ events) (Grouped room served ∷ answers) f (mid, one, rest) = ⊎_elim
-      (λ goes. goes_on old mid (Together members) (Grouped room served) events answers goes (told mid new events answers goes.works rest))
-      (λ fails. ends old mid (Together members) (Grouped room served) events answers fails (over known mid new events answers fails.dead rest))
+      (λ goes. goes_on old mid (Together members) (Grouped room served) events answers goes
+      (told mid new events answers goes.works rest))
+      (λ fails. ends old mid (Together members) (Grouped room served) events answers fails
+      (over known mid new events answers fails.dead rest))
       (group_goes known old mid f members room served one.0 one.1)
   told old new (Together members ∷ events) (TookTurn a ∷ answers) f (mid, one, rest) = absurd one
   told old new (Turn ∷ events) (Told a ∷ answers) f (mid, one, rest) = absurd one
@@ -365,6 +441,8 @@ module _ (known : Known) where
   told old new (Sweep most ∷ events) (Grouped room served ∷ answers) f (mid, one, rest) = absurd one
   told old new (Sweep most ∷ events) (TookTurn a ∷ answers) f (mid, one, rest) = absurd one
   told old new (Sweep most ∷ events) (DidSweep a ∷ answers) f (mid, one, rest) = ⊎_elim
-      (λ goes. goes_on old mid (Sweep most) (DidSweep a) events answers goes (told mid new events answers goes.works rest))
-      (λ fails. ends old mid (Sweep most) (DidSweep a) events answers fails (over known mid new events answers fails.dead rest))
+      (λ goes. goes_on old mid (Sweep most) (DidSweep a) events answers goes
+      (told mid new events answers goes.works rest))
+      (λ fails. ends old mid (Sweep most) (DidSweep a) events answers fails
+      (over known mid new events answers fails.dead rest))
       (sweep_goes known old mid f most a one)

@@ -11,23 +11,31 @@ use Rattle.im_promise.specs.Recovery.{Recovers}
 use Rattle.im_promise.proofs.Recovering.{MeansOne, NoFault, still_means}
 
 -- a run after an opening that found the same
-pub again_by : (m n : Contents) (count other : ℕ) (events : List Event) (r : Result Recovered Refusal) → n ≡ m → other ≡ count → IfOk r (λ x. Recovers n other events x.answers.items x.engine.memory x.engine.count)
+pub again_by : (m n : Contents) (count other : ℕ) (events : List Event) (r : Result Recovered Refusal) → n ≡ m
+    → other ≡ count → IfOk r (λ x. Recovers n other events x.answers.items x.engine.memory x.engine.count)
     → IfOk r (λ x. Recovers m count events x.answers.items x.engine.memory x.engine.count)
 again_by m n count other events (Ok x) same counted it =
-    subst (λ (y : Contents). Recovers y count events x.answers.items x.engine.memory x.engine.count) same (subst (λ (k : ℕ). Recovers n k events x.answers.items x.engine.memory x.engine.count) counted it)
+    subst (λ (y : Contents). Recovers y count events x.answers.items x.engine.memory x.engine.count) same
+    (subst (λ (k : ℕ). Recovers n k events x.answers.items x.engine.memory x.engine.count) counted it)
 again_by m n count other events (Err e) same counted it = tt
 
 -- an opening that found what was left
-pub same_by : (s : EngineState Recording) (left : List ℕ → Type 0) (r : Result (EngineState Recording) Refusal) → MeansOne → ((file : List ℕ) → left file → MeansState s file)
-    → IfOk r (λ e. left e.disk.moment.bytes) → IfOk r (λ e. MeansState e e.disk.moment.bytes) → IfOk r (λ e. (e.memory ≡ s.memory) × (e.count ≡ s.count))
+pub same_by : (s : EngineState Recording) (left : List ℕ → Type 0) (r : Result (EngineState Recording) Refusal)
+    → MeansOne → ((file : List ℕ) → left file → MeansState s file)
+    → IfOk r (λ e. left e.disk.moment.bytes) → IfOk r (λ e. MeansState e e.disk.moment.bytes)
+    → IfOk r (λ e. (e.memory ≡ s.memory) × (e.count ≡ s.count))
 same_by s left (Ok e) one said was means = still_means s e e.disk.moment.bytes one (said e.disk.moment.bytes was) means
 same_by s left (Err e) one said was means = tt
 
-pub refused_by : {X : Type 0} (s : EngineState Recording) (left : List ℕ → Type 0) (r : Result X Refusal) → NoFault → ((file : List ℕ) → left file → MeansState s file)
-    → IfErr r (λ e. (e ≡ NoMemory) ⊎ (e ≡ Device) ⊎ ((file : List ℕ) × left file × IsFirstFault e file)) → IfErr r (λ e. (e ≡ NoMemory) ⊎ (e ≡ Device))
+pub refused_by : {X : Type 0} (s : EngineState Recording) (left : List ℕ → Type 0) (r : Result X Refusal) → NoFault
+    → ((file : List ℕ) → left file → MeansState s file)
+    → IfErr r (λ e. (e ≡ NoMemory) ⊎ (e ≡ Device) ⊎ ((file : List ℕ) × left file × IsFirstFault e file))
+    → IfErr r (λ e. (e ≡ NoMemory) ⊎ (e ≡ Device))
 refused_by s left (Ok x) none said it = tt
 refused_by s left (Err e) none said it =
-    ⊎_elim (λ want. inl want) (λ more. ⊎_elim (λ device. inr device) (λ fault. absurd (none fault.0 e s.memory s.count s.room fault.2 (said fault.0 fault.1))) more) it
+    ⊎_elim (λ want. inl want)
+    (λ more. ⊎_elim (λ device. inr device)
+    (λ fault. absurd (none fault.0 e s.memory s.count s.room fault.2 (said fault.0 fault.1))) more) it
 
 -- ---- under a premise
 
@@ -39,6 +47,7 @@ pub over : {X : Type 0} (P : Type 0) (Q : X → Type 0) (r : Result X Refusal) �
 over P Q (Ok x) p it = it p
 over P Q (Err e) p it = tt
 
-pub under_err : {X : Type 0} (P : Type 0) (Q : Refusal → Type 0) (r : Result X Refusal) → (P → IfErr r Q) → IfErr r (λ e. P → Q e)
+pub under_err : {X : Type 0} (P : Type 0) (Q : Refusal → Type 0) (r : Result X Refusal) → (P → IfErr r Q)
+    → IfErr r (λ e. P → Q e)
 under_err P Q (Ok x) it = tt
 under_err P Q (Err e) it = it

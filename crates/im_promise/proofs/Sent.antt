@@ -1,5 +1,6 @@
 -- A request that is sent again, by the laws of steps.
-use Rattle.std.proofs.Common.{◌≡◌, ◌⊎◌, inl, inr, ⊎_elim, ℕ, zero, suc, ◌+◌, ◌<◌, List, [], ◌∷◌, ◌++◌, Ok, Err, true, false, Bool, refl, sym, ap, ◌∙◌, subst, arith, if◌then◌else◌}
+use Rattle.std.proofs.Common.{◌≡◌, ◌⊎◌, inl, inr, ⊎_elim, ℕ, zero, suc, ◌+◌, ◌<◌, List, [], ◌∷◌, ◌++◌, Ok, Err, true}
+use Rattle.std.proofs.Common.{false, Bool, refl, sym, ap, ◌∙◌, subst, arith, if◌then◌else◌}
 use Rattle.std.specs.Prelude.{Result, IsTrue}
 use Rattle.std.specs.Bool.{IsFalse}
 use Rattle.im_types.specs.declared.operations.Entry.{Entry}
@@ -27,8 +28,10 @@ use Rattle.im_promise.specs.Recovery.{Recovers}
 use Rattle.im_promise.proofs.Recovering.{NoFault}
 use Rattle.im_promise.proofs.Answering.{none_or_some}
 
-pub said : {D : Type 0} (old new : EngineState D) (r : Request) (entry : Entry) (answer : Result Outcome Refusal) → old.failed ≡ false → Answered old (Asks r) answer new
-    → IsToldAgainOrForgotten old.memory r entry → (IsForgotten old.memory.windows (asker r) → IsRefused old.memory r Forgotten)
+pub said : {D : Type 0} (old new : EngineState D) (r : Request) (entry : Entry) (answer : Result Outcome Refusal)
+    → old.failed ≡ false → Answered old (Asks r) answer new
+    → IsToldAgainOrForgotten old.memory r entry
+    → (IsForgotten old.memory.windows (asker r) → IsRefused old.memory r Forgotten)
     → ((step old.memory (Asks r)).contents ≡ old.memory → is_accepted old.memory (Asks r) ≡ false)
     → IsSaidAgain old.memory r entry answer × (new ≡ old) × (answer ≡ (step old.memory (Asks r)).answer)
 said old new r entry answer f it again refused unaccepted = ⊎_elim
@@ -66,14 +69,17 @@ bool_cases true = inl refl
 bool_cases false = inr refl
 
 -- what an answer says of the memory and the engine
-pub record HasActed {D : Type 0} (old : EngineState D) (r : Request) (entry : Entry) (new : EngineState D) : Type 0 where
+pub record HasActed {D : Type 0} (old : EngineState D) (r : Request) (entry : Entry)
+    (new : EngineState D) : Type 0 where
   pub works : new.failed ≡ false
   pub answered : (step old.memory (Asks r)).answer ≡ Ok (Tells entry)
   pub memory : new.memory ≡ (step old.memory (Asks r)).contents
   pub count : new.count ≡ count_after old.memory r old.count
 
-pub acted : {D : Type 0} (old new : EngineState D) (r : Request) (entry : Entry) (answer : Result Outcome Refusal) → old.failed ≡ false → Answered old (Asks r) answer new → answer ≡ Ok (Tells entry)
-    → (is_accepted old.memory (Asks r) ≡ false → (step old.memory (Asks r)).contents ≡ old.memory) → HasActed old r entry new
+pub acted : {D : Type 0} (old new : EngineState D) (r : Request) (entry : Entry) (answer : Result Outcome Refusal)
+    → old.failed ≡ false → Answered old (Asks r) answer new → answer ≡ Ok (Tells entry)
+    → (is_accepted old.memory (Asks r) ≡ false → (step old.memory (Asks r)).contents ≡ old.memory)
+    → HasActed old r entry new
 acted old new r entry answer f it is unaccepted = ⊎_elim
     (λ yes. ⊎_elim
     (λ none. let a : Ok (Tells entry) ≡ Err JournalFull = sym is ∙ (it.full f yes none).0 in absurd (cc))
@@ -82,7 +88,9 @@ acted old new r entry answer f it is unaccepted = ⊎_elim
       works = ap (λ (s : EngineState _). s.failed) done.1 ∙ f;
       answered = sym done.0 ∙ is;
       memory = ap (λ (s : EngineState _). s.memory) done.1;
-      count = ap (λ (s : EngineState _). s.count) done.1 ∙ sym (ap (λ (b : Bool). if b then old.count + 1 else old.count) yes);
+      count =
+          ap (λ (s : EngineState _). s.count) done.1 ∙ sym
+          (ap (λ (b : Bool). if b then old.count + 1 else old.count) yes);
     })
     (λ fault. let a : Ok (Tells entry) ≡ Err Device = sym is ∙ fault.0 in absurd (cc))
     (it.put f yes some))
@@ -91,32 +99,42 @@ acted old new r entry answer f it is unaccepted = ⊎_elim
       works = ap (λ (s : EngineState _). s.failed) done.1 ∙ f;
       answered = sym done.0 ∙ is;
       memory = ap (λ (s : EngineState _). s.memory) done.1 ∙ sym (unaccepted not);
-      count = ap (λ (s : EngineState _). s.count) done.1 ∙ sym (ap (λ (b : Bool). if b then old.count + 1 else old.count) not);
+      count =
+          ap (λ (s : EngineState _). s.count) done.1 ∙ sym
+          (ap (λ (b : Bool). if b then old.count + 1 else old.count) not);
     })
     (bool_cases (is_accepted old.memory (Asks r)))
 
 -- ---- over a crash
 
 -- a memory that agrees does so after any commands
-pub agrees_after : ((m : Contents) (command : Command) → WaitingAgrees m → WaitingAgrees (step m command).contents) → (m : Contents) (commands : List Command) → WaitingAgrees m → WaitingAgrees (after m commands)
+pub agrees_after : ((m : Contents) (command : Command) → WaitingAgrees m → WaitingAgrees (step m command).contents)
+    → (m : Contents) (commands : List Command) → WaitingAgrees m → WaitingAgrees (after m commands)
 agrees_after next m [] it = it
 agrees_after next m (command ∷ commands) it = agrees_after next (step m command).contents commands (next m command it)
 
 -- a request that was told, what a recovery gave, and the same request sent again
-pub asked : {D E : Type 0} (old mid : EngineState D) (now new : EngineState E) (r : Request) (entry : Entry) (answer : Result Outcome Refusal) (events : List Event) (answers : List Answer) → HasActed old r entry mid
-    → Recovers mid.memory mid.count events answers now.memory now.count → IsSaidAgain now.memory r entry answer × (new ≡ now) × (answer ≡ (step now.memory (Asks r)).answer) → AskedOverACrash old r events answers entry answer new
+pub asked : {D E : Type 0} (old mid : EngineState D) (now new : EngineState E) (r : Request) (entry : Entry)
+    (answer : Result Outcome Refusal) (events : List Event) (answers : List Answer) → HasActed old r entry mid
+    → Recovers mid.memory mid.count events answers now.memory now.count
+    → IsSaidAgain now.memory r entry answer × (new ≡ now) × (answer ≡ (step now.memory (Asks r)).answer)
+    → AskedOverACrash old r events answers entry answer new
 asked {D} {E} old mid now new r entry answer events answers first found again =
     let back = sym again.1 in
     record {
       again = subst (λ (s : EngineState E). IsSaidAgain s.memory r entry answer) back again.0;
       told = subst (λ (s : EngineState E). answer ≡ (step s.memory (Asks r)).answer) back again.2;
-      once = subst (λ (s : EngineState E). Recovers (step old.memory (Asks r)).contents (count_after old.memory r old.count) events answers s.memory s.count) back
-          (subst (λ (k : ℕ). Recovers (step old.memory (Asks r)).contents k events answers now.memory now.count) first.count
+      once =
+          subst (λ (s : EngineState E). Recovers (step old.memory (Asks r)).contents
+          (count_after old.memory r old.count) events answers s.memory s.count) back
+          (subst (λ (k : ℕ). Recovers (step old.memory (Asks r)).contents k events answers now.memory now.count)
+          first.count
           (subst (λ (x : Contents). Recovers x mid.count events answers now.memory now.count) first.memory found));
     }
 
 -- a request that is there or not, and is told an entry when it is sent again
-pub sent_once : {D E : Type 0} (old : EngineState D) (e new : EngineState E) (r : Request) (entry : Entry) (answer : Result Outcome Refusal) → e.failed ≡ false → Answered e (Asks r) answer new → answer ≡ Ok (Tells entry)
+pub sent_once : {D E : Type 0} (old : EngineState D) (e new : EngineState E) (r : Request) (entry : Entry)
+    (answer : Result Outcome Refusal) → e.failed ≡ false → Answered e (Asks r) answer new → answer ≡ Ok (Tells entry)
     → ((m : Contents) → is_accepted m (Asks r) ≡ false → (step m (Asks r)).contents ≡ m)
     → (is_accepted old.memory (Asks r) ≡ true → is_accepted (step old.memory (Asks r)).contents (Asks r) ≡ false)
     → (e.memory ≡ old.memory) ⊎ (e.memory ≡ (step old.memory (Asks r)).contents)
@@ -134,7 +152,8 @@ sent_once {D} {E} old e new r entry answer works it told still once (inr there) 
     (bool_cases (is_accepted old.memory (Asks r)))
 
 -- an image that has a command or not isn't refused for a fault
-pub no_fault_of_one : {D : Type 0} (s : EngineState D) (r : Request) (e : Refusal) (file : List ℕ) → NoFault → MeansEither s (Asks r) file → IsFirstFault e file → ⊥
+pub no_fault_of_one : {D : Type 0} (s : EngineState D) (r : Request) (e : Refusal) (file : List ℕ) → NoFault
+    → MeansEither s (Asks r) file → IsFirstFault e file → ⊥
 no_fault_of_one s r e file none (inl before) fault = none file e s.memory s.count s.room fault before
 no_fault_of_one s r e file none (inr later) fault =
     let t = with_command s (Asks r) in
@@ -142,27 +161,32 @@ no_fault_of_one s r e file none (inr later) fault =
 
 -- a number that isn't used was never accepted
 module _ (takes : (m : Contents) (r : Request) → IsTrue (is_accepted m (Asks r)) → TakesNextNumber m r)
-    (never_fall : (m : Contents) (commands : List Command) (element base next : ℕ) → bounds m.windows element ≡ Ok (base, next) → AreNoLess base next (bounds (after m commands).windows element))
-    (join : (m : Contents) (earlier later : List Command) → after m (earlier ++ later) ≡ after (after m earlier) later) where
-  abbrev pair_of : ℕ → ℕ → Result (ℕ × ℕ) Refusal
-  pair_of a b = Ok (a, b)
+    (never_fall : (m : Contents) (commands : List Command) (element base next : ℕ)
+    → bounds m.windows element ≡ Ok (base, next) → AreNoLess base next (bounds (after m commands).windows element))
+    (join : (m : Contents) (earlier later : List Command) → after m (earlier ++ later) ≡ after (after m earlier) later)
+  where
+    abbrev pair_of : ℕ → ℕ → Result (ℕ × ℕ) Refusal
+    pair_of a b = Ok (a, b)
 
-  abbrev next_of : Result (ℕ × ℕ) Refusal → ℕ
-  next_of (Ok (base, next)) = next
-  next_of (Err refusal) = 0
+    abbrev next_of : Result (ℕ × ℕ) Refusal → ℕ
+    next_of (Ok (base, next)) = next
+    next_of (Err refusal) = 0
 
-  same_pair : (a b c d : ℕ) → pair_of a b ≡ pair_of c d → b ≡ d
-  same_pair a b c d is = ap next_of is
+    same_pair : (a b c d : ℕ) → pair_of a b ≡ pair_of c d → b ≡ d
+    same_pair a b c d is = ap next_of is
 
-  pub unused : (m0 now : Contents) (commands : List Command) (r : Request) → now ≡ after m0 commands → IsUnused now r → HasNotActed m0 commands r
-  unused m0 now commands r is free again earlier later parts same accepted =
-      let m1 : Contents = after m0 earlier in
-      let t = takes m1 again accepted in
-      let k = never_fall (step m1 (Asks again)).contents later again.element t.base (again.number + 1) t.after in
-      let end : now ≡ after (step m1 (Asks again)).contents later = is ∙ ap (λ (l : List Command). after m0 l) parts ∙ join m0 earlier (Asks again ∷ later) in
-      let element : again.element ≡ r.element = ap (λ (w : Waiter). w.element) same in
-      let number : again.number ≡ r.number = ap (λ (w : Waiter). w.number) same in
-      let here : bounds now.windows r.element ≡ Ok (k.base_now, k.next_now) =
-      ap (λ (x : Contents). bounds x.windows r.element) end ∙ ap (λ (e : ℕ). bounds (after (step m1 (Asks again)).contents later).windows e) (sym element) ∙ k.are in
-      let next : free.next ≡ k.next_now = same_pair free.base free.next k.base_now k.next_now (sym free.are ∙ here) in
-      omega (arith, next, number, k.next_rises, free.from)
+    pub unused : (m0 now : Contents) (commands : List Command) (r : Request) → now ≡ after m0 commands → IsUnused now r
+        → HasNotActed m0 commands r
+    unused m0 now commands r is free again earlier later parts same accepted =
+        let m1 : Contents = after m0 earlier in
+        let t = takes m1 again accepted in
+        let k = never_fall (step m1 (Asks again)).contents later again.element t.base (again.number + 1) t.after in
+        let end : now ≡ after (step m1 (Asks again)).contents later =
+        is ∙ ap (λ (l : List Command). after m0 l) parts ∙ join m0 earlier (Asks again ∷ later) in
+        let element : again.element ≡ r.element = ap (λ (w : Waiter). w.element) same in
+        let number : again.number ≡ r.number = ap (λ (w : Waiter). w.number) same in
+        let here : bounds now.windows r.element ≡ Ok (k.base_now, k.next_now) =
+        ap (λ (x : Contents). bounds x.windows r.element) end ∙ ap
+        (λ (e : ℕ). bounds (after (step m1 (Asks again)).contents later).windows e) (sym element) ∙ k.are in
+        let next : free.next ≡ k.next_now = same_pair free.base free.next k.base_now k.next_now (sym free.are ∙ here) in
+        omega (arith, next, number, k.next_rises, free.from)

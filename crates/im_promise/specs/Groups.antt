@@ -31,6 +31,10 @@ RecoversGroup old members answers now =
     ((answers ≡ answers_in old members) × HasMore old (group_put old members) now)
     ⊎ ((answers ≡ all_refused Device members) × (HasMore old [] now ⊎ HasMore old (group_put old members) now))
 
+-- an engine's answers to a group that it was sent: those of the members one after another, or all `Device`
+abbrev pub IsGroupAnswer : {D : Type 0} → EngineState D → List Request → List Served → Type 0
+IsGroupAnswer old members answers = (answers ≡ answers_in old members) ⊎ (answers ≡ all_refused Device members)
+
 -- The group was sent on `before` and is sent again on `now`, one member after another. Each member that was told an
 -- entry is told it again, or the answer that has come since, or `Forgotten` if it was confirmed. It isn't put on the
 -- disk again.

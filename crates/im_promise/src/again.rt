@@ -19,9 +19,9 @@ use im_laws::{
 use im_types::{Command, Outcome, Refusal, Request};
 use std::alloc::Global;
 
-/// The answers to events, and to a request that was sent again after a crash and an opening.
+/// A repeat after a crash and an opening: the answers to the events before, and to the request that was sent again.
 #[derive(Drop)]
-pub struct Asked {
+pub struct Repeat {
     /// The answers to the events, in their order.
     pub answers: Vec<Answer>,
     /// The answer to the request.
@@ -84,7 +84,7 @@ pub fn ask_over_a_crash(
     request: Request,
     events: &[Event],
     crash: Crash,
-) -> (Result<Outcome, Refusal>, Result<Asked, Refusal>)
+) -> (Result<Outcome, Refusal>, Result<Repeat, Refusal>)
     ensures first { IsAnswerOf engine request result.0 }
     ensures again { IfOk result.1 (λ r. engine.failed ≡ false → (entry : Entry) → result.0 ≡ Ok (Tells entry)
         → AskedOverACrash engine request events.now r.answers.items entry r.again r.engine) }
@@ -106,12 +106,12 @@ pub fn ask_over_a_crash(
                 mut engine,
             } = recovered;
             let again = engine.serve(&command);
-            let asked = Asked {
+            let repeat = Repeat {
                 answers,
                 again,
                 engine,
             };
-            (first, Ok(asked))
+            (first, Ok(repeat))
         }
         Err(refusal) => (first, Err(refusal)),
     }
@@ -125,7 +125,7 @@ pub fn send_over_a_crash(
     mut engine: Engine<FuseDisk>,
     request: Request,
     crash: Crash,
-) -> (Result<Outcome, Refusal>, Result<Asked, Refusal>)
+) -> (Result<Outcome, Refusal>, Result<Repeat, Refusal>)
     ensures first { IsAnswerOf engine request result.0 }
     ensures once { IfOk result.1 (λ r. engine.failed ≡ false → (entry : Entry) → r.again ≡ Ok (Tells entry)
         → r.engine.memory ≡ after_request engine.memory request) }
@@ -140,12 +140,12 @@ pub fn send_over_a_crash(
     match open_crashed(alloc, engine.close().into_inner(), crash) {
         Ok(mut engine) => {
             let answer = engine.serve(&command);
-            let asked = Asked {
+            let repeat = Repeat {
                 answers: Vec::new(alloc),
                 again: answer,
                 engine,
             };
-            (first, Ok(asked))
+            (first, Ok(repeat))
         }
         Err(refusal) => (first, Err(refusal)),
     }

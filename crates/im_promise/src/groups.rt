@@ -3,7 +3,8 @@ ghost use Rattle.std.specs.Prelude.{◌≡◌, false, [], IfOk, IfErr};
 ghost use Rattle.im_types.specs.Meaning.{Reached};
 ghost use Rattle.im_types.specs.Groups.{AreApart};
 ghost use Rattle.im_engine.specs.Run.{has_device};
-ghost use Rattle.im_promise.specs.Groups.{RecoversGroup, HasGroup, GroupSaidAgain, GroupAskedOverACrash};
+ghost use Rattle.im_promise.specs.Groups.{RecoversGroup, HasGroup, GroupSaidAgain, IsGroupAnswer};
+ghost use Rattle.im_promise.specs.Groups.{GroupAskedOverACrash};
 ghost use Rattle.im_promise.specs.Recovery.{HasNoRoom};
 
 use crate::recovery::{Recovered, open_crashed, recover};
@@ -16,6 +17,15 @@ use im_laws::{
 };
 use im_types::{Refusal, Request, Served};
 use std::alloc::Global;
+
+/// A group that was sent again after a crash and an opening.
+#[derive(Drop)]
+pub struct GroupRepeat {
+    /// The answers to the events before, and the engine over what the crash left, after the group.
+    pub recovered: Recovered,
+    /// The answers to the members, in their order.
+    pub again: ArrayVec<Served, 16>,
+}
 
 /// Serves a group of requests on an engine whose disk may fail at any call, crashes the disk, and opens what is left.
 /// It puts the answers into `served`, in the members' order.
@@ -71,8 +81,8 @@ pub fn ask_group_again<D: Disk>(
 }
 
 /// Serves a group of requests, at most one of each element, runs events on a disk that may fail at any call, crashes
-/// the disk, opens what is left, and sends the group again. It puts the answers into `served` and `again`, in the
-/// members' order. Nothing is asked of the engine's memory.
+/// the disk, opens what is left, and sends the group again. The first result has the members' first answers, in their
+/// order. Nothing is asked of the engine's memory.
 ///
 /// If no member was answered `Device`, the group is there once. Each member that was told an entry is told it again, or
 /// the answer that has come since, or `Forgotten` if an event confirmed it. The refusal is then `NoMemory` or `Device`,
@@ -81,17 +91,14 @@ pub fn ask_group_over_a_crash(
     alloc: Global,
     mut engine: Engine<FuseDisk>,
     members: &ArrayVec<Request, 16>,
-    served: &mut ArrayVec<Served, 16>,
     events: &[Event],
     crash: Crash,
-    again: &mut ArrayVec<Served, 16>,
-) -> Result<Recovered, Refusal>
+) -> (ArrayVec<Served, 16>, Result<GroupRepeat, Refusal>)
     requires apart { AreApart members.now.items }
-    requires empty { served.old.items ≡ [] }
-    requires none { again.old.items ≡ [] }
-    ensures again { IfOk result (λ r. engine.failed ≡ false → has_device served.new.items ≡ false
-        → GroupAskedOverACrash engine members.now.items events.now r.answers.items again.new.items r.engine) }
-    ensures refused { IfErr result (λ e. engine.failed ≡ false → has_device served.new.items ≡ false → HasNoRoom e) }
+    ensures first { engine.failed ≡ false → IsGroupAnswer engine members.now.items result.0.items }
+    ensures again { IfOk result.1 (λ r. engine.failed ≡ false → has_device result.0.items ≡ false → GroupAskedOverACrash
+        engine members.now.items events.now r.recovered.answers.items r.again.items r.recovered.engine) }
+    ensures refused { IfErr result.1 (λ e. engine.failed ≡ false → has_device result.0.items ≡ false → HasNoRoom e) }
 {
     repeat_is_told_again();
     forgotten_for_ever();
@@ -103,17 +110,20 @@ pub fn ask_group_over_a_crash(
     // So that it is known below that waiters and entries agree.
     let _cells = engine.memory().cells();
     // A stop in it leaves all of the group on the disk, or nothing of it.
-    engine.serve_group(members, served);
+    let mut first = ArrayVec::new();
+    engine.serve_group(members, &mut first);
     match recover(alloc, engine, events, crash) {
         Ok(recovered) => {
             let Recovered {
                 answers,
                 mut engine,
             } = recovered;
+            let mut again = ArrayVec::new();
             // The same holds for the members that are new.
-            engine.serve_group(members, again);
-            Ok(Recovered { answers, engine })
+            engine.serve_group(members, &mut again);
+            let recovered = Recovered { answers, engine };
+            (first, Ok(GroupRepeat { recovered, again }))
         }
-        Err(refusal) => Err(refusal),
+        Err(refusal) => (first, Err(refusal)),
     }
 }

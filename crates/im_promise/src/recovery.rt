@@ -24,6 +24,17 @@ pub struct Recovered {
     pub engine: Engine<MemDisk>,
 }
 
+/// An outage: when a disk fails, how, and what the crash behind it leaves.
+#[derive(Clone, Copy)]
+pub struct Outage {
+    /// The calls of the disk that pass before it fails.
+    pub passes: u64,
+    /// The mode in which it fails.
+    pub mode: Mode,
+    /// What the crash leaves.
+    pub crash: Crash,
+}
+
 /// Runs commands, groups, turns and sweeps on an engine whose disk may fail at any call, crashes the disk, and opens
 /// what is left.
 ///
@@ -56,42 +67,37 @@ pub fn recover(
     }
 }
 
-/// Does the same as [`recover`] for an image that it formats first, on a disk that fails in this mode after `passes`
-/// calls.
+/// Does the same as [`recover`] for an image that it formats first. The outage counts the calls of the format too.
 ///
 /// Returns `WrongLength` if the disk doesn't have the length of such an image.
 pub fn recover_from_format(
     alloc: Global,
     disk: MemDisk,
     limits: Limits,
-    passes: u64,
-    mode: Mode,
+    outage: Outage,
     events: &[Event],
-    crash: Crash,
 ) -> Result<Recovered, Refusal>
     ensures recovers { IfOk result (λ r. Recovers (empty_contents limits.cells limits.elements) 0
         events.now r.answers.items r.engine.memory r.engine.count) }
     ensures works { IfOk result (λ r. r.engine.failed ≡ false) }
     ensures refused { IfErr result (λ e. (e ≡ NoMemory) ⊎ (e ≡ Device) ⊎ (e ≡ WrongLength)) }
 {
-    match Engine::format(alloc, FuseDisk::new(disk, passes, mode), limits) {
-        Ok(engine) => recover(alloc, engine, events, crash),
+    let fused = FuseDisk::new(disk, outage.passes, outage.mode);
+    match Engine::format(alloc, fused, limits) {
+        Ok(engine) => recover(alloc, engine, events, outage.crash),
         Err((refusal, _)) => Err(refusal),
     }
 }
 
 /// Does the same as [`recover`] for an engine that came from an opening, as after an earlier crash. So any number of
-/// crashes is covered. It opens the image again, on a disk that fails in this mode after `passes` calls, including
-/// those of the opening.
+/// crashes is covered. It opens the image again, and the outage counts the calls of the opening too.
 ///
 /// Returns `Device` if the opening was stopped. [`reopen`] says what is there then.
 pub fn recover_again(
     alloc: Global,
     engine: Engine<MemDisk>,
-    passes: u64,
-    mode: Mode,
+    outage: Outage,
     events: &[Event],
-    crash: Crash,
 ) -> Result<Recovered, Refusal>
     ensures recovers { IfOk result (λ r. engine.failed ≡ false
         → Recovers engine.memory engine.count events.now r.answers.items r.engine.memory r.engine.count) }
@@ -99,8 +105,9 @@ pub fn recover_again(
     ensures refused { IfErr result (λ e. engine.failed ≡ false → HasNoRoom e) }
 {
     files_mean_one_thing();
-    match Engine::open(alloc, FuseDisk::new(engine.close(), passes, mode)) {
-        Ok(opened) => recover(alloc, opened, events, crash),
+    let fused = FuseDisk::new(engine.close(), outage.passes, outage.mode);
+    match Engine::open(alloc, fused) {
+        Ok(opened) => recover(alloc, opened, events, outage.crash),
         Err((refusal, _)) => Err(refusal),
     }
 }
@@ -133,20 +140,18 @@ pub(crate) fn open_crashed(
     }
 }
 
-/// Opens an engine's image again on a disk that fails in this mode after `passes` calls. So the opening may stop at
-/// each of its calls. Then it crashes the disk and opens what is left. The memory and the count are as they were.
+/// Opens an engine's image again, and the outage counts the calls of that opening. So it may stop at each of them. Then
+/// it crashes the disk and opens what is left. The memory and the count are as they were.
 pub fn reopen(
     alloc: Global,
     engine: Engine<MemDisk>,
-    passes: u64,
-    mode: Mode,
-    crash: Crash,
+    outage: Outage,
 ) -> Result<Engine<MemDisk>, Refusal>
     ensures same { IfOk result (λ e. engine.failed ≡ false → (e.memory ≡ engine.memory) × (e.count ≡ engine.count)) }
     ensures works { IfOk result (λ e. e.failed ≡ false) }
     ensures refused { IfErr result (λ e. engine.failed ≡ false → HasNoRoom e) }
 {
     files_mean_one_thing();
-    let disk = open_and_close(alloc, engine.close(), passes, mode);
-    open_crashed(alloc, disk.into_inner(), crash)
+    let disk = open_and_close(alloc, engine.close(), outage.passes, outage.mode);
+    open_crashed(alloc, disk.into_inner(), outage.crash)
 }

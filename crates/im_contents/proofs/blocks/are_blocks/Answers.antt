@@ -9,12 +9,13 @@ returns-then-not-is_block_at c = λ lists. (
   λ blocks.
       c.if-not-is_block_at.ensures.1
       (begins_block c.args.cells.now lists c.loop-at.at c.in-Some.block blocks c.loop-at.invariant.below
-      (sym c.block_in.ensures ∙ c.in-Some.is)),
+      (sym c.recorded_block_at.ensures ∙ c.in-Some.is)),
 )
 
 pub loop-at-preserved : goal.loop-at-preserved
 loop-at-preserved c = record {
-  below = free_below c.args.cells.now c.loop-at.at c.loop-at.invariant.below (sym c.in-None.is ∙ c.block_in.ensures);
+  below =
+      free_below c.args.cells.now c.loop-at.at c.loop-at.invariant.below (sym c.in-None.is ∙ c.recorded_block_at.ensures);
   few = omega arith;
 }
 

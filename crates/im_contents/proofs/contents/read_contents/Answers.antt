@@ -24,4 +24,5 @@ pub returns-in-Ok-false-clause-bad : goal.returns-in-Ok-false-clause-bad
 returns-in-Ok-false-clause-bad c = λ _ m shown.
     true≢false (sym ((rw c.in-Ok-false.field-0-test at c.in-Ok-false.ensures).1
     (agrees_of (sizes_of c.args.limits)
-    (record { cells = c.args.cells.now; nodes = c.args.nodes.now; windows = c.args.windows.now }) c.requires m shown c.in-Ok.lists c.in-Ok.ensures.found)))
+    (record { cells = c.args.cells.now; nodes = c.args.nodes.now; windows = c.args.windows.now }) c.requires m shown
+    c.in-Ok.lists c.in-Ok.ensures.found)))

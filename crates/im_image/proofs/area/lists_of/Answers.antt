@@ -8,4 +8,5 @@ pub returns-clause-bad : goal.returns-clause-bad
 returns-clause-bad c = λ e m shown.
     c.read_contents.ensures.bad e m
     (subst (λ (r : Records). ShowsRecords (sizes_of c.args.limits) r m)
-    (records-same c.args.records.now c.cells-cells.result.now c.nodes-nodes.result.now c.windows-windows.result.now c.cells-cells.ensures c.nodes-nodes.ensures c.windows-windows.ensures) shown)
+    (records-same c.args.records.now c.cells-cells.result.now c.nodes-nodes.result.now c.windows-windows.result.now
+    c.cells-cells.ensures c.nodes-nodes.ensures c.windows-windows.ensures) shown)

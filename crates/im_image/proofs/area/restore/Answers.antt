@@ -14,7 +14,8 @@ new-requires c =
 pub put_lists-requires-clause-room : goal.put_lists-requires-clause-room
 put_lists-requires-clause-room c =
     let limits = c.args.limits in
-    let fit = records-fit limits.elements limits.cells c.args.records c.args.lists.now c.requires.chained c.requires.memory in
+    let fit =
+    records-fit limits.elements limits.cells c.args.records c.args.lists.now c.requires.chained c.requires.memory in
     let places = ap (λ (p : Parts). length p.windows) c.in-Ok.ensures.parts
     ∙ length-replicate limits.elements new_window in
     omega (arith, fit, places)

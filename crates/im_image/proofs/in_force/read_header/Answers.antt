@@ -1,4 +1,4 @@
-use Rattle.im_image.proofs.Beginning.{good_beginning, fault_of_beginning}
+use Rattle.im_image.proofs.ImageStart.{good_beginning, fault_of_beginning}
 use Rattle.im_image.proofs.in_force.read_header.Goals as goal
 
 pub returns-in-Ok-Some-clause-good : goal.returns-in-Ok-Some-clause-good

@@ -1,4 +1,4 @@
-use Rattle.im_image.proofs.Beginning.{good_beginning}
+use Rattle.im_image.proofs.ImageStart.{good_beginning}
 use Rattle.im_image.proofs.ToOpen.{not_open}
 use Rattle.im_image.proofs.in_force.read_header_to_open.Goals as goal
 

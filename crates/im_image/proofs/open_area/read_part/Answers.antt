@@ -6,8 +6,8 @@ use Rattle.im_image.proofs.open_area.read_part.Goals as goal
 
 pub returns-clause-read : goal.returns-clause-read
 returns-clause-read g c =
-    let part = part_of_area (layout_of c.args.version)
-    (sizes_of c.args.limits) c.area_at-begin.result _ c.args.number (32 * c.args.cells) (length c.args.part.now)
+    let part = part_of_area (layout_of c.args.area.version)
+    (sizes_of c.args.area.limits) c.area_at-begin.result _ c.args.area.number (32 * c.args.cells) (length c.args.part.now)
     (g.D.Disk.now c.args.disk.now).bytes c.area_at-begin.ensures.at
     (omega (arith, c.requires.area.number)) c.requires.inside in
     on_ok_weaker c.read.result (λ read honest. read honest ∙ part) c.read.ensures.read

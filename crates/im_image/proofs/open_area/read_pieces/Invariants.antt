@@ -11,6 +11,6 @@ invariant-loop-i g l = record {
   honest : g.D.Disk.honest l.disk → g.D.Disk.honest l.initial.disk;
   reads : g.D.Disk.honest l.disk → OnlyReads g.D.Disk.now g.D.Disk.past l.initial.disk l.disk;
   first : g.D.Disk.honest l.disk
-      → HasFirstCells (layout_of l.version) (sizes_of l.limits) l.number (g.D.Disk.now l.initial.disk).bytes l.cells;
+      → HasFirstCells (layout_of l.area.version) (sizes_of l.area.limits) l.area.number (g.D.Disk.now l.initial.disk).bytes l.cells;
   failures : g.D.Disk.failures l.disk ≡ g.D.Disk.failures l.initial.disk;
 }

@@ -29,7 +29,8 @@ returns c =
     let m = c.args.memory.now.contents in
     let view = c.records-records.ensures.view in
     let count = subst (AreCounted s) view
-    (counted s m c.records-records.result c.requires.cells c.requires.elements c.records-records.ensures.cells c.records-records.ensures.nodes c.records-records.ensures.windows) in
+    (counted s m c.records-records.result c.requires.cells c.requires.elements c.records-records.ensures.cells
+    c.records-records.ensures.nodes c.records-records.ensures.windows) in
     let shows = subst (λ (x : Records). ShowsRecords s x m) view
     (c.records-records.ensures.shows s (sym c.requires.cells) (sym c.requires.elements)) in
     area-shows s r m c.loop-i.area count shows (c.loop-i.invariant.0 ∙ c.requires.area)

@@ -9,7 +9,8 @@ returns-clause-page c =
     let long : length c.encode_page.new.page ≡ 4096 = search rules in
     let room : 4096 * c.args.i + 4096 ≤ length c.args.area.now = omega (arith, c.requires.page, c.requires.area) in
     subst (IsAreaPage (sizes_of c.args.limits) c.args.memory.now.records c.args.i)
-    (sym (here_is 4096 c.args.i c.encode_page.new.page c.args.area.now c.put_page.new.area long room c.put_page.ensures)) c.encode_page.ensures
+    (sym (here_is 4096 c.args.i c.encode_page.new.page c.args.area.now c.put_page.new.area long room
+    c.put_page.ensures)) c.encode_page.ensures
 
 pub returns-clause-others : goal.returns-clause-others
 returns-clause-others c = λ k low other.

@@ -9,7 +9,9 @@ pub loop-place-preserved : goal.loop-place-preserved
 loop-place-preserved c = (
   c.put_element.array_long,
   spelled-more 4096 1 (session_bytes layout_in_use)
-      (FitsWindow layout_in_use) new_window c.args.records.now.windows c.args.i c.loop-place.page c.put_element.new.page c.loop-place.place c.loop-place-test.true c.loop-place.invariant.1 c.put_element.ensures.here c.put_element.ensures.others c.put_element.ensures.fits,
+      (FitsWindow layout_in_use) new_window c.args.records.now.windows c.args.i c.loop-place.page c.put_element.new.page
+      c.loop-place.place c.loop-place-test.true c.loop-place.invariant.1 c.put_element.ensures.here
+      c.put_element.ensures.others c.put_element.ensures.fits,
 )
 
 pub returns : goal.returns
@@ -18,4 +20,5 @@ returns c =
     spelled-all 4096 1 (session_bytes layout_in_use)
     (FitsWindow layout_in_use) new_window c.args.records.now.windows c.args.i c.loop-place.page c.loop-place.invariant.0
     (subst (λ n. Spelled 4096 1 (session_bytes layout_in_use)
-    (FitsWindow layout_in_use) new_window c.args.records.now.windows c.args.i c.loop-place.page n) end c.loop-place.invariant.1)
+    (FitsWindow layout_in_use) new_window c.args.records.now.windows c.args.i c.loop-place.page n) end
+    c.loop-place.invariant.1)

@@ -30,4 +30,5 @@ returns-clause-window c =
     let windows = c.args.records.now.windows in
     c.loop-number.invariant
     ∙ entries-all windows c.args.element c.in-Ok.base c.in-Ok.next
-    (bounds-some windows c.args.element c.in-Ok.base c.in-Ok.next c.in-Ok.ensures.bounds) c.loop-number.number c.loop-number-test.false
+    (bounds-some windows c.args.element c.in-Ok.base c.in-Ok.next c.in-Ok.ensures.bounds) c.loop-number.number
+    c.loop-number-test.false

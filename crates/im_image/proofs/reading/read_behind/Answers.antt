@@ -19,7 +19,8 @@ pub returns-in-Ok-clause-means : goal.returns-in-Ok-clause-means
 returns-in-Ok-clause-means g c =
     read-ok c.read_run.result IsImageOf (λ i. IsImageOf (g.D.Disk.now c.args.disk.now).bytes i)
     (g.D.Disk.now c.args.disk.now) (g.D.Disk.now c.read_memory.new.disk) (g.D.Disk.honest c.read_run.new.disk)
-    (λ h. (c.read_memory.ensures.reads.reads (c.read_run.ensures.reads.honest h)).now) (λ i it. it) c.read_run.ensures.means
+    (λ h. (c.read_memory.ensures.reads.reads (c.read_run.ensures.reads.honest h)).now)
+    (λ i it. it) c.read_run.ensures.means
 
 pub returns-in-Ok-clause-fault : goal.returns-in-Ok-clause-fault
 returns-in-Ok-clause-fault g c =

@@ -53,7 +53,8 @@ returns-then-replay-clause-means g c = λ h.
       holds = (c.in-Ok.ensures.tail h).holds;
       means = reads-all (layout_in file) file
           (seen c.args.header) c.args.memory.contents it.header.good it.header.is it.shown
-          c.in-Ok.read.1.items c.in-Ok.read.0.room c.in-Ok.read.0.count c.replay.new.memory.contents reads accepted c.in-Ok.ensures.journal.2;
+          c.in-Ok.read.1.items c.in-Ok.read.0.room c.in-Ok.read.0.count c.replay.new.memory.contents reads accepted
+          c.in-Ok.ensures.journal.2;
     }
 
 pub returns-else-replay-clause-fault : goal.returns-else-replay-clause-fault
@@ -78,7 +79,8 @@ returns-then-replay-clause-parts g c =
     (layout_of c.layout-version.result) c.args.memory.contents cs) (sym c.deref.ensures.value)
     ∙ c.if-replay.ensures.yes refl in
     let same = accepted-sizes
-    (layout_of c.layout-version.result) c.args.memory.contents c.replay.new.memory.contents c.in-Ok.read.1.items accepted in
+    (layout_of c.layout-version.result) c.args.memory.contents c.replay.new.memory.contents c.in-Ok.read.1.items
+    accepted in
     record {
       area = c.requires.under.area;
       sizes = record {

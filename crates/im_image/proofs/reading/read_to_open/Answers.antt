@@ -11,7 +11,8 @@ use Rattle.im_image.proofs.reading.read_to_open.Goals as goal
 
 pub read_behind-requires-clause-sound : goal.read_behind-requires-clause-sound
 read_behind-requires-clause-sound g c = λ h.
-    subst (λ (m : Moment). HasHeader (seen c.in-Ok.header) m.bytes) (sym (c.read_header_to_open.ensures.reads.reads h).now)
+    subst (λ (m : Moment). HasHeader (seen c.in-Ok.header) m.bytes)
+    (sym (c.read_header_to_open.ensures.reads.reads h).now)
     (record { good = c.in-Ok.ensures.good h; is = c.in-Ok.ensures.found h })
 
 pub returns-in-Ok-clause-header : goal.returns-in-Ok-clause-header
@@ -45,7 +46,8 @@ pub returns-in-Ok-clause-fault : goal.returns-in-Ok-clause-fault
 returns-in-Ok-clause-fault g c =
     to_open_fault c.read_behind.result (g.D.Disk.now c.args.disk.now) (g.D.Disk.now c.read_header_to_open.new.disk)
     (seen c.in-Ok.header) (λ h. (c.read_header_to_open.ensures.reads.reads (c.read_behind.ensures.reads.honest h)).now)
-    c.in-Ok.ensures.young (λ h. c.in-Ok.ensures.found (c.read_behind.ensures.reads.honest h)) c.read_behind.ensures.fault
+    c.in-Ok.ensures.young
+    (λ h. c.in-Ok.ensures.found (c.read_behind.ensures.reads.honest h)) c.read_behind.ensures.fault
 
 pub returns-in-Ok-clause-reads : goal.returns-in-Ok-clause-reads
 returns-in-Ok-clause-reads g c = reads-on g.D.Disk _ _ _ _ _ _ _ _ (λ e why. inr why)

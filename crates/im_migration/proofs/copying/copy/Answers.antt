@@ -6,7 +6,8 @@ returns-in-Ok-put_image-clause-leaves g c = λ h. (
   c.put_image.ensures.runs.honest h,
   leaves_copy c.args.asked c.in-Ok.source (g.O.Disk.now c.args.old.now).bytes
       (g.O.Disk.honest c.read_source.new.old) c.in-Ok.ensures.whole c.in-Ok.ensures.found
-      (g.N.Disk.now c.args.new) (g.N.Disk.now c.put_image.new.new) (g.N.Disk.past c.args.new) (g.N.Disk.past c.put_image.new.new)
+      (g.N.Disk.now c.args.new) (g.N.Disk.now c.put_image.new.new) (g.N.Disk.past c.args.new)
+      (g.N.Disk.past c.put_image.new.new)
       (c.put_image.ensures.runs.kept h),
 )
 
@@ -21,7 +22,8 @@ returns-in-Ok-clause-leaves g c = λ h. (
   c.put_image.ensures.runs.honest h,
   leaves_copy c.args.asked c.in-Ok.source (g.O.Disk.now c.args.old.now).bytes
       (g.O.Disk.honest c.read_source.new.old) c.in-Ok.ensures.whole c.in-Ok.ensures.found
-      (g.N.Disk.now c.args.new) (g.N.Disk.now c.put_image.new.new) (g.N.Disk.past c.args.new) (g.N.Disk.past c.put_image.new.new)
+      (g.N.Disk.now c.args.new) (g.N.Disk.now c.put_image.new.new) (g.N.Disk.past c.args.new)
+      (g.N.Disk.past c.put_image.new.new)
       (c.put_image.ensures.runs.kept h),
 )
 

@@ -8,7 +8,8 @@ loop-page-preserved g c = record {
   few = c.loop-page.invariant.few;
   whole = c.loop-page.invariant.whole;
   honest = λ h. c.loop-page.invariant.honest (c.clear_page.ensures.runs.honest h);
-  cleared = λ h. c.in_ok-clear_page.ensures.cleared h (c.loop-page.invariant.cleared (c.clear_page.ensures.runs.honest h));
+  cleared =
+      λ h. c.in_ok-clear_page.ensures.cleared h (c.loop-page.invariant.cleared (c.clear_page.ensures.runs.honest h));
   size = λ h. c.in_ok-clear_page.ensures.size h;
   blank = λ h.
       blank_then g.N.Disk c.args.new.now c.loop-page.new c.clear_page.new.new

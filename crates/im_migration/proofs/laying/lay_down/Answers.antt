@@ -36,7 +36,8 @@ returns-in_err-write_pages-clause-runs g c = record {
       only_weaker g.N.Disk.now g.N.Disk.past c.args.new.now c.write_pages.new.new IsBlank
       (λ file. IsBlank file ⊎ IsLaidDown (seen c.args.header.now) c.args.memory.now.contents file)
       (blank_then g.N.Disk c.args.new.now c.clear.new.new c.write_pages.new.new
-      (c.clear.ensures.runs.kept h) (c.write_pages.ensures.runs.kept h1) (c.requires.blank h0)) (λ file blank. inl blank);
+      (c.clear.ensures.runs.kept h) (c.write_pages.ensures.runs.kept h1) (c.requires.blank h0))
+      (λ file blank. inl blank);
   failures = search rules;
 }
 
@@ -92,14 +93,19 @@ returns-clause-runs g c = record {
       let r = c.args.memory.now.records in
       let view = c.records-records.ensures.view in
       let count = subst (AreCounted s) view
-      (counted s m c.records-records.result c.requires.sizes.cells c.requires.sizes.elements c.records-records.ensures.cells c.records-records.ensures.nodes c.records-records.ensures.windows) in
+      (counted s m c.records-records.result c.requires.sizes.cells c.requires.sizes.elements
+      c.records-records.ensures.cells c.records-records.ensures.nodes c.records-records.ensures.windows) in
       let shows = subst (λ (x : Records). ShowsRecords s x m) view
       (c.records-records.ensures.shows s (sym c.requires.sizes.cells) (sym c.requires.sizes.elements)) in
       let laid = c.in_ok-close_slots.ensures.laid h2 r (c.in_ok-write_pages.ensures.laid h1) in
-      let blank = blank_then g.N.Disk c.args.new.now c.write_pages.new.new c.close_slots.new.new begun (c.close_slots.ensures.runs.kept h2) in
+      let blank =
+      blank_then g.N.Disk c.args.new.now c.write_pages.new.new c.close_slots.new.new begun
+      (c.close_slots.ensures.runs.kept h2) in
       let apart = ((blank (c.requires.blank h0)).after (g.N.Disk.now c.close_slots.new.new).bytes
       (left_now (g.N.Disk.now c.close_slots.new.new))).1 in
-      let first = blank_then g.N.Disk c.args.new.now c.close_slots.new.new c.write_header.new.new blank (c.write_header.ensures.runs.kept h3) (c.requires.blank h0) in
+      let first =
+      blank_then g.N.Disk c.args.new.now c.close_slots.new.new c.write_header.new.new blank
+      (c.write_header.ensures.runs.kept h3) (c.requires.blank h0) in
       let is = subst (λ (x : Header). (g.N.Disk.now c.write_header.new.new).bytes
       ≡ overlaid (g.N.Disk.now c.close_slots.new.new).bytes 1 (header_body x)) c.requires.header
       (c.in_ok-write_header.ensures.written h3) in
@@ -127,14 +133,19 @@ returns-clause-laid g c = on_ok c.open_gate.result c.open_gate.ensures.opened (�
     let r = c.args.memory.now.records in
     let view = c.records-records.ensures.view in
     let count = subst (AreCounted s) view
-    (counted s m c.records-records.result c.requires.sizes.cells c.requires.sizes.elements c.records-records.ensures.cells c.records-records.ensures.nodes c.records-records.ensures.windows) in
+    (counted s m c.records-records.result c.requires.sizes.cells c.requires.sizes.elements
+    c.records-records.ensures.cells c.records-records.ensures.nodes c.records-records.ensures.windows) in
     let shows = subst (λ (x : Records). ShowsRecords s x m) view
     (c.records-records.ensures.shows s (sym c.requires.sizes.cells) (sym c.requires.sizes.elements)) in
     let laid = c.in_ok-close_slots.ensures.laid h2 r (c.in_ok-write_pages.ensures.laid h1) in
-    let blank = blank_then g.N.Disk c.args.new.now c.write_pages.new.new c.close_slots.new.new begun (c.close_slots.ensures.runs.kept h2) in
+    let blank =
+    blank_then g.N.Disk c.args.new.now c.write_pages.new.new c.close_slots.new.new begun
+    (c.close_slots.ensures.runs.kept h2) in
     let apart = ((blank (c.requires.blank h0)).after (g.N.Disk.now c.close_slots.new.new).bytes
     (left_now (g.N.Disk.now c.close_slots.new.new))).1 in
-    let first = blank_then g.N.Disk c.args.new.now c.close_slots.new.new c.write_header.new.new blank (c.write_header.ensures.runs.kept h3) (c.requires.blank h0) in
+    let first =
+    blank_then g.N.Disk c.args.new.now c.close_slots.new.new c.write_header.new.new blank
+    (c.write_header.ensures.runs.kept h3) (c.requires.blank h0) in
     let is = subst (λ (x : Header). (g.N.Disk.now c.write_header.new.new).bytes
     ≡ overlaid (g.N.Disk.now c.close_slots.new.new).bytes 1 (header_body x)) c.requires.header
     (c.in_ok-write_header.ensures.written h3) in

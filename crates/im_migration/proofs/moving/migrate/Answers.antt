@@ -10,7 +10,8 @@ returns-in-Ok-put_image-clause-leaves g c = λ h.
     leaves_same c.in-Ok.image (g.O.Disk.now c.args.old.now).bytes
     (g.O.Disk.honest c.read_old.new.disk) c.in-Ok.ensures.means c.in-Ok.ensures.header
     (seen c.header_for-header.result) c.count-count.result c.header_for-header.ensures.seen c.count-count.ensures.count
-    (g.N.Disk.now c.args.new) (g.N.Disk.now c.put_image.new.new) (g.N.Disk.past c.args.new) (g.N.Disk.past c.put_image.new.new)
+    (g.N.Disk.now c.args.new) (g.N.Disk.now c.put_image.new.new) (g.N.Disk.past c.args.new)
+    (g.N.Disk.past c.put_image.new.new)
     (c.put_image.ensures.runs.kept h)
 
 pub returns-in-Ok-put_image-clause-moved : goal.returns-in-Ok-put_image-clause-moved
@@ -39,7 +40,8 @@ returns-in-Ok-clause-leaves g c = λ h.
     leaves_same c.in-Ok.image (g.O.Disk.now c.args.old.now).bytes
     (g.O.Disk.honest c.read_old.new.disk) c.in-Ok.ensures.means c.in-Ok.ensures.header
     (seen c.header_for-header.result) c.count-count.result c.header_for-header.ensures.seen c.count-count.ensures.count
-    (g.N.Disk.now c.args.new) (g.N.Disk.now c.put_image.new.new) (g.N.Disk.past c.args.new) (g.N.Disk.past c.put_image.new.new)
+    (g.N.Disk.now c.args.new) (g.N.Disk.now c.put_image.new.new) (g.N.Disk.past c.args.new)
+    (g.N.Disk.past c.put_image.new.new)
     (c.put_image.ensures.runs.kept h)
 
 pub returns-in-Ok-clause-place : goal.returns-in-Ok-clause-place

@@ -50,7 +50,8 @@ loop-a-preserved c =
     let was = c.loop-a.restoring in
     let i = c.loop-a.a in
     let inside : i < c.args.cells = omega (arith, c.loop-a-test.true, c.loop-a.auto.a-end) in
-    let more = lists-more lists was.lists i (omega (arith, inside, length-lists-of c.args.cells cells)) c.loop-a.invariant.2 in
+    let more =
+    lists-more lists was.lists i (omega (arith, inside, length-lists-of c.args.cells cells)) c.loop-a.invariant.2 in
     let put : c.put_list.new.self.lists ≡ set was.lists i (get_or lists i nobody) =
     ap (λ (p : Parts). p.lists) c.put_list.ensures
     ∙ ap (λ (waiters : List Waiter). set was.lists i waiters)

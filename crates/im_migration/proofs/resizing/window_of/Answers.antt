@@ -51,4 +51,5 @@ returns c =
     let windows = c.args.memory.now.contents.windows in
     c.loop-number.invariant
     ∙ entries-all windows c.args.element c.in-Ok.base c.in-Ok.next
-    (bounds-some windows c.args.element c.in-Ok.base c.in-Ok.next c.in-Ok.ensures) c.loop-number.number c.loop-number-test.false
+    (bounds-some windows c.args.element c.in-Ok.base c.in-Ok.next c.in-Ok.ensures) c.loop-number.number
+    c.loop-number-test.false

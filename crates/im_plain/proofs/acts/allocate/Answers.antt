@@ -1,15 +1,16 @@
 use Rattle.std.proofs.Common.{None, sym, ◌∙◌}
 use Rattle.im_types.specs.declared.operations.Reply.TheVariants.{NoSpace}
-use Rattle.im_plain.proofs.ActLemmas.{tells-HasActed, allocate-placed, allocate-HasActed}
+use Rattle.im_plain.proofs.ActLemmas.{tells-HasEffect, allocate-placed, allocate-HasEffect}
 use Rattle.im_plain.proofs.acts.allocate.Goals as goal
 
 pub returns-in_default : goal.returns-in_default
 returns-in_default c =
-    rw c.tells-in_default.ensures (tells-HasActed c.args.slots.now c.args.queue.now c.requires.fits NoSpace _
+    rw c.tells-in_default.ensures (tells-HasEffect c.args.slots.now c.args.queue.now c.requires.fits NoSpace _
     (allocate-placed c.args.slots.now c.args.queue.now c.requires.fits c.args.kind c.args.n c.if-n-eq0.false None
     (sym c.place.ensures ∙ c.in_default.is)))
 
 pub returns : goal.returns
 returns c =
     rw (c.tells-2.ensures, c.fill.ensures)
-    (allocate-HasActed c.args.slots.now c.args.queue.now c.requires.fits c.args.kind c.args.n c.in-Some.base c.if-n-eq0.false (sym c.place.ensures ∙ c.in-Some.is))
+    (allocate-HasEffect c.args.slots.now c.args.queue.now c.requires.fits c.args.kind c.args.n c.in-Some.base
+    c.if-n-eq0.false (sym c.place.ensures ∙ c.in-Some.is))

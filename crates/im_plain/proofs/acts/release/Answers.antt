@@ -1,7 +1,7 @@
-use Rattle.im_plain.proofs.ActLemmas.{released-HasActed}
+use Rattle.im_plain.proofs.ActLemmas.{released-HasEffect}
 use Rattle.im_plain.proofs.acts.release.Goals as goal
 
 pub returns-in-Ok : goal.returns-in-Ok
 returns-in-Ok c =
     rw (c.tells.ensures, c.fill.ensures)
-    (released-HasActed c.args.slots.now c.args.queue.now c.requires.fits c.args.a c.in-Ok.n c.in-Ok.ensures.ok)
+    (released-HasEffect c.args.slots.now c.args.queue.now c.requires.fits c.args.a c.in-Ok.n c.in-Ok.ensures.ok)

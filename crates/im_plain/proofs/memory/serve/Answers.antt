@@ -1,6 +1,6 @@
 use Rattle.std.proofs.Common.{ap, ◌∙◌, take, arith}
 use Rattle.im_types.specs.Window.{answer_each}
-use Rattle.im_plain.specs.Waiting.{waiting_at, replies_to}
+use Rattle.im_plain.specs.Waiting.{waiting_at, each_given}
 use Rattle.im_plain.proofs.RoomLemmas.{room-fresh}
 use Rattle.im_plain.proofs.MakesLemmas.{makes-served}
 use Rattle.im_plain.proofs.memory.serve.Goals as goal
@@ -8,16 +8,22 @@ use Rattle.im_plain.proofs.memory.serve.Goals as goal
 pub act-acted-requires-clause-room : goal.act-acted-requires-clause-room
 act-acted-requires-clause-room c =
     let queue = c.args.queue.now in
-    omega (arith, queue.ok.0, room-fresh c.args.slots.now queue.items queue.cap c.args.windows.now c.requires.memory c.args.request.now c.requires.fresh)
+    omega (
+      arith,
+      queue.ok.0,
+      room-fresh c.args.slots.now queue.items queue.cap c.args.windows.now c.requires.memory
+          c.args.request.now c.requires.fresh,
+    )
 
 pub returns-clause-memory : goal.returns-clause-memory
 returns-clause-memory c =
     let queue = c.args.queue.now in
     let acted = c.act-acted.result in
     let parked = c.act-acted.new.queue.items in
-    makes-served c.args.slots.now queue.items queue.cap c.args.windows.now c.requires.memory c.args.request.now acted c.act-acted.new.slots parked c.resume.new.queue.items c.resume.new.windows
+    makes-served c.args.slots.now queue.items queue.cap c.args.windows.now c.requires.memory c.args.request.now acted
+    c.act-acted.new.slots parked c.resume.new.queue.items c.resume.new.windows
     c.act-acted.ensures.acted c.resume.ensures.queue
     (c.resume.ensures.windows
     ∙ ap (λ windows. answer_each windows
-    (replies_to (take acted.count (waiting_at acted.address parked)) acted.value)) c.note.ensures)
+    (each_given (take acted.count (waiting_at acted.address parked)) acted.value)) c.note.ensures)
     c.requires.fresh c.resume.new.queue.cap (omega arith)

@@ -1,6 +1,6 @@
 use Rattle.std.proofs.Common.{◌-◌, ◌+◌, take, Some, None, sym, ap, ◌∙◌, arith}
 use Rattle.im_types.specs.Window.{answer_each}
-use Rattle.im_plain.specs.Waiting.{waiting_at, replies_to}
+use Rattle.im_plain.specs.Waiting.{waiting_at, each_given}
 use Rattle.im_plain.proofs.ResumeLemmas.{answer_each-first, without-first}
 use Rattle.im_plain.proofs.windows.resume.Goals as goal
 use Rattle.im_plain.proofs.windows.resume.Goals.{in-Some, in_default}
@@ -14,12 +14,12 @@ loop-preserved c =
       windows = elim c.match-pop_first.branch [
         | in-Some w ↦
             ap (λ windows. answer_each windows
-            (replies_to (take left (waiting_at c.args.a c.pop_first.new.queue.items)) c.args.value))
+            (each_given (take left (waiting_at c.args.a c.pop_first.new.queue.items)) c.args.value))
             (w.windows-is ∙ w.answer.ensures)
             ∙ later (Some w.in-Some.who) (sym w.in-Some.is ∙ c.pop_first.ensures.first) ∙ c.loop.invariant.windows
         | in_default w ↦
             ap (λ windows. answer_each windows
-            (replies_to (take left (waiting_at c.args.a c.pop_first.new.queue.items)) c.args.value)) w.windows-is
+            (each_given (take left (waiting_at c.args.a c.pop_first.new.queue.items)) c.args.value)) w.windows-is
             ∙ later None (sym w.in_default.is ∙ c.pop_first.ensures.first) ∙ c.loop.invariant.windows
       ];
       queue = without-first c.loop.queue.items c.pop_first.new.queue.items c.args.a c.args.count c.loop.counter

@@ -21,12 +21,16 @@ returns-in-Ok-clause-again c = λ f entry told.
     let agrees : WaitingAgrees old.memory = subst WaitingAgrees c.memory.ensures c.cells-cells.ensures.memory.agrees in
     let found = c.in-Ok.ensures.recovers first.works in
     let l : List Command = acknowledged mid.memory c.args.events.now c.in-Ok.recovered.answers.items ++ found.also in
-    let is : now.memory ≡ after (after_request old.memory r) l = found.memory ∙ ap (λ (x : Contents). after x l) first.memory in
-    let again = said now c.serve-again.new.self r entry c.serve-again.result c.in-Ok.ensures.works c.serve-again.ensures.answered
-    (subst (λ (x : Contents). IsToldAgainOrForgotten x r entry) (sym is) (c.repeat_is_told_again.ensures old.memory r entry l agrees first.answered))
+    let is : now.memory ≡ after (after_request old.memory r) l =
+    found.memory ∙ ap (λ (x : Contents). after x l) first.memory in
+    let again =
+    said now c.serve-again.new.self r entry c.serve-again.result c.in-Ok.ensures.works c.serve-again.ensures.answered
+    (subst (λ (x : Contents). IsToldAgainOrForgotten x r entry) (sym is)
+    (c.repeat_is_told_again.ensures old.memory r entry l agrees first.answered))
     (λ gone. c.forgotten_for_ever.ensures.refused now.memory r gone)
     (λ same. by_is_false _ ((c.accepted_where_changed.ensures.unaccepted now.memory (Asks r)).1 same)) in
-    asked old mid now c.serve-again.new.self r entry c.serve-again.result c.args.events.now c.in-Ok.recovered.answers.items first found again
+    asked old mid now c.serve-again.new.self r entry c.serve-again.result c.args.events.now
+    c.in-Ok.recovered.answers.items first found again
 
 pub returns-in-Err-clause-refused : goal.returns-in-Err-clause-refused
 returns-in-Err-clause-refused c = λ f entry told.

@@ -10,11 +10,13 @@ returns-in-Ok c = λ file left.
     let fresh = ap (λ (x : Fused). x.disk) c.new.ensures.fresh in
     let e = c.in-Ok.opened.disk in
     subst (λ (d : Recording). Left d.moment file) fresh
-    (was_left c.new.result.disk.moment e.disk.moment c.new.result.disk.past e.disk.past (c.in-Ok.ensures.leaves tt) file (subst (λ (x : Fused). Left x.disk.moment file) c.close.ensures.disk left))
+    (was_left c.new.result.disk.moment e.disk.moment c.new.result.disk.past e.disk.past (c.in-Ok.ensures.leaves tt) file
+    (subst (λ (x : Fused). Left x.disk.moment file) c.close.ensures.disk left))
 
 pub returns-in-Err : goal.returns-in-Err
 returns-in-Err c = λ file left.
     let fresh = ap (λ (x : Fused). x.disk) c.new.ensures.fresh in
     let e = c.in-Err.unopened in
     subst (λ (d : Recording). Left d.moment file) fresh
-    (was_left c.new.result.disk.moment e.disk.moment c.new.result.disk.past e.disk.past (c.in-Err.ensures.leaves tt) file left)
+    (was_left c.new.result.disk.moment e.disk.moment c.new.result.disk.past e.disk.past
+    (c.in-Err.ensures.leaves tt) file left)

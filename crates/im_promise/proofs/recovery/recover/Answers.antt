@@ -16,10 +16,13 @@ returns-in-Ok-open-clause-recovers c = λ f.
     let answers = c.in-Ok.answers.items in
     let sure : List Command = acknowledged s.memory c.args.events.now answers in
     let doubt : List Command = in_doubt s.memory s.count c.args.events.now answers in
-    let inner : c.into_inner.result ≡ c.run.new.self.disk.disk = c.into_inner.ensures ∙ ap (λ (x : Fused). x.disk) c.close.ensures.disk in
+    let inner : c.into_inner.result ≡ c.run.new.self.disk.disk =
+    c.into_inner.ensures ∙ ap (λ (x : Fused). x.disk) c.close.ensures.disk in
     let said : LeavesNow c.into_inner.result.moment (MeansWithOrWithout s sure doubt) =
-    subst (λ (d : Recording). LeavesNow d.moment (MeansWithOrWithout s sure doubt)) (sym inner) (c.in-Ok.ensures.now tt f) in
-    let crash : Crashes c.into_inner.result.moment c.crash.result.moment e.disk.moment c.crash.result.past e.disk.past = record {
+    subst (λ (d : Recording). LeavesNow d.moment (MeansWithOrWithout s sure doubt)) (sym inner)
+    (c.in-Ok.ensures.now tt f) in
+    let crash : Crashes c.into_inner.result.moment c.crash.result.moment e.disk.moment c.crash.result.past e.disk.past =
+    record {
       ranges = ap (λ (d : Recording). d.moment.ranges) c.crash.ensures.after;
       left = c.crash.ensures.left;
       opened = c.in-Ok-open.ensures.leaves tt;
@@ -35,7 +38,9 @@ returns-in-Ok-open-clause-recovers c = λ f.
       dead = c.groups_acknowledge_what_they_put.ensures.dead;
     } in
     let parts = told known s c.run.new.self c.args.events.now answers f c.in-Ok.ensures.answers in
-    let it = found s e c.into_inner.result.moment c.crash.result.moment e.disk.moment c.crash.result.past e.disk.past crash c.args.events.now answers c.files_mean_one_thing.ensures.memory said (c.in-Ok-open.ensures.means tt) in
+    let it =
+    found s e c.into_inner.result.moment c.crash.result.moment e.disk.moment c.crash.result.past e.disk.past crash
+    c.args.events.now answers c.files_mean_one_thing.ensures.memory said (c.in-Ok-open.ensures.means tt) in
     record {
       answered = parts.answered;
       one_in_doubt = parts.one;
@@ -53,14 +58,18 @@ returns-in-Err-open-clause-refused c = λ f.
     let sure : List Command = acknowledged s.memory c.args.events.now answers in
     let doubt : List Command = in_doubt s.memory s.count c.args.events.now answers in
     let d = c.in-Err-open.field-0-1 in
-    let inner : c.into_inner.result ≡ c.run.new.self.disk.disk = c.into_inner.ensures ∙ ap (λ (x : Fused). x.disk) c.close.ensures.disk in
+    let inner : c.into_inner.result ≡ c.run.new.self.disk.disk =
+    c.into_inner.ensures ∙ ap (λ (x : Fused). x.disk) c.close.ensures.disk in
     let said : LeavesNow c.into_inner.result.moment (MeansWithOrWithout s sure doubt) =
-    subst (λ (x : Recording). LeavesNow x.moment (MeansWithOrWithout s sure doubt)) (sym inner) (c.in-Ok.ensures.now tt f) in
+    subst (λ (x : Recording). LeavesNow x.moment (MeansWithOrWithout s sure doubt)) (sym inner)
+    (c.in-Ok.ensures.now tt f) in
     let crash : Crashes c.into_inner.result.moment c.crash.result.moment d.moment c.crash.result.past d.past = record {
       ranges = ap (λ (x : Recording). x.moment.ranges) c.crash.ensures.after;
       left = c.crash.ensures.left;
       opened = c.in-Err-open.ensures.leaves tt;
     } in
     ⊎_elim (λ none. inl none) (λ more. ⊎_elim (λ device. inr device) (λ fault. absurd (
-    is_no_fault c.into_inner.result.moment c.crash.result.moment d.moment c.crash.result.past d.past crash c.files_mean_one_thing.ensures.fault (MeansWithOrWithout s sure doubt)
-    (λ file it. meant_with_or_without s sure doubt file it) said c.in-Err-open.refusal (fault tt))) more) c.in-Err-open.ensures.fault
+    is_no_fault c.into_inner.result.moment c.crash.result.moment d.moment c.crash.result.past d.past crash
+    c.files_mean_one_thing.ensures.fault (MeansWithOrWithout s sure doubt)
+    (λ file it. meant_with_or_without s sure doubt file it) said c.in-Err-open.refusal
+    (fault tt))) more) c.in-Err-open.ensures.fault

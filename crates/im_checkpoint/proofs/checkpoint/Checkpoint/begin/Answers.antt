@@ -10,8 +10,8 @@ use Rattle.im_pages.proofs.SetLemmas.{length-union, few-from}
 use Rattle.im_image.specs.Headers.{seen}
 use Rattle.im_image.specs.Encoding.{AreCounted}
 use Rattle.im_image.proofs.Encoding.{counted}
-use Rattle.im_checkpoint.specs.declared.checkpoint.Step.{Step as Mark}
-use Rattle.im_checkpoint.specs.Step.{Step, PagedCheckpoint, with_left, step_of, turns_left, left_in, HasNext}
+use Rattle.im_checkpoint.specs.declared.checkpoint.Phase.{Phase}
+use Rattle.im_checkpoint.specs.Step.{Step, PagedCheckpoint, with_left, step_by_phase, turns_left, left_in, HasNext}
 use Rattle.im_checkpoint.specs.Keeping.{Paged, paged, IsKept}
 use Rattle.im_checkpoint.proofs.PageLists.{union_none, left_with, kept_none}
 use Rattle.im_checkpoint.proofs.Fitting.{turns_with}
@@ -47,8 +47,8 @@ invariant_of-self c =
       next_left = λ is. (c.next_left-step.ensures.some is).there;
       space = c.self.invariant.space;
       later = ⊎_elim
-          (λ is. subst (λ (p : Mark). HasNext (seen e.header) p) (sym is) later)
-          (λ is. subst (λ (p : Mark). HasNext (seen e.header) p) (sym is) later)
+          (λ is. subst (λ (p : Phase). HasNext (seen e.header) p) (sym is) later)
+          (λ is. subst (λ (p : Phase). HasNext (seen e.header) p) (sym is) later)
           c.next_left-step.ensures.only;
     }
 
@@ -62,7 +62,7 @@ returns-clause-began c =
     (c.clear.ensures ∙ ap (λ (n : ℕ). replicate n false)
     (c.self.invariant.left_size ∙ sym c.self.invariant.older_size)) ∙ union_none e.older) in
     let count : c.count-self-inside.result ≡ c.args.journal.now.count = c.count-self-inside.ensures.count in
-    let step : step_of c.next_left-step.result.0 c.count-self-inside.result
+    let step : step_by_phase c.next_left-step.result.0 c.count-self-inside.result
     (pages_from c.next_left-step.result.1 c.union_with-2.new.self)
     ≡ with_left c.args.journal.now.count (pages_from 0 (union e.older e.recent)) =
     c.next_left-step.ensures.step c.count-self-inside.result ∙ (λ i. with_left (count i) (pages_from 0 (all i))) in
@@ -80,7 +80,7 @@ returns-clause-began c =
           ∙ ap (λ (h : Header). area_pages layout_in_use h.sizes) header;
       state = (λ i. record { header = header i; step = step i });
       turns = subst (λ (h : Header). turns_left
-          (step_of c.next_left-step.result.0 c.count-self-inside.result
+          (step_by_phase c.next_left-step.result.0 c.count-self-inside.result
           (pages_from c.next_left-step.result.1 c.union_with-2.new.self)) ≤ area_pages layout_in_use h.sizes + 2) header
           (subst (λ (s : Step). turns_left s ≤ area_pages layout_in_use (seen e.header).sizes + 2) (sym step) turns);
     }
@@ -97,7 +97,7 @@ returns-clause-moved c =
     let none : c.clear-2.new.self ≡ replicate (length e.older) false = c.clear-2.ensures
     ∙ ap (λ (s : List Bool). replicate (length s) false) c.swap.ensures.y_after in
     let count : c.count-self-inside.result ≡ c.args.journal.now.count = c.count-self-inside.ensures.count in
-    let step : step_of c.next_left-step.result.0 c.count-self-inside.result
+    let step : step_by_phase c.next_left-step.result.0 c.count-self-inside.result
     (pages_from c.next_left-step.result.1 c.union_with-2.new.self)
     ≡ with_left c.args.journal.now.count (pages_from 0 (union e.older e.recent)) =
     c.next_left-step.ensures.step c.count-self-inside.result ∙ (λ i. with_left (count i) (pages_from 0 (all i))) in
@@ -125,7 +125,7 @@ returns-clause-kept c = λ now kept.
     let none : c.clear-2.new.self ≡ replicate (length e.older) false = c.clear-2.ensures
     ∙ ap (λ (s : List Bool). replicate (length s) false) c.swap.ensures.y_after in
     let count : c.count-self-inside.result ≡ c.args.journal.now.count = c.count-self-inside.ensures.count in
-    let step : step_of c.next_left-step.result.0 c.count-self-inside.result
+    let step : step_by_phase c.next_left-step.result.0 c.count-self-inside.result
     (pages_from c.next_left-step.result.1 c.union_with-2.new.self)
     ≡ with_left c.args.journal.now.count (pages_from 0 (union e.older e.recent)) =
     c.next_left-step.ensures.step c.count-self-inside.result ∙ (λ i. with_left (count i) (pages_from 0 (all i))) in
@@ -147,15 +147,42 @@ returns-clause-kept c = λ now kept.
     (λ (q : Records). ShowsRecords (seen e.header).sizes q m.contents) r.view
     (r.shows (seen e.header).sizes (sym cells) (sym elements)) in
     let before = kept_none c.args.self.now (seen e.header) e.step e.count
-    (pages_from e.next e.left) e.recent e.older e.copies c.self.view_is m m.contents c.args.journal.now now kept c.requires.step in
+    (pages_from e.next e.left) e.recent e.older e.copies c.self.view_is m m.contents c.args.journal.now now kept
+    c.requires.step in
     let begun = begun_kept
-    (seen e.header) x e.copies m.contents c.args.journal.now now before c.count-self-inside.ensures.known.to_last later count_all shows c.self.invariant.older_size c.self.invariant.recent_size in
+    (seen e.header) x e.copies m.contents c.args.journal.now now before c.count-self-inside.ensures.known.to_last later
+    count_all shows c.self.invariant.older_size c.self.invariant.recent_size in
     let step_back : with_left c.args.journal.now.count (pages_from 0 (union e.older e.recent))
-    ≡ step_of c.next_left-step.result.0 c.count-self-inside.result
+    ≡ step_by_phase c.next_left-step.result.0 c.count-self-inside.result
     (pages_from c.next_left-step.result.1 c.union_with-2.new.self) = sym step in
     let none_back : replicate (length e.older) false ≡ c.clear-2.new.self = sym none in
     let older_back : e.recent ≡ c.swap.new.x = sym c.swap.ensures.x_after in
-    let same : (let p : PagedCheckpoint = record { state = record { header = seen e.header; step = with_left c.args.journal.now.count (pages_from 0 (union e.older e.recent)) }; recent = replicate (length e.older) false; older = e.recent; copies = e.copies } in p)
-    ≡ record { state = record { header = seen e.header; step = step_of c.next_left-step.result.0 c.count-self-inside.result (pages_from c.next_left-step.result.1 c.union_with-2.new.self) }; recent = c.clear-2.new.self; older = c.swap.new.x; copies = e.copies } =
-    (λ i. record { state = record { header = seen e.header; step = step_back i }; recent = none_back i; older = older_back i; copies = e.copies }) in
+    let same : (let p : PagedCheckpoint
+    = record {
+      state = record {
+        header = seen e.header;
+        step = with_left c.args.journal.now.count (pages_from 0 (union e.older e.recent));
+      };
+      recent = replicate
+          (length e.older) false;
+      older = e.recent;
+      copies = e.copies;
+    } in p)
+    ≡ record {
+      state = record {
+        header = seen e.header;
+        step = step_by_phase c.next_left-step.result.0 c.count-self-inside.result
+            (pages_from c.next_left-step.result.1 c.union_with-2.new.self);
+      };
+      recent = c.clear-2.new.self;
+      older
+          = c.swap.new.x;
+      copies = e.copies;
+    } =
+    (λ i. record {
+      state = record { header = seen e.header; step = step_back i };
+      recent = none_back i;
+      older = older_back i;
+      copies = e.copies;
+    }) in
     subst (λ (p : PagedCheckpoint). IsKept p.state (paged p m) m.contents c.args.journal.now now) same begun

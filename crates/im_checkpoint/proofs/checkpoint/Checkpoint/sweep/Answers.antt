@@ -1,7 +1,7 @@
 use Rattle.std.proofs.Common.{◌≡◌, ◌∙◌, sym, ap, refl, subst, arith}
-use Rattle.im_checkpoint.specs.declared.checkpoint.Step.{Step as Mark}
+use Rattle.im_checkpoint.specs.declared.checkpoint.Phase.{Phase}
 use Rattle.im_pages.specs.PageSets.{pages_from}
-use Rattle.im_checkpoint.specs.Step.{Step, PagedCheckpoint, NoCheckpoint, step_of}
+use Rattle.im_checkpoint.specs.Step.{Step, PagedCheckpoint, NoCheckpoint, step_by_phase}
 use Rattle.im_checkpoint.specs.Turns.{swept_at_once, calls_to_sweep, MakesSweep}
 use Rattle.im_checkpoint.proofs.Sweeping.{none_more, none_under_way, kept_still}
 use Rattle.im_checkpoint.proofs.checkpoint.Checkpoint.sweep.Goals as goal
@@ -11,7 +11,7 @@ returns-in-NoCheckpoint-clause-keeps g c = λ h x m kept.
     let e = c.self.inside in
     let is : c.args.self.now.state.step
     ≡ NoCheckpoint = ap (λ (s : PagedCheckpoint). s.state.step) (sym c.self.view_is)
-    ∙ ap (λ (p : Mark). step_of p e.count (pages_from e.next e.left)) c.in-NoCheckpoint.is in
+    ∙ ap (λ (p : Phase). step_by_phase p e.count (pages_from e.next e.left)) c.in-NoCheckpoint.is in
     c.sweep_more.ensures.keeps h c.args.self.now.state x m is kept
 
 pub returns-in-NoCheckpoint-clause-runs : goal.returns-in-NoCheckpoint-clause-runs
@@ -19,7 +19,7 @@ returns-in-NoCheckpoint-clause-runs g c =
     let e = c.self.inside in
     let is : c.args.self.now.state.step
     ≡ NoCheckpoint = ap (λ (s : PagedCheckpoint). s.state.step) (sym c.self.view_is)
-    ∙ ap (λ (p : Mark). step_of p e.count (pages_from e.next e.left)) c.in-NoCheckpoint.is in
+    ∙ ap (λ (p : Phase). step_by_phase p e.count (pages_from e.next e.left)) c.in-NoCheckpoint.is in
     subst (λ (s : Step). MakesSweep g.D.Disk c.args.disk.now c.sweep_more.new.disk
     (calls_to_sweep s c.args.journal.now c.args.most) c.sweep_more.result) (sym is) c.sweep_more.ensures.runs
 
@@ -37,6 +37,8 @@ returns-in_default g c =
         none_more c.args.journal.now,
       );
       same = tt;
-      keeps = λ h x m kept. kept_still g.D.Disk.now g.D.Disk.past c.args.disk.now c.args.self.now.state x m c.args.journal.now kept;
+      keeps =
+          λ h x m kept. kept_still g.D.Disk.now g.D.Disk.past c.args.disk.now c.args.self.now.state x m c.args.journal.now
+          kept;
       runs = record { honest = λ h. h; kept = λ h. omega (arith, none); faults = refl };
     }

@@ -4,8 +4,8 @@ use Rattle.im_types.specs.Header.{Header}
 use Rattle.im_meaning.specs.Images.{other}
 use Rattle.im_pages.specs.PageSets.{pages_from}
 use Rattle.im_image.specs.Headers.{seen}
-use Rattle.im_checkpoint.specs.declared.checkpoint.Step.{Step as Mark}
-use Rattle.im_checkpoint.specs.Step.{PagedCheckpoint, PagesLeft, step_of, IsPagesLeft, IsPagesDone, IsSynced}
+use Rattle.im_checkpoint.specs.declared.checkpoint.Phase.{Phase}
+use Rattle.im_checkpoint.specs.Step.{PagedCheckpoint, PagesLeft, step_by_phase, IsPagesLeft, IsPagesDone, IsSynced}
 use Rattle.im_pages.proofs.SetLemmas.{step_in}
 use Rattle.im_checkpoint.proofs.PageLists.{mark_left, step_left, step_done, step_synced, header_is, kept_synced}
 use Rattle.im_checkpoint.proofs.Turning.{other_closed}
@@ -16,9 +16,10 @@ pub returns-in-NoCheckpoint-clause-turned : goal.returns-in-NoCheckpoint-clause-
 returns-in-NoCheckpoint-clause-turned g c =
     let e = c.self.inside in
     let is = ap (λ (s : PagedCheckpoint). s.state.step) (sym c.self.view_is)
-    ∙ ap (λ (p : Mark). step_of p e.count (pages_from e.next e.left)) c.in-NoCheckpoint.is in
+    ∙ ap (λ (p : Phase). step_by_phase p e.count (pages_from e.next e.left)) c.in-NoCheckpoint.is in
     once_more c.rest.result c.rest.ensures.turned (λ answer it.
-    comes_rest c.args.self.now c.args.journal.now c.args.memory.now.contents answer c.rest.new.self c.rest.new.journal it.0 it.1 c.requires.fits is)
+    comes_rest c.args.self.now c.args.journal.now c.args.memory.now.contents answer c.rest.new.self c.rest.new.journal
+    it.0 it.1 c.requires.fits is)
 
 pub returns-in-PagesLeft-clause-turned : goal.returns-in-PagesLeft-clause-turned
 returns-in-PagesLeft-clause-turned g c =
@@ -31,20 +32,29 @@ returns-in-PagesLeft-clause-turned g c =
     ∙ ap (PagesLeft e.count)
     (step_in e.left e.next (c.self.invariant.next_low mark) (c.self.invariant.next_left mark)) in
     once_more c.write_page.result c.write_page.ensures.turned (λ answer it.
-    comes_page c.args.self.now c.args.journal.now c.args.memory.now.contents answer c.write_page.new.self c.args.journal.now (it.0 c.args.journal.now) it.1 c.requires.fits e.count e.next (pages_from (e.next + 1) e.left) step)
+    comes_page c.args.self.now c.args.journal.now c.args.memory.now.contents answer c.write_page.new.self
+    c.args.journal.now (it.0 c.args.journal.now) it.1 c.requires.fits e.count e.next
+    (pages_from (e.next + 1) e.left) step)
 
 pub returns-in-PagesLeft-clause-keeps : goal.returns-in-PagesLeft-clause-keeps
-returns-in-PagesLeft-clause-keeps g c = λ h. c.write_page.ensures.keeps h c.args.memory.now.contents c.args.journal.now (c.requires.kept (c.write_page.ensures.runs.honest h))
+returns-in-PagesLeft-clause-keeps g c =
+    λ h. c.write_page.ensures.keeps h c.args.memory.now.contents c.args.journal.now
+    (c.requires.kept (c.write_page.ensures.runs.honest h))
 
 pub returns-in-PagesDone-clause-turned : goal.returns-in-PagesDone-clause-turned
 returns-in-PagesDone-clause-turned g c =
     let e = c.self.inside in
     let is : IsPagesDone c.args.self.now.state.step = search rules in
     once_more c.sync_pages.result c.sync_pages.ensures.turned (λ answer it.
-    comes_synced c.args.self.now c.args.journal.now c.args.memory.now.contents answer c.sync_pages.new.self c.args.journal.now (it.0 c.args.journal.now) it.1 c.requires.fits e.count (step_done c.args.self.now (seen e.header) e.step e.count (pages_from e.next e.left) e.recent e.older e.copies c.self.view_is is))
+    comes_synced c.args.self.now c.args.journal.now c.args.memory.now.contents answer c.sync_pages.new.self
+    c.args.journal.now (it.0 c.args.journal.now) it.1 c.requires.fits e.count
+    (step_done c.args.self.now (seen e.header) e.step e.count
+    (pages_from e.next e.left) e.recent e.older e.copies c.self.view_is is))
 
 pub returns-in-PagesDone-clause-keeps : goal.returns-in-PagesDone-clause-keeps
-returns-in-PagesDone-clause-keeps g c = λ h. c.sync_pages.ensures.keeps h c.args.memory.now c.args.memory.now.contents c.args.journal.now (c.requires.kept (c.sync_pages.ensures.runs.honest h))
+returns-in-PagesDone-clause-keeps g c =
+    λ h. c.sync_pages.ensures.keeps h c.args.memory.now c.args.memory.now.contents c.args.journal.now
+    (c.requires.kept (c.sync_pages.ensures.runs.honest h))
 
 pub put_in_force-requires-clause-closed : goal.put_in_force-requires-clause-closed
 put_in_force-requires-clause-closed g c = λ h.
@@ -55,14 +65,18 @@ put_in_force-requires-clause-closed g c = λ h.
     (pages_from e.next e.left) e.recent e.older e.copies c.self.view_is)
     (other_closed (seen e.header) e.count _ c.args.memory.now.contents c.args.journal.now (g.D.Disk.now c.args.disk.now)
     (kept_synced c.args.self.now (seen e.header) e.step e.count
-    (pages_from e.next e.left) e.recent e.older e.copies c.self.view_is c.args.memory.now c.args.memory.now.contents c.args.journal.now (g.D.Disk.now c.args.disk.now) (c.requires.kept h) is))
+    (pages_from e.next e.left) e.recent e.older e.copies c.self.view_is c.args.memory.now c.args.memory.now.contents
+    c.args.journal.now (g.D.Disk.now c.args.disk.now) (c.requires.kept h) is))
 
 pub returns-in-Synced-clause-turned : goal.returns-in-Synced-clause-turned
 returns-in-Synced-clause-turned g c =
     let e = c.self.inside in
     let is : IsSynced c.args.self.now.state.step = search rules in
     once_more c.put_in_force.result c.put_in_force.ensures.turned (λ answer it.
-    comes_in_force c.args.self.now c.args.journal.now c.args.memory.now.contents answer c.put_in_force.new.self c.put_in_force.new.journal it.0 it.1 c.requires.fits e.count (step_synced c.args.self.now (seen e.header) e.step e.count (pages_from e.next e.left) e.recent e.older e.copies c.self.view_is is))
+    comes_in_force c.args.self.now c.args.journal.now c.args.memory.now.contents answer c.put_in_force.new.self
+    c.put_in_force.new.journal it.0 it.1 c.requires.fits e.count
+    (step_synced c.args.self.now (seen e.header) e.step e.count
+    (pages_from e.next e.left) e.recent e.older e.copies c.self.view_is is))
 
 pub returns-in-Synced-clause-keeps : goal.returns-in-Synced-clause-keeps
 returns-in-Synced-clause-keeps g c = λ h. c.put_in_force.ensures.keeps h c.args.memory.now c.args.memory.now.contents

@@ -12,7 +12,8 @@ use Rattle.im_checkpoint.proofs.checkpoint.Checkpoint.write_page.Goals as goal
 pub returns-in-Err-clause-keeps : goal.returns-in-Err-clause-keeps
 returns-in-Err-clause-keeps g c = λ h m j kept.
     let e = c.self.inside in
-    let x : Paged = record { recent = e.recent; older = e.older; copies = e.copies; records = c.args.memory.now.records } in
+    let x : Paged =
+    record { recent = e.recent; older = e.older; copies = e.copies; records = c.args.memory.now.records } in
     let mark = mark_left c.args.self.now (seen e.header) e.step e.count
     (pages_from e.next e.left) e.recent e.older e.copies c.self.view_is c.requires.step.step in
     let rest : List ℕ = pages_from (e.next + 1) e.left in
@@ -36,9 +37,13 @@ returns-in-Err-clause-keeps g c = λ h m j kept.
     record {
       leaves = record {
         within = page_leaves at x m j
-            (g.D.Disk.now c.args.disk.now) before e.count e.next rest refl c.page_for.new.page c.page_for.array_long page _ at_is (g.D.Disk.past c.args.disk.now) (g.D.Disk.now c.write_at.new.self) (g.D.Disk.past c.write_at.new.self) (c.write_at.ensures.moment h);
+            (g.D.Disk.now c.args.disk.now) before e.count e.next rest refl c.page_for.new.page c.page_for.array_long
+            page _ at_is (g.D.Disk.past c.args.disk.now) (g.D.Disk.now c.write_at.new.self)
+            (g.D.Disk.past c.write_at.new.self) (c.write_at.ensures.moment h);
         after = page_now at x m j
-            (g.D.Disk.now c.args.disk.now) before e.count e.next rest refl c.page_for.new.page c.page_for.array_long page _ at_is (g.D.Disk.past c.args.disk.now) (g.D.Disk.now c.write_at.new.self) (g.D.Disk.past c.write_at.new.self) (c.write_at.ensures.moment h);
+            (g.D.Disk.now c.args.disk.now) before e.count e.next rest refl c.page_for.new.page c.page_for.array_long
+            page _ at_is (g.D.Disk.past c.args.disk.now) (g.D.Disk.now c.write_at.new.self)
+            (g.D.Disk.past c.write_at.new.self) (c.write_at.ensures.moment h);
       };
       kept = tt;
     }
@@ -46,7 +51,8 @@ returns-in-Err-clause-keeps g c = λ h m j kept.
 pub returns-clause-keeps : goal.returns-clause-keeps
 returns-clause-keeps g c = λ h m j kept.
     let e = c.self.inside in
-    let x : Paged = record { recent = e.recent; older = e.older; copies = e.copies; records = c.args.memory.now.records } in
+    let x : Paged =
+    record { recent = e.recent; older = e.older; copies = e.copies; records = c.args.memory.now.records } in
     let mark = mark_left c.args.self.now (seen e.header) e.step e.count
     (pages_from e.next e.left) e.recent e.older e.copies c.self.view_is c.requires.step.step in
     let rest : List ℕ = pages_from (e.next + 1) e.left in
@@ -70,12 +76,18 @@ returns-clause-keeps g c = λ h m j kept.
     record {
       leaves = record {
         within = page_leaves at x m j
-            (g.D.Disk.now c.args.disk.now) before e.count e.next rest refl c.page_for.new.page c.page_for.array_long page _ at_is (g.D.Disk.past c.args.disk.now) (g.D.Disk.now c.write_at.new.self) (g.D.Disk.past c.write_at.new.self) (c.write_at.ensures.moment h);
+            (g.D.Disk.now c.args.disk.now) before e.count e.next rest refl c.page_for.new.page c.page_for.array_long
+            page _ at_is (g.D.Disk.past c.args.disk.now) (g.D.Disk.now c.write_at.new.self)
+            (g.D.Disk.past c.write_at.new.self) (c.write_at.ensures.moment h);
         after = page_now at x m j
-            (g.D.Disk.now c.args.disk.now) before e.count e.next rest refl c.page_for.new.page c.page_for.array_long page _ at_is (g.D.Disk.past c.args.disk.now) (g.D.Disk.now c.write_at.new.self) (g.D.Disk.past c.write_at.new.self) (c.write_at.ensures.moment h);
+            (g.D.Disk.now c.args.disk.now) before e.count e.next rest refl c.page_for.new.page c.page_for.array_long
+            page _ at_is (g.D.Disk.past c.args.disk.now) (g.D.Disk.now c.write_at.new.self)
+            (g.D.Disk.past c.write_at.new.self) (c.write_at.ensures.moment h);
       };
       kept = subst (λ (s : Step). IsKept (record { header = seen e.header; step = s }) x m j
           (g.D.Disk.now c.write_at.new.self)) (sym (c.next_left-step.ensures.step e.count))
           (page_done at x m j
-          (g.D.Disk.now c.args.disk.now) before e.count e.next rest refl c.page_for.new.page c.page_for.array_long page _ at_is (g.D.Disk.past c.args.disk.now) (g.D.Disk.now c.write_at.new.self) (g.D.Disk.past c.write_at.new.self) (c.write_at.ensures.moment h) (c.in_default.ensures.tick h).now);
+          (g.D.Disk.now c.args.disk.now) before e.count e.next rest refl c.page_for.new.page c.page_for.array_long page
+          _ at_is (g.D.Disk.past c.args.disk.now) (g.D.Disk.now c.write_at.new.self)
+          (g.D.Disk.past c.write_at.new.self) (c.write_at.ensures.moment h) (c.in_default.ensures.tick h).now);
     }

@@ -1,8 +1,8 @@
 use Rattle.std.proofs.Common.{[], ◌∷◌, ◌++◌, vec_capacity, ◌≡◌, ◌<◌, ℕ, List, length, set, map, sym, ap, subst, ◌∙◌}
 use Rattle.std.proofs.Common.{arith}
 use Rattle.std.proofs.lemmas.List.{get_or_default, length-map}
-use Rattle.im_checkpoint.specs.declared.page_copies.Place.TheVariants.{Nowhere, At}
-use Rattle.im_checkpoint.specs.Copied.{copy_at, place_of, AreCopies}
+use Rattle.im_checkpoint.specs.declared.page_copies.CopyPlace.TheVariants.{Nowhere, At}
+use Rattle.im_checkpoint.specs.Copied.{copy_at, copy_place, AreCopies}
 use Rattle.im_checkpoint.proofs.Copied.{over-view, behind-kept, behind-view, has-room}
 use Rattle.im_checkpoint.proofs.page_copies.PageCopies.put.Goals as goal
 
@@ -11,7 +11,7 @@ index_mut-requires c =
     let i = c.self.inside in
     let low : c.args.i < length i.places.items = omega
     (arith, c.requires, ap length c.self.view_is, length-map i.places.items (copy_at i.pages.items)) in
-    let here : place_of i.places.items c.args.i
+    let here : copy_place i.places.items c.args.i
     ≡ At c.in-At.place = get_or_default i.places.items c.args.i Nowhere c.index.result.now low
     ∙ sym c.index.ensures ∙ c.in-At.is in
     omega (arith, c.self.invariant.within c.args.i c.in-At.place here)
@@ -21,7 +21,7 @@ unreachable-requires c =
     let i = c.self.inside in
     let low : c.args.i < length i.places.items = omega
     (arith, c.requires, ap length c.self.view_is, length-map i.places.items (copy_at i.pages.items)) in
-    let here : place_of i.places.items c.args.i
+    let here : copy_place i.places.items c.args.i
     ≡ Nowhere = get_or_default i.places.items c.args.i Nowhere c.index.result.now low ∙ sym c.index.ensures
     ∙ c.in-Nowhere.is in
     let room = has-room i.places.items i.pages.items _ c.args.i c.args.page.now c.self.invariant low here in
@@ -32,7 +32,7 @@ invariant_of-self-in-Nowhere c =
     let i = c.self.inside in
     let low : c.args.i < length i.places.items = omega
     (arith, c.requires, ap length c.self.view_is, length-map i.places.items (copy_at i.pages.items)) in
-    let here : place_of i.places.items c.args.i
+    let here : copy_place i.places.items c.args.i
     ≡ Nowhere = get_or_default i.places.items c.args.i Nowhere c.index.result.now low ∙ sym c.index.ensures
     ∙ c.in-Nowhere.is in
     let place : c.len-place.result ≡ length i.pages.items = omega (arith, c.len-place.ensures) in
@@ -40,14 +40,15 @@ invariant_of-self-in-Nowhere c =
     (vec_capacity c.push.new.self)) (sym place)
     (subst (λ (pages : List (List ℕ)). AreCopies (set i.places.items c.args.i (At (length i.pages.items))) pages
     (vec_capacity c.push.new.self)) (sym c.in-Ok.ensures.items)
-    (behind-kept i.places.items i.pages.items _ c.args.i c.args.page.now c.self.invariant low here _ c.in-Ok.ensures.capacity))
+    (behind-kept i.places.items i.pages.items _ c.args.i c.args.page.now c.self.invariant low here _
+    c.in-Ok.ensures.capacity))
 
 pub returns-in-At : goal.returns-in-At
 returns-in-At c =
     let i = c.self.inside in
     let low : c.args.i < length i.places.items = omega
     (arith, c.requires, ap length c.self.view_is, length-map i.places.items (copy_at i.pages.items)) in
-    let here : place_of i.places.items c.args.i
+    let here : copy_place i.places.items c.args.i
     ≡ At c.in-At.place = get_or_default i.places.items c.args.i Nowhere c.index.result.now low
     ∙ sym c.index.ensures ∙ c.in-At.is in
     over-view i.places.items i.pages.items _ c.args.i c.args.page.now c.self.invariant low c.in-At.place here
@@ -58,7 +59,7 @@ returns-in-Ok c =
     let i = c.self.inside in
     let low : c.args.i < length i.places.items = omega
     (arith, c.requires, ap length c.self.view_is, length-map i.places.items (copy_at i.pages.items)) in
-    let here : place_of i.places.items c.args.i
+    let here : copy_place i.places.items c.args.i
     ≡ Nowhere = get_or_default i.places.items c.args.i Nowhere c.index.result.now low ∙ sym c.index.ensures
     ∙ c.in-Nowhere.is in
     let place : c.len-place.result ≡ length i.pages.items = omega (arith, c.len-place.ensures) in

@@ -19,8 +19,11 @@ index-end-requires c =
 -- where the list stands
 place : (c : goal.After-deref-2)
     → Stands c.self.inside.waiters.items c.args.self.now c.args.cell c.start_of-start.result c.index-end.result.now
-place c = stands_at c.self.inside.waiters.items c.self.inside.ends.items c.args.self.now c.args.cell c.start_of-start.result c.index-end.result.now
-    c.self.view_is c.self.invariant c.requires c.deref.result.now c.deref.ensures.value c.start_of-start.ensures c.index-end.result.now c.index-end.ensures
+place c =
+    stands_at c.self.inside.waiters.items c.self.inside.ends.items c.args.self.now c.args.cell c.start_of-start.result
+    c.index-end.result.now
+    c.self.view_is c.self.invariant c.requires c.deref.result.now c.deref.ensures.value c.start_of-start.ensures
+    c.index-end.result.now c.index-end.ensures
 
 pub offset_bounds-deref-start : goal.offset_bounds-deref-start
 offset_bounds-deref-start c =
@@ -43,7 +46,10 @@ slice_bounds-result-end c =
 
 pub returns : goal.returns
 returns c =
-    let s = stands_at c.self.inside.waiters.items c.self.inside.ends.items c.args.self.now c.args.cell c.start_of-start.result c.index-end.result.now
-    c.self.view_is c.self.invariant c.requires c.deref.result.now c.deref.ensures.value c.start_of-start.ensures c.index-end.result.now c.index-end.ensures in
+    let s =
+    stands_at c.self.inside.waiters.items c.self.inside.ends.items c.args.self.now c.args.cell c.start_of-start.result
+    c.index-end.result.now
+    c.self.view_is c.self.invariant c.requires c.deref.result.now c.deref.ensures.value c.start_of-start.ensures
+    c.index-end.result.now c.index-end.ensures in
     ap (λ (l : List Waiter). take (c.index-end.result.now - c.start_of-start.result)
     (drop c.start_of-start.result l)) c.deref-2.ensures.value ∙ s.list

@@ -27,7 +27,7 @@ use denote.Triple.Spec.{Meets, triple_of}
 use denote.Triple.Table.{entered}
 use denote.Triple.Walked.{says, Stays, stay_ref, walk_of, AllGo, Goes-ref, Walks, ends_at, walked, walk_Meets}
 use Rattle.im_listed.specs.declared.account.Ledger.{Ledger}
-use Rattle.im_listed.specs.History.{event_of}
+use Rattle.im_listed.specs.History.{listed_call}
 use Rattle.im_listed.specs.contracts.account.Ledger as T
 use Rattle.im_listed.specs.contracts.account.Ledger.note.Key.{name as #it}
 use Rattle.im_listed.specs.contracts.account.Ledger.note as it
@@ -57,7 +57,7 @@ module _ {M : Type 1} {𝓤 : Ura M} (𝓛 : Logic 𝓤) (at_mem : Memory → SP
   x = (record { ref_ptr = (b, o); ghost_name = γ; now = h }, (k, (s, tt)))
 
   abbrev h' : Ledger
-  h' = record { marker = h.marker; events = event_of k.now s.now ∷ h.events }
+  h' = record { marker = h.marker; events = listed_call k.now s.now ∷ h.events }
 
   abbrev at : List Val × (List Val × (List Val × Unit {0}))
   at = (vptr b o ∷ [], (slice_val k.ref_ptr (length k.now) ∷ [], (slice_val s.ref_ptr (length s.now) ∷ [], tt)))
@@ -115,7 +115,8 @@ module _ {M : Type 1} {𝓤 : Ura M} (𝓛 : Logic 𝓤) (at_mem : Memory → SP
         (shr_slice_Tells (named 1) κs.1.0 u64, (shr_slice_Tells (named 2) κs.1.1.0 u8, tt)),
       ))
       (λ κs qs bounds a _ are. via 𝓤 _ (fst∗ 𝓤 _ (emp 𝓤))
-      (walk 𝓛 at_mem run κs.0 κs.1.0 κs.1.1.0 qs.0 qs.1.0 qs.1.1.0 a.0.ref_ptr.0 a.0.ref_ptr.1 a.0.ghost_name a.0.now a.1.0 a.1.1.0 C Λ are.1.0.0.1.0 are.1.1.0.0.1.0))
+      (walk 𝓛 at_mem run κs.0 κs.1.0 κs.1.1.0 qs.0 qs.1.0 qs.1.1.0 a.0.ref_ptr.0 a.0.ref_ptr.1 a.0.ghost_name a.0.now
+      a.1.0 a.1.1.0 C Λ are.1.0.0.1.0 are.1.1.0.0.1.0))
 
   goes : AllGo 𝓛 3 (it.signature).params (it.ended).kept stayed
   goes = (

@@ -24,4 +24,5 @@ returns-clause-only c =
     let zeros : c.in-Ok.bytes.items ≡ replicate c.image_length.result 0 = search rules in
     let size : length c.in-Ok.bytes.items ≡ n = ap length zeros ∙ length-replicate c.image_length.result 0
     ∙ c.image_length.ensures.length in
-    right_length c.in-Ok.bytes.items n c.in-Err.refusal c.new.result c.new.ensures.over size c.in-Err.ensures.faults.0 (λ is. (c.in-Err.ensures.wrong is tt).0)
+    right_length c.in-Ok.bytes.items n c.in-Err.refusal c.new.result c.new.ensures.over size c.in-Err.ensures.faults.0
+    (λ is. (c.in-Err.ensures.wrong is tt).0)

@@ -1,7 +1,7 @@
 use Rattle.std.proofs.Common.{◌≡◌, inl, List, ℕ, false, sym, ◌∙◌, ap}
 use Rattle.im_engine.specs.State.{EngineState, MeansEither}
 use Rattle.im_listed.specs.Listing.{Listing}
-use Rattle.im_listed.specs.Numbers.{told}
+use Rattle.im_listed.specs.Numbers.{told_number}
 use Rattle.im_listed.specs.Image.{ImageState, begun_in, tells_device}
 use Rattle.im_listed.proofs.ImageLemmas.{carries_on, start_of, alive_after, steady_after}
 use Rattle.im_listed.proofs.image.Image.serve.Goals as goal
@@ -9,7 +9,8 @@ use Rattle.im_listed.proofs.image.Image.serve.Goals as goal
 pub invariant_of-self : goal.invariant_of-self
 invariant_of-self c = λ is.
     let on : c.self.inside.engine.failed ≡ false = c.self.invariant c.if-self.false in
-    alive_after c.empty_list.new.self c.serve-answer.new.self c.args.command.now c.serve-answer.result c.serve-answer.ensures.answered
+    alive_after c.empty_list.new.self c.serve-answer.new.self c.args.command.now c.serve-answer.result
+    c.serve-answer.ensures.answered
     (ap (λ (t : EngineState Listing). t.failed) c.empty_list.ensures.emptied ∙ on)
     (sym c.tells_device-self-inside.ensures ∙ is)
 
@@ -25,8 +26,8 @@ returns-clause-carried c = λ alive.
     carries_on c.args.self.now new
     (λ (t : EngineState Listing) (file : List ℕ). MeansEither t c.args.command.now file) s
     (c.empty_list.ensures.emptied ∙ ap (λ (i : ImageState). begun_in i) c.self.view_is) (record {
-      same = λ is. steady_after c.serve-answer.result (told s.disk.failed s.disk.begun)
-          (told new.engine.disk.failed new.engine.disk.begun) c.serve-answer.ensures.faults (calm is);
+      same = λ is. steady_after c.serve-answer.result (told_number s.disk.failed s.disk.begun)
+          (told_number new.engine.disk.failed new.engine.disk.begun) c.serve-answer.ensures.faults (calm is);
       leaves = c.serve-answer.ensures.leaves tt here;
       start = λ file left. inl
           (start_of e s c.empty_list.ensures.emptied (c.known-self-inside.ensures.means on) file left);

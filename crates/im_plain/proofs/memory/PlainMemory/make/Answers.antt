@@ -1,5 +1,5 @@
 use Rattle.std.proofs.Common.{arith}
-use Rattle.im_plain.proofs.MakesLemmas.{makes-empty, contents_of-empty}
+use Rattle.im_plain.proofs.MakesLemmas.{makes-empty, plain_contents-empty}
 use Rattle.im_plain.proofs.memory.PlainMemory.make.Goals as goal
 
 pub invariant_of-result : goal.invariant_of-result
@@ -14,4 +14,4 @@ invariant_of-result c =
 pub returns : goal.returns
 returns c =
     rw (c.in_ok-slots.ensures, c.in_ok-windows.ensures, c.in_ok-queue.ensures.items)
-    (contents_of-empty c.args.limits.cells c.args.limits.elements)
+    (plain_contents-empty c.args.limits.cells c.args.limits.elements)

@@ -38,17 +38,20 @@ returns-in-Request-clause-keeps c =
 pub returns-in-Confirm-clause-memory : goal.returns-in-Confirm-clause-memory
 returns-in-Confirm-clause-memory c =
     stays c.args.self.now c.confirm.new.self c.args.command.now
-    (Confirm c.in-Confirm.element c.in-Confirm.upto) c.in-Confirm.is c.confirm.ensures.contents c.confirm.ensures.was_memory
+    (Confirm c.in-Confirm.element c.in-Confirm.upto) c.in-Confirm.is c.confirm.ensures.contents
+    c.confirm.ensures.was_memory
 
 pub returns-in-Confirm-clause-agrees : goal.returns-in-Confirm-clause-agrees
 returns-in-Confirm-clause-agrees c =
     (stays c.args.self.now c.confirm.new.self c.args.command.now
-    (Confirm c.in-Confirm.element c.in-Confirm.upto) c.in-Confirm.is c.confirm.ensures.contents c.confirm.ensures.was_memory).agrees
+    (Confirm c.in-Confirm.element c.in-Confirm.upto) c.in-Confirm.is c.confirm.ensures.contents
+    c.confirm.ensures.was_memory).agrees
 
 pub returns-in-Confirm-clause-keeps : goal.returns-in-Confirm-clause-keeps
 returns-in-Confirm-clause-keeps c =
     keeps c.args.self.now c.confirm.new.self c.args.command.now
-    (Confirm c.in-Confirm.element c.in-Confirm.upto) c.in-Confirm.is c.confirm.ensures.contents c.confirm.ensures.was_memory
+    (Confirm c.in-Confirm.element c.in-Confirm.upto) c.in-Confirm.is c.confirm.ensures.contents
+    c.confirm.ensures.was_memory
 
 pub returns-in-Request-clause-refused : goal.returns-in-Request-clause-refused
 returns-in-Request-clause-refused c = step-refused c.args.self.now c.request.new.self

@@ -2,7 +2,7 @@ use Rattle.std.proofs.Common.{sym, ap, ◌∙◌}
 use Rattle.std.specs.Prelude.{slice_get}
 use Rattle.im_types.specs.Contents.{Contents, waiters_at}
 use Rattle.im_plain.specs.Waiting.{waiting_at}
-use Rattle.im_plain.proofs.JoinedLemmas.{waiters_at-joined}
+use Rattle.im_plain.proofs.JoinedLemmas.{waiters_at-plain_cells}
 use Rattle.im_plain.proofs.memory.PlainMemory.waiter.Goals as goal
 
 pub returns : goal.returns
@@ -10,5 +10,5 @@ returns c =
     let m = c.self.inside in
     c.nth_at.ensures ∙ ap (λ queue. slice_get (waiting_at c.args.a queue) c.args.place) c.as_slice.ensures.value
     ∙ sym (ap (λ waiters. slice_get waiters c.args.place)
-    (waiters_at-joined m.slots.items m.queue.items c.self.invariant.fits c.args.a))
+    (waiters_at-plain_cells m.slots.items m.queue.items c.self.invariant.fits c.args.a))
     ∙ ap (λ (m : Contents). slice_get (waiters_at m.cells c.args.a) c.args.place) c.self.view_is

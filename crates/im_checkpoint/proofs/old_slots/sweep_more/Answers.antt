@@ -2,10 +2,11 @@ use Rattle.im_disk.proofs.SinceLemmas.{only_weaker}
 use Rattle.im_journal.specs.Holding.{MaySweep}
 use Rattle.im_checkpoint.specs.Keeping.{MeansWith}
 use Rattle.im_checkpoint.proofs.Sweeping.{sweep_means, swept_kept, kept_still}
-use Rattle.im_checkpoint.proofs.checkpoint.sweep_more.Goals as goal
+use Rattle.im_checkpoint.proofs.old_slots.sweep_more.Goals as goal
 
 pub returns-then-to_sweep-eq0-clause-keeps : goal.returns-then-to_sweep-eq0-clause-keeps
-returns-then-to_sweep-eq0-clause-keeps g c = λ h s x m is kept. kept_still g.D.Disk.now g.D.Disk.past c.args.disk.now s x m c.args.journal.now kept
+returns-then-to_sweep-eq0-clause-keeps g c =
+    λ h s x m is kept. kept_still g.D.Disk.now g.D.Disk.past c.args.disk.now s x m c.args.journal.now kept
 
 pub returns-clause-keeps : goal.returns-clause-keeps
 returns-clause-keeps g c = λ h s x m is kept. record {

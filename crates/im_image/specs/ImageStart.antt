@@ -1,10 +1,10 @@
 -- The beginning of an image. (Own.)
 use Rattle.std.specs.Prelude.{◌≡◌, ◌≤◌, ℕ, List, length}
 use Rattle.im_types.specs.Header.{header_place}
-use Rattle.im_image.specs.declared.in_force.Beginning.{Beginning}
+use Rattle.im_image.specs.declared.in_force.ImageStart.{ImageStart}
 
 -- this is the beginning of the file
-pub record IsBeginning (b : Beginning) (file : List ℕ) : Type 0 where
+pub record IsImageStart (b : ImageStart) (file : List ℕ) : Type 0 where
   pub length_is : b.length ≡ length file
   pub room : 8192 ≤ length file
   pub zero_is : b.zero ≡ header_place 0 file

@@ -9,13 +9,13 @@ use Rattle.im_types.specs.declared.operations.Block.{Block}
 use Rattle.im_types.specs.Contents.{CellState, Held, held_at}
 use Rattle.im_types.specs.Act.{Served as ServedCell, Acted as ActedCells, tells, fetch, store, take_from, put}
 use Rattle.im_types.specs.Act.{block_with_base, is_waiting_cell}
-use Rattle.im_plain.specs.declared.cells.State.{State}
-use Rattle.im_plain.specs.declared.cells.Slot.{Slot}
+use Rattle.im_plain.specs.declared.cells.Content.{Content}
+use Rattle.im_plain.specs.declared.cells.PlainSlot.{PlainSlot}
 use Rattle.im_plain.specs.declared.queue.Deferred.{Deferred}
-use Rattle.im_plain.specs.declared.acts.Served.{Served}
-use Rattle.im_plain.specs.declared.acts.Acted.{Acted}
-use Rattle.im_plain.specs.Waiting.{waiting_at, without, with_asker, replies_to}
-use Rattle.im_plain.specs.Joined.{state_of, joined, is_open_state, Fits}
+use Rattle.im_plain.specs.declared.effects.CellEffect.{CellEffect}
+use Rattle.im_plain.specs.declared.acts.Effect.{Effect}
+use Rattle.im_plain.specs.Waiting.{waiting_at, without, with_asker, each_given}
+use Rattle.im_plain.specs.Joined.{state_with, plain_cells, lets_wait, QueueFits}
 
 -- the effect of an operation on the cell at its address
 abbrev pub access_of : Waiter → Op → CellState → ServedCell
@@ -28,30 +28,30 @@ access_of who (Take a) = take_from who
 access_of who (Put a v) = put v
 
 -- this many requests wait at the cell, and none if none may wait there
-pub record AreWaiting (state : State) (waiting : ℕ) (waiters : List Waiter) : Type 0 where
+pub record AreWaiting (state : Content) (waiting : ℕ) (waiters : List Waiter) : Type 0 where
   pub counted : length waiters ≡ waiting
-  pub quiet : is_open_state state ≡ false → waiters ≡ []
+  pub quiet : lets_wait state ≡ false → waiters ≡ []
 
 -- this is the effect of serving an asker at a cell where these requests wait
-pub record HasServed (served : Served) (who : Waiter) (waiters : List Waiter) (was : ServedCell) : Type 0 where
-  pub state : state_of served.state (drop served.count (with_asker served.entry who waiters)) ≡ was.state
-  pub quiet : is_open_state served.state ≡ false → drop served.count (with_asker served.entry who waiters) ≡ []
+pub record HasCellEffect (served : CellEffect) (who : Waiter) (waiters : List Waiter) (was : ServedCell) : Type 0 where
+  pub state : state_with served.state (drop served.count (with_asker served.entry who waiters)) ≡ was.state
+  pub quiet : lets_wait served.state ≡ false → drop served.count (with_asker served.entry who waiters) ≡ []
   pub told : served.entry ≡ was.entry
-  pub replies : replies_to (take served.count (with_asker served.entry who waiters)) served.value ≡ was.resumed
+  pub replies : each_given (take served.count (with_asker served.entry who waiters)) served.value ≡ was.resumed
 
 -- the same, for each asker and any waiting requests
-abbrev pub Serves : State → ℕ → Served → (Waiter → CellState → ServedCell) → Type 0
-Serves state waiting served was =
+abbrev pub GivesEffect : Content → ℕ → CellEffect → (Waiter → CellState → ServedCell) → Type 0
+GivesEffect state waiting served was =
     (who : Waiter) (waiters : List Waiter) → AreWaiting state waiting waiters
-    → HasServed served who waiters (was who (state_of state waiters))
+    → HasCellEffect served who waiters (was who (state_with state waiters))
 
 -- slots and queue are the effect of an operation, once the requests that are given a value have left the queue
-pub record HasActed (slots : List (Option Slot)) (queue : List Deferred) (acted : Acted)
+pub record HasEffect (slots : List (Option PlainSlot)) (queue : List Deferred) (acted : Effect)
     (was : ActedCells) : Type 0 where
-  pub cells : joined slots (without acted.count acted.address queue) ≡ was.cells
-  pub fits : Fits slots (without acted.count acted.address queue)
+  pub cells : plain_cells slots (without acted.count acted.address queue) ≡ was.cells
+  pub fits : QueueFits slots (without acted.count acted.address queue)
   pub told : acted.entry ≡ was.entry
-  pub replies : replies_to (take acted.count (waiting_at acted.address queue)) acted.value ≡ was.resumed
+  pub replies : each_given (take acted.count (waiting_at acted.address queue)) acted.value ≡ was.resumed
 
 -- a block of n cells begins at this address, and no request waits for any of them
 pub record IsUnwaited (cells : List (Option Held)) (a n : ℕ) : Type 0 where

@@ -1,4 +1,4 @@
-use Rattle.im_plain.proofs.acts.access.Goals as goal
+use Rattle.im_plain.proofs.effects.access.Goals as goal
 
 pub returns-in-Fetch : goal.returns-in-Fetch
 returns-in-Fetch c = λ who waiters waits. rw c.in-Fetch.is (c.fetch.ensures c.args.waiting who waiters waits)

@@ -5,10 +5,10 @@ use Rattle.std.proofs.lemmas.Bool.Decides.{nat_tests}
 use Rattle.im_types.specs.declared.refusals.Refusal.{Refusal}
 use Rattle.im_types.specs.declared.refusals.Refusal.TheVariants.{WrongLength, Device}
 use Rattle.im_types.specs.Header.{header_place, header_fault, layout_in}
-use Rattle.im_image.specs.declared.in_force.Beginning.{Beginning}
+use Rattle.im_image.specs.declared.in_force.ImageStart.{ImageStart}
 use Rattle.im_image.specs.declared.header.Header.{Header}
 use Rattle.im_image.specs.Headers.{beginning_fault, layout_at}
-use Rattle.im_image.specs.Beginning.{IsBeginning}
+use Rattle.im_image.specs.ImageStart.{IsImageStart}
 
 pub long : (n : ℕ) → 8192 ≤ n → nat_lt n 8192 ≡ false
 long n le = grind (arith, nat_tests)
@@ -19,7 +19,7 @@ fault_of_long file le = ap
     (λ (b : Bool). if b then Some WrongLength else beginning_fault (layout_in file) (length file)
     (header_place 0 file) (header_place 1 file)) (long (length file) le)
 
-pub fault-beginning : (b : Beginning) (file : List ℕ) → IsBeginning b file
+pub fault-beginning : (b : ImageStart) (file : List ℕ) → IsImageStart b file
     → beginning_fault (layout_at b.zero b.one) b.length b.zero b.one ≡ header_fault (layout_in file) file
 fault-beginning b file is =
     ap (λ (n : ℕ). beginning_fault (layout_at b.zero b.one) n b.zero b.one) is.length_is
@@ -28,14 +28,14 @@ fault-beginning b file is =
     (header_place 0 file) o) is.one_is
     ∙ sym (fault_of_long file is.room)
 
-pub good_beginning : {H : Type 0} (r : Result Header Refusal) (b : Beginning) (file : List ℕ)
-    → (H → IsBeginning b file) → OnOk r (beginning_fault (layout_at b.zero b.one) b.length b.zero b.one ≡ None)
+pub good_beginning : {H : Type 0} (r : Result Header Refusal) (b : ImageStart) (file : List ℕ)
+    → (H → IsImageStart b file) → OnOk r (beginning_fault (layout_at b.zero b.one) b.length b.zero b.one ≡ None)
     → OnOk r (H → header_fault (layout_in file) file ≡ None)
 good_beginning (Ok h) b file is good = λ honest. sym (fault-beginning b file (is honest)) ∙ good
 good_beginning (Err e) b file is good = tt
 
-pub fault_of_beginning : {H : Type 0} (r : Result Header Refusal) (b : Beginning) (file : List ℕ)
-    → (H → IsBeginning b file) → IfErr r (λ e. beginning_fault (layout_at b.zero b.one) b.length b.zero b.one ≡ Some e)
+pub fault_of_beginning : {H : Type 0} (r : Result Header Refusal) (b : ImageStart) (file : List ℕ)
+    → (H → IsImageStart b file) → IfErr r (λ e. beginning_fault (layout_at b.zero b.one) b.length b.zero b.one ≡ Some e)
     → IfErr r (λ e. (e ≡ Device) ⊎ (H → header_fault (layout_in file) file ≡ Some e))
 fault_of_beginning (Ok h) b file is fault = tt
 fault_of_beginning (Err e) b file is fault = inr (λ honest. sym (fault-beginning b file (is honest)) ∙ fault)

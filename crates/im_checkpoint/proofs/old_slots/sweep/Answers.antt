@@ -2,7 +2,7 @@ use Rattle.im_disk.proofs.SinceLemmas.{only_weaker}
 use Rattle.im_journal.specs.Holding.{MaySweep}
 use Rattle.im_checkpoint.specs.Keeping.{MeansWith}
 use Rattle.im_checkpoint.proofs.Sweeping.{sweep_means, sweep_done}
-use Rattle.im_checkpoint.proofs.checkpoint.sweep.Goals as goal
+use Rattle.im_checkpoint.proofs.old_slots.sweep.Goals as goal
 
 pub returns-in-Ok-clause-keeps : goal.returns-in-Ok-clause-keeps
 returns-in-Ok-clause-keeps g c = λ h s x m is kept. record {

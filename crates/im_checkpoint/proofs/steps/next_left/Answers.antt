@@ -1,7 +1,7 @@
 use Rattle.std.proofs.Common.{◌∙◌, ap, sym}
 use Rattle.im_pages.proofs.SetLemmas.{from-next, from-none, step_in}
 use Rattle.im_checkpoint.specs.Step.{PagesLeft, with_left}
-use Rattle.im_checkpoint.proofs.checkpoint.next_left.Goals as goal
+use Rattle.im_checkpoint.proofs.steps.next_left.Goals as goal
 
 pub returns-in-Some-clause-step : goal.returns-in-Some-clause-step
 returns-in-Some-clause-step c = λ count.
