@@ -256,7 +256,7 @@ inline make_room() {
   did = false
 }
 /* of im_controller::lend_group 9604e848a54d
-   of im_engine::Engine::serve_commands eafb58be3e7d: the fault may fall before each member, which begins a group then. */
+   of im_engine::Engine::serve_commands 4c544e4a010c: the fault may fall before each member, which begins a group then. */
 inline serve_member(m) {
   may_fail();
   if :: failed -> unclaimed[m] = Failed

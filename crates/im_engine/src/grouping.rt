@@ -11,7 +11,7 @@ use crate::engine::Engine;
 use crate::groups::{Members, act_all, commands_of, places_in, put_on, refuse_all};
 use arrayvec::ArrayVec;
 use im_disk::Disk;
-use im_groups::judge_members;
+use im_groups::judge_each;
 use im_types::{Command, Refusal, Request, Served};
 
 impl<D: Disk> Engine<D> {
@@ -85,7 +85,7 @@ impl<D: Disk> Engine<D> {
         let places = places_in(&self.journal);
         let mut commands = ArrayVec::new();
         let mut taken = ArrayVec::new();
-        let judged = judge_members(&self.memory, places, members, &mut commands, &mut taken);
+        let judged = judge_each(&self.memory, places, members, &mut commands, &mut taken);
         self.serve_judged(
             &members[..judged],
             taken.as_slice(),

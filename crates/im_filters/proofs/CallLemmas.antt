@@ -1,6 +1,6 @@
 -- What is told of each line of a trace. (Own.)
 use Rattle.std.proofs.Common.{◌≡◌, ◌∙◌, ℕ, ◌<◌, Bool, true, false, List, [], ◌∷◌, ◌++◌, refl, ap, ap₂, sym, arith}
-use Rattle.std.proofs.Common.{append_assoc}
+use Rattle.std.proofs.Common.{append_assoc, subst}
 use Rattle.std.specs.Prelude.{if◌then◌else◌, codes, decimal}
 use Rattle.std.specs.Str.{bytes_eq}
 use Rattle.im_types.specs.declared.operations.Kind.TheVariants.{I, M}
@@ -8,14 +8,44 @@ use Rattle.im_types.specs.declared.operations.Op.{Op}
 use Rattle.im_types.specs.declared.operations.Op.TheVariants.{Alloc, Release, Reset, Fetch, Store, Take, Put}
 use Rattle.im_text.specs.Texts.{op_text}
 use Rattle.im_filters.specs.declared.telling.Telling.TheVariants.{Calls}
-use Rattle.im_filters.specs.Calls.{answer_members, answered_members, asking_members, call_members, line_of_call}
-use Rattle.im_filters.specs.Calls.{members_by, named_members, noting_members, op_members, op_word, operand_members}
-use Rattle.im_filters.specs.Calls.{place_members, request_members, room_members}
+use Rattle.im_filters.specs.Calls.{answer_members, answered_members, asking_members, behind_mark, call_members}
+use Rattle.im_filters.specs.Calls.{call_object, begins_marked, line_of_call, mark_members, mark_words, marked_object}
+use Rattle.im_filters.specs.Calls.{members_by, named_members, noting_members, object_behind, op_members, op_word}
+use Rattle.im_filters.specs.Calls.{operand_members, place_members, request_members, room_members}
 use Rattle.im_filters.specs.Objects.{cut_front, cut_rest, head_word, tail_words}
-use Rattle.im_filters.specs.Tellings.{IsSaid, IsSifted, lacks}
+use Rattle.im_filters.specs.Tellings.{IsCallTold, IsSaid, IsSifted, lacks}
 use Rattle.im_filters.proofs.CutLemmas.{front_at, is_sifted, lacks_both, rest_at}
 use Rattle.im_filters.proofs.DigitLemmas.{decimal_digits, lacks_decimal, word_differs}
 use Rattle.im_filters.proofs.LineLemmas.{asked, asked_front, asked_lacks, asked_rest, spaced_head, spaced_tail}
+
+-- ---- marks
+
+-- a line that begins with the word of no mark
+abbrev IsUnmarked : List ℕ → Type 0
+IsUnmarked line = (begins_marked (codes "group") line ≡ false) × (begins_marked (codes "checkpoint") line ≡ false)
+
+behind_none : (word line : List ℕ) → begins_marked word line ≡ false → behind_mark word line ≡ line
+behind_none word line none = ap (λ (test : Bool). if test then tail_words line else line) none
+
+one_mark : (group checkpoint : Bool) (line : List ℕ) → begins_marked (codes "checkpoint") line ≡ false
+    → object_behind group ((if checkpoint then codes "checkpoint " else []) ++ line)
+    ≡ marked_object group checkpoint line
+one_mark group false line none = ap₂ (marked_object group) none (behind_none (codes "checkpoint") line none)
+one_mark group true line none = refl
+
+both_marks : (group checkpoint : Bool) (line : List ℕ) → IsUnmarked line
+    → call_object (mark_words group checkpoint ++ line) ≡ marked_object group checkpoint line
+both_marks false false line none =
+    ap₂ object_behind none.0 (behind_none (codes "group") line none.0) ∙ one_mark false false line none.1
+both_marks false true line none = one_mark false true line none.1
+both_marks true false line none = one_mark true false line none.1
+both_marks true true line none = one_mark true true line none.1
+
+marks_lack : (group checkpoint : Bool) → lacks 10 (mark_words group checkpoint) ≡ true
+marks_lack false false = refl
+marks_lack false true = refl
+marks_lack true false = refl
+marks_lack true true = refl
 
 -- ---- a line
 
@@ -31,18 +61,23 @@ clean_both : (xs ys : List ℕ) → IsClean xs → IsClean ys → IsClean (xs ++
 clean_both xs ys h k = (lacks_both 45 xs ys h.0 k.0, lacks_both 10 xs ys h.1 k.1)
 
 -- a call with this text and these members
-call_told : (call members said word operand : List ℕ) → IsClean call
-    → call_members (call ++ 32 ∷ []) ≡ members → IsSaid said word operand
-    → IsSifted Calls (line_of_call call said) (members ++ answered_members word operand)
-call_told call members said word operand clean is answer =
+call_told : (call members : List ℕ) → IsClean call → ((rest : List ℕ) → IsUnmarked (call ++ 32 ∷ rest))
+    → call_members (call ++ 32 ∷ []) ≡ members → IsCallTold call members
+call_told call members clean unmarked is group checkpoint said word operand answer =
+    let marks = mark_words group checkpoint in
+    let body = call ++ codes " -> " ++ said in
     let front = call ++ 32 ∷ [] in
     let none = lacks_both 45 call (32 ∷ []) clean.0 refl in
     let first = ap (cut_front 45) (arrow_is call said) ∙ front_at 45 front (62 ∷ 32 ∷ said) none in
     let last = ap (cut_rest 45) (arrow_is call said) ∙ rest_at 45 front (62 ∷ 32 ∷ said) none in
-    is_sifted Calls (call ++ codes " -> " ++ said) (members ++ answered_members word operand) refl
-    (lacks_both 10 (call ++ codes " -> ") said (lacks_both 10 call (codes " -> ") clean.1 refl) answer.ends)
-    (ap₂ (λ x y. call_members x ++ answer_members (tail_words y)) first last
-    ∙ ap₂ (λ x y. x ++ y) is (ap₂ answered_members answer.head answer.tail))
+    let all = members ++ mark_members group checkpoint ++ answered_members word operand in
+    let ends = lacks_both 10 (call ++ codes " -> ") said (lacks_both 10 call (codes " -> ") clean.1 refl) answer.ends in
+    let begins = subst IsUnmarked (sym (append_assoc call (codes " -> ") said)) (unmarked (45 ∷ 62 ∷ 32 ∷ said)) in
+    let told = both_marks group checkpoint body begins
+    ∙ ap₂ (λ x y. call_members x ++ mark_members group checkpoint ++ answer_members (tail_words y)) first last
+    ∙ ap₂ (λ x y. x ++ mark_members group checkpoint ++ y) is (ap₂ answered_members answer.head answer.tail) in
+    subst (λ (l : List ℕ). IsSifted Calls l all) (append_assoc marks body (10 ∷ []))
+    (is_sifted Calls (marks ++ body) all refl (lacks_both 10 marks body (marks_lack group checkpoint) ends) told)
 
 -- ---- words with a space behind each
 
@@ -181,29 +216,41 @@ asked_clean : (element number : ℕ) → IsClean (asked element number)
 asked_clean element number =
     (asked_lacks 45 element number (omega arith) refl, asked_lacks 10 element number (omega arith) refl)
 
-pub request_told : (element number : ℕ) (op : Op) (said word operand : List ℕ) → IsSaid said word operand
-    → IsSifted Calls (line_of_call (asked element number ++ codes " " ++ op_text op) said)
-    (asking_members element number op ++ answered_members word operand)
-request_told element number op said word operand =
-    call_told (asked element number ++ codes " " ++ op_text op) (asking_members element number op) said word operand
+request_unmarked : (element number : ℕ) (op : Op) (rest : List ℕ)
+    → IsUnmarked ((asked element number ++ codes " " ++ op_text op) ++ 32 ∷ rest)
+request_unmarked element number op rest =
+    let front = asked element number in
+    let text = op_text op ++ 32 ∷ rest in
+    let head = ap head_word (append_assoc (front ++ 32 ∷ []) (op_text op) (32 ∷ rest))
+    ∙ spaced_head front [] text (asked_lacks 32 element number (omega arith) refl) in (
+      ap (λ l. bytes_eq l (codes "group")) head
+          ∙ asked_is_other element number 103 (codes "roup") (omega arith),
+      ap (λ l. bytes_eq l (codes "checkpoint")) head
+          ∙ asked_is_other element number 99 (codes "heckpoint") (omega arith),
+    )
+
+pub request_told : (element number : ℕ) (op : Op)
+    → IsCallTold (asked element number ++ codes " " ++ op_text op) (asking_members element number op)
+request_told element number op =
+    call_told (asked element number ++ codes " " ++ op_text op) (asking_members element number op)
     (clean_both (asked element number ++ codes " ") (op_text op)
     (clean_both (asked element number) (codes " ") (asked_clean element number) (refl, refl)) (op_clean op))
-    (request_is element number op)
+    (request_unmarked element number op) (request_is element number op)
 
-pub confirm_told : (element upto : ℕ) (said word operand : List ℕ) → IsSaid said word operand
-    → IsSifted Calls (line_of_call (codes "confirm " ++ decimal element ++ codes " " ++ decimal upto) said)
-    (noting_members element upto (codes "confirm") ++ answered_members word operand)
-confirm_told element upto said word operand =
+pub confirm_told : (element upto : ℕ)
+    → IsCallTold (codes "confirm " ++ decimal element ++ codes " " ++ decimal upto)
+    (noting_members element upto (codes "confirm"))
+confirm_told element upto =
     call_told (codes "confirm " ++ decimal element ++ codes " " ++ decimal upto)
-    (noting_members element upto (codes "confirm")) said word operand
-    (clean_two (codes "confirm ") element upto (refl, refl)) (confirm_is element upto)
+    (noting_members element upto (codes "confirm"))
+    (clean_two (codes "confirm ") element upto (refl, refl)) (λ rest. (refl, refl)) (confirm_is element upto)
 
-pub collect_told : (element number : ℕ) (said word operand : List ℕ) → IsSaid said word operand
-    → IsSifted Calls (line_of_call (codes "collect " ++ decimal element ++ codes "." ++ decimal number) said)
-    (noting_members element number (codes "collect") ++ answered_members word operand)
-collect_told element number said word operand =
+pub collect_told : (element number : ℕ)
+    → IsCallTold (codes "collect " ++ decimal element ++ codes "." ++ decimal number)
+    (noting_members element number (codes "collect"))
+collect_told element number =
     call_told (codes "collect " ++ decimal element ++ codes "." ++ decimal number)
-    (noting_members element number (codes "collect")) said word operand
+    (noting_members element number (codes "collect"))
     (clean_behind (codes "collect " ++ decimal element ++ codes ".") number
     (clean_both (codes "collect " ++ decimal element) (codes ".") (clean_behind (codes "collect ") element (refl, refl))
-    (refl, refl))) (collect_is element number)
+    (refl, refl))) (λ rest. (refl, refl)) (collect_is element number)

@@ -11,7 +11,7 @@ use Rattle.im_filters.specs.Sieves.{goes_by_lines}
 use Rattle.im_filters.specs.Tellings.{IsSifted, part_left, sifted, sifted_lines}
 use Rattle.im_filters.proofs.CutLemmas.{sifted_lines-append, told_by_lines}
 
-sifted_both : (t : Telling) (a b x y : List ℕ) → IsSifted t a x → IsSifted t b y → IsSifted t (a ++ b) (x ++ y)
+pub sifted_both : (t : Telling) (a b x y : List ℕ) → IsSifted t a x → IsSifted t b y → IsSifted t (a ++ b) (x ++ y)
 sifted_both t a b x y first second text =
     ap (sifted t) (append_assoc a b text) ∙ first (b ++ text) ∙ ap (λ l. x ++ l) (second text)
     ∙ sym (append_assoc x y (sifted t text))

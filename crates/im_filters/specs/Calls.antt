@@ -1,5 +1,5 @@
 -- The objects of JSON for the lines of a trace. (Own.)
-use Rattle.std.specs.Prelude.{ℕ, if◌then◌else◌, List, [], ◌++◌, codes, decimal}
+use Rattle.std.specs.Prelude.{ℕ, Bool, if◌then◌else◌, List, [], ◌++◌, codes, decimal}
 use Rattle.std.specs.Str.{bytes_eq}
 use Rattle.im_types.specs.declared.operations.Op.{Op}
 use Rattle.im_types.specs.declared.operations.Op.TheVariants.{Alloc, Release, Reset, Fetch, Store, Take, Put}
@@ -44,6 +44,25 @@ said_member word = codes ",\"reply\":\"" ++ word ++ codes "\""
 abbrev pub answered_members : List ℕ → List ℕ → List ℕ
 answered_members word operand = said_member word ++ operand_member word operand ++ codes "}\n"
 
+-- ---- marks
+
+-- the member of a mark, if the line has it
+abbrev pub mark_member : List ℕ → Bool → List ℕ
+mark_member word marked = if marked then codes ",\"" ++ word ++ codes "\":true" else []
+
+-- the members of both marks: that a group of commands began with the call, and that a checkpoint came in force before
+abbrev pub mark_members : Bool → Bool → List ℕ
+mark_members group checkpoint =
+    mark_member (codes "group") group ++ mark_member (codes "checkpoint") checkpoint
+
+-- whether a line begins with the word of a mark
+abbrev pub begins_marked : List ℕ → List ℕ → Bool
+begins_marked word line = bytes_eq (head_word line) word
+
+-- what stands behind that word; all of the line if it doesn't
+abbrev pub behind_mark : List ℕ → List ℕ → List ℕ
+behind_mark word line = if begins_marked word line then tail_words line else line
+
 -- ---- a line's object
 
 -- what stands behind the word of a request, each word with a space behind it
@@ -74,17 +93,27 @@ call_members asked = members_by (head_word asked) (tail_words asked)
 abbrev pub answer_members : List ℕ → List ℕ
 answer_members said = answered_members (head_word said) (tail_words said)
 
--- a call and its answer
-abbrev pub both_members : List ℕ → List ℕ → List ℕ
-both_members asked said = call_members asked ++ answer_members said
+-- a call with its marks and its answer
+abbrev pub both_members : Bool → Bool → List ℕ → List ℕ → List ℕ
+both_members group checkpoint asked said =
+    call_members asked ++ mark_members group checkpoint ++ answer_members said
 
--- a call and its answer, before which the rest of the arrow stands
-abbrev pub arrow_members : List ℕ → List ℕ → List ℕ
-arrow_members asked arrow = both_members asked (tail_words arrow)
+-- the same, where the rest of the arrow stands before the answer
+abbrev pub arrow_members : Bool → Bool → List ℕ → List ℕ → List ℕ
+arrow_members group checkpoint asked arrow = both_members group checkpoint asked (tail_words arrow)
 
--- a line of a trace, without its line feed: CALL -> ANSWER
+-- a line with these marks, which stand before it no more: CALL -> ANSWER
+abbrev pub marked_object : Bool → Bool → List ℕ → List ℕ
+marked_object group checkpoint line = arrow_members group checkpoint (cut_front 45 line) (cut_rest 45 line)
+
+-- the same, with the words of its marks before it, of which that of a group stands first
+abbrev pub object_behind : Bool → List ℕ → List ℕ
+object_behind group line =
+    marked_object group (begins_marked (codes "checkpoint") line) (behind_mark (codes "checkpoint") line)
+
+-- a line of a trace, without its line feed
 abbrev pub call_object : List ℕ → List ℕ
-call_object line = arrow_members (cut_front 45 line) (cut_rest 45 line)
+call_object line = object_behind (begins_marked (codes "group") line) (behind_mark (codes "group") line)
 
 -- ---- what a call has in an object
 
@@ -120,3 +149,8 @@ noting_members element number word = named_members (decimal element) (decimal nu
 -- CALL -> ANSWER
 abbrev pub line_of_call : List ℕ → List ℕ → List ℕ
 line_of_call asked said = asked ++ codes " -> " ++ said ++ line_feed
+
+-- the words of the marks before a line, each with a space behind it
+abbrev pub mark_words : Bool → Bool → List ℕ
+mark_words group checkpoint =
+    (if group then codes "group " else []) ++ (if checkpoint then codes "checkpoint " else [])

@@ -7,7 +7,7 @@ use Rattle.im_text.specs.Printing.{Begins}
 use Rattle.im_text.specs.Texts.{line_feed}
 use Rattle.im_filters.specs.declared.telling.Telling.{Telling}
 use Rattle.im_filters.specs.declared.telling.Telling.TheVariants.{Plain, Quiet, Json, Calls}
-use Rattle.im_filters.specs.Calls.{call_object}
+use Rattle.im_filters.specs.Calls.{answered_members, call_object, line_of_call, mark_members, mark_words}
 use Rattle.im_filters.specs.Objects.{head_word, object_of, tail_words}
 
 -- ---- a line
@@ -67,6 +67,13 @@ pub record IsSaid (said word operand : List ℕ) : Type 0 where
   pub head : head_word said ≡ word
   pub tail : tail_words said ≡ operand
   pub ends : lacks 10 said ≡ true
+
+-- A line of a trace with this call is told so, whatever was answered, and whichever marks stand before it: the members
+-- of the call, then those of the marks, then those of the answer.
+abbrev pub IsCallTold : List ℕ → List ℕ → Type 0
+IsCallTold asked members = (group checkpoint : Bool) (said word operand : List ℕ) → IsSaid said word operand
+    → IsSifted Calls (mark_words group checkpoint ++ line_of_call asked said)
+    (members ++ mark_members group checkpoint ++ answered_members word operand)
 
 -- ---- a writer
 

@@ -1,8 +1,9 @@
 //! Makes the objects of JSON for the lines of a trace.
 ghost use Rattle.std.specs.Prelude.{◌≡◌, ◌++◌, OnOk, string_bytes};
 ghost use Rattle.im_filters.specs.Calls.{address_member, answer_members, answered_members, arrow_members};
-ghost use Rattle.im_filters.specs.Calls.{both_members, call_member, call_members, call_object, kind_member};
-ghost use Rattle.im_filters.specs.Calls.{length_member, members_by, named_members, operand_members};
+ghost use Rattle.im_filters.specs.Calls.{begins_marked, behind_mark, both_members, call_member, call_members};
+ghost use Rattle.im_filters.specs.Calls.{call_object, kind_member, length_member, mark_member, mark_members};
+ghost use Rattle.im_filters.specs.Calls.{marked_object, members_by, named_members, object_behind, operand_members};
 ghost use Rattle.im_filters.specs.Calls.{place_members, request_members, room_members, said_member};
 
 use crate::cutting::{cut, cut_word};
@@ -133,26 +134,89 @@ fn add_answer(out: &mut String, said: &str) -> Result<(), AllocError>
     add_answered(out, word, operand)
 }
 
-// Adds the object of a call and its answer.
-fn add_both(out: &mut String, asked: &str, said: &str) -> Result<(), AllocError>
-    ensures { OnOk result (string_bytes out.new ≡ string_bytes out.old ++ both_members asked.now said.now) }
+// Adds the member of a mark, if the line has it.
+fn add_mark(out: &mut String, word: &str, marked: bool) -> Result<(), AllocError>
+    ensures { OnOk result (string_bytes out.new ≡ string_bytes out.old ++ mark_member word.now marked) }
+{
+    if marked {
+        write!(out, ",\"{word}\":true")
+    } else {
+        Ok(())
+    }
+}
+
+// Adds the members of both marks.
+fn add_marks(out: &mut String, group: bool, checkpoint: bool) -> Result<(), AllocError>
+    ensures { OnOk result (string_bytes out.new ≡ string_bytes out.old ++ mark_members group checkpoint) }
+{
+    add_mark(out, "group", group)?;
+    add_mark(out, "checkpoint", checkpoint)
+}
+
+// Adds the object of a call with its marks and its answer.
+fn add_both(
+    out: &mut String,
+    group: bool,
+    checkpoint: bool,
+    asked: &str,
+    said: &str,
+) -> Result<(), AllocError>
+    ensures { OnOk result (string_bytes out.new ≡ string_bytes out.old
+        ++ both_members group checkpoint asked.now said.now) }
 {
     add_asked_call(out, asked)?;
+    add_marks(out, group, checkpoint)?;
     add_answer(out, said)
 }
 
-// Adds the object of a call and its answer, before which the rest of the arrow stands.
-fn add_call_and(out: &mut String, asked: &str, arrow: &str) -> Result<(), AllocError>
-    ensures { OnOk result (string_bytes out.new ≡ string_bytes out.old ++ arrow_members asked.now arrow.now) }
+// The same, where the rest of the arrow stands before the answer.
+fn add_call_and(
+    out: &mut String,
+    group: bool,
+    checkpoint: bool,
+    asked: &str,
+    arrow: &str,
+) -> Result<(), AllocError>
+    ensures { OnOk result (string_bytes out.new ≡ string_bytes out.old
+        ++ arrow_members group checkpoint asked.now arrow.now) }
 {
     let (_arrow, said) = cut_word(arrow);
-    add_both(out, asked, said)
+    add_both(out, group, checkpoint, asked, said)
+}
+
+// Adds the object of a line with these marks, which stand before it no more.
+fn add_marked(out: &mut String, group: bool, checkpoint: bool, line: &str) -> Result<(), AllocError>
+    ensures { OnOk result (string_bytes out.new ≡ string_bytes out.old ++ marked_object group checkpoint line.now) }
+{
+    let (asked, arrow) = cut(line, '-');
+    add_call_and(out, group, checkpoint, asked, arrow)
+}
+
+// Returns whether a line begins with the word of a mark, and what stands behind it.
+fn cut_mark<'a>(line: &'a str, word: &str) -> (bool, &'a str)
+    ensures has { result.0 ≡ begins_marked word.now line.now }
+    ensures behind { result.1.now ≡ behind_mark word.now line.now }
+{
+    let (head, tail) = cut_word(line);
+    if head == word {
+        (true, tail)
+    } else {
+        (false, line)
+    }
+}
+
+// Adds the object of a line, whose mark of a group stands before it no more.
+fn add_behind(out: &mut String, group: bool, line: &str) -> Result<(), AllocError>
+    ensures { OnOk result (string_bytes out.new ≡ string_bytes out.old ++ object_behind group line.now) }
+{
+    let (checkpoint, line) = cut_mark(line, "checkpoint");
+    add_marked(out, group, checkpoint, line)
 }
 
 /// Adds the object of a line of a trace, which is given without its line feed.
 pub(crate) fn add_call(out: &mut String, line: &str) -> Result<(), AllocError>
     ensures { OnOk result (string_bytes out.new ≡ string_bytes out.old ++ call_object line.now) }
 {
-    let (asked, arrow) = cut(line, '-');
-    add_call_and(out, asked, arrow)
+    let (group, line) = cut_mark(line, "group");
+    add_behind(out, group, line)
 }

@@ -7,9 +7,9 @@ ghost use Rattle.im_types.specs.Refusals.{number_of};
 ghost use Rattle.im_text.specs.declared.replies.Waited.{Waited};
 ghost use Rattle.im_text.specs.Printing.{now_line, refused_line, told_line};
 ghost use Rattle.im_text.specs.Texts.{op_text};
-ghost use Rattle.im_filters.specs.Calls.{answered_members, asking_members, line_of_call, noting_members};
+ghost use Rattle.im_filters.specs.Calls.{asking_members, noting_members};
 ghost use Rattle.im_filters.specs.Objects.{entry_object, glance_object, refusal_object, reply_object};
-ghost use Rattle.im_filters.specs.Tellings.{IsSaid, IsSifted, lacks, line_of_done, line_of_glance};
+ghost use Rattle.im_filters.specs.Tellings.{IsCallTold, IsSifted, lacks, line_of_done, line_of_glance};
 
 use crate::telling::Telling;
 
@@ -46,17 +46,14 @@ pub fn law_of_quiet()
         (refused_line refusal name) (refused_line refusal name) }
 {}
 
-/// Shows which object each line of a trace is told as. The call does nothing.
+/// Shows which object each line of a trace is told as, with the words of its marks before it. The call does nothing.
 pub fn law_of_calls()
-    ensures asked { (element number : ℕ) (op : Op) (said word operand : List ℕ) → IsSaid said word operand
-        → IsSifted Telling.Calls
-        (line_of_call (decimal element ++ codes "." ++ decimal number ++ codes " " ++ op_text op) said)
-        (asking_members element number op ++ answered_members word operand) }
-    ensures confirmed { (element upto : ℕ) (said word operand : List ℕ) → IsSaid said word operand
-        → IsSifted Telling.Calls (line_of_call (codes "confirm " ++ decimal element ++ codes " " ++ decimal upto) said)
-        (noting_members element upto (codes "confirm") ++ answered_members word operand) }
-    ensures collected { (element number : ℕ) (said word operand : List ℕ) → IsSaid said word operand
-        → IsSifted Telling.Calls
-        (line_of_call (codes "collect " ++ decimal element ++ codes "." ++ decimal number) said)
-        (noting_members element number (codes "collect") ++ answered_members word operand) }
+    ensures asked { (element number : ℕ) (op : Op) → IsCallTold
+        (decimal element ++ codes "." ++ decimal number ++ codes " " ++ op_text op) (asking_members element number op) }
+    ensures confirmed { (element upto : ℕ) → IsCallTold
+        (codes "confirm " ++ decimal element ++ codes " " ++ decimal upto)
+        (noting_members element upto (codes "confirm")) }
+    ensures collected { (element number : ℕ) → IsCallTold
+        (codes "collect " ++ decimal element ++ codes "." ++ decimal number)
+        (noting_members element number (codes "collect")) }
 {}

@@ -34,12 +34,29 @@ fn add_member(
 }
 
 /// Judges the members of a group, each after the members before it, with the given number of places for commands. It
-/// puts the commands that are accepted and have a place into `commands`, and for each judged member into `taken`
-/// whether it is one of these. It returns the number of judged members. It takes no memory. (Own.)
+/// puts the commands that are accepted and have a place into `commands`, and returns the number of judged members. It
+/// takes no memory. (Own.)
 ///
 /// It stops before the first member whose acceptance isn't known before the others act (`judge_behind`). It judges at
 /// least one member if there are any, and all of them if they are requests.
 pub fn judge_members(
+    memory: &Memory,
+    places: u64,
+    members: &[Command],
+    commands: &mut ArrayVec<Command, 16>,
+) -> usize
+    requires fits { length members.now ≤ 16 }
+    requires empty { commands.old.items ≡ [] }
+    ensures commands { commands.new.items ≡ commands_at memory.now.contents places (take result members.now) }
+    ensures begins { ServesPrefix memory.now.contents commands.new.items members.now result }
+{
+    let mut taken = ArrayVec::new();
+    judge_each(memory, places, members, commands, &mut taken)
+}
+
+/// Judges the members of a group as [`judge_members`] does, and puts for each judged member into `taken` whether it is
+/// accepted and has a place. (Own.)
+pub fn judge_each(
     memory: &Memory,
     places: u64,
     members: &[Command],

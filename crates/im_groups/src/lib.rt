@@ -7,4 +7,4 @@ mod judging;
 mod marks;
 
 pub use ahead::judge_behind;
-pub use judging::judge_members;
+pub use judging::{judge_each, judge_members};

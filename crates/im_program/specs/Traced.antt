@@ -1,6 +1,7 @@
 -- The trace of a run as objects of JSON. (Own.)
-use Rattle.std.specs.Prelude.{ℕ, Bool, true, false, List, [], ◌++◌, length, codes, decimal, Option, None, Some}
-use Rattle.std.specs.Prelude.{Result, Ok, Err, slice_get, if◌then◌else◌}
+use Rattle.std.specs.Prelude.{◌≡◌, ℕ, zero, suc, Bool, true, false, List, [], ◌++◌, length, codes, decimal}
+use Rattle.std.specs.Prelude.{Option, None, Some, Result, Ok, Err, slice_get}
+use Rattle.std.specs.Io.KnownBytes.{Appends}
 use Rattle.im_types.specs.declared.commands.Command.TheVariants.{Request as Asks, Confirm}
 use Rattle.im_types.specs.declared.commands.Outcome.{Outcome}
 use Rattle.im_types.specs.declared.commands.Outcome.TheVariants.{Entry as Tells, Confirmed}
@@ -9,10 +10,10 @@ use Rattle.im_types.specs.declared.commands.Call.TheVariants.{Command as Command
 use Rattle.im_types.specs.declared.commands.Line.{Line}
 use Rattle.im_types.specs.declared.refusals.Refusal.{Refusal}
 use Rattle.im_types.specs.Refusals.{number_of}
-use Rattle.im_text.specs.Texts.{texts_below}
-use Rattle.im_filters.specs.Calls.{answered_members, asking_members, noting_members}
+use Rattle.im_text.specs.Printing.{Begins}
+use Rattle.im_filters.specs.Calls.{answered_members, asking_members, mark_members, noting_members}
 use Rattle.im_filters.specs.Objects.{entry_operand, entry_word}
-use Rattle.im_run.specs.Tracing.{TraceState, trace_text}
+use Rattle.im_run.specs.Tracing.{MayStand, Since, TraceState, trace_lines, trace_text}
 
 -- the members of a call: its element, its number, its word and what it asks for
 abbrev pub members_of_call : Call → List ℕ
@@ -32,21 +33,27 @@ outcome_operand (Ok (Tells entry)) = entry_operand entry
 outcome_operand (Ok Confirmed) = []
 outcome_operand (Err refusal) = decimal (number_of refusal)
 
--- the object of a call and its answer, if there is one
-abbrev pub line_object : Option Line → List ℕ
-line_object None = []
-line_object (Some line) =
-    members_of_call line.call ++ answered_members (outcome_word line.answer) (outcome_operand line.answer)
+-- the object of a call with its marks and its answer, if there is one
+abbrev pub object_with : Since → Option Line → List ℕ
+object_with since None = []
+object_with since (Some line) = members_of_call line.call ++ mark_members since.group since.checkpoint
+    ++ answered_members (outcome_word line.answer) (outcome_operand line.answer)
 
--- the objects of these lines
-abbrev pub objects_text : List Line → List ℕ
-objects_text lines = texts_below (λ i. line_object (slice_get lines i)) (length lines)
-
--- the objects of all lines that were recorded
-abbrev pub trace_objects : TraceState → List ℕ
-trace_objects t = objects_text (t.setup ++ (if t.recorded then t.served else []))
+-- these are the objects of the first so many of these lines, each with marks that may stand at it
+abbrev pub AreObjects : List Line → List Line → ℕ → List ℕ → Type 0
+AreObjects setup lines zero text = text ≡ []
+AreObjects setup lines (suc at) text = (before : List ℕ) × ((since : Since) × (AreObjects setup lines at before
+    × (MayStand true setup lines at since × (text ≡ before ++ object_with since (slice_get lines at)))))
 
 -- a trace as lines, or as objects
-abbrev pub traced_as : Bool → TraceState → List ℕ
-traced_as false t = trace_text t
-traced_as true t = trace_objects t
+abbrev pub IsTracedAs : Bool → TraceState → List ℕ → Type 0
+IsTracedAs false t text = text ≡ trace_text t
+IsTracedAs true t text = AreObjects t.setup (trace_lines t) (length (trace_lines t)) text
+
+-- it was written whole
+abbrev pub WritesTraced : Bool → TraceState → Option (List ℕ) → Option (List ℕ) → Type 0
+WritesTraced objects t was is = (text : List ℕ) × (IsTracedAs objects t text × Appends was is text)
+
+-- a prefix of it was written
+abbrev pub BeginsTraced : Bool → TraceState → Option (List ℕ) → Option (List ℕ) → Type 0
+BeginsTraced objects t was is = (text : List ℕ) × (IsTracedAs objects t text × Begins was is text)

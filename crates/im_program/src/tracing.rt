@@ -1,8 +1,6 @@
 //! The file of a run's trace.
-ghost use Rattle.std.specs.Prelude.{◌≡◌, [], OnOk, IsOk, MatchResult};
-ghost use Rattle.std.specs.Io.KnownBytes.{Appends};
-ghost use Rattle.im_text.specs.Printing.{Begins};
-ghost use Rattle.im_program.specs.Traced.{trace_objects, traced_as};
+ghost use Rattle.std.specs.Prelude.{◌≡◌, [], OnOk, IsOk, true};
+ghost use Rattle.im_program.specs.Traced.{BeginsTraced, WritesTraced};
 
 use crate::console::Console;
 use crate::descriptors::Descriptors;
@@ -10,7 +8,7 @@ use crate::opening::reason_of;
 use im_disk::OpenFault;
 use im_files::FileFault;
 use im_filters::{Sieve, Sieving, Telling};
-use im_run::{Trace, write_trace};
+use im_run::{Trace, write_marked_trace, write_trace};
 use im_text::{PathFault, Reason};
 use im_types::Refusal;
 use std::alloc::Global;
@@ -48,11 +46,11 @@ fn write_sieved<K: Sieving, W: Write + Drop>(
 ) -> (W, Result<(), Reason>)
     requires taken { sieve ≡ [] }
     requires telling { K.telling ≡ Telling.Calls }
-    ensures whole { OnOk result.1 (Appends K.start (W.contents result.0) (trace_objects trace.now)) }
-    ensures begins { Begins K.start (W.contents result.0) (trace_objects trace.now) }
+    ensures whole { OnOk result.1 (WritesTraced true trace.now K.start (W.contents result.0)) }
+    ensures begins { BeginsTraced true trace.now K.start (W.contents result.0) }
 {
     let mut out = sieve;
-    let taken = write_trace(alloc, trace, &mut out);
+    let taken = write_marked_trace(alloc, trace, &mut out);
     let (out, written) = out.leave();
     (out, both(taken, written))
 }
@@ -65,8 +63,8 @@ fn write_with<K: Sieving, W: Write + Drop>(
 ) -> (W, Result<(), Reason>)
     requires start { W.contents out ≡ K.start }
     requires telling { K.telling ≡ Telling.Calls }
-    ensures whole { OnOk result.1 (Appends K.start (W.contents result.0) (trace_objects trace.now)) }
-    ensures begins { Begins K.start (W.contents result.0) (trace_objects trace.now) }
+    ensures whole { OnOk result.1 (WritesTraced true trace.now K.start (W.contents result.0)) }
+    ensures begins { BeginsTraced true trace.now K.start (W.contents result.0) }
 {
     let made: Result<Sieve<W, K>, W> = Sieve::new(alloc, out, Telling::Calls);
     match made {
@@ -76,7 +74,9 @@ fn write_with<K: Sieving, W: Write + Drop>(
 }
 
 /// Writes a trace as [`write_trace`] does, or each of its lines as an object of JSON, and gives the writer back. An
-/// object has the element, the number and the word of the call, what it asks for, and its reply.
+/// object has the element, the number and the word of the call, what it asks for, its marks, and its reply. The mark
+/// `group` says that a group of commands began with the call, and `checkpoint` that one came in force since the call
+/// before. A call of the setup has no marks, and a collect or a refused call begins no group.
 ///
 /// Returns `Output` if a write or a flush fails, and `Memory` if there is not enough memory. What was written is then a
 /// prefix of the lines or the objects.
@@ -86,8 +86,8 @@ pub fn write_traced<W: Write + Drop>(
     objects: bool,
     out: W,
 ) -> (W, Result<(), Reason>)
-    ensures whole { OnOk result.1 (Appends (W.contents out) (W.contents result.0) (traced_as objects trace.now)) }
-    ensures begins { Begins (W.contents out) (W.contents result.0) (traced_as objects trace.now) }
+    ensures whole { OnOk result.1 (WritesTraced objects trace.now (W.contents out) (W.contents result.0)) }
+    ensures begins { BeginsTraced objects trace.now (W.contents out) (W.contents result.0) }
 {
     if objects {
         return write_with::<Brand, W>(alloc, trace, out);

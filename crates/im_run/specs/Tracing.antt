@@ -1,6 +1,7 @@
 -- The lines of a trace, and what a run's trace is. (Own.)
-use Rattle.std.specs.Prelude.{◌≡◌, ◌⊎◌, ℕ, Bool, true, List, [], ◌++◌, if◌then◌else◌}
+use Rattle.std.specs.Prelude.{◌≡◌, ◌⊎◌, ◌<◌, ℕ, zero, suc, Bool, true, false, List, [], ◌++◌, if◌then◌else◌}
 use Rattle.std.specs.Prelude.{length, codes, decimal, Option, None, Some, Result, Ok, Err, slice_get}
+use Rattle.std.specs.Io.KnownBytes.{Appends}
 use Rattle.im_types.specs.declared.commands.Command.{Command}
 use Rattle.im_types.specs.declared.commands.Command.TheVariants.{Request as Asks, Confirm}
 use Rattle.im_types.specs.declared.commands.Request.{Request}
@@ -14,10 +15,12 @@ use Rattle.im_types.specs.Refusals.{number_of}
 use Rattle.im_types.specs.Contents.{Contents}
 use Rattle.im_types.specs.Trace.{IsLegal}
 use Rattle.im_types.specs.Run.{after}
+pub use Rattle.im_trace.specs.declared.traced.Since.{Since}
 use Rattle.im_trace.specs.Ends.{RecordingState}
+use Rattle.im_trace.specs.Lines.{may_begin}
 use Rattle.im_controller.specs.Kept.{accepted_in}
 use Rattle.im_text.specs.declared.lines.Lines.{Lines}
-use Rattle.im_text.specs.Printing.{PrintsMore}
+use Rattle.im_text.specs.Printing.{Begins, PrintsMore}
 use Rattle.im_text.specs.Texts.{entry_text, line_feed, op_text, texts_below}
 
 -- K.N OPERATION
@@ -66,8 +69,56 @@ pub record TraceState : Type 0 where
   pub recorded : Bool
 
 -- all lines that were recorded
+abbrev pub trace_lines : TraceState → List Line
+trace_lines t = t.setup ++ (if t.recorded then t.served else [])
+
+-- their text
 abbrev pub trace_text : TraceState → List ℕ
-trace_text t = lines_text (t.setup ++ (if t.recorded then t.served else []))
+trace_text t = lines_text (trace_lines t)
+
+-- ---- with marks
+
+-- the words of the marks before a line: that a group of commands began with it, and that a checkpoint came in force
+-- since the line before
+abbrev pub marks_text : Since → List ℕ
+marks_text since =
+    (if since.group then codes "group " else []) ++ (if since.checkpoint then codes "checkpoint " else [])
+
+-- a line behind its marks
+abbrev pub marked_line : Since → Option Line → List ℕ
+marked_line since None = []
+marked_line since (Some line) = marks_text since ++ trace_line (Some line)
+
+-- no mark
+abbrev pub unmarked : Since
+unmarked = record { group = false; checkpoint = false }
+
+-- These marks may stand before the line at this place: none, if marks aren't written, or before a line of the setup. A
+-- group begins only with a command that has an outcome.
+pub record MayStand (marked : Bool) (setup lines : List Line) (at : ℕ) (since : Since) : Type 0 where
+  pub plain : marked ≡ false → since ≡ unmarked
+  pub early : at < length setup → since ≡ unmarked
+  pub begins : (line : Line) → slice_get lines at ≡ Some line → since.group ≡ true
+      → may_begin line.call line.answer ≡ true
+
+-- this is the text of the first so many of these lines, each behind marks that may stand there
+abbrev pub IsMarkedText : Bool → List Line → List Line → ℕ → List ℕ → Type 0
+IsMarkedText marked setup lines zero text = text ≡ []
+IsMarkedText marked setup lines (suc at) text = (before : List ℕ) × ((since : Since)
+    × (IsMarkedText marked setup lines at before × (MayStand marked setup lines at since
+    × (text ≡ before ++ marked_line since (slice_get lines at)))))
+
+-- the same of a run's trace
+abbrev pub IsTraceText : Bool → TraceState → List ℕ → Type 0
+IsTraceText marked t text = IsMarkedText marked t.setup (trace_lines t) (length (trace_lines t)) text
+
+-- it was written whole
+abbrev pub WritesMarked : Bool → TraceState → Option (List ℕ) → Option (List ℕ) → Type 0
+WritesMarked marked t was is = (text : List ℕ) × (IsTraceText marked t text × Appends was is text)
+
+-- a prefix of it was written
+abbrev pub BeginsMarked : Bool → TraceState → Option (List ℕ) → Option (List ℕ) → Type 0
+BeginsMarked marked t was is = (text : List ℕ) × (IsTraceText marked t text × Begins was is text)
 
 -- What is known of the calls of a run, given the memory at its start, the commands of its setup, and all that were
 -- acknowledged. Those of the servers are legal from the memory after the setup. Their accepted commands are those that
@@ -76,7 +127,17 @@ pub record IsTraced (start : Contents) (setup told : List Command) (calls : Trac
   pub legal : IsLegal (after start setup) calls.served
   pub accepted : (calls.served ≡ []) ⊎ (told ≡ setup ++ accepted_in (after start setup) calls.served)
 
+-- the text of the first so many lines was printed
+abbrev pub PrintsMarked : Bool → List Line → List Line → ℕ → Option (List ℕ) → Lines → Option (List ℕ) → Lines → Type 0
+PrintsMarked marked setup lines many was before is after =
+    (text : List ℕ) × (IsMarkedText marked setup lines many text × PrintsMore was before is after text)
+
 -- a beginning of this text was printed
 abbrev pub PrintsBeginning : Option (List ℕ) → Lines → Option (List ℕ) → Lines → List ℕ → Type 0
 PrintsBeginning was before is after text =
     (part : List ℕ) × ((rest : List ℕ) × ((text ≡ part ++ rest) × PrintsMore was before is after part))
+
+-- the same of the text of all lines
+abbrev pub PrintsSome : Bool → List Line → List Line → Option (List ℕ) → Lines → Option (List ℕ) → Lines → Type 0
+PrintsSome marked setup lines was before is after = (text : List ℕ)
+    × (IsMarkedText marked setup lines (length lines) text × PrintsBeginning was before is after text)

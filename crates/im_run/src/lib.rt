@@ -17,8 +17,9 @@ mod served;
 mod sheet;
 mod telling;
 mod tracing;
+mod wording;
 
 pub use once::run_once_on;
 pub use run::{STALLED, run_on};
 pub use sheet::RunMode;
-pub use tracing::{Trace, write_trace};
+pub use tracing::{Trace, write_marked_trace, write_trace};

@@ -1,15 +1,16 @@
-//! The trace of a run: its calls in the order that was kept, each with its answer.
-ghost use Rattle.std.specs.Prelude.{◌≡◌, ◌++◌, [], OnOk, Some, length, slice_get, string_bytes, true};
+//! The trace of a run: its calls in the order that was kept, each with its answer and its marks.
+ghost use Rattle.std.specs.Prelude.{◌≡◌, ◌++◌, [], OnOk, length, slice_get, true};
 ghost use Rattle.std.specs.Io.KnownBytes.{Appends};
-ghost use Rattle.im_text.specs.Printing.{Begins, PrintsMore, Pushes};
-ghost use Rattle.im_run.specs.Tracing.{PrintsBeginning, call_text, lines_text, outcome_text, refusal_text};
-ghost use Rattle.im_run.specs.Tracing.{request_text, trace_line, trace_text};
+ghost use Rattle.im_text.specs.Printing.{Begins, Pushes};
+ghost use Rattle.im_run.specs.Tracing.{BeginsMarked, MayStand, PrintsMarked, PrintsSome, WritesMarked, marked_line};
+ghost use Rattle.im_run.specs.Tracing.{trace_text, unmarked};
 
 use crate::calls::Calls;
-use im_controller::Traced;
-use im_text::{Lines, Reason, add_entry, add_op};
-use im_types::{Call, Command, Line, Outcome, Refusal, Request};
-use std::alloc::{AllocError, Global};
+use crate::wording::make_call;
+use im_controller::{Since, Traced};
+use im_text::{Lines, Reason};
+use im_types::Line;
+use std::alloc::Global;
 use std::io::Write;
 use std::marker::Model;
 
@@ -45,82 +46,29 @@ impl Trace {
     }
 }
 
-// Adds a request, as a dialogue has it.
-fn add_request(text: &mut String, request: Request) -> Result<(), AllocError>
-    ensures { OnOk result (string_bytes text.new ≡ string_bytes text.old ++ request_text request) }
-{
-    let element = request.element;
-    let number = request.number;
-    write!(text, "{element}.{number} ")?;
-    add_op(text, request.op)
-}
-
-// Adds a call, as a dialogue has it.
-fn add_call(text: &mut String, call: Call) -> Result<(), AllocError>
-    ensures { OnOk result (string_bytes text.new ≡ string_bytes text.old ++ call_text call) }
-{
-    match call {
-        Call::Command(Command::Request(request)) => add_request(text, request),
-        Call::Command(Command::Confirm { element, upto }) => {
-            write!(text, "confirm {element} {upto}")
-        }
-        Call::Collect { element, number } => write!(text, "collect {element}.{number}"),
-    }
-}
-
-// Adds a refusal.
-fn add_refusal(text: &mut String, refusal: Refusal) -> Result<(), AllocError>
-    ensures { OnOk result (string_bytes text.new ≡ string_bytes text.old ++ refusal_text refusal) }
-{
-    let number = refusal.number();
-    write!(text, "refused {number}")
-}
-
-// Adds the answer to a call.
-fn add_answer(text: &mut String, answer: Result<Outcome, Refusal>) -> Result<(), AllocError>
-    ensures { OnOk result (string_bytes text.new ≡ string_bytes text.old ++ outcome_text answer) }
-{
-    match answer {
-        Ok(Outcome::Entry(entry)) => add_entry(text, entry),
-        Ok(Outcome::Confirmed) => text.push_str("confirmed"),
-        Err(refusal) => add_refusal(text, refusal),
-    }
-}
-
-// Adds the line of a call and its answer.
-fn add_line(text: &mut String, line: Line) -> Result<(), AllocError>
-    ensures { OnOk result (string_bytes text.new ≡ string_bytes text.old ++ trace_line (Some line)) }
-{
-    add_call(text, line.call)?;
-    text.push_str(" -> ")?;
-    add_answer(text, line.answer)?;
-    text.push_str("\n")
-}
-
-// Makes the line of a call and its answer, if there is one.
-fn make_call(text: &mut String, line: Option<Line>) -> Result<(), AllocError>
-    ensures { OnOk result (string_bytes text.new ≡ trace_line line) }
-{
-    text.clear();
-    let Some(line) = line else {
-        return Ok(());
-    };
-    add_line(text, line)
-}
-
-// Prints the line of a call and its answer.
+// Prints the line of a call and its answer behind its marks.
 fn print_call<W: Write>(
+    since: Since,
     line: Option<Line>,
     text: &mut String,
     lines: &mut Lines,
     out: &mut W,
 ) -> Result<(), Reason>
-    ensures more { Pushes result (W.contents out.old) lines.old (W.contents out.new) lines.new (trace_line line) }
+    ensures more { Pushes result (W.contents out.old) lines.old (W.contents out.new) lines.new
+        (marked_line since line) }
 {
-    let Ok(()) = make_call(text, line) else {
+    let Ok(()) = make_call(text, since, line) else {
         return Err(Reason::Memory);
     };
     lines.push(out, text.as_str())
+}
+
+// The calls of a trace: those of the setup, and those of the servers. Whether their marks are written.
+#[derive(Clone, Copy)]
+struct TraceLines<'a> {
+    setup: &'a [Line],
+    served: &'a [Traced],
+    marked: bool,
 }
 
 // Returns the line of the setup at an index.
@@ -150,6 +98,40 @@ fn line_at(setup: &[Line], served: &[Traced], at: usize) -> Option<Line>
     served_at(served, at - setup.len())
 }
 
+// No mark.
+fn no_marks() -> Since
+    ensures { result ≡ unmarked }
+{
+    Since {
+        group: false,
+        checkpoint: false,
+    }
+}
+
+// Returns the marks of the servers' line at an index.
+fn since_at(served: &[Traced], at: usize) -> Since
+    ensures { MayStand true [] served.now at result }
+{
+    let Some(traced) = served.get(at) else {
+        return no_marks();
+    };
+    traced.since()
+}
+
+// Returns the marks of the line at an index of both, if marks are written.
+fn marks_at(both: TraceLines<'_>, at: usize) -> Since
+    ensures { MayStand both.entry.marked both.entry.setup.now (both.entry.setup.now ++ both.entry.served.now) at
+        result }
+{
+    if !both.marked {
+        return no_marks();
+    }
+    if at < both.setup.len() {
+        return no_marks();
+    }
+    since_at(both.served, at - both.setup.len())
+}
+
 // Returns how many lines both have.
 fn count_of(setup: &[Line], served: &[Traced]) -> usize
     ensures { result ≡ length (setup.now ++ served.now) }
@@ -159,24 +141,57 @@ fn count_of(setup: &[Line], served: &[Traced]) -> usize
 
 // Prints all lines of both.
 fn print_lines<W: Write>(
-    setup: &[Line],
-    served: &[Traced],
+    both: TraceLines<'_>,
     text: &mut String,
     lines: &mut Lines,
     out: &mut W,
 ) -> Result<(), Reason>
-    ensures all { OnOk result (PrintsMore (W.contents out.old) lines.old (W.contents out.new) lines.new
-        (lines_text (setup.now ++ served.now))) }
-    ensures some { PrintsBeginning (W.contents out.old) lines.old (W.contents out.new) lines.new
-        (lines_text (setup.now ++ served.now)) }
+    ensures all { OnOk result (PrintsMarked both.entry.marked both.entry.setup.now
+        (both.entry.setup.now ++ both.entry.served.now)
+        (length (both.entry.setup.now ++ both.entry.served.now)) (W.contents out.old) lines.old (W.contents out.new)
+        lines.new) }
+    ensures some { PrintsSome both.entry.marked both.entry.setup.now
+        (both.entry.setup.now ++ both.entry.served.now) (W.contents out.old) lines.old (W.contents out.new)
+        lines.new }
 {
+    let setup = both.setup;
+    let served = both.served;
     for at in 0..count_of(setup, served) {
-        match print_call(line_at(setup, served, at), text, lines, out) {
+        let since = marks_at(both, at);
+        match print_call(since, line_at(setup, served, at), text, lines, out) {
             Ok(()) => {}
             Err(reason) => return Err(reason),
         }
     }
     Ok(())
+}
+
+// Writes a trace, each line behind its marks if these are written.
+fn write_lines<W: Write>(
+    alloc: Global,
+    trace: &Trace,
+    marked: bool,
+    out: &mut W,
+) -> Result<(), Reason>
+    ensures whole { OnOk result (WritesMarked marked trace.now (W.contents out.old) (W.contents out.new)) }
+    ensures begins { BeginsMarked marked trace.now (W.contents out.old) (W.contents out.new) }
+{
+    let Ok(mut lines) = Lines::new(alloc) else {
+        return Err(Reason::Memory);
+    };
+    let mut text = String::new(alloc);
+    let both = TraceLines {
+        setup: trace.setup.as_slice(),
+        served: trace.served.as_slice(),
+        marked,
+    };
+    match print_lines(both, &mut text, &mut lines, out) {
+        Ok(()) => lines.flush(out),
+        Err(reason) => {
+            let _written = lines.flush(out);
+            Err(reason)
+        }
+    }
 }
 
 /// Writes a trace, a line for each call: what a line of a dialogue asks, ` -> `, and the reply. A dialogue that is
@@ -189,17 +204,17 @@ pub fn write_trace<W: Write>(alloc: Global, trace: &Trace, out: &mut W) -> Resul
     ensures whole { OnOk result (Appends (W.contents out.old) (W.contents out.new) (trace_text trace.now)) }
     ensures begins { Begins (W.contents out.old) (W.contents out.new) (trace_text trace.now) }
 {
-    let Ok(mut lines) = Lines::new(alloc) else {
-        return Err(Reason::Memory);
-    };
-    let mut text = String::new(alloc);
-    let setup = trace.setup.as_slice();
-    let served = trace.served.as_slice();
-    match print_lines(setup, served, &mut text, &mut lines, out) {
-        Ok(()) => lines.flush(out),
-        Err(reason) => {
-            let _written = lines.flush(out);
-            Err(reason)
-        }
-    }
+    write_lines(alloc, trace, false, out)
+}
+
+/// Writes a trace as [`write_trace`] does, with marks before the lines: the word `group` if a group of commands began
+/// with the call, and behind it `checkpoint` if a checkpoint came in force since the call before. The setup's calls
+/// have no marks. A group begins only with a command that has an outcome.
+///
+/// The errors are those of [`write_trace`].
+pub fn write_marked_trace<W: Write>(alloc: Global, trace: &Trace, out: &mut W) -> Result<(), Reason>
+    ensures whole { OnOk result (WritesMarked true trace.now (W.contents out.old) (W.contents out.new)) }
+    ensures begins { BeginsMarked true trace.now (W.contents out.old) (W.contents out.new) }
+{
+    write_lines(alloc, trace, true, out)
 }

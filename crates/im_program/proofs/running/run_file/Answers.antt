@@ -3,7 +3,6 @@ use denote.Param.Send.{sendable}
 use Rattle.std.proofs.Common.{sym, ◌∙◌}
 use Rattle.std.proofs.Crossing.{crosses}
 use Rattle.im_program.proofs.Crosses.{FileDisk-row-send}
-use Rattle.im_program.specs.Working.{ScriptRan}
 use Rattle.im_program.proofs.running.run_file.Goals as goal
 
 pub run_once_on-requires-send-D : goal.run_once_on-requires-send-D

@@ -1,5 +1,3 @@
-use Rattle.std.proofs.Common.{sym}
-use Rattle.im_program.specs.Working.{ScriptServed}
 use Rattle.im_program.proofs.serving.serve_file.Goals as goal
 
 pub returns-then-once-clause-served : goal.returns-then-once-clause-served

@@ -4,4 +4,4 @@ use Rattle.im_program.proofs.tracing.write_with.Goals as goal
 
 pub returns-in-Err-clause-begins : goal.returns-in-Err-clause-begins
 returns-in-Err-clause-begins g c =
-    begins_none _ _ _ (ap g.W.Write.contents c.in-Err.ensures ∙ c.requires.start)
+    begins_none c.args.trace.now _ _ (ap g.W.Write.contents c.in-Err.ensures ∙ c.requires.start)

@@ -1,7 +1,7 @@
 use Rattle.std.proofs.Common.{◌≡◌, ◌≤◌, length, take}
 use Rattle.im_groups.specs.Commands.{commands_at, left_after, takes_at}
 use Rattle.im_groups.specs.Marks.{HaveMarks}
-use Rattle.im_groups.proofs.judging.judge_members.Given as goal
+use Rattle.im_groups.proofs.judging.judge_each.Given as goal
 
 abbrev pub invariant-loop-i : goal.invariant-loop-i
 invariant-loop-i l = record {

@@ -6,7 +6,7 @@ use Rattle.im_groups.specs.Marks.{HaveMarks}
 use Rattle.im_groups.proofs.CommandLemmas.{at-accepted}
 use Rattle.im_groups.proofs.JudgedLemmas.{judged-next, taken-next, stops-begins, all-begins}
 use Rattle.im_groups.proofs.MarkLemmas.{none_marked, marked-next}
-use Rattle.im_groups.proofs.judging.judge_members.Goals as goal
+use Rattle.im_groups.proofs.judging.judge_each.Goals as goal
 
 pub loop-i-init : goal.loop-i-init
 loop-i-init c = record {
