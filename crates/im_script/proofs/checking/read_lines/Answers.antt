@@ -6,7 +6,7 @@ use Rattle.std.proofs.lemmas.Iterator.Consumers.{YieldsList-turn, YieldsList-end
 use Rattle.std.proofs.lemmas.Iterator.Splits.{YieldsList-from_slice_split}
 use Rattle.im_script.specs.Script.{draft_of, lines_of}
 use Rattle.im_script.proofs.ScriptLemmas.{line_follows, passes_bad, passes_first, passes_size, script_is}
-use Rattle.im_script.proofs.script.read_lines.Goals as goal
+use Rattle.im_script.proofs.checking.read_lines.Goals as goal
 
 first : goal.returns-in_err-hear-clause-first
 first c =

@@ -1,5 +1,5 @@
 use Rattle.std.proofs.Common.{◌≡◌, ◌==◌, false, take, All}
-use Rattle.im_script.proofs.script.split_line.Given as goal
+use Rattle.im_script.proofs.checking.split_line.Given as goal
 
 -- no line ends before this byte
 abbrev pub invariant-loop-at : goal.invariant-loop-at

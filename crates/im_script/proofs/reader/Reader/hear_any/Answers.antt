@@ -6,7 +6,7 @@ use Rattle.im_script.specs.declared.script.Heard.{Heard}
 use Rattle.im_script.specs.Grammar.{is_short, texts}
 use Rattle.im_script.specs.Script.{Draft, Hears, draft_of}
 use Rattle.im_script.proofs.WordLemmas.{heard_by}
-use Rattle.im_script.proofs.script.Reader.hear_any.Goals as goal
+use Rattle.im_script.proofs.reader.Reader.hear_any.Goals as goal
 
 pub returns : goal.returns
 returns c =

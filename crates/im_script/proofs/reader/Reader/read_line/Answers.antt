@@ -6,7 +6,7 @@ use Rattle.im_script.specs.declared.script.Said.{Said}
 use Rattle.im_script.specs.Grammar.{is_short, texts}
 use Rattle.im_script.specs.Script.{Draft, Follows, draft_of}
 use Rattle.im_script.proofs.WordLemmas.{counted_by}
-use Rattle.im_script.proofs.script.Reader.read_line.Goals as goal
+use Rattle.im_script.proofs.reader.Reader.read_line.Goals as goal
 
 pub returns : goal.returns
 returns c =
