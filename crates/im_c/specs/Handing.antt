@@ -2,7 +2,7 @@
 use Rattle.std.specs.Prelude.{◌≡◌, Option, IsSome, IfSome}
 
 -- The contents stay, and have this property.
-pub record Shows {T : Type 0} (old new : Option T) (P : T → Type 0) : Type 0 where
+pub record ShowsHeld {T : Type 0} (old new : Option T) (P : T → Type 0) : Type 0 where
   pub same : new ≡ old
   pub shown : IfSome old P
 

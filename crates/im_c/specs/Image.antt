@@ -34,7 +34,7 @@ abbrev pub idle_after : ImageState → ImageState
 idle_after i = record i { engine = begun_in i }
 
 -- the outcome of a command, and what the caller's file holds on the way
-pub record Serves (old : ImageState) (c : LtCommand) (out : LtOutcome) (new : ImageState) : Type 0 where
+pub record ServesOne (old : ImageState) (c : LtCommand) (out : LtOutcome) (new : ImageState) : Type 0 where
   pub unknown : meant c ≡ None → (out ≡ no_call) × (new ≡ idle_after old)
   pub lost : (command : Command) → meant c ≡ Some command → old.lost ≡ true
       → (out ≡ outcome_of (Err Device)) × (new ≡ old)
@@ -117,10 +117,10 @@ pub record ShowsWindow (i : ImageState) (element : ℕ) (out : LtBounds) : Type 
   pub alive : i.lost ≡ false → out ≡ window_of (bounds i.engine.memory.windows element)
 
 -- a step, in C's form
-abbrev pub step_of : Option Task → LtStep
-step_of None = record { kind = 0; place = 0; length = 0 }
-step_of (Some (Puts place bytes)) = record { kind = 1; place = place; length = length bytes }
-step_of (Some Settles) = record { kind = 2; place = 0; length = 0 }
+abbrev pub step_told : Option Task → LtStep
+step_told None = record { kind = 0; place = 0; length = 0 }
+step_told (Some (Puts place bytes)) = record { kind = 1; place = place; length = length bytes }
+step_told (Some Settles) = record { kind = 2; place = 0; length = 0 }
 
 -- a buffer gets these bytes if it has their length; else it stays
 pub record CopiesBytes (bytes old : List ℕ) (answer : ℕ) (new : List ℕ) : Type 0 where

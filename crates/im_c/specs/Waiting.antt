@@ -6,8 +6,8 @@ use Rattle.im_listed.specs.Image.{ImageState}
 use Rattle.im_c.specs.declared.plain.LtWaiter.{LtWaiter}
 
 -- a request that waits, in C's form
-abbrev pub waiter_of : Waiter → LtWaiter
-waiter_of who = record { element = who.element; number = who.number }
+abbrev pub waiter_told : Waiter → LtWaiter
+waiter_told who = record { element = who.element; number = who.number }
 
 -- as many of these as there are places, and after them what was there
 abbrev pub first_of : List LtWaiter → List LtWaiter → List LtWaiter
@@ -17,4 +17,4 @@ first_of who places = take (length places) who ++ drop (length who) places
 pub record TellsWaiters (i : ImageState) (a : ℕ) (old : List LtWaiter) (count : ℕ) (new : List LtWaiter) : Type 0 where
   pub lost : i.lost ≡ true → (count ≡ 0) × (new ≡ old)
   pub alive : i.lost ≡ false → let who = waiters_at i.engine.memory.cells a in
-      (count ≡ min (length who) (length old)) × (new ≡ first_of (map waiter_of who) old)
+      (count ≡ min (length who) (length old)) × (new ≡ first_of (map waiter_told who) old)

@@ -6,7 +6,7 @@ ghost use Rattle.im_types.specs.Window.{ask};
 ghost use Rattle.im_types.specs.Sizes.{AreLimits};
 ghost use Rattle.im_memory.specs.State.{MemoryState};
 ghost use Rattle.im_c.specs.Held.{holds_memory};
-ghost use Rattle.im_c.specs.Handing.{Shows, Becomes};
+ghost use Rattle.im_c.specs.Handing.{ShowsHeld, Becomes};
 ghost use Rattle.im_c.specs.Memory.{Steps};
 ghost use Rattle.im_c.specs.Plain.{entry_outcome};
 
@@ -146,7 +146,7 @@ pub extern "C" fn lt_held_memory_collect(
     outcome: &mut LtOutcome,
 )
     requires some { IsSome memory.value }
-    ensures answer { Shows memory.value next.new.value (λ m. outcome.new
+    ensures answer { ShowsHeld memory.value next.new.value (λ m. outcome.new
         ≡ entry_outcome (ask m.contents.windows (record { element = element; number = number }))) }
 {
     let held = memory.into_box();

@@ -1,8 +1,8 @@
 //! The requests that wait at a cell, for C.
 ghost use Rattle.std.specs.Prelude.{◌≡◌, length, map, min, IsSome};
 ghost use Rattle.im_types.specs.Contents.{waiters_at};
-ghost use Rattle.im_c.specs.Handing.{Shows};
-ghost use Rattle.im_c.specs.Waiting.{TellsWaiters, first_of, waiter_of};
+ghost use Rattle.im_c.specs.Handing.{ShowsHeld};
+ghost use Rattle.im_c.specs.Waiting.{TellsWaiters, first_of, waiter_told};
 
 use crate::image::LtImage;
 use crate::plain::LtWaiter;
@@ -10,8 +10,8 @@ use im_listed::Image;
 use im_types::Waiter;
 
 // A request that waits, in C's form.
-fn waiter_of(who: Waiter) -> LtWaiter
-    ensures { result ≡ waiter_of who }
+fn waiter_told(who: Waiter) -> LtWaiter
+    ensures { result ≡ waiter_told who }
 {
     LtWaiter {
         element: who.element,
@@ -24,14 +24,14 @@ fn tell_waiters(image: &Image, address: u32, places: &mut [LtWaiter]) -> usize
     ensures count { let who = waiters_at image.now.engine.memory.cells address in
         result ≡ min (length who) (length places.old) }
     ensures first { let who = waiters_at image.now.engine.memory.cells address in
-        places.new ≡ first_of (map waiter_of who) places.old }
+        places.new ≡ first_of (map waiter_told who) places.old }
 {
     let mut count = 0;
     for who in image.waiters(address) {
         if count == places.len() {
             return count;
         }
-        places[count] = waiter_of(who);
+        places[count] = waiter_told(who);
         count += 1;
     }
     count
@@ -57,7 +57,7 @@ pub extern "C" fn lt_held_waiters(
     waiters: &mut [LtWaiter],
 ) -> usize
     requires some { IsSome image.value }
-    ensures told { Shows image.value next.new.value (λ i. TellsWaiters i address waiters.old result waiters.new) }
+    ensures told { ShowsHeld image.value next.new.value (λ i. TellsWaiters i address waiters.old result waiters.new) }
 {
     let held = image.into_box();
     let count = told_waiters(&held, address, waiters);

@@ -1,15 +1,15 @@
-//! Finds the place of an image's damage. After the image was refused, it searches the disk by reads alone.
+//! Finds the place of an image's damage, by reads of the disk alone. Who reports a refused image calls it. That an
+//! image is refused, and why, is proved where it is read. The place is only tested.
 ghost use Rattle.im_disk.specs.Runs.{ReadsAlone};
 
-use crate::damage::{
-    Damage, Older, RecordOf, are_unmade, bad_block, bad_cell, bad_list, bad_node, bad_padding,
-    bad_window, has_open_gate, in_force, of_headers, of_journal, older_slot,
-};
+use crate::areas::{of_area, of_ring};
+use crate::damage::Damage;
+use crate::headers::{are_unmade, in_force, of_headers};
+use crate::slots::{Older, has_open_gate, older_slot};
 use im_disk::Disk;
-use im_image::{Header, PAGE, cell_pages, decode, read_header};
-use im_records::{CELLS_ON_A_PAGE, NODES_ON_A_PAGE, read_area};
-use im_types::layout::{CELL_RECORD, NODE_RECORD, SLOT, Version, cell_bytes};
-use im_types::{Limits, MAX_SLOTS, Refusal};
+use im_image::{Header, PAGE, read_header};
+use im_types::layout::SLOT;
+use im_types::{MAX_SLOTS, Refusal};
 use std::alloc::Global;
 
 // Reads a part of a file, if the file has it and it can be read.
@@ -32,15 +32,15 @@ fn read_part<D: Disk>(alloc: Global, disk: &mut D, at: usize, len: usize) -> Opt
     }
 }
 
-// The places of the two headers.
+// The bytes of the two headers.
 #[derive(Drop)]
-struct Places {
+struct HeaderBytes {
     zero: [u8; 64],
     one: [u8; 64],
 }
 
 // Reads the places of the two headers, if the file has them.
-fn read_headers<D: Disk>(alloc: Global, disk: &mut D) -> Option<Places>
+fn read_headers<D: Disk>(alloc: Global, disk: &mut D) -> Option<HeaderBytes>
     ensures reads { ReadsAlone D.Disk disk.old disk.new }
 {
     let Some(zero) = read_part(alloc, disk, 0, 64) else {
@@ -49,7 +49,7 @@ fn read_headers<D: Disk>(alloc: Global, disk: &mut D) -> Option<Places>
     let Some(one) = read_part(alloc, disk, PAGE, 64) else {
         return None;
     };
-    Some(Places {
+    Some(HeaderBytes {
         zero: *zero.as_array::<64>()?,
         one: *one.as_array::<64>()?,
     })
@@ -63,17 +63,17 @@ fn of_length<D: Disk>(alloc: Global, disk: &mut D) -> Damage
         return Damage::Unknown;
     };
     match read_headers(alloc, disk) {
-        Some(places) => length_by(&places, found),
+        Some(headers) => length_by(&headers, found),
         None => Damage::Short(found),
     }
 }
 
 // The damage of a file whose length isn't the one that its header in force wants.
-fn length_by(places: &Places, found: usize) -> Damage {
-    let header = if in_force(&places.zero, &places.one) == 1 {
-        Header::read(&places.one, 1)
+fn length_by(headers: &HeaderBytes, found: usize) -> Damage {
+    let header = if in_force(&headers.zero, &headers.one) == 1 {
+        Header::read(&headers.one, 1)
     } else {
-        Header::read(&places.zero, 0)
+        Header::read(&headers.zero, 0)
     };
     match header {
         Some(header) => Damage::Length(found, header.layout().image_length(header.limits)),
@@ -86,7 +86,7 @@ fn of_places<D: Disk>(alloc: Global, disk: &mut D) -> Damage
     ensures reads { ReadsAlone D.Disk disk.old disk.new }
 {
     match read_headers(alloc, disk) {
-        Some(places) => of_headers(&places.zero, &places.one),
+        Some(headers) => of_headers(&headers.zero, &headers.one),
         None => Damage::Unknown,
     }
 }
@@ -108,12 +108,12 @@ fn read_tail<D: Disk>(alloc: Global, disk: &mut D) -> Option<Vec<u8>>
 fn of_closed<D: Disk>(alloc: Global, disk: &mut D) -> Damage
     ensures reads { ReadsAlone D.Disk disk.old disk.new }
 {
-    let Some(places) = read_headers(alloc, disk) else {
+    let Some(headers) = read_headers(alloc, disk) else {
         return Damage::Unknown;
     };
     match read_tail(alloc, disk) {
         Some(tail) => {
-            if are_unmade(&places.zero, &places.one) && !has_open_gate(tail.as_slice()) {
+            if are_unmade(&headers.zero, &headers.one) && !has_open_gate(tail.as_slice()) {
                 Damage::Unmade
             } else {
                 Damage::Closed
@@ -196,95 +196,6 @@ pub fn find_older<D: Disk>(alloc: Global, disk: &mut D) -> Option<Older>
     match read_ring(alloc, disk, &header) {
         Some(ring) => older_slot(ring.as_slice(), header.limits.slots, header.count),
         None => None,
-    }
-}
-
-// What is wrong with the slots of a ring, after the memory of this area.
-fn of_ring(alloc: Global, area: &[u8], ring: &[u8], header: &Header) -> Damage {
-    let (version, limits) = (header.layout(), header.limits);
-    if area.len() != PAGE * version.area_pages(limits) {
-        return Damage::Unknown;
-    }
-    match decode(alloc, version, area, limits) {
-        Ok(mut memory) => of_journal(ring, &mut memory, limits.slots, header.count),
-        Err(_) => Damage::Unknown,
-    }
-}
-
-// What is wrong with a part of an area that begins at this page: a record some pages behind it, or else a byte behind
-// the records.
-fn of_part(
-    page: usize,
-    record: Option<(usize, RecordOf)>,
-    padding: Option<usize>,
-) -> Option<Damage> {
-    if let Some((behind, of)) = record {
-        return Some(Damage::Record(page.saturating_add(behind), of));
-    }
-    Some(Damage::Padding(page.saturating_add(padding?)))
-}
-
-// What is wrong with the cells' part.
-fn of_cells(version: Version, part: &[u8], limits: Limits) -> Option<Damage> {
-    let cells = limits.cells as usize;
-    let bad = bad_cell(part, cells, version.node_count(limits));
-    let record = bad.map(|at| (at / CELLS_ON_A_PAGE, RecordOf::Cell(at)));
-    of_part(0, record, bad_padding(part, CELL_RECORD * cells))
-}
-
-// What is wrong with the nodes' part.
-fn of_nodes(version: Version, part: &[u8], limits: Limits) -> Option<Damage> {
-    let nodes = version.node_count(limits);
-    let record = bad_node(part, nodes).map(|at| (at / NODES_ON_A_PAGE, RecordOf::Node(at)));
-    of_part(
-        cell_pages(limits),
-        record,
-        bad_padding(part, NODE_RECORD * nodes),
-    )
-}
-
-// What is wrong with the windows' part.
-fn of_windows(version: Version, part: &[u8], limits: Limits) -> Option<Damage> {
-    let elements = limits.elements as usize;
-    let page = cell_pages(limits).saturating_add(version.node_pages(limits));
-    let size = version.session_record();
-    let record = bad_window(version, part, elements).map(|at| (
-        size.saturating_mul(at) / PAGE,
-        RecordOf::Window(at),
-    ));
-    of_part(page, record, bad_padding(part, size * elements))
-}
-
-// What is wrong with the records of an area, each by itself.
-fn of_records(version: Version, area: &[u8], limits: Limits) -> Option<Damage> {
-    let (cells, behind) = area.split_at_checked(cell_bytes(limits))?;
-    let (nodes, windows) = behind.split_at_checked(version.node_bytes(limits))?;
-    if let Some(damage) = of_cells(version, cells, limits) {
-        return Some(damage);
-    }
-    if let Some(damage) = of_nodes(version, nodes, limits) {
-        return Some(damage);
-    }
-    of_windows(version, windows, limits)
-}
-
-// What is wrong with an area that shows no memory.
-fn of_area(alloc: Global, version: Version, area: &[u8], limits: Limits) -> Damage {
-    if let Some(damage) = of_records(version, area, limits) {
-        return damage;
-    }
-    if area.len() != PAGE * version.area_pages(limits) {
-        return Damage::Unknown;
-    }
-    let Ok(records) = read_area(alloc, version, area, limits) else {
-        return Damage::Unknown;
-    };
-    if let Some(at) = bad_block(records.cells()) {
-        return Damage::Blocks(at / CELLS_ON_A_PAGE, at);
-    }
-    match bad_list(records.cells(), records.nodes()) {
-        Some(at) => Damage::List(at / CELLS_ON_A_PAGE, at),
-        None => Damage::Waiters,
     }
 }
 

@@ -36,9 +36,10 @@ use Rattle.im_dialogue.specs.declared.answers.Answer.TheVariants as answer
 use Rattle.im_dialogue.specs.declared.group_line.GroupLine.{GroupLine}
 use Rattle.im_dialogue.specs.declared.group_line.GroupLine.TheVariants.{Member}
 use Rattle.im_dialogue.specs.Looks.{asks_for, is_first, may_reach}
-use Rattle.im_dialogue.specs.Talk.{about_of}
+use Rattle.im_dialogue.specs.Talk.{about_of, point_behind}
 use Rattle.im_dialogue.specs.Together.{IsAsked, AreAsked, GroupStart, memory_between, places_between, count_between}
-use Rattle.im_dialogue.specs.Together.{disturbs, IsKnown, TellsWatchers, MayStandNext}
+use Rattle.im_dialogue.specs.Together.{point_between}
+use Rattle.im_dialogue.specs.Together.{disturbs, IsKnownBehind, TellsWatchers, MayStandNext}
 use Rattle.im_dialogue.specs.Watching.{answers_nobody, nows_text, told_with, watch_text}
 use Rattle.im_dialogue.proofs.PartLemmas.{told_nothing}
 use Rattle.im_dialogue.proofs.ReachLemmas.{after_memory, cell_after, none_after, resumed_here, told_accepted}
@@ -55,9 +56,10 @@ module _ (b : GroupStart) (ahead ones : List Command) (is : ones ≡ commands_at
 
   pub window_shown : (element : ℕ) (r : Result (ℕ × ℕ) Refusal)
       → r ≡ moved_by element ones (bounds b.memory.windows element)
-      → IsKnown (memory_between b ahead) (count_between b ahead) (asks.Window element) (answer.Window element r)
+      → IsKnownBehind b ahead (asks.Window element)
+      (answer.Window element r)
   window_shown element r same = record {
-    answers = ap (λ x. answer.Window element x)
+    answers = λ turns. ap (λ x. answer.Window element x)
         (same ∙ sym (bounds-moved b.memory ones element accepted)
         ∙ ap (λ (m : Contents). bounds m.windows element) after_put);
     puts = λ any. refl;
@@ -65,34 +67,41 @@ module _ (b : GroupStart) (ahead ones : List Command) (is : ones ≡ commands_at
     keeps = λ any. refl;
   }
 
-  pub room_shown : (room : ℕ) → IsKnown (memory_between b ahead) (count_between b ahead) asks.Room (answer.Room room)
-  room_shown room = record {
-    answers = (room, refl);
+  -- the room behind the members
+  room_is : (room : ℕ) → room ≡ (point_behind (length ones) b.point).room → room ≡ (point_between b ahead).room
+  room_is room same = same ∙ ap (λ (l : List Command). (point_behind (length l) b.point).room) is
+
+  pub room_shown : (room : ℕ) → room ≡ (point_behind (length ones) b.point).room
+      → IsKnownBehind b ahead asks.Room (answer.Room room)
+  room_shown room same = record {
+    answers = λ turns. ap (λ r. answer.Room r) (room_is room same);
     puts = λ any. refl;
     tells = λ watch any. refl;
     keeps = λ any. refl;
   }
 
   pub count_shown : (n : ℕ) → n ≡ b.count + length ones
-      → IsKnown (memory_between b ahead) (count_between b ahead) asks.Count (answer.Count n)
+      → IsKnownBehind b ahead asks.Count (answer.Count n)
   count_shown n same = record {
-    answers = ap (λ k. answer.Count k) (same ∙ ap (λ (l : List Command). b.count + length l) is);
+    answers = λ turns. ap (λ k. answer.Count k) (same ∙ ap (λ (l : List Command). b.count + length l) is);
     puts = λ any. refl;
     tells = λ watch any. refl;
     keeps = λ any. refl;
   }
 
   pub about_shown : IsMemory (length b.memory.cells) (length b.memory.windows) b.memory
-      → (slots room : ℕ) (about : About)
+      → (slots room : ℕ) (about : About) → room ≡ (point_behind (length ones) b.point).room
       → about ≡ about_of b.memory slots (b.count + length ones) room
-      → IsKnown (memory_between b ahead) (count_between b ahead) asks.About (answer.About about)
-  about_shown memory slots room about same =
+      → IsKnownBehind b ahead asks.About
+      (answer.About about)
+  about_shown memory slots room about room_same same =
       let now = after_memory (length b.memory.cells) (length b.memory.windows) b.memory b.places ahead memory in
       let cells = sym now.cell_count in
       let windows = sym now.window_count in
       let count = ap (λ (l : List Command). b.count + length l) is in
+      let rooms = room_is room room_same in
       let alike : about_of b.memory slots (b.count + length ones) room ≡ about_of (memory_between b ahead) slots
-      (count_between b ahead) room
+      (count_between b ahead) (point_between b ahead).room
       = λ i. record {
         version = layout_in_use.version;
         cells = cells i;
@@ -100,10 +109,10 @@ module _ (b : GroupStart) (ahead ones : List Command) (is : ones ≡ commands_at
         slots = slots;
         count =
             count i;
-        room = room;
+        room = rooms i;
       } in
       record {
-        answers = (slots, room, ap (λ a. answer.About a) (same ∙ alike));
+        answers = λ turns. (slots, ap (λ a. answer.About a) (same ∙ alike));
         puts = λ any. refl;
         tells = λ watch any. refl;
         keeps = λ any. refl;

@@ -1,7 +1,7 @@
 -- What was said by a group of lines.
-use Rattle.std.proofs.Common.{◌≡◌, ◌∙◌, inl, inr, ⊎_elim, ℕ, zero, suc, ◌+◌, ◌≤◌, Bool, true, false, ◌&&◌, List}
+use Rattle.std.proofs.Common.{◌≡◌, ◌∙◌, inl, inr, ⊎_elim, ℕ, zero, suc, ◌+◌, ◌<◌, ◌≤◌, Bool, true, false, ◌&&◌, List}
 use Rattle.std.proofs.Common.{[], ◌∷◌, ◌++◌, length, refl, sym, ap, subst, append_assoc}
-use Rattle.std.proofs.Common.{length-append, arith, if◌then◌else◌}
+use Rattle.std.proofs.Common.{◌-◌, length-append, arith, if◌then◌else◌, min}
 use Rattle.std.specs.Prelude.{◌==◌, nat_lt, Option, Some, Result, Err}
 use Rattle.std.specs.Io.KnownBytes.{Appends}
 use Rattle.std.proofs.KnownBytes.{Appends-nil, Appends-trans}
@@ -20,8 +20,8 @@ use Rattle.im_types.specs.Meaning.{Means}
 use Rattle.im_laws.proofs.RunLemmas.{after-append}
 use Rattle.im_laws.proofs.Tests.{true_or_false}
 use Rattle.im_groups.specs.Commands.{places, takes_place, answer_with, contents_with, places_behind, command_at}
-use Rattle.im_groups.specs.Commands.{contents_after, commands_at}
-use Rattle.im_groups.proofs.CommandLemmas.{at-after, commands_behind}
+use Rattle.im_groups.specs.Commands.{contents_after, commands_at, left_after}
+use Rattle.im_groups.proofs.CommandLemmas.{at-after, commands_behind, few_at}
 use Rattle.im_text.specs.Printing.{Begins}
 use Rattle.im_text.proofs.PrintingLemmas.{true_false}
 use Rattle.im_disk.specs.Moment.{Moment}
@@ -39,14 +39,24 @@ use Rattle.im_dialogue.specs.declared.answers.Answer.TheVariants.{Served as Serv
 use Rattle.im_dialogue.specs.Answers.{answer_text}
 use Rattle.im_dialogue.specs.Asking.{asked_of}
 use Rattle.im_dialogue.specs.Watching.{watch_text}
-use Rattle.im_dialogue.specs.Together.{IsKnown, GroupStart, group_start, count_between, memory_between}
-use Rattle.im_dialogue.specs.Together.{places_between}
+use Rattle.im_dialogue.specs.Together.{IsKnownBehind, GroupStart, group_start, count_between, memory_between}
+use Rattle.im_dialogue.specs.Together.{places_between, point_between}
+use Rattle.im_turning.specs.Turning.{Point, TurnsLead, point_of, with_one}
+use Rattle.im_checkpoint.specs.declared.checkpoint.TurnDone.{TurnDone}
+use Rattle.im_checkpoint.specs.Step.{Step}
+use Rattle.im_types.specs.declared.TheConstants.{LAST}
+use Rattle.im_types.specs.Header.{Header}
 use Rattle.im_dialogue.specs.Telling.{Reaches, SaidMore, SaysAll}
 use Rattle.im_dialogue.specs.Backups.{Backup}
-use Rattle.im_dialogue.specs.Talk.{Exchange, IsOf, Answers, put_of, texts_of, IsAt, MeansSaid}
+use Rattle.im_dialogue.specs.Talk.{Exchange, IsOf, Answers, Stand, exchange_at, point_behind, put_of, stands_behind, texts_of}
+use Rattle.im_dialogue.specs.Talk.{IsAt, MeansSaid}
 use Rattle.im_dialogue.specs.Talk.{Halts, TalksOn, TalkEnds, AreKept, Outputs, backups_of, outputs}
 use Rattle.im_dialogue.proofs.TalkLemmas.{silent}
 use Rattle.im_dialogue.proofs.ReachLemmas.{contents_behind}
+
+second : (a b : Bool) → (a && b) ≡ true → b ≡ true
+second true b is = is
+second false b is = absurd (true_false false is refl)
 
 -- ---- one member
 
@@ -68,11 +78,44 @@ put_is m left c = one_put (c ∷ []) (step m c).answer (is_accepted m c) (left =
     (sym (some_or_none left))
     (λ accepted. ap (λ (a : Result Outcome Refusal). puts a) (accepted_answers m c accepted).1)
 
-of_one : (m : Contents) (c : Command) (b z : Bool) → is_accepted m c ≡ b
-    → IsOf m c (if b && z then Err JournalFull else (step m c).answer)
-of_one m c false z is = inl refl
-of_one m c true true is = inr (is, refl)
-of_one m c true false is = inl refl
+of_one : (m : Contents) (p : Point) (c : Command) (b z : Bool) → z ≡ false
+    → IsOf m p c (if b && z then Err JournalFull else (step m c).answer)
+of_one m p c false z some = inl refl
+of_one m p c true true some = absurd (true_false true refl some)
+of_one m p c true false some = inl refl
+
+-- ---- where the engine stands behind members
+
+moved_on : (a k : ℕ) (p : Point) → point_behind (a + k) p ≡ point_behind k (point_behind a p)
+moved_on a zero p = let none : a + zero ≡ a = omega arith in ap (λ (n : ℕ). point_behind n p) none
+moved_on a (suc k) p =
+    let next : a + suc k ≡ suc (a + k) = omega arith in
+    ap (λ (n : ℕ). point_behind n p) next ∙ ap (λ (q : Point). with_one q) (moved_on a k p)
+
+-- one command more is put where the last count isn't reached
+room_next : (n k room : ℕ) → suc k + n ≤ LAST
+    → (if n + k == LAST then 0 else room - k) ≡ room - k
+room_next n k room low = ap (λ (b : Bool). if b then 0 else room - k) below
+  where
+    below : (n + k == LAST) ≡ false
+    below = grind (arith, nat_tests, low)
+
+moved_all : (k : ℕ) (p : Point) → suc k ≤ LAST - p.count
+    → point_behind (suc k) p ≡ record p { count = p.count + suc k; room = if p.count + suc k == LAST then 0 else p.room - suc k }
+moved_all zero p low = refl
+moved_all (suc k) p low =
+    let before = moved_all k p (omega (arith, low)) in
+    let room : (if p.count + suc k == LAST then 0 else p.room - suc k) ≡ p.room - suc k
+    = room_next p.count (suc k) p.room (omega (arith, low)) in
+    let count : (p.count + suc k) + 1 ≡ p.count + suc (suc k) = omega arith in
+    let left : (if p.count + suc k == LAST then 0 else p.room - suc k) - 1 ≡ p.room - suc (suc k) = omega (arith, room) in
+    ap (λ (q : Point). with_one q) before
+    ∙ (λ i. record {
+      header = p.header;
+      step = p.step;
+      count = count i;
+      room = if count i == LAST then 0 else left i;
+    })
 
 contents_by : (m : Contents) (left : ℕ) (c : Command) → contents_with m left c ≡ after m (command_at m left c)
 contents_by m left c = by_test (takes_place m left c)
@@ -82,7 +125,7 @@ contents_by m left c = by_test (takes_place m left c)
     by_test false = refl
 
 -- each member puts one command on the disk at most
-put_few : (m : Contents) (left : ℕ) (cs : List Command) → length (commands_at m left cs) ≤ length cs
+pub put_few : (m : Contents) (left : ℕ) (cs : List Command) → length (commands_at m left cs) ≤ length cs
 put_few m left [] = omega arith
 put_few m left (c ∷ cs) = by_test (takes_place m left c) (put_few (contents_with m left c) (places_behind m left c) cs)
   where
@@ -91,6 +134,57 @@ put_few m left (c ∷ cs) = by_test (takes_place m left c) (put_few (contents_wi
         (length cs)
     by_test true rest = omega (arith, rest)
     by_test false rest = omega (arith, rest)
+
+-- the places that are left, and those that the members took
+pub left_and_put : (m : Contents) (left : ℕ) (cs : List Command)
+    → left_after m left cs + length (commands_at m left cs) ≡ left
+left_and_put m left [] = omega arith
+left_and_put m left (c ∷ cs) = by_test (takes_place m left c) refl
+    (left_and_put (contents_with m left c) (places_behind m left c) cs)
+  where
+    rest : ℕ
+    rest = left_after (contents_with m left c) (places_behind m left c) cs
+
+    more : List Command
+    more = commands_at (contents_with m left c) (places_behind m left c) cs
+
+    some : takes_place m left c ≡ true → 0 < left
+    some is = let low : nat_lt 0 left ≡ true = second (is_accepted m c) (nat_lt 0 left) is in
+        grind (arith, nat_tests, low)
+
+    by_test : (t : Bool) → takes_place m left c ≡ t → rest + length more ≡ places_behind m left c
+        → rest + length ((if t then c ∷ [] else []) ++ more) ≡ left
+    by_test true is all =
+        let one = ap (λ (b : Bool). if b then left - 1 else left) is in
+        let there = some is in
+        omega (arith, all, one, there)
+    by_test false is all =
+        let none = ap (λ (b : Bool). if b then left - 1 else left) is in
+        omega (arith, all, none)
+
+-- the room behind commands, at the last count and below it
+room_of : (k : ℕ) (p : Point) → suc k ≤ LAST - p.count
+    → (point_behind (suc k) p).room ≡ (if p.count + suc k == LAST then 0 else p.room - suc k)
+room_of k p low = ap (λ (q : Point). q.room) (moved_all k p low)
+
+pub room_at_last : (put : ℕ) (p : Point) → (put ≡ 0 → ⊥) → put ≤ LAST - p.count → p.count + put ≡ LAST
+    → 0 ≡ (point_behind put p).room
+room_at_last zero p some low last = absurd (some refl)
+room_at_last (suc k) p some low last = sym (room_of k p low
+    ∙ ap (λ (b : Bool). if b then 0 else p.room - suc k) there)
+  where
+    there : (p.count + suc k == LAST) ≡ true
+    there = grind (arith, nat_tests, last)
+
+pub room_below_last : (put : ℕ) (p : Point) → (put ≡ 0 → ⊥) → put ≤ LAST - p.count → (p.count + put ≡ LAST → ⊥)
+    → p.room - put ≡ (point_behind put p).room
+room_below_last zero p some low below = absurd (some refl)
+room_below_last (suc k) p some low below = sym (room_of k p low
+    ∙ ap (λ (b : Bool). if b then 0 else p.room - suc k) (not_there (p.count + suc k == LAST) refl))
+  where
+    not_there : (b : Bool) → (p.count + suc k == LAST) ≡ b → b ≡ false
+    not_there false is = refl
+    not_there true is = let same : p.count + suc k ≡ LAST = grind (arith, nat_tests, is) in absurd (below same)
 
 -- ---- all that was said, by the memory that it comes to
 
@@ -111,7 +205,7 @@ module _ {D : Type 0} (watch : Bool) (start : EngineState D) (b : GroupStart) wh
     here = after start.memory (put_of start.memory told.said)
 
     abbrev exchange : Answer → Exchange
-    exchange answer = record { line = line; answer = answer; name = name }
+    exchange answer = exchange_at line answer name (record { turns = told.reach.turns; point = point_between b ahead })
 
     -- its text, behind those before
     texts_on : (answer : Answer) (more : List ℕ)
@@ -125,7 +219,8 @@ module _ {D : Type 0} (watch : Bool) (start : EngineState D) (b : GroupStart) wh
         ++ (text ++ (answer_text name m answer ++ watch_text watch m answer))) (sym told.reach.memory)
         ∙ ap (λ (t : List ℕ). texts_of watch start.memory base ++ t) (sym is)
 
-    module _ (c : Command) (asked : asked_of line ≡ Some (asks.Serve c)) where
+    module _ (c : Command) (asked : asked_of line ≡ Some (asks.Serve c))
+        (some : (places_between b ahead == 0) ≡ false) where
       abbrev answered_so : Result Outcome Refusal
       answered_so = answer_with (memory_between b ahead) (places_between b ahead) c
 
@@ -152,16 +247,22 @@ module _ {D : Type 0} (watch : Bool) (start : EngineState D) (b : GroupStart) wh
         said = exchange (ServedAs c answered_so) ∷ told.said;
         reach = record {
           answered = (
-            subst (λ (o : Option Asked). Answers here (start.count + length (put_of start.memory told.said)) o
+            subst (λ (o : Option Asked). Answers here (start.count + length (put_of start.memory told.said))
+                (record { turns = told.reach.turns; point = point_between b ahead }) o
                 (ServedAs c answered_so)) (sym asked) (
                   answered_so,
                   refl,
-                  subst (λ (m : Contents). IsOf m c answered_so) told.reach.memory
-                      (of_one (memory_between b ahead) c (is_accepted (memory_between b ahead) c)
-                      (places_between b ahead == 0) refl),
+                  subst (λ (m : Contents). IsOf m (point_between b ahead) c answered_so) told.reach.memory
+                      (of_one (memory_between b ahead) (point_between b ahead) c
+                      (is_accepted (memory_between b ahead) c) (places_between b ahead == 0) some),
                 ),
-            told.reach.answered,
+            (told.reach.lead, told.reach.answered),
           );
+          turns = [];
+          lead = ap (λ (l : List Command). point_behind (length l) b.point) all_put
+              ∙ ap (λ (n : ℕ). point_behind n b.point) (length-append (commands_at b.memory b.places ahead) put_one)
+              ∙ moved_on (length (commands_at b.memory b.places ahead)) (length put_one) b.point
+              ∙ ap (λ (l : List Command). point_behind (length l) (point_between b ahead)) (sym put_here);
           memory = contents_behind b.memory b.places ahead c
               ∙ contents_by (memory_between b ahead) (places_between b ahead) c
               ∙ ap (λ (m : Contents). after m put_one) told.reach.memory
@@ -184,11 +285,12 @@ module _ {D : Type 0} (watch : Bool) (start : EngineState D) (b : GroupStart) wh
       }
 
     pub told_shown : (asked : Asked) (answer : Answer) → asked_of line ≡ Some asked
-        → IsKnown (memory_between b ahead) (count_between b ahead) asked answer
+        → IsKnownBehind b ahead asked answer
         → (more : List ℕ) → more ≡ text ++ (answer_text name (memory_between b ahead) answer
         ++ watch_text watch (memory_between b ahead) answer)
         → SaidMore watch start b base ahead more
     told_shown asked answer read shown more is =
+        let stand : Stand = record { turns = told.reach.turns; point = point_between b ahead } in
         let same : put_of start.memory (exchange answer ∷ told.said) ≡ put_of start.memory told.said
         = ap (λ (l : List Command). put_of start.memory told.said ++ l) (shown.puts here)
         ∙ append-nil (put_of start.memory told.said) in
@@ -196,14 +298,16 @@ module _ {D : Type 0} (watch : Bool) (start : EngineState D) (b : GroupStart) wh
           said = exchange answer ∷ told.said;
           reach = record {
             answered = (
-              subst (λ (o : Option Asked). Answers here (start.count + length (put_of start.memory told.said)) o answer)
-                  (sym read)
-                  (subst (λ (m : Contents). Answers m (start.count + length (put_of start.memory told.said))
+              subst (λ (o : Option Asked). Answers here (start.count + length (put_of start.memory told.said)) stand o
+                  answer) (sym read)
+                  (subst (λ (m : Contents). Answers m (start.count + length (put_of start.memory told.said)) stand
                   (Some asked) answer) told.reach.memory
-                  (subst (λ (n : ℕ). Answers (memory_between b ahead) n (Some asked) answer) told.reach.count
-                  shown.answers)),
-              told.reach.answered,
+                  (subst (λ (n : ℕ). Answers (memory_between b ahead) n stand (Some asked) answer) told.reach.count
+                  (shown.answers told.reach.turns))),
+              (told.reach.lead, told.reach.answered),
             );
+            turns = [];
+            lead = sym (ap (λ (l : List Command). point_behind (length l) (point_between b ahead)) (shown.puts here));
             memory = told.reach.memory ∙ ap (λ (l : List Command). after start.memory l) (sym same);
             count = told.reach.count ∙ ap (λ (l : List Command). start.count + length l) (sym same);
           };
@@ -303,6 +407,7 @@ module _ {D : Type 0} (now : D → Moment) (past : D → List Moment) (honest : 
     pub answers : ss ≡ answers_in_turn old cs
     pub memory : new.memory ≡ contents_after old.memory (places old.count old.room) cs
     pub count : new.count ≡ old.count + length (commands_put old cs)
+    pub point : point_behind (length (commands_put old cs)) (point_of old) ≡ point_of new
 
   -- what works behind a group, worked before it
   pub worked : (ss : List Served) → CommandsAnswered old cs ss new → new.failed ≡ false → old.failed ≡ false
@@ -314,6 +419,16 @@ module _ {D : Type 0} (now : D → Moment) (past : D → List Moment) (honest : 
   pub done_by : (ss : List Served) → CommandsAnswered old cs ss new → old.failed ≡ false → new.failed ≡ false → Done ss
   done_by ss it f g = by_put (commands_put old cs) refl
     where
+      moved_put : (k : ℕ) → length (commands_put old cs) ≡ suc k
+          → point_behind (length (commands_put old cs)) (point_of old) ≡ point_of (after_commands old cs)
+      moved_put k is =
+          let few = few_at old.memory (places old.count old.room) cs in
+          let low : suc k ≤ LAST - old.count = omega (arith, few, is) in
+          subst (λ (n : ℕ). point_behind n (point_of old)
+          ≡ record (point_of old) { count = old.count + n; room = if old.count + n == LAST then 0 else old.room - n })
+          (sym is)
+          (moved_all k (point_of old) low)
+
       by_put : (put : List Command) → commands_put old cs ≡ put → Done ss
       by_put [] none =
           let is = it.none f none in
@@ -323,13 +438,16 @@ module _ {D : Type 0} (now : D → Moment) (past : D → List Moment) (honest : 
                 ∙ sym (ap (λ (l : List Command). after old.memory l) none)
                 ∙ at-after old.memory (places old.count old.room) cs;
             count = omega (arith, ap (λ (e : EngineState D). e.count) is.1, ap (λ (l : List Command). length l) none);
+            point = ap (λ (l : List Command). point_behind (length l) (point_of old)) none
+                ∙ sym (ap (λ (e : EngineState D). point_of e) is.1);
           }
       by_put (c ∷ put) some = ⊎_elim
           (λ done. record {
             answers = done.0;
             memory = ap (λ (e : EngineState D). e.memory) done.1;
-            count = ap
-                (λ (e : EngineState D). e.count) done.1;
+            count = ap (λ (e : EngineState D). e.count) done.1;
+            point = moved_put (length put) (ap (λ (l : List Command). length l) some)
+                ∙ sym (ap (λ (e : EngineState D). point_of e) done.1);
           })
           (λ fault. absurd (true_false new.failed (ap (λ (e : EngineState D). e.failed) fault.1) g))
           (it.put f (omega (arith, ap (λ (l : List Command). length l) some)))
@@ -345,6 +463,8 @@ module _ {D : Type 0} (now : D → Moment) (past : D → List Moment) (honest : 
     said_all start said at = tells start said
         (record {
           answered = at.answered;
+          turns = at.turns;
+          lead = at.lead;
           memory = at.run.memory at.works;
           count = omega (arith, at.run.count at.works);
         })
@@ -356,6 +476,10 @@ module _ {D : Type 0} (now : D → Moment) (past : D → List Moment) (honest : 
         let told = said_all start said at in
         record {
           answered = told.reach.answered;
+          turns = told.reach.turns;
+          lead = subst
+              (λ (p : Point). TurnsLead told.reach.turns (stands_behind start.memory (point_of start) told.said) p)
+              done.point told.reach.lead;
           works = alive;
           run = record {
             memory = λ f. done.memory ∙ told.reach.memory;

@@ -1,7 +1,8 @@
 -- The parts of a group: how it grows, and how its answers are told.
-use Rattle.std.proofs.Common.{◌≡◌, ◌∙◌, ℕ, zero, suc, ◌≤◌, Bool, false, List, [], ◌∷◌}
-use Rattle.std.proofs.Common.{◌++◌, length, map, take, refl, sym, ap, subst, append_assoc, arith}
-use Rattle.std.specs.Prelude.{◌||◌, option_map, MatchOption, Option, Some, None, Result, Ok, Err}
+use Rattle.std.proofs.Common.{◌≡◌, ◌∙◌, ℕ, zero, suc, ◌+◌, ◌<◌, ◌≤◌, Bool, false, List, [], ◌∷◌}
+use Rattle.std.proofs.Common.{◌++◌, length, map, take, refl, sym, ap, subst, append_assoc, length-append, arith}
+use Rattle.std.proofs.lemmas.Bool.Decides.{nat_tests}
+use Rattle.std.specs.Prelude.{◌==◌, ◌||◌, option_map, MatchOption, Option, Some, None, Result, Ok, Err}
 use Rattle.std.specs.List.{list_any}
 use Rattle.std.proofs.lemmas.List.{append-nil}
 use Rattle.im_types.specs.declared.TheConstants.{MAX_GROUP}
@@ -17,6 +18,8 @@ use Rattle.im_laws.proofs.Tests.{or_left, or_right, true_false}
 use Rattle.im_groups.specs.Commands.{answer_with, answers_with, contents_with}
 use Rattle.im_groups.specs.Commands.{places_behind}
 use Rattle.im_groups.proofs.CommandLemmas.{left_behind}
+use Rattle.im_checkpoint.specs.declared.checkpoint.TurnDone.{TurnDone}
+use Rattle.im_turning.specs.Turning.{Point}
 use Rattle.im_engine.specs.State.{EngineState}
 use Rattle.im_dialogue.specs.declared.asking.Asked.{Asked}
 use Rattle.im_dialogue.specs.declared.asking.Asked.TheVariants as asks
@@ -32,12 +35,12 @@ use Rattle.im_dialogue.specs.Looks.{may_alter, may_change, may_reach}
 use Rattle.im_dialogue.specs.Showing.{block_said, cell_said, recall}
 use Rattle.im_dialogue.specs.Talk.{Answers, KeepsNone, put_by}
 use Rattle.im_dialogue.specs.Together.{IsAsked, GroupStart, group_start, memory_between, places_between}
-use Rattle.im_dialogue.specs.Together.{count_between, with_member, members_in}
-use Rattle.im_dialogue.specs.Together.{disturbs, LeavesShown, IsKnown, IsGroupLine, StandTogether, MayBeServed}
+use Rattle.im_dialogue.specs.Together.{count_between, point_between, with_member, members_in}
+use Rattle.im_dialogue.specs.Together.{disturbs, LeavesShown, IsKnown, IsKnownBehind, IsGroupLine, StandTogether, MayBeServed}
 use Rattle.im_dialogue.specs.Together.{MayStandNext, result_of, line_answer, answers_behind}
 use Rattle.im_dialogue.specs.Watching.{told_with, watch_text}
 use Rattle.im_dialogue.specs.Telling.{SaysAll, WasServed}
-use Rattle.im_dialogue.proofs.GroupTalk.{told_none, told_member, told_shown}
+use Rattle.im_dialogue.proofs.GroupTalk.{left_and_put, put_few, told_none, told_member, told_shown}
 use Rattle.im_dialogue.proofs.LookLemmas.{ask_recalls, entry_of, may_change_there, recall_with}
 use Rattle.im_dialogue.proofs.ReachLemmas.{after_memory, cell_after, contents_behind}
 
@@ -227,22 +230,31 @@ module _ {D : Type 0} (watch : Bool) (old : EngineState D) where
     pub parts_are : StandTogether watch b ahead shown parts texts
     pub answers_are : answers ≡ map as_served (answers_with (memory_between b ahead) (places_between b ahead) more)
     pub tells : SaysAll watch old ahead text
+    pub places : length cs ≤ b.places
+
+  -- a place is left for one more member than those ahead
+  some_left : (ahead : List Command) → length ahead < b.places → (places_between b ahead == 0) ≡ false
+  some_left ahead few =
+      let put = put_few b.memory b.places ahead in
+      let all = left_and_put b.memory b.places ahead in
+      let some : 0 < places_between b ahead = omega (arith, put, all, few) in
+      grind (arith, nat_tests, some)
 
   -- a member's answer
   tells_member : (ahead : List Command) (text told more name : List ℕ) (c : Command) → SaysAll watch old ahead text
-      → IsGroupLine watch b ahead (Member c) told
+      → length ahead < b.places → IsGroupLine watch b ahead (Member c) told
       → let a = answer_with (memory_between b ahead) (places_between b ahead) c in
       more ≡ text ++ (answer_text name (memory_between b ahead) (answer.Served c a)
       ++ told_with (answer.Served c a) told)
       → SaysAll watch old (ahead ++ c ∷ []) more
-  tells_member ahead text told more name c tells (asked, is_told) is = λ start base at.
-      told_member watch start b base ahead text (tells start base at) asked.0 name c asked.1 more
+  tells_member ahead text told more name c tells few (asked, is_told) is = λ start base at.
+      told_member watch start b base ahead text (tells start base at) asked.0 name c asked.1 (some_left ahead few) more
       (is ∙ ap (λ (t : List ℕ). text ++ (answer_text name (memory_between b ahead)
       (answer.Served c (answer_with (memory_between b ahead) (places_between b ahead) c)) ++ t)) (is_told _ refl))
 
   tells_shown : (ahead : List Command) (text more name : List ℕ) (asked : Asked) (given : Answer)
       → SaysAll watch old ahead text → IsAsked asked
-      → IsKnown (memory_between b ahead) (count_between b ahead) asked given
+      → IsKnownBehind b ahead asked given
       → more ≡ text ++ (answer_text name (memory_between b ahead) given ++ told_with given [])
       → SaysAll watch old ahead more
   tells_shown ahead text more name asked given tells read shown is = λ start base at.
@@ -250,10 +262,11 @@ module _ {D : Type 0} (watch : Bool) (old : EngineState D) where
       (is ∙ ap (λ (t : List ℕ). text ++ (answer_text name (memory_between b ahead) given ++ t))
       (told_nothing given ∙ sym (shown.tells watch (memory_between b ahead))))
 
-  looked : (m : Contents) (n : ℕ) (asked : Asked) (given : Answer) → Answers m n (Some asked) given
+  looked : (m : Contents) (n : ℕ) (p : Point) (asked : Asked) (given : Answer)
+      → ((turns : List TurnDone) → Answers m n (record { turns = turns; point = p }) (Some asked) given)
       → ((any : Contents) → put_by any given ≡ []) → ((watch : Bool) (any : Contents) → watch_text watch any given ≡ [])
-      → KeepsNone given → IsKnown m n asked given
-  looked m n asked given answers puts tells keeps =
+      → KeepsNone given → IsKnown m n p asked given
+  looked m n p asked given answers puts tells keeps =
       record { answers = answers; puts = puts; tells = tells; keeps = keeps }
 
   module _ (cells elements : ℕ) (is : IsMemory cells elements old.memory) (m : Contents) (cs : List Command)
@@ -298,7 +311,14 @@ module _ {D : Type 0} (watch : Bool) (old : EngineState D) where
                   (sym (contents_behind b.memory b.places telling.ahead c))
                   ∙ ap (λ (k : ℕ). map as_served (answers_with (memory_between b (telling.ahead ++ c ∷ [])) k rest))
                   (sym (left_behind b.memory b.places telling.ahead c));
-              tells = tells_member telling.ahead text t more name c telling.tells telling.parts_are.0
+              places = telling.places;
+              tells = tells_member telling.ahead text t more name c telling.tells
+                  (omega (
+                    arith,
+                    telling.places,
+                    ap (λ (l : List Command). length l) all,
+                    length-append telling.ahead (c ∷ rest),
+                  )) telling.parts_are.0
                   (same ∙ ap (λ (g : Answer). text ++ (answer_text name m g ++ told_with g t))
                   (given_is ∙ ap (λ r. answer.Served c r) result));
             }
@@ -327,10 +347,11 @@ module _ {D : Type 0} (watch : Bool) (old : EngineState D) where
           first = telling.first;
           parts_are = telling.parts_are.1.1;
           answers_are = telling.answers_are;
+          places = telling.places;
           tells = tells_shown telling.ahead text more name (asks.Look look) (answer.Looked look) telling.tells
               telling.parts_are.0.0
-              (looked (memory_between b telling.ahead) (count_between b telling.ahead) (asks.Look look)
-              (answer.Looked look) refl (λ any. refl) (λ watch any. refl) (λ any. refl))
+              (looked (memory_between b telling.ahead) (count_between b telling.ahead) (point_between b telling.ahead)
+              (asks.Look look) (answer.Looked look) (λ turns. refl) (λ any. refl) (λ watch any. refl) (λ any. refl))
               (same ∙ ap (λ (g : Answer). text ++ (answer_text name m g ++ told_with g t)) given_is
               ∙ ap (λ (l : List ℕ). text ++ (look_text name m look ++ told_with (answer.Looked look) l))
               telling.parts_are.0.1
@@ -348,6 +369,7 @@ module _ {D : Type 0} (watch : Bool) (old : EngineState D) where
           first = telling.first;
           parts_are = telling.parts_are.1.1;
           answers_are = telling.answers_are;
+          places = telling.places;
           tells = tells_shown telling.ahead text more name telling.parts_are.0.0.0 known telling.tells
               telling.parts_are.0.0.1 telling.parts_are.0.0.2
               (same ∙ ap (λ (g : Answer). text ++ (answer_text name m g ++ told_with g t)) given_is
@@ -391,40 +413,43 @@ module _ {D : Type 0} (watch : Bool) (old : EngineState D) where
 
   -- there is such a text, for the members alone
   some_member : (ahead : List Command) (text told : List ℕ) (c : Command) → SaysAll watch old ahead text
-      → IsGroupLine watch b ahead (Member c) told
+      → length ahead < b.places → IsGroupLine watch b ahead (Member c) told
       → SaysAll watch old (ahead ++ c ∷ [])
       (text ++ (answer_text [] (memory_between b ahead)
       (answer.Served c (answer_with (memory_between b ahead) (places_between b ahead) c))
       ++ told_with (answer.Served c (answer_with (memory_between b ahead) (places_between b ahead) c)) told))
-  some_member ahead text told c tells part = tells_member ahead text told _ [] c tells part refl
+  some_member ahead text told c tells few part = tells_member ahead text told _ [] c tells few part refl
 
   some_from : (k : ℕ) (ahead : List Command) (shown parts : List GroupLine) (texts : List (List ℕ)) (text : List ℕ)
-      → SaysAll watch old ahead text
+      → SaysAll watch old ahead text → length ahead + length (members_in parts) ≤ b.places
       → StandTogether watch b ahead shown parts texts → (all : List ℕ)
       × SaysAll watch old (ahead ++ take k (members_in parts)) all
-  some_from zero ahead shown parts texts text tells are =
+  some_from zero ahead shown parts texts text tells few are =
       (text, subst (λ (l : List Command). SaysAll watch old l text) (sym (append-nil ahead)) tells)
-  some_from (suc k) ahead shown [] texts text tells are =
+  some_from (suc k) ahead shown [] texts text tells few are =
       (text, subst (λ (l : List Command). SaysAll watch old l text) (sym (append-nil ahead)) tells)
-  some_from (suc k) ahead shown (p ∷ parts) [] text tells are = absurd are
-  some_from (suc k) ahead shown (Member c ∷ parts) (t ∷ texts) text tells are =
+  some_from (suc k) ahead shown (p ∷ parts) [] text tells few are = absurd are
+  some_from (suc k) ahead shown (Member c ∷ parts) (t ∷ texts) text tells few are =
       let rest = some_from k (ahead ++ c ∷ []) (shown ++ Member c ∷ []) parts texts _
-      (some_member ahead text t c tells are.0) are.1.1 in (
+      (some_member ahead text t c tells (omega (arith, few)) are.0)
+      (omega (arith, few, length-append ahead (c ∷ []))) are.1.1 in (
         rest.0,
         subst (λ (l : List Command). SaysAll watch old l rest.0)
             (append_assoc ahead (c ∷ []) (take k (members_in parts))) rest.1,
       )
-  some_from (suc k) ahead shown (line.Look look ∷ parts) (t ∷ texts) text tells are = some_from (suc k) ahead
-      (shown ++ line.Look look ∷ []) parts texts text tells are.1.1
-  some_from (suc k) ahead shown (Known given ∷ parts) (t ∷ texts) text tells are = some_from (suc k) ahead
-      (shown ++ Known given ∷ []) parts texts text tells are.1.1
+  some_from (suc k) ahead shown (line.Look look ∷ parts) (t ∷ texts) text tells few are = some_from (suc k) ahead
+      (shown ++ line.Look look ∷ []) parts texts text tells few are.1.1
+  some_from (suc k) ahead shown (Known given ∷ parts) (t ∷ texts) text tells few are = some_from (suc k) ahead
+      (shown ++ Known given ∷ []) parts texts text tells few are.1.1
 
   pub some_text : (many : ℕ) (parts : List GroupLine) (texts : List (List ℕ)) (members : List Command)
-      → MayBeServed watch b parts texts members
+      → MayBeServed watch b parts texts members → length members ≤ b.places
       → (all : List ℕ) × SaysAll watch old (take many members) all
-  some_text many parts texts members group =
-      let all = some_from many [] [] parts texts [] (λ start base at. told_none watch start b base at) group.parts_are
-      in
+  some_text many parts texts members group few =
+      let room : length (members_in parts) ≤ b.places
+      = subst (λ (l : List Command). length l ≤ b.places) group.members_are few in
+      let all = some_from many [] [] parts texts [] (λ start base at. told_none watch start b base at)
+      (omega (arith, room)) group.parts_are in
       (all.0, subst (λ (l : List Command). SaysAll watch old (take many l) all.0) (sym group.members_are) all.1)
 
   -- the next part, as the lists stand

@@ -1,5 +1,7 @@
 -- What was said over an engine, line by line.
-use Rattle.std.proofs.Common.{◌≡◌, ◌∙◌, inl, inr, ⊎_elim, ℕ, suc, ◌+◌, ◌≤◌, Bool, false, List, [], ◌∷◌, ◌++◌, length, take, refl, sym, ap, subst, append_assoc, length-append, arith}
+use Rattle.std.proofs.Common.{◌≡◌, ◌∙◌, inl, inr, ⊎_elim, ℕ, suc, ◌+◌, ◌≤◌, Bool, false, List, [], ◌∷◌, ◌++◌, length}
+use Rattle.std.proofs.Common.{take, refl, sym, ap, subst, append_assoc, length-append, arith, ◌&&◌, true}
+use Rattle.std.proofs.Common.{if◌then◌else◌}
 use Rattle.std.specs.Prelude.{Option, Some, Result, Ok, Err, MatchResult}
 use Rattle.std.specs.Io.KnownBytes.{Appends}
 use Rattle.std.proofs.KnownBytes.{Appends-trans}
@@ -24,27 +26,69 @@ use Rattle.im_checkpoint.specs.declared.checkpoint.TurnDone.{TurnDone}
 use Rattle.im_checkpoint.proofs.Fitting.{none_or_some}
 use Rattle.im_engine.specs.State.{EngineState, MeansState, MeansEither}
 use Rattle.im_engine.specs.Run.{Answered, TurnAnswered, HasRun, MeansAfter, MeansBeginning, put_by_command}
-use Rattle.im_engine.proofs.Running.{AllOrLess, far_on, far_start, far_turned, fails_by_device, leaves_on, leaves_turned, means_all, now_on, went}
+use Rattle.im_engine.specs.Run.{is_put as puts}
+use Rattle.im_engine.proofs.Accepting.{accepted_answers}
+use Rattle.im_engine.proofs.Running.{AllOrLess, far_on, far_start, far_turned, fails_by_device, leaves_on}
+use Rattle.im_engine.proofs.Running.{leaves_turned, means_all, now_on, went}
 use Rattle.im_dialogue.specs.declared.asking.Asked.{Asked}
 use Rattle.im_dialogue.specs.declared.asking.Asked.TheVariants as asks
 use Rattle.im_dialogue.specs.declared.answers.Answer.{Answer}
-use Rattle.im_dialogue.specs.declared.answers.Answer.TheVariants.{Served}
+use Rattle.im_dialogue.specs.declared.answers.Answer.TheVariants.{Served, Turned}
 use Rattle.im_dialogue.specs.Asking.{asked_of}
 use Rattle.im_dialogue.specs.Backups.{Backup}
-use Rattle.im_dialogue.specs.Talk.{Exchange, IsOf, Answers, put_by, put_of, is_end, IsAt, MeansSaid, HasEnded, GoesOn, Halts, Says, texts_of, Silent, TalksOn, TalkEnds}
-use Rattle.im_dialogue.specs.Talk.{AreKept, Outputs, backup_by, backups_of}
+use Rattle.im_turning.specs.Turning.{IsSpent, Point, point_of, with_one}
+use Rattle.im_turning.proofs.TurningLemmas.{taken_of}
+use Rattle.im_dialogue.specs.Talk.{Exchange, IsOf, Answers, put_by, put_of, is_end, IsAt, MeansSaid, HasEnded, GoesOn}
+use Rattle.im_dialogue.specs.Talk.{Halts, Says, texts_of, Silent, TalksOn, TalkEnds}
+use Rattle.im_dialogue.specs.Talk.{AreKept, Outputs, Stand, backup_by, backups_of, exchange_at, point_behind}
 
 -- what a command is answered, where the engine works still
-is_of : {D : Type 0} (old new : EngineState D) (c : Command) (a : Result Outcome Refusal) → old.failed ≡ false → new.failed ≡ false → Answered old c a new → IsOf old.memory c a
-is_of old new c a f g it = ⊎_elim
+is_of : {D : Type 0} (old new : EngineState D) (c : Command) (a : Result Outcome Refusal) → old.failed ≡ false
+    → new.failed ≡ false → Answered old c a new
+    → (old.room ≡ 0 → IsSpent (point_of old)) → IsOf old.memory (point_of old) c a
+is_of old new c a f g it spent = ⊎_elim
     (λ accepted. ⊎_elim
-    (λ none. inr (accepted, (it.full f accepted none).0))
+    (λ none. inr (accepted, ((it.full f accepted none).0, (none, spent none))))
     (λ some. ⊎_elim
     (λ done. inl done.0)
     (λ fault. absurd (true_false new.failed (ap (λ (s : EngineState _). s.failed) fault.1) g))
     (it.put f accepted some))
     (none_or_some old.room))
     (λ un. inl (it.unaccepted f un).0)
+    (true_or_false (is_accepted old.memory c))
+
+-- where a command is put on the disk, or isn't
+none_moved : (c : Command) (p : Point) (b : Bool) → b ≡ false → p ≡ point_behind (length (if b then c ∷ [] else [])) p
+none_moved c p b not = subst (λ (x : Bool). p ≡ point_behind (length (if x then c ∷ [] else [])) p) (sym not) refl
+
+one_moved : (c : Command) (p : Point) (b : Bool) → b ≡ true
+    → with_one p ≡ point_behind (length (if b then c ∷ [] else [])) p
+one_moved c p b is = subst (λ (x : Bool). with_one p ≡ point_behind (length (if x then c ∷ [] else [])) p) (sym is) refl
+
+-- where an engine stands behind a command
+served_point : {D : Type 0} (old new : EngineState D) (c : Command) (a : Result Outcome Refusal) → old.failed ≡ false
+    → new.failed ≡ false → Answered old c a new
+    → point_of new ≡ point_behind (length (put_by_command old.memory c a)) (point_of old)
+served_point old new c a f g it = ⊎_elim
+    (λ accepted.
+    let put : (b : Bool) → puts a ≡ b → (is_accepted old.memory c && puts a) ≡ b
+    = λ b is. ap (λ (x : Bool). x && puts a) accepted ∙ is in
+    ⊎_elim
+    (λ none. let full = it.full f accepted none in
+    ap (λ (s : EngineState _). point_of s) full.1
+    ∙ none_moved c (point_of old) (is_accepted old.memory c && puts a)
+    (put false (ap (λ (x : Result Outcome Refusal). puts x) full.0)))
+    (λ some. ⊎_elim
+    (λ done. ap (λ (s : EngineState _). point_of s) done.1
+    ∙ one_moved c (point_of old) (is_accepted old.memory c && puts a)
+    (put true
+    (ap (λ (x : Result Outcome Refusal). puts x) done.0 ∙ ap (λ (x : Result Outcome Refusal). puts x)
+    (accepted_answers old.memory c accepted).1)))
+    (λ fault. absurd (true_false new.failed (ap (λ (s : EngineState _). s.failed) fault.1) g))
+    (it.put f accepted some))
+    (none_or_some old.room))
+    (λ un. ap (λ (s : EngineState _). point_of s) (it.unaccepted f un).1
+    ∙ none_moved c (point_of old) (is_accepted old.memory c && puts a) (ap (λ (x : Bool). x && puts a) un))
     (true_or_false (is_accepted old.memory c))
 
 -- an answer that doesn't end the dialogue leaves the engine working
@@ -81,10 +125,16 @@ kept_on m here said x held was is same kept more = more
     ∙ ap (λ (n : Contents). (backup_by n x.answer ++ backups_of m said) ++ held) same
 
 module _ {D : Type 0} (now : D → Moment) (past : D → List Moment) (honest : D → Type 0) where
+  abbrev At : EngineState D → EngineState D → List Exchange → Type 0
+  At start engine said = IsAt now past start engine said
+
   -- nothing was said yet
-  pub at_start : (start : EngineState D) → start.failed ≡ false → LeavesNow (now start.disk) (MeansState start) → IsAt now past start start []
+  pub at_start : (start : EngineState D) → start.failed ≡ false → LeavesNow (now start.disk) (MeansState start)
+      → At start start []
   at_start start f means = record {
     answered = tt;
+    turns = [];
+    lead = refl;
     works = f;
     run = far_start start;
     leaves = leaves_start (now start.disk) (past start.disk) (MeansBeginning start []);
@@ -92,7 +142,8 @@ module _ {D : Type 0} (now : D → Moment) (past : D → List Moment) (honest : 
   }
 
   -- all that was said is in every file
-  said_now : (start old : EngineState D) (said : List Exchange) (file : List ℕ) → IsAt now past start old said → MeansState old file → MeansSaid start said [] file
+  said_now : (start old : EngineState D) (said : List Exchange) (file : List ℕ) → At start old said
+      → MeansState old file → MeansSaid start said [] file
   said_now start old said file at means =
       let put : List Command = put_of start.memory said in
       let all : MeansAfter start put (length put) file = means_all start old put at.run at.works file means in
@@ -102,7 +153,8 @@ module _ {D : Type 0} (now : D → Moment) (past : D → List Moment) (honest : 
         subst (λ (l : List Command). MeansAfter start l (length put) file) (sym same) all,
       )
 
-  pub ended_at : (start old : EngineState D) (said : List Exchange) → IsAt now past start old said → HasEnded now past start old.disk said []
+  pub ended_at : (start old : EngineState D) (said : List Exchange) → At start old said
+      → HasEnded now past start old.disk said []
   ended_at start old said at = record {
     answered = at.answered;
     leaves = subst (λ (l : List Command). Leaves (now start.disk) (now old.disk) (past start.disk) (past old.disk) (MeansBeginning start l)) (sym (append-nil (put_of start.memory said))) at.leaves;
@@ -115,28 +167,34 @@ module _ {D : Type 0} (now : D → Moment) (past : D → List Moment) (honest : 
 
   -- ---- turns
 
-  turned_at : (start old new : EngineState D) (said : List Exchange) (a : Result TurnDone Refusal) (done : TurnDone) → IsAt now past start old said → TurnAnswered old a new
+  -- where it stands behind a turn, which is the last since the last answer
+  turned_at : (start old new : EngineState D) (said : List Exchange) (a : Result TurnDone Refusal) (done : TurnDone)
+      → At start old said → TurnAnswered old a new
       → (old.failed ≡ false → Leaves (now old.disk) (now new.disk) (past old.disk) (past new.disk) (MeansState old))
-      → (new.failed ≡ false → LeavesNow (now new.disk) (MeansState new)) → a ≡ Ok done → IsAt now past start new said
+      → (new.failed ≡ false → LeavesNow (now new.disk) (MeansState new)) → a ≡ Ok done
+      → (at : At start new said) × ((before : List TurnDone) × (at.turns ≡ done ∷ before))
   turned_at start old new said a done at it leaves means is =
-      let f : new.failed ≡ false = elim (it.alive at.works) [
-        | inl taken ↦ taken.2.alive
-        | inr fault ↦ let device = fault.0 in absurd (cc)
-      ] in
-      record {
-        answered = at.answered;
-        works = f;
-        run = far_turned start old new (put_of start.memory said) a at.run it;
-        leaves = leaves_turned start old new (put_of start.memory said) a at.run it now past at.leaves leaves;
-        kept = means f;
-      }
+      let taken = taken_of old new a done it is in (
+        record {
+          answered = at.answered;
+          turns = done ∷ at.turns;
+          lead = (point_of old, (at.lead, taken.turned));
+          works = taken.alive;
+          run = far_turned start old new (put_of start.memory said) a at.run it;
+          leaves = leaves_turned start old new (put_of start.memory said) a at.run it now past at.leaves leaves;
+          kept = means taken.alive;
+        },
+        (at.turns, refl),
+      )
 
   pub turn_goes : (old new : EngineState D) (a : Result TurnDone Refusal) (done : TurnDone) → TurnAnswered old a new → (honest new.disk → honest old.disk)
       → (honest new.disk → old.failed ≡ false → Leaves (now old.disk) (now new.disk) (past old.disk) (past new.disk) (MeansState old))
       → (honest new.disk → new.failed ≡ false → LeavesNow (now new.disk) (MeansState new)) → a ≡ Ok done → GoesOn now past honest old new
-  turn_goes old new a done it back leaves means is = λ start said so_far h. let far = so_far (back h) in (far.0, turned_at start old new said a done far.1 it (leaves h) (means h) is)
+  turn_goes old new a done it back leaves means is = λ start said so_far h. let far = so_far (back h) in
+      (far.0, (turned_at start old new said a done far.1 it (leaves h) (means h) is).0)
 
-  turn_ended : (start old new : EngineState D) (said : List Exchange) (a : Result TurnDone Refusal) → IsAt now past start old said → TurnAnswered old a new
+  turn_ended : (start old new : EngineState D) (said : List Exchange) (a : Result TurnDone Refusal)
+      → At start old said → TurnAnswered old a new
       → (old.failed ≡ false → Leaves (now old.disk) (now new.disk) (past old.disk) (past new.disk) (MeansState old))
       → (old.failed ≡ false → LeavesNow (now new.disk) (MeansState old)) → HasEnded now past start new.disk said []
   turn_ended start old new said a at it leaves means = record {
@@ -153,35 +211,49 @@ module _ {D : Type 0} (now : D → Moment) (past : D → List Moment) (honest : 
 
   -- ---- commands
 
-  served_at : (start old new : EngineState D) (said : List Exchange) (line name : List ℕ) (c : Command) (a : Result Outcome Refusal) → asked_of line ≡ Some (asks.Serve c) → IsAt now past start old said → Answered old c a new
+  served_at : (start old new : EngineState D) (said : List Exchange) (line name : List ℕ) (c : Command)
+      (a : Result Outcome Refusal) → asked_of line ≡ Some (asks.Serve c) → At start old said → Answered old c a new
       → (old.failed ≡ false → Leaves (now old.disk) (now new.disk) (past old.disk) (past new.disk) (MeansEither old c))
       → (new.failed ≡ false → LeavesNow (now new.disk) (MeansState new)) → (a ≡ Err Device → ⊥)
-      → IsAt now past start new (record { line = line; answer = Served c a; name = name } ∷ said)
-  served_at start old new said line name c a asked at it leaves means unless =
+      → (old.room ≡ 0 → IsSpent (point_of old))
+      → (here : Stand) × At start new (exchange_at line (Served c a) name here ∷ said)
+  served_at start old new said line name c a asked at it leaves means unless spent =
       let put : List Command = put_of start.memory said in
       let f : new.failed ≡ false = works_on old new c a it at.works unless in
       let m : old.memory ≡ after start.memory (put_of start.memory said) = at.run.memory at.works in
-      record {
-        answered = (
-          subst (λ (o : Option Asked). Answers (after start.memory (put_of start.memory said)) (start.count + length (put_of start.memory said)) o (Served c a)) (sym asked)
-              (a, refl, subst (λ (m : Contents). IsOf m c a) m (is_of old new c a at.works f it)),
-          at.answered,
-        );
-        works = f;
-        run = far_on start old new (put_of start.memory said) c a at.run it;
-        leaves = leaves_on start old new (put_of start.memory said) c a at.run it now past at.leaves leaves;
-        kept = means f;
-      }
+      let here : Stand = record { turns = at.turns; point = point_of old } in (
+        here,
+        record {
+          answered = (
+            subst (λ (o : Option Asked). Answers (after start.memory (put_of start.memory said))
+                (start.count + length (put_of start.memory said)) here o (Served c a)) (sym asked) (
+                  a,
+                  refl,
+                  subst (λ (m : Contents). IsOf m (point_of old) c a) m
+                      (is_of old new c a at.works f it spent),
+                ),
+            (at.lead, at.answered),
+          );
+          turns = [];
+          lead = subst (λ (m : Contents). point_of new ≡ point_behind (length (put_by_command m c a)) (point_of old)) m
+              (served_point old new c a at.works f it);
+          works = f;
+          run = far_on start old new (put_of start.memory said) c a at.run it;
+          leaves = leaves_on start old new (put_of start.memory said) c a at.run it now past at.leaves leaves;
+          kept = means f;
+        },
+      )
 
   pub serve_says : (old new : EngineState D) (c : Command) (a told : Result Outcome Refusal) → Answered old c a new → (honest new.disk → honest old.disk)
       → (honest new.disk → old.failed ≡ false → Leaves (now old.disk) (now new.disk) (past old.disk) (past new.disk) (MeansEither old c))
       → (honest new.disk → new.failed ≡ false → LeavesNow (now new.disk) (MeansState new)) → a ≡ told → (a ≡ Err Device → ⊥)
-      → Says now past honest old new (Some (asks.Serve c)) (Served c told)
-  serve_says old new c a told it back leaves means is unless = λ start said line name asked so_far h.
+      → (old.room ≡ 0 → IsSpent (point_of old)) → Says now past honest old new (Some (asks.Serve c)) (Served c told)
+  serve_says old new c a told it back leaves means is unless spent = λ start said line name asked so_far h.
       let far = so_far (back h) in (
         far.0,
-        subst (λ (a : Result Outcome Refusal). IsAt now past start new (record { line = line; answer = Served c a; name = name } ∷ said)) is
-            (served_at start old new said line name c a asked far.1 it (leaves h) (means h) unless),
+        subst (λ (a : Result Outcome Refusal). (here : Stand)
+            × At start new (exchange_at line (Served c a) name here ∷ said)) is
+            (served_at start old new said line name c a asked far.1 it (leaves h) (means h) unless spent),
       )
 
   -- the file has what was said, and the command in doubt or not
@@ -193,7 +265,8 @@ module _ {D : Type 0} (now : D → Moment) (past : D → List Moment) (honest : 
       let e = less.1 in
       (many, inl (omega arith), means)
 
-  serve_ended : (start old new : EngineState D) (said : List Exchange) (c : Command) (a : Result Outcome Refusal) → IsAt now past start old said → Answered old c a new
+  serve_ended : (start old new : EngineState D) (said : List Exchange) (c : Command) (a : Result Outcome Refusal)
+      → At start old said → Answered old c a new
       → (old.failed ≡ false → Leaves (now old.disk) (now new.disk) (past old.disk) (past new.disk) (MeansEither old c))
       → (old.failed ≡ false → LeavesNow (now new.disk) (MeansEither old c))
       → (doubt : List Command) × (length doubt ≤ MAX_GROUP) × HasEnded now past start new.disk said doubt
@@ -219,30 +292,64 @@ module _ {D : Type 0} (now : D → Moment) (past : D → List Moment) (honest : 
 
   -- ---- answers that leave the engine as it is
 
-  quiet_at : (start engine : EngineState D) (said : List Exchange) (line name : List ℕ) (asked : Option Asked) (answer : Answer) → asked_of line ≡ asked → IsAt now past start engine said
-      → ((m : Contents) → put_by m answer ≡ []) → Answers engine.memory engine.count asked answer
-      → IsAt now past start engine (record { line = line; answer = answer; name = name } ∷ said)
+  quiet_at : (start engine : EngineState D) (said : List Exchange) (line name : List ℕ) (asked : Option Asked)
+      (answer : Answer) → asked_of line ≡ asked → (at : At start engine said)
+      → ((m : Contents) → put_by m answer ≡ []) → Answers engine.memory engine.count
+      (record { turns = at.turns; point = point_of engine }) asked answer
+      → (here : Stand) × At start engine (exchange_at line answer name here ∷ said)
   quiet_at start engine said line name asked answer is at none answers =
+      let here : Stand = record { turns = at.turns; point = point_of engine } in
       let m : engine.memory ≡ after start.memory (put_of start.memory said) = at.run.memory at.works in
       let n : engine.count ≡ start.count + length (put_of start.memory said) = at.run.count at.works in
+      let nothing = none (after start.memory (put_of start.memory said)) in
       let same : put_of start.memory said ++ put_by (after start.memory (put_of start.memory said)) answer ≡ put_of start.memory said
-      = ap (λ (l : List Command). put_of start.memory said ++ l) (none (after start.memory (put_of start.memory said))) ∙ append-nil (put_of start.memory said) in
-      record {
-        answered = (
-          subst (λ (o : Option Asked). Answers (after start.memory (put_of start.memory said)) (start.count + length (put_of start.memory said)) o answer) (sym is)
-              (subst (λ (m : Contents). Answers m (start.count + length (put_of start.memory said)) asked answer) m
-              (subst (λ (n : ℕ). Answers engine.memory n asked answer) n answers)),
-          at.answered,
-        );
-        works = at.works;
-        run = subst (λ (l : List Command). HasRun start engine l) (sym same) at.run;
-        leaves = subst (λ (l : List Command). Leaves (now start.disk) (now engine.disk) (past start.disk) (past engine.disk) (MeansBeginning start l)) (sym same) at.leaves;
-        kept = at.kept;
-      }
+      = ap (λ (l : List Command). put_of start.memory said ++ l) nothing ∙ append-nil (put_of start.memory said) in (
+        here,
+        record {
+          answered = (
+            subst (λ (o : Option Asked). Answers (after start.memory (put_of start.memory said))
+                (start.count + length (put_of start.memory said)) here o answer) (sym is)
+                (subst (λ (m : Contents). Answers m
+                (start.count + length (put_of start.memory said)) here asked answer) m
+                (subst (λ (n : ℕ). Answers engine.memory n here asked answer) n answers)),
+            (at.lead, at.answered),
+          );
+          turns = [];
+          lead = sym (ap (λ (l : List Command). point_behind (length l) (point_of engine)) nothing);
+          works = at.works;
+          run = subst (λ (l : List Command). HasRun start engine l) (sym same) at.run;
+          leaves = subst
+              (λ (l : List Command). Leaves (now start.disk) (now engine.disk) (past start.disk) (past engine.disk)
+              (MeansBeginning start l)) (sym same) at.leaves;
+          kept = at.kept;
+        },
+      )
 
-  pub quiet : (engine : EngineState D) (asked : Option Asked) (answer : Answer) → ((m : Contents) → put_by m answer ≡ []) → (engine.failed ≡ false → Answers engine.memory engine.count asked answer)
+  pub quiet : (engine : EngineState D) (asked : Option Asked) (answer : Answer)
+      → ((m : Contents) → put_by m answer ≡ [])
+      → (engine.failed ≡ false → (turns : List TurnDone) → Answers engine.memory engine.count
+      (record { turns = turns; point = point_of engine }) asked answer)
       → Says now past honest engine engine asked answer
-  quiet engine asked answer none answers = λ start said line name is so_far h. let far = so_far h in (far.0, quiet_at start engine said line name asked answer is far.1 none (answers far.1.works))
+  quiet engine asked answer none answers = λ start said line name is so_far h. let far = so_far h in
+      (far.0, quiet_at start engine said line name asked answer is far.1 none (answers far.1.works far.1.turns))
+
+  -- a turn that was asked for, and what it did
+  pub turn_says : (old new : EngineState D) (a : Result TurnDone Refusal) (done : TurnDone) → TurnAnswered old a new
+      → (honest new.disk → honest old.disk)
+      → (honest new.disk → old.failed ≡ false → Leaves (now old.disk) (now new.disk) (past old.disk) (past new.disk) (MeansState old))
+      → (honest new.disk → new.failed ≡ false → LeavesNow (now new.disk) (MeansState new)) → a ≡ Ok done
+      → Says now past honest old new (Some asks.Turn) (Turned done)
+  turn_says old new a done it back leaves means is = λ start said line name asked so_far h.
+      let far = so_far (back h) in
+      let at = turned_at start old new said a done far.1 it (leaves h) (means h) is in (
+        far.0,
+        quiet_at start new said line name (Some asks.Turn) (Turned done) asked at.0 (λ m. refl)
+            (done, (refl, at.1)),
+      )
+
+  pub goes_after : (old mid new : EngineState D) → GoesOn now past honest old mid → GoesOn now past honest mid new
+      → GoesOn now past honest old new
+  goes_after old mid new goes it = λ start said so_far. it start said (goes start said so_far)
 
   -- after a call that said nothing
   pub says_after : (old mid new : EngineState D) (asked : Option Asked) (answer : Answer) → GoesOn now past honest old mid → Says now past honest mid new asked answer → Says now past honest old new asked answer
@@ -265,7 +372,7 @@ module _ {D : Type 0} (now : D → Moment) (past : D → List Moment) (honest : 
 
   module _ (watch : Bool) where
     pub silent : (start engine : EngineState D) (held was is : Outputs) (said after_all : List Exchange) (text : List ℕ)
-        → IsAt now past start engine after_all
+        → At start engine after_all
         → texts_of watch start.memory after_all ≡ texts_of watch start.memory said ++ text
         → Appends held.text was.text (texts_of watch start.memory said) → Begins was.text is.text text
         → AreKept start.memory held is after_all → Silent watch now past start held engine.disk is
@@ -323,38 +430,41 @@ module _ {D : Type 0} (now : D → Moment) (past : D → List Moment) (honest : 
 
     -- the same, at the memory where it was answered
     told_at : (start old new : EngineState D) (said : List Exchange) (asked : Option Asked) (answer : Answer)
-        (line name told : List ℕ) → asked_of line ≡ asked → IsAt now past start old said
-        → IsAt now past start new (record { line = line; answer = answer; name = name } ∷ said)
-        → ((n : ℕ) → Answers old.memory n asked answer → told ≡ line_on name old.memory answer)
+        (line name told : List ℕ) (here : Stand) → asked_of line ≡ asked → At start old said
+        → At start new (exchange_at line answer name here ∷ said)
+        → ((n : ℕ) (here : Stand) → Answers old.memory n here asked answer → told ≡ line_on name old.memory answer)
         → told ≡ line_on name (after start.memory (put_of start.memory said)) answer
-    told_at start old new said asked answer line name told read at after_it is =
+    told_at start old new said asked answer line name told here read at after_it is =
         let m : Contents = after start.memory (put_of start.memory said) in
         let same : old.memory ≡ after start.memory (put_of start.memory said) = at.run.memory at.works in
-        let answers : Answers old.memory (start.count + length (put_of start.memory said)) asked answer
-        = subst (λ (m : Contents). Answers m (start.count + length (put_of start.memory said)) asked answer) (sym same)
-        (subst (λ (o : Option Asked). Answers (after start.memory (put_of start.memory said)) (start.count + length (put_of start.memory said)) o answer) read after_it.answered.0) in
-        subst (λ (m : Contents). told ≡ line_on name m answer) same (is (start.count + length (put_of start.memory said)) answers)
+        let answers : Answers old.memory (start.count + length (put_of start.memory said)) here asked answer
+        = subst (λ (m : Contents). Answers m (start.count + length (put_of start.memory said)) here asked answer)
+        (sym same)
+        (subst (λ (o : Option Asked). Answers (after start.memory (put_of start.memory said))
+        (start.count + length (put_of start.memory said)) here o answer) read after_it.answered.0) in
+        subst (λ (m : Contents). told ≡ line_on name m answer) same
+        (is (start.count + length (put_of start.memory said)) here answers)
 
     -- the line of an answer was printed, and those behind it
     pub talks_on : (old new : EngineState D) (was is : Outputs) (asked : Option Asked) (answer : Answer) (line name told : List ℕ)
         → asked_of line ≡ asked → (honest new.disk → honest old.disk)
         → Says now past honest old new asked answer
-        → ((n : ℕ) → Answers old.memory n asked answer → told ≡ line_on name old.memory answer)
+        → ((n : ℕ) (here : Stand) → Answers old.memory n here asked answer → told ≡ line_on name old.memory answer)
         → Appends was.text is.text told → is.backups ≡ backup_by old.memory answer ++ was.backups
         → TalksOn watch now past honest old was new is
     talks_on old new was is asked answer line name told read back says tells printed kept = λ start held so_far h.
         let far = so_far (back h) in
         let said = says start far.1.0 line name read (λ b. (far.0, far.1.1.0)) h in
-        let same = told_at start old new far.1.0 asked answer line name told read far.1.1.0 said.1 tells in (
+        let same = told_at start old new far.1.0 asked answer line name told said.1.0 read far.1.1.0 said.1.1 tells in (
           far.0,
           (
-            record { line = line; answer = answer; name = name } ∷ far.1.0,
+            exchange_at line answer name said.1.0 ∷ far.1.0,
             (
-              said.1,
+              said.1.1,
               (
                 subst (λ (t : List ℕ). Appends held.text is.text (texts_of watch start.memory far.1.0 ++ t)) same
                     (Appends-trans held.text was.text is.text (texts_of watch start.memory far.1.0) told far.1.1.1.0 printed),
-                kept_on start.memory old.memory far.1.0 (record { line = line; answer = answer; name = name })
+                kept_on start.memory old.memory far.1.0 (exchange_at line answer name said.1.0)
                     held.backups was.backups is.backups (far.1.1.0.run.memory far.1.1.0.works) far.1.1.1.1 kept,
               ),
             ),
@@ -365,17 +475,17 @@ module _ {D : Type 0} (now : D → Moment) (past : D → List Moment) (honest : 
     pub talk_ends : (old new : EngineState D) (was is : Outputs) (asked : Option Asked) (answer : Answer) (line name told : List ℕ)
         → asked_of line ≡ asked → (honest new.disk → honest old.disk)
         → Says now past honest old new asked answer
-        → ((n : ℕ) → Answers old.memory n asked answer → told ≡ line_on name old.memory answer)
+        → ((n : ℕ) (here : Stand) → Answers old.memory n here asked answer → told ≡ line_on name old.memory answer)
         → Begins was.text is.text told → is.backups ≡ backup_by old.memory answer ++ was.backups
         → TalkEnds watch now past honest old was new is
     talk_ends old new was is asked answer line name told read back says tells printed kept = λ start held so_far h.
         let far = so_far (back h) in
         let said = says start far.1.0 line name read (λ b. (far.0, far.1.1.0)) h in
-        let same = told_at start old new far.1.0 asked answer line name told read far.1.1.0 said.1 tells in (
+        let same = told_at start old new far.1.0 asked answer line name told said.1.0 read far.1.1.0 said.1.1 tells in (
           far.0,
-          silent start new held was is far.1.0 (record { line = line; answer = answer; name = name } ∷ far.1.0) told said.1
+          silent start new held was is far.1.0 (exchange_at line answer name said.1.0 ∷ far.1.0) told said.1.1
               (ap (λ (t : List ℕ). texts_of watch start.memory far.1.0 ++ t) (sym same)) far.1.1.1.0 printed
-              (kept_on start.memory old.memory far.1.0 (record { line = line; answer = answer; name = name })
+              (kept_on start.memory old.memory far.1.0 (exchange_at line answer name said.1.0)
               held.backups was.backups is.backups (far.1.1.0.run.memory far.1.1.0.works) far.1.1.1.1 kept),
         )
 

@@ -8,9 +8,10 @@ use Rattle.im_types.specs.Layout.{image_length, layout_in_use}
 use Rattle.im_types.specs.Sizes.{AreLimits}
 use Rattle.im_disk.specs.declared.disk.Disk.{Ghosts}
 use Rattle.im_disk.specs.Moment.{Moment, Left}
-use Rattle.im_disk.specs.Since.{Leaves, LeavesNow}
+use Rattle.im_disk.specs.Since.{Leaves, LeavesNow, LeavesWithin}
 use Rattle.im_engine.specs.State.{EngineState, MeansState}
 use Rattle.im_engine.specs.Run.{MeansBeginning}
+use Rattle.im_turning.specs.Turning.{point_of}
 use Rattle.im_text.specs.Printing.{Begins, IsLast}
 use Rattle.im_dialogue.specs.Talk.{AreAnswered, AreKept, Exchange, HasEnded, MeansSaid, Outputs, put_of, texts_of}
 
@@ -31,6 +32,15 @@ pub record Closed {D : Type 0} (watch : Bool) (now : D → Moment) (past : D →
   pub whole : status ≡ 0 → (doubt ≡ []) × Appends was.text is.text (texts_of watch start.memory said)
   pub backups : AreKept start.memory was is said
 
+-- the same, if the disk is honest at the end
+abbrev pub ClosesTalk : {D : Type 0} → Ghosts D → Bool → EngineState D → D → Outputs → Outputs → ℕ → Type 0
+ClosesTalk disk watch start new was is status =
+    disk.honest new → Closed watch disk.now disk.past start new was is status
+
+-- a crash leaves nothing that it couldn't leave before
+abbrev pub AddsNothing : {D : Type 0} → Ghosts D → D → D → Type 0
+AddsNothing disk old new = disk.honest new → LeavesWithin disk.now disk.past old new (Left (disk.now old))
+
 -- The image was opened, with the meaning of a file that a crash could leave then, and this was said on it, the last
 -- first. Each line was answered on the memory after those before it. From then on a crash leaves the memory after a
 -- prefix of the commands that were put. At the end it leaves the memory after all of them, with those in doubt all
@@ -43,7 +53,7 @@ pub record Talked {D : Type 0} (watch : Bool) (now : D → Moment) (past : D →
   pub doubt : List Command
   pub few : length doubt ≤ MAX_GROUP
   pub found : (file : List ℕ) × Left (now old) file × MeansState start file
-  pub answered : AreAnswered start.memory start.count said
+  pub answered : AreAnswered start.memory (point_of start) said
   pub leaves : Leaves (now old) (now new) (past old) (past new)
       (MeansBeginning start (put_of start.memory said ++ doubt))
   pub kept : LeavesNow (now new) (MeansSaid start said doubt)

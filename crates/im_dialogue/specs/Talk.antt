@@ -1,5 +1,5 @@
 -- A dialogue over an engine: what was asked, what it was answered, and what a crash leaves of it. (Own.)
-use Rattle.std.specs.Prelude.{◌≡◌, ◌⊎◌, ℕ, ◌+◌, ◌≤◌, Bool, true, false, List, [], ◌∷◌, ◌++◌, length}
+use Rattle.std.specs.Prelude.{◌≡◌, ◌⊎◌, ℕ, zero, suc, ◌+◌, ◌≤◌, Bool, true, false, List, [], ◌∷◌, ◌++◌, length}
 use Rattle.std.specs.Prelude.{Option, None, Some, MatchOption, MatchResult, Result, Ok, Err}
 use Rattle.im_types.specs.declared.TheConstants.{MAX_GROUP}
 use Rattle.std.specs.Io.KnownBytes.{Appends}
@@ -17,6 +17,7 @@ use Rattle.im_disk.specs.Moment.{Moment}
 use Rattle.im_disk.specs.Since.{Leaves, LeavesNow}
 use Rattle.im_engine.specs.State.{EngineState, MeansState}
 use Rattle.im_engine.specs.Run.{HasRun, MeansAfter, MeansBeginning, put_by_command}
+use Rattle.im_turning.specs.Turning.{IsSpent, Point, TurnsLead, point_of, with_one}
 use Rattle.im_text.specs.Printing.{Begins}
 use Rattle.im_checkpoint.specs.declared.checkpoint.TurnDone.{TurnDone}
 use Rattle.im_dialogue.specs.declared.asking.Asked.{Asked}
@@ -34,17 +35,24 @@ use Rattle.im_dialogue.specs.Watching.{watch_text}
 
 -- ---- what was said
 
--- a line that was asked, without its line feed, or the first 4,097 bytes of a longer one; its answer; and the name of
--- the refusal, or the words for where the line goes wrong or why a backup isn't kept
+-- where an engine stood as it answered: the turns since the answer before, the last first, and where they led
+pub record Stand : Type 0 where
+  pub turns : List TurnDone
+  pub point : Point
+
+-- a line that was asked, without its line feed, or the first 4,097 bytes of a longer one; its answer; the name of the
+-- refusal, or the words for where the line goes wrong or why a backup isn't kept; and where the engine stood
 pub record Exchange : Type 0 where
   pub line : List ℕ
   pub answer : Answer
   pub name : List ℕ
+  pub here : Stand
 
--- what an answer says of a command: its result on this memory, or that the journal has no room for it
-abbrev pub IsOf : Contents → Command → Result Outcome Refusal → Type 0
-IsOf m command answer =
-    (answer ≡ (step m command).answer) ⊎ ((is_accepted m command ≡ true) × (answer ≡ Err JournalFull))
+-- what an answer says of a command: its result on this memory, or that there is no room for it in the journal, and that
+-- no turn makes any
+abbrev pub IsOf : Contents → Point → Command → Result Outcome Refusal → Type 0
+IsOf m point command answer = (answer ≡ (step m command).answer)
+    ⊎ ((is_accepted m command ≡ true) × ((answer ≡ Err JournalFull) × ((point.room ≡ 0) × IsSpent point)))
 
 -- what `about` says of an image with this memory, this many slots, this many accepted commands and this room
 abbrev pub about_of : Contents → ℕ → ℕ → ℕ → About
@@ -62,20 +70,22 @@ abbrev pub CountsIf : ℕ → Result ℕ BackupFault → Type 0
 CountsIf commands (Ok count) = count ≡ commands
 CountsIf commands (Err fault) = Unit {0}
 
--- the answer to what is asked, on this memory, after this many commands
-abbrev pub Answers : Contents → ℕ → Option Asked → Answer → Type 0
-Answers m commands (Some (asks.Serve command)) answer =
-    (outcome : Result Outcome Refusal) × (answer ≡ Served command outcome) × IsOf m command outcome
-Answers m commands (Some (asks.Look look)) answer = answer ≡ Looked look
-Answers m commands (Some (asks.Window element)) answer = answer ≡ Window element (bounds m.windows element)
-Answers m commands (Some asks.Room) answer = (room : ℕ) × (answer ≡ Room room)
-Answers m commands (Some asks.Turn) answer = (done : TurnDone) × (answer ≡ Turned done)
-Answers m commands (Some asks.Count) answer = answer ≡ Count commands
-Answers m commands (Some asks.About) answer = (slots room : ℕ) × (answer ≡ Facts (about_of m slots commands room))
-Answers m commands (Some (asks.Backup name)) answer =
+-- the answer to what is asked, on this memory, after this many commands, of an engine that stands here
+abbrev pub Answers : Contents → ℕ → Stand → Option Asked → Answer → Type 0
+Answers m commands here (Some (asks.Serve command)) answer =
+    (outcome : Result Outcome Refusal) × (answer ≡ Served command outcome) × IsOf m here.point command outcome
+Answers m commands here (Some (asks.Look look)) answer = answer ≡ Looked look
+Answers m commands here (Some (asks.Window element)) answer = answer ≡ Window element (bounds m.windows element)
+Answers m commands here (Some asks.Room) answer = answer ≡ Room here.point.room
+Answers m commands here (Some asks.Turn) answer =
+    (done : TurnDone) × ((answer ≡ Turned done) × ((before : List TurnDone) × (here.turns ≡ done ∷ before)))
+Answers m commands here (Some asks.Count) answer = answer ≡ Count commands
+Answers m commands here (Some asks.About) answer =
+    (slots : ℕ) × (answer ≡ Facts (about_of m slots commands here.point.room))
+Answers m commands here (Some (asks.Backup name)) answer =
     (kept : Result ℕ BackupFault) × (answer ≡ BackedUp name kept) × CountsIf commands kept
-Answers m commands (Some asks.Quit) answer = ⊥
-Answers m commands None answer = (number : ℕ) × ((fault : LineFault) × (answer ≡ Wrong number fault))
+Answers m commands here (Some asks.Quit) answer = ⊥
+Answers m commands here None answer = (number : ℕ) × ((fault : LineFault) × (answer ≡ Wrong number fault))
 
 -- the command, if this answer says that it was put on the disk
 abbrev pub put_by : Contents → Answer → List Command
@@ -87,12 +97,27 @@ abbrev pub put_of : Contents → List Exchange → List Command
 put_of m [] = []
 put_of m (x ∷ xs) = put_of m xs ++ put_by (after m (put_of m xs)) x.answer
 
--- each line was answered on the memory after what was put before it
-abbrev pub AreAnswered : Contents → ℕ → List Exchange → Type 0
-AreAnswered m commands [] = Unit {0}
-AreAnswered m commands (x ∷ xs) =
-    Answers (after m (put_of m xs)) (commands + length (put_of m xs)) (asked_of x.line) x.answer
-    × AreAnswered m commands xs
+-- the point behind this many commands that are put on the disk
+abbrev pub point_behind : ℕ → Point → Point
+point_behind zero p = p
+point_behind (suc n) p = with_one (point_behind n p)
+
+-- where an engine on this memory stands behind an answer
+abbrev pub behind_answer : Contents → Exchange → Point
+behind_answer m x = point_behind (length (put_by m x.answer)) x.here.point
+
+-- where it stands behind all that was said, with no turn since
+abbrev pub stands_behind : Contents → Point → List Exchange → Point
+stands_behind m p [] = p
+stands_behind m p (x ∷ xs) = behind_answer (after m (put_of m xs)) x
+
+-- Each line was answered on the memory after what was put before it, at a point to which turns led from where the
+-- engine stood behind the line before.
+abbrev pub AreAnswered : Contents → Point → List Exchange → Type 0
+AreAnswered m p [] = Unit {0}
+AreAnswered m p (x ∷ xs) =
+    Answers (after m (put_of m xs)) (p.count + length (put_of m xs)) x.here (asked_of x.line) x.answer
+    × (TurnsLead x.here.turns (stands_behind m p xs) x.here.point × AreAnswered m p xs)
 
 -- the lines that were answered on this memory, one below the other; if the dialogue is watched, each is followed by the
 -- lines of the requests that it answered
@@ -123,11 +148,13 @@ is_end refusal = false
 
 -- ---- what is on the disk
 
--- All that was said was done. The memory is the one after all commands that were put, and every file that a crash
--- leaves means it.
+-- All that was said was done, and turns led from behind the last answer to where the engine stands. The memory is the
+-- one after all commands that were put, and every file that a crash leaves means it.
 pub record IsAt {D : Type 0} (now : D → Moment) (past : D → List Moment) (start engine : EngineState D)
     (said : List Exchange) : Type 0 where
-  pub answered : AreAnswered start.memory start.count said
+  pub answered : AreAnswered start.memory (point_of start) said
+  pub turns : List TurnDone
+  pub lead : TurnsLead turns (stands_behind start.memory (point_of start) said) (point_of engine)
   pub works : engine.failed ≡ false
   pub run : HasRun start engine (put_of start.memory said)
   pub leaves : Leaves (now start.disk) (now engine.disk) (past start.disk) (past engine.disk)
@@ -145,7 +172,7 @@ MeansSaid s said doubt file =
 -- every file that a crash leaves.
 pub record HasEnded {D : Type 0} (now : D → Moment) (past : D → List Moment) (start : EngineState D) (disk : D)
     (said : List Exchange) (doubt : List Command) : Type 0 where
-  pub answered : AreAnswered start.memory start.count said
+  pub answered : AreAnswered start.memory (point_of start) said
   pub leaves : Leaves (now start.disk) (now disk) (past start.disk) (past disk)
       (MeansBeginning start (put_of start.memory said ++ doubt))
   pub kept : LeavesNow (now disk) (MeansSaid start said doubt)
@@ -176,13 +203,21 @@ Halts {D} now past honest old new =
     (start : EngineState D) (said : List Exchange) → Going now past honest start old said
     → Ended now past honest start new.disk said
 
+-- a line with this answer and this name of a refusal was said where the engine stood here
+abbrev pub exchange_at : List ℕ → Answer → List ℕ → Stand → Exchange
+exchange_at line answer name here = record { line = line; answer = answer; name = name; here = here }
+
 -- this was asked and answered, if a line asks so
 abbrev pub Says : {D : Type 0} → (D → Moment) → (D → List Moment) → (D → Type 0) → EngineState D → EngineState D
     → Option Asked → Answer → Type 0
 Says {D} now past honest old new asked answer =
     (start : EngineState D) (said : List Exchange) (line name : List ℕ) → asked_of line ≡ asked
-    → Going now past honest start old said
-    → Going now past honest start new (record { line = line; answer = answer; name = name } ∷ said)
+    → Going now past honest start old said → honest new.disk → honest start.disk
+    × ((here : Stand) × IsAt now past start new (exchange_at line answer name here ∷ said))
+
+-- this was asked and answered, and the engine is as it was
+abbrev pub SaysNow : {D : Type 0} → Ghosts D → EngineState D → Option Asked → Answer → Type 0
+SaysNow disk engine asked answer = Says disk.now disk.past disk.honest engine engine asked answer
 
 -- what a call comes to that answers nothing: nothing more was said, or it was ended
 abbrev pub GoesOrHalts : {D T E : Type 0} → Ghosts D → EngineState D → EngineState D → Result T E → Type 0

@@ -1,5 +1,5 @@
 -- What is said by the answers to a group. (Own.)
-use Rattle.std.specs.Prelude.{◌≡◌, ℕ, ◌+◌, Bool, List, [], ◌++◌, length, map, take, Option, Result}
+use Rattle.std.specs.Prelude.{◌≡◌, ℕ, ◌+◌, ◌≤◌, Bool, List, [], ◌++◌, length, map, take, Option, Result}
 use Rattle.im_types.specs.declared.commands.Command.{Command}
 use Rattle.im_types.specs.declared.groups.Served.{Served}
 use Rattle.im_types.specs.Contents.{Contents}
@@ -10,13 +10,18 @@ use Rattle.im_disk.specs.declared.disk.Disk.{Ghosts}
 use Rattle.im_groups.specs.Commands.{answers_with, commands_at}
 use Rattle.im_engine.specs.State.{EngineState}
 use Rattle.im_dialogue.specs.declared.group_line.GroupLine.{GroupLine}
-use Rattle.im_dialogue.specs.Talk.{AreAnswered, Exchange, TalksThrough, backups_of, put_of, texts_of}
+use Rattle.im_checkpoint.specs.declared.checkpoint.TurnDone.{TurnDone}
+use Rattle.im_turning.specs.Turning.{TurnsLead, point_of}
+use Rattle.im_dialogue.specs.Talk.{AreAnswered, Exchange, TalksThrough, backups_of, put_of, stands_behind, texts_of}
 use Rattle.im_dialogue.specs.Together.{GroupStart, MayBeServed, group_start, count_between, memory_between}
+use Rattle.im_dialogue.specs.Together.{point_between}
 
--- what was said comes to the memory and the count behind these members
+-- what was said comes to the memory, the count and the point behind these members
 pub record Reaches {D : Type 0} (start : EngineState D) (b : GroupStart) (said : List Exchange) (ahead : List Command) :
     Type 0 where
-  pub answered : AreAnswered start.memory start.count said
+  pub answered : AreAnswered start.memory (point_of start) said
+  pub turns : List TurnDone
+  pub lead : TurnsLead turns (stands_behind start.memory (point_of start) said) (point_between b ahead)
   pub memory : memory_between b ahead ≡ after start.memory (put_of start.memory said)
   pub count : count_between b ahead ≡ start.count + length (put_of start.memory said)
 
@@ -39,6 +44,7 @@ pub record WasServed {D : Type 0} (watch : Bool) (old : EngineState D) (parts : 
     (members served : List Command) (answers : List Served) (m : Contents) : Type 0 where
   pub is_memory : IsMemory (length old.memory.cells) (length old.memory.windows) old.memory
   pub group : MayBeServed watch (group_start old) parts texts members
+  pub room : length members ≤ (group_start old).places
   pub many : ℕ
   pub first : served ≡ take many members
   pub answers_are : answers ≡ map as_served (answers_with old.memory (group_start old).places served)

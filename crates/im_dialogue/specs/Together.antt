@@ -21,7 +21,9 @@ use Rattle.im_dialogue.specs.declared.group_line.GroupLine.TheVariants.{Member, 
 use Rattle.im_dialogue.specs.Answers.{answer_text}
 use Rattle.im_dialogue.specs.Asking.{asked_of}
 use Rattle.im_dialogue.specs.Looks.{may_alter}
-use Rattle.im_dialogue.specs.Talk.{Answers, KeepsNone, put_by}
+use Rattle.im_checkpoint.specs.declared.checkpoint.TurnDone.{TurnDone}
+use Rattle.im_turning.specs.Turning.{Point, point_of}
+use Rattle.im_dialogue.specs.Talk.{Answers, KeepsNone, point_behind, put_by}
 use Rattle.im_dialogue.specs.Watching.{told_with, watch_text}
 
 -- ---- what lines ask for
@@ -43,15 +45,18 @@ result_of served.Unserved = Err NoMemory
 
 -- ---- the memory between two members
 
--- where an engine is before a group: its memory, how many more commands it can accept, and how many it accepted
+-- where an engine is before a group: its memory, how many more commands it can accept, how many it accepted, and where
+-- it stands
 pub record GroupStart : Type 0 where
   pub memory : Contents
   pub places : ℕ
   pub count : ℕ
+  pub point : Point
 
 -- an engine as it is before a group
 abbrev pub group_start : {D : Type 0} → EngineState D → GroupStart
-group_start s = record { memory = s.memory; places = places s.count s.room; count = s.count }
+group_start s =
+    record { memory = s.memory; places = places s.count s.room; count = s.count; point = point_of s }
 
 -- the memory after these members
 abbrev pub memory_between : GroupStart → List Command → Contents
@@ -64,6 +69,10 @@ places_between b ahead = left_after b.memory b.places ahead
 -- how many commands were accepted after them
 abbrev pub count_between : GroupStart → List Command → ℕ
 count_between b ahead = b.count + length (commands_at b.memory b.places ahead)
+
+-- where the engine stands after them
+abbrev pub point_between : GroupStart → List Command → Point
+point_between b ahead = point_behind (length (commands_at b.memory b.places ahead)) b.point
 
 -- ---- the parts of a group
 
@@ -92,13 +101,19 @@ LeavesShown m ahead shown (Member command) = list_any (disturbs m ahead command)
 LeavesShown m ahead shown (Look look) = Unit {0}
 LeavesShown m ahead shown (Known answer) = Unit {0}
 
--- what is asked has this answer on this memory, after this many commands, and nothing is put on the disk, told or kept
--- for it
-pub record IsKnown (m : Contents) (commands : ℕ) (asked : Asked) (answer : Answer) : Type 0 where
-  pub answers : Answers m commands (Some asked) answer
+-- what is asked has this answer on this memory, after this many commands, at this point, and nothing is put on the
+-- disk, told or kept for it
+pub record IsKnown (m : Contents) (commands : ℕ) (point : Point) (asked : Asked) (answer : Answer) : Type 0 where
+  pub answers : (turns : List TurnDone)
+      → Answers m commands (record { turns = turns; point = point }) (Some asked) answer
   pub puts : (any : Contents) → put_by any answer ≡ []
   pub tells : (watch : Bool) (any : Contents) → watch_text watch any answer ≡ []
   pub keeps : KeepsNone answer
+
+-- the same behind these members
+abbrev pub IsKnownBehind : GroupStart → List Command → Asked → Answer → Type 0
+IsKnownBehind b ahead asked answer =
+    IsKnown (memory_between b ahead) (count_between b ahead) (point_between b ahead) asked answer
 
 -- the line of an answer is the same on each memory
 abbrev pub IsPlain : Answer → Type 0
@@ -117,7 +132,7 @@ IsGroupLine watch b ahead (Member command) text = IsAsked (asks.Serve command)
     × TellsWatchers watch b ahead command text
 IsGroupLine watch b ahead (Look look) text = IsAsked (asks.Look look) × (text ≡ [])
 IsGroupLine watch b ahead (Known given) text = ((asked : Asked) × IsAsked asked
-    × IsKnown (memory_between b ahead) (count_between b ahead) asked given) × (IsPlain given × (text ≡ []))
+    × IsKnownBehind b ahead asked given) × (IsPlain given × (text ≡ []))
 
 -- the parts may stand so behind these members and parts
 abbrev pub StandTogether : Bool → GroupStart → List Command → List GroupLine → List GroupLine → List (List ℕ) → Type 0

@@ -2,7 +2,7 @@
 ghost use Rattle.std.specs.Prelude.{◌≡◌, ◌≤◌, false};
 ghost use Rattle.im_disk.specs.Since.{LeavesNow};
 ghost use Rattle.im_engine.specs.State.{MeansState};
-ghost use Rattle.im_dialogue.specs.Dialogue.{Closed, TalkedOn};
+ghost use Rattle.im_dialogue.specs.Dialogue.{ClosesTalk, TalkedOn};
 ghost use Rattle.im_dialogue.specs.Talk.{outputs};
 
 use crate::backups::Backups;
@@ -71,7 +71,7 @@ fn talk_on<D: Disk, B: Backups, R: BufRead + Ear, W: Write, N: Observer>(
     requires means { D.honest dialogue.engine.disk
         → LeavesNow (D.now dialogue.engine.disk) (MeansState dialogue.engine) }
     ensures status { result.0 ≤ 1 }
-    ensures closed { D.honest result.1 → Closed dialogue.setting.watch D.now D.past dialogue.engine result.1
+    ensures closed { ClosesTalk D.Disk dialogue.setting.watch dialogue.engine result.1
         (outputs (W.contents out.old) (B.kept backups.old)) (outputs (W.contents out.new) (B.kept backups.new))
         result.0 }
     ensures honest { D.honest result.1 → D.honest dialogue.engine.disk }

@@ -4,10 +4,10 @@ ghost use Rattle.im_types.specs.declared.TheConstants.{LAST, MAX_GROUP};
 ghost use Rattle.im_types.specs.Window.{bounds};
 ghost use Rattle.im_types.specs.Memory.{IsMemory};
 ghost use Rattle.im_groups.specs.Ahead.{bounds_behind, moved_by};
-ghost use Rattle.im_engine.specs.Commands.{after_commands, commands_put};
-ghost use Rattle.im_dialogue.specs.Talk.{about_of};
-ghost use Rattle.im_dialogue.specs.Together.{IsAsked, IsKnown, IsPlain, MayStandNext, count_between, group_start};
-ghost use Rattle.im_dialogue.specs.Together.{memory_between};
+ghost use Rattle.im_engine.specs.Commands.{commands_put};
+ghost use Rattle.im_turning.specs.Turning.{point_of};
+ghost use Rattle.im_dialogue.specs.Talk.{about_of, point_behind};
+ghost use Rattle.im_dialogue.specs.Together.{IsAsked, IsKnownBehind, IsPlain, MayStandNext, group_start};
 
 use crate::about::About;
 use crate::answers::Answer;
@@ -22,8 +22,8 @@ use im_types::layout::Version;
 use im_types::{Command, LAST, Refusal};
 use std::cmp::min;
 
-// Returns how many more commands can be accepted.
-fn places_of<D: Disk>(engine: &Engine<D>) -> u64
+/// Returns how many more commands can be accepted.
+pub(crate) fn places_of<D: Disk>(engine: &Engine<D>) -> u64
     ensures { result ≡ (group_start engine.now).places }
 {
     min(engine.room() as u64, LAST.saturating_sub(engine.count()))
@@ -92,10 +92,11 @@ fn window_behind(memory: &Memory, put: &[Command], element: u16) -> Result<(u64,
 // Returns how much room there is after `put` more commands.
 fn room_behind<D: Disk>(engine: &Engine<D>, put: u32) -> u32
     requires few { put ≤ LAST - engine.now.count }
-    ensures { (ahead : List Command) → put ≡ length (commands_put engine.now ahead)
-        → result ≡ (after_commands engine.now ahead).room }
+    ensures { result ≡ (point_behind put (point_of engine.now)).room }
 {
-    if engine.count() + put as u64 == LAST {
+    if put == 0 {
+        engine.room()
+    } else if engine.count() + put as u64 == LAST {
         0
     } else {
         engine.room().saturating_sub(put)
@@ -114,8 +115,8 @@ fn count_behind<D: Disk>(engine: &Engine<D>, put: u32) -> u64
 // has.
 fn about_behind<D: Disk>(engine: &Engine<D>, slots: u32, put: u32) -> About
     requires few { put ≤ LAST - engine.now.count }
-    ensures about { (room : ℕ) × (result
-        ≡ about_of engine.now.memory slots (engine.now.count + put) room) }
+    ensures about { result ≡ about_of engine.now.memory slots (engine.now.count + put)
+        (point_behind put (point_of engine.now)).room }
     ensures memory { let m = engine.now.memory in IsMemory (length m.cells) (length m.windows) m }
 {
     let memory = engine.memory();
@@ -135,7 +136,7 @@ fn shown<D: Disk>(engine: &Engine<D>, slots: u32, put: &[Command], asked: Asked)
     requires few { length put.now ≤ MAX_GROUP }
     requires within { length put.now ≤ LAST - engine.now.count }
     ensures answer { IfSome result (λ answer. (ahead : List Command) → put.now ≡ commands_put engine.now ahead
-        → let b = group_start engine.now in IsKnown (memory_between b ahead) (count_between b ahead) asked answer) }
+        → IsKnownBehind (group_start engine.now) ahead asked answer) }
     ensures plain { IfSome result (λ answer. IsPlain answer) }
 {
     let many = put.len() as u32;

@@ -1,10 +1,9 @@
 //! How many slots the journal of an image has, and when a dialogue makes room while nobody asks.
 ghost use Rattle.std.specs.Prelude.{◌≡◌, ◌≤◌, ◌/◌, ℕ, false, IfOk, MatchResult};
 ghost use Rattle.im_types.specs.Layout.{image_length as length_of_image, layout_in_use};
-ghost use Rattle.im_disk.specs.Moment.{Left};
-ghost use Rattle.im_disk.specs.Since.{LeavesNow, LeavesWithin};
+ghost use Rattle.im_disk.specs.Since.{LeavesNow};
 ghost use Rattle.im_engine.specs.State.{MeansState};
-ghost use Rattle.im_dialogue.specs.Dialogue.{CountsSlots};
+ghost use Rattle.im_dialogue.specs.Dialogue.{AddsNothing, CountsSlots};
 
 use im_disk::Disk;
 use im_engine::Engine;
@@ -49,9 +48,7 @@ pub(crate) fn open_with_slots<D: Disk>(
 ) -> Result<(Engine<D>, u32), (Refusal, D)>
     ensures means { IfOk result (λ r. D.honest r.0.disk → LeavesNow (D.now r.0.disk) (MeansState r.0)) }
     ensures works { IfOk result (λ r. r.0.failed ≡ false) }
-    ensures leaves { MatchResult result
-        (λ r. D.honest r.0.disk → LeavesWithin D.now D.past disk r.0.disk (Left (D.now disk)))
-        (λ e. D.honest e.1 → LeavesWithin D.now D.past disk e.1 (Left (D.now disk))) }
+    ensures leaves { MatchResult result (λ r. AddsNothing D.Disk disk r.0.disk) (λ e. AddsNothing D.Disk disk e.1) }
     ensures honest { MatchResult result (λ r. D.honest r.0.disk → D.honest disk) (λ e. D.honest e.1 → D.honest disk) }
 {
     let bytes = disk.len().unwrap_or(0);

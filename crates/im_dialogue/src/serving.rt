@@ -183,9 +183,6 @@ impl<D: Disk> Dialogue<D> {
         if let Err(refusal) = make_room(&mut self.engine, many) {
             return Err(Reason::Image(refusal, Damage::Unknown));
         }
-        if self.engine.room() < many {
-            return Ok(0); // Each by itself is given what room turns can make.
-        }
         match self.serve_group(out) {
             Ok(served) => {
                 input.consume(end_of(self.drafts.standing.ends.as_slice(), served));

@@ -1,10 +1,11 @@
-//! Does on an engine what is asked.
-ghost use Rattle.std.specs.Prelude.{◌≡◌, ◌≤◌, ◌++◌, true, Some, None, IfOk};
+//! Does on an engine what is asked. The dialogue does so for each line that it serves by itself.
+ghost use Rattle.std.specs.Prelude.{◌≡◌, ◌≤◌, ◌++◌, true, Some, None, IfOk, OnOk};
 ghost use Rattle.im_dialogue.specs.declared.asking.Asked.TheVariants.{Backup, Count, Room};
 ghost use Rattle.im_dialogue.specs.declared.asking.Asked.TheVariants.{Serve, Turn, Window};
 ghost use Rattle.im_dialogue.specs.declared.answers.Answer.TheVariants as answer;
 ghost use Rattle.im_dialogue.specs.declared.look.Look.{Look};
-ghost use Rattle.im_dialogue.specs.Talk.{AnswersOrHalts, GoesOrHalts, KeepsAnswered, KeepsNone, Says, SaysOrHalts};
+ghost use Rattle.im_turning.specs.Turning.{HasMadeRoom, IsSpent, Leads, point_of};
+ghost use Rattle.im_dialogue.specs.Talk.{AnswersOrHalts, GoesOrHalts, KeepsAnswered, KeepsNone, SaysNow, SaysOrHalts};
 ghost use Rattle.im_dialogue.specs.Talk.{about_of, backup_by, is_end};
 
 use crate::about::About;
@@ -17,31 +18,20 @@ use im_disk::Disk;
 use im_engine::Engine;
 use im_listening::Ear;
 use im_script::LineFault;
-use im_types::layout::{MOST_AREA_PAGES, Version};
+use im_turning::MOST_TURNS;
+use im_types::layout::Version;
 use im_types::{Command, Refusal};
-
-// As many turns as two checkpoints take at the largest sizes: the rest of one that is under way, and a whole one.
-const MOST_TURNS: usize = 2 * (MOST_AREA_PAGES + 4);
 
 // Takes a turn of a checkpoint.
 fn take_turn<D: Disk>(engine: &mut Engine<D>) -> Result<TurnDone, Refusal>
     ensures goes { GoesOrHalts D.Disk engine.old engine.new result }
+    ensures leads { IfOk result (λ done. Leads (point_of engine.old) done (point_of engine.new)) }
     ensures honest { D.honest engine.new.disk → D.honest engine.old.disk }
 {
     // A crash in this call leaves the memory as it is.
     match engine.turn() {
         Ok(done) => Ok(done),
         Err(refusal) => Err(refusal),
-    }
-}
-
-/// An ear that hears nothing.
-#[derive(Drop)]
-struct Deaf;
-
-impl Ear for Deaf {
-    fn is_quiet(&mut self) -> bool {
-        true
     }
 }
 
@@ -74,13 +64,29 @@ pub(crate) fn turn_while_quiet<D: Disk, E: Ear>(
     Ok(())
 }
 
-/// Takes turns of a checkpoint while there is room for fewer than `least` commands and something is left to do. Returns
-/// `Device` if a call of the disk failed, or `Failed` if one had failed before. What was said before stays.
+/// Takes turns of a checkpoint while there is room for fewer than `least` commands and something is left to do. At the
+/// end there is room for `least` commands, or the last turn had nothing to do, or [`MOST_TURNS`] turns were taken; a
+/// law of `im_turning` says how many are enough. Returns `Device` if a call of the disk failed, or `Failed` if one had
+/// failed before. What was said before stays.
 pub fn make_room<D: Disk>(engine: &mut Engine<D>, least: u32) -> Result<(), Refusal>
     ensures goes { GoesOrHalts D.Disk engine.old engine.new result }
+    ensures room { OnOk result (HasMadeRoom least (point_of engine.old) (point_of engine.new)) }
     ensures honest { D.honest engine.new.disk → D.honest engine.old.disk }
 {
-    turn_while_quiet(engine, &mut Deaf, least)
+    for _turn in 0..MOST_TURNS {
+        if engine.room() >= least {
+            return Ok(());
+        }
+        // A crash in this call leaves the memory as it is.
+        let done = match take_turn(engine) {
+            Ok(done) => done,
+            Err(why) => return Err(why),
+        };
+        if let TurnDone::Idle = done {
+            return Ok(());
+        }
+    }
+    Ok(())
 }
 
 // Returns whether a refusal ends the dialogue, because a call of the disk has failed.
@@ -90,8 +96,9 @@ fn ends(refusal: Refusal) -> bool
     matches!(refusal, Refusal::Device | Refusal::Failed)
 }
 
-// Serves a command, with room for it if there can be.
+// Serves a command. If there is no room for it, no turn makes any.
 fn serve<D: Disk>(engine: &mut Engine<D>, command: Command) -> Result<Answer, Refusal>
+    requires spent { engine.old.room ≡ 0 → IsSpent (point_of engine.old) }
     ensures answered { SaysOrHalts D.Disk engine.old engine.new (Some (Serve command)) result }
     ensures honest { D.honest engine.new.disk → D.honest engine.old.disk }
     ensures same { IfOk result (λ answer. KeepsNone answer) }
@@ -127,7 +134,8 @@ fn turn<D: Disk>(engine: &mut Engine<D>) -> Result<Answer, Refusal>
     ensures honest { D.honest engine.new.disk → D.honest engine.old.disk }
     ensures same { IfOk result (λ answer. KeepsNone answer) }
 {
-    match take_turn(engine) {
+    // A crash in this call leaves the memory as it is.
+    match engine.turn() {
         Ok(done) => Ok(Answer::Turned(done)),
         Err(refusal) => Err(refusal),
     }
@@ -135,7 +143,7 @@ fn turn<D: Disk>(engine: &mut Engine<D>) -> Result<Answer, Refusal>
 
 // Returns an element's window, as an answer.
 fn window<D: Disk>(engine: &Engine<D>, element: u16) -> Answer
-    ensures answered { Says D.now D.past D.honest engine.now engine.now (Some (Window element)) result }
+    ensures answered { SaysNow D.Disk engine.now (Some (Window element)) result }
     ensures same { KeepsNone result }
 {
     Answer::Window(element, engine.window(element))
@@ -143,7 +151,7 @@ fn window<D: Disk>(engine: &Engine<D>, element: u16) -> Answer
 
 // Returns how many commands were accepted, as an answer.
 fn count<D: Disk>(engine: &Engine<D>) -> Answer
-    ensures answered { Says D.now D.past D.honest engine.now engine.now (Some Count) result }
+    ensures answered { SaysNow D.Disk engine.now (Some Count) result }
     ensures same { KeepsNone result }
 {
     Answer::Count(engine.count())
@@ -151,7 +159,7 @@ fn count<D: Disk>(engine: &Engine<D>) -> Answer
 
 // Returns how many more commands there is room for, as an answer.
 fn room<D: Disk>(engine: &Engine<D>) -> Answer
-    ensures answered { Says D.now D.past D.honest engine.now engine.now (Some Room) result }
+    ensures answered { SaysNow D.Disk engine.now (Some Room) result }
     ensures room { result ≡ answer.Room engine.now.room }
 {
     Answer::Room(engine.room())
@@ -179,7 +187,7 @@ fn keep<D: Disk, B: Backups>(
     slots: u32,
     name: BackupName,
 ) -> Answer
-    ensures answered { Says D.now D.past D.honest engine.now engine.now (Some (Backup name)) result }
+    ensures answered { SaysNow D.Disk engine.now (Some (Backup name)) result }
     ensures kept { B.kept backups.new ≡ backup_by engine.now.memory result ++ B.kept backups.old }
 {
     let count = engine.count();
@@ -191,7 +199,7 @@ fn keep<D: Disk, B: Backups>(
 
 /// Returns the answer to a line that isn't in the grammar: its number, and where it goes wrong.
 pub fn wrong<D: Disk>(engine: &Engine<D>, number: u64, fault: LineFault) -> Answer
-    ensures answered { Says D.now D.past D.honest engine.now engine.now None result }
+    ensures answered { SaysNow D.Disk engine.now None result }
     ensures answer { result ≡ answer.Wrong number fault }
 {
     Answer::Wrong(number, fault)
@@ -199,7 +207,8 @@ pub fn wrong<D: Disk>(engine: &Engine<D>, number: u64, fault: LineFault) -> Answ
 
 /// Does on an engine what is asked, and returns the answer. Returns `None` if that ends the dialogue. The answer to a
 /// line that only looks is what the engine's memory shows then ([`crate::add_answer`]). Before a command, turns of a
-/// checkpoint are taken while there is no room for one. `slots` is how many slots the journal has.
+/// checkpoint are taken while there is no room for one; it is answered `JournalFull` only where they made none. `room`
+/// and `about` tell the engine's room, and `turn` the turn that was taken. `slots` is how many slots the journal has.
 ///
 /// A backup is kept of the memory as it is, with the count of its commands. Each other line leaves the backups as they
 /// are.

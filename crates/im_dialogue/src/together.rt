@@ -1,7 +1,8 @@
 //! Lines that stand together in the reader's buffer are served as one group.
-ghost use Rattle.std.specs.Prelude.{◌≡◌, ◌+◌, ◌∷◌, ◌++◌, [], length, map, IfSome, OnOk, Some, List, ℕ, string_bytes};
+ghost use Rattle.std.specs.Prelude.{◌≡◌, ◌≤◌, ◌+◌, ◌∷◌, ◌++◌, [], false, length, map};
+ghost use Rattle.std.specs.Prelude.{IfSome, OnOk, Some, List, ℕ, string_bytes};
 ghost use Rattle.im_dialogue.specs.Answers.{answer_text};
-ghost use Rattle.im_dialogue.specs.Together.{AreAsked, IsAsked, answers_behind, line_answer, result_of};
+ghost use Rattle.im_dialogue.specs.Together.{AreAsked, IsAsked, answers_behind, group_start, line_answer, result_of};
 ghost use Rattle.im_dialogue.specs.Telling.{TalksAsGroup, TellsGroup};
 ghost use Rattle.im_dialogue.specs.Watching.{told_with};
 
@@ -9,6 +10,7 @@ use crate::answers::{Answer, add_answer};
 use crate::asking::{Asked, read_asked};
 use crate::group_line::GroupLine;
 use crate::grouping::Gathered;
+use crate::known::places_of;
 use crate::lines::unread;
 use crate::saying::{Draft, name_of};
 use crate::watching::told_with;
@@ -242,11 +244,19 @@ fn make_lines<D: Disk>(
     Ok(told)
 }
 
+// Returns whether there is a member for which there is no room.
+fn lacks_places<D: Disk>(engine: &Engine<D>, group: &Gathered) -> bool
+    ensures { result ≡ false → length group.now.members.items ≤ (group_start engine.now).places }
+{
+    places_of(engine) < group.members.len() as u64
+}
+
 /// Serves a group, and prints its answers in the order of its lines, each with what those that watch are told behind
-/// it. Returns how many lines it answered: those up to the first member that wasn't served, at least one.
+/// it. Returns how many lines it answered: those up to the first member that wasn't served.
 ///
-/// A member that finds no room is answered `JournalFull`. If a call of the disk fails, the dialogue ends. Then the
-/// commands of the group are on the disk all together or not at all, and none is answered.
+/// If there isn't room for each member, it serves none, and returns 0: each by itself is given what room turns can
+/// make. If a call of the disk fails, the dialogue ends. Then the commands of the group are on the disk all together or
+/// not at all, and none is answered.
 pub(crate) fn serve_parts<D: Disk, W: Write>(
     engine: &mut Engine<D>,
     group: &Gathered,
@@ -256,6 +266,9 @@ pub(crate) fn serve_parts<D: Disk, W: Write>(
     ensures { TalksAsGroup D.Disk group.now.parts.items (map string_bytes group.now.nows.items)
         group.now.members.items engine.old (W.contents out.old) engine.new (W.contents out.new) result }
 {
+    if lacks_places(engine, group) {
+        return Ok(0);
+    }
     let _cells = engine.memory().cells(); // So that it is known to be a memory.
     let mut served = ArrayVec::new();
     // A crash in this call leaves on the disk all that the group puts there, or nothing of it. No answer is given

@@ -13,7 +13,7 @@ use Rattle.im_program.specs.Working.{DoneOn, HasMoved, IsOfTwo}
 abbrev pub DoneTold : {D : Type 0} → DiskGhosts D → Moment → Task → Telling → Option (List ℕ) → Option (List ℕ) → ℕ
     → Option D → Type 0
 DoneTold disk first task telling was is status found = IfSome found (λ it. disk.honest it → ToldIn
-    (λ before after came_to. DoneOn disk.now disk.past disk.failures first task before after came_to it)
+    (λ before after came_to. DoneOn disk first task before after came_to it)
     telling was is status)
 
 -- the same of a task that opens two files

@@ -1,6 +1,10 @@
 -- The result of each kind of work. (Own.)
 use Rattle.std.specs.Prelude.{◌≡◌, ℕ, Bool, true, false, List, [], Option, None, Some, IfSome}
+use Rattle.im_types.specs.Layout.{Sizes}
 use Rattle.im_types.specs.Sizes.{AreLimits}
+use Rattle.im_disk.specs.declared.disk.Disk.{Ghosts as DiskGhosts}
+use Rattle.im_disk.specs.declared.file.FileDisk.{FileDisk}
+use Rattle.im_disk.specs.declared.start.Start.{Ghosts}
 use Rattle.im_disk.specs.Moment.{Moment}
 use Rattle.im_disk.specs.Since.{LeavesNow, ReadsOnly}
 use Rattle.im_image.specs.Fresh.{new_image}
@@ -10,87 +14,92 @@ use Rattle.im_serial.specs.Serving.{ServedFrom}
 use Rattle.im_dialogue.specs.Backups.{Backup}
 use Rattle.im_dialogue.specs.Dialogue.{TalkedFrom}
 use Rattle.im_dialogue.specs.Talk.{Outputs, outputs}
-use Rattle.im_run.specs.Once.{RanOnceFrom}
-use Rattle.im_run.specs.Running.{RanFrom}
+use Rattle.im_run.specs.Once.{RunsOnceOn}
+use Rattle.im_run.specs.Running.{RunsOn, RunsOnPlan}
 use Rattle.im_run.specs.Tracing.{TraceState}
-use Rattle.im_disk.specs.declared.disk.Disk.{Ghosts as DiskGhosts}
-use Rattle.im_disk.specs.declared.file.FileDisk.{FileDisk}
-use Rattle.im_disk.specs.declared.start.Start.{Ghosts}
 use Rattle.im_dump.specs.Dumping.{Dumps}
 use Rattle.im_program.specs.Loading.{LoadedFrom}
 use Rattle.im_program.specs.Moving.{CopiedFrom, MigratedFrom}
-use Rattle.im_words.specs.declared.words.Way.{Way}
-use Rattle.im_words.specs.declared.words.Way.TheVariants.{Free, Planned, Once}
 use Rattle.im_words.specs.Words.{Task, demonstration, format, serial, run, serve, inspect, migrate, copy, dump, load}
 
+-- each file that a crash leaves on this disk is the new image of these sizes, byte for byte
+abbrev pub IsNewImage : {D : Type 0} → DiskGhosts D → Sizes → D → Type 0
+IsNewImage d sizes disk = LeavesNow (d.now disk) (λ file. file ≡ new_image 0xA5 sizes)
+
+-- the image that was asked for was made on this disk, with status 0
+abbrev pub IsFormatted : {D : Type 0} → DiskGhosts D → (cells elements slots : ℕ) → ℕ → D → Type 0
+IsFormatted d cells elements slots status disk = (status ≡ 0) × AreLimits cells elements slots
+    × IsNewImage d (record { cells = cells; elements = elements; slots = slots }) disk
+
 -- a script was served on this disk, once or anew
-abbrev pub ScriptServed : {D : Type 0} → Bool → (D → Moment) → (D → List Moment) → (D → ℕ) → Moment → D
-    → Option (List ℕ) → Option (List ℕ) → ℕ → Type 0
-ScriptServed {D} true = ServedOnceFrom {D = D}
-ScriptServed {D} false = ServedFrom {D = D}
+abbrev pub ScriptServed : {D : Type 0} → DiskGhosts D → Bool → Moment → D → Option (List ℕ) → Option (List ℕ) → ℕ
+    → Type 0
+ScriptServed d true = ServedOnceFrom d.now d.past d.failures
+ScriptServed d false = ServedFrom d.now d.past d.failures
 
--- whether a script is run once
-abbrev pub is_once : Way → Bool
-is_once Free = false
-is_once Planned = false
-is_once Once = true
+-- a script is run on a disk, once or anew
+abbrev pub ScriptRuns : {D : Type 0} → DiskGhosts D → Bool → List ℕ → D → D → Option (List ℕ) → Option (List ℕ)
+    → TraceState → ℕ → Type 0
+ScriptRuns d true = RunsOnceOn d
+ScriptRuns d false = RunsOn d
 
--- a script was run on this disk, once or anew
-abbrev pub ScriptRan : {D : Type 0} → Bool → (D → Moment) → (D → List Moment) → (D → ℕ) → Moment → D
-    → Option (List ℕ) → Option (List ℕ) → TraceState → ℕ → Type 0
-ScriptRan {D} true = RanOnceFrom {D = D}
-ScriptRan {D} false = RanFrom {D = D}
+-- what is said of it besides, if it is a plan
+abbrev pub PlanRuns : {D : Type 0} → DiskGhosts D → Bool → Bool → List ℕ → D → D → Option (List ℕ)
+    → Option (List ℕ) → TraceState → ℕ → Type 0
+PlanRuns d true planned text old new was is calls status = Unit {0}
+PlanRuns d false planned text old new was is calls status = RunsOnPlan d planned text old new was is calls status
+
+-- a script was run on this disk, once or anew, freely or as a plan; the disk was at this moment, and had no moment
+-- before it
+pub record ScriptRan {D : Type 0} (d : DiskGhosts D) (planned once : Bool) (first : Moment) (disk : D)
+    (was is : Option (List ℕ)) (calls : TraceState) (status : ℕ) : Type 0 where
+  pub old : D
+  pub begins : d.now old ≡ first
+  pub none : d.past old ≡ []
+  pub text : List ℕ
+  pub run : ScriptRuns d once text old disk was is calls status
+  pub plan : PlanRuns d once planned text old disk was is calls status
 
 -- A task was done on this disk, with this status. The disk's file held the first moment when it was opened. The writer
 -- held the first bytes before, and holds the others now. The demonstration opens no file. The result of a migration or
 -- a copy is stated below, because they open two files.
-abbrev pub DoneOn : {D : Type 0} → (D → Moment) → (D → List Moment) → (D → ℕ) → Moment → Task → Option (List ℕ)
-    → Option (List ℕ) → ℕ → D → Type 0
-DoneOn now past failures first demonstration was is status disk = ⊥
-DoneOn now past failures first (format image cells elements slots is_new) was is status disk =
-    (status ≡ 0) × AreLimits cells elements slots
-    × LeavesNow (now disk)
-    (λ file. file ≡ new_image 0xA5 (record { cells = cells; elements = elements; slots = slots }))
-DoneOn now past failures first (serial image script once) was is status disk =
-    ScriptServed once now past failures first disk was is status
-DoneOn now past failures first (run image script way trace) was is status disk =
-    (calls : TraceState) × ScriptRan (is_once way) now past failures first disk was is calls status
-DoneOn now past failures first (serve image watch backups) was is status disk =
-    (kept : List Backup) × TalkedFrom watch now past first disk (outputs was []) (outputs is kept) status
-DoneOn now past failures first (inspect image look) was is status disk =
-    (status ≡ 0 → ShowsView look first.bytes was is) × ReadsOnly first (now disk) [] (past disk)
-DoneOn now past failures first (migrate old new) was is status disk = Unit {0}
-DoneOn now past failures first (copy old new asked) was is status disk = Unit {0}
-DoneOn now past failures first (dump image) was is status disk =
-    (status ≡ 0 → Dumps first.bytes was is) × ReadsOnly first (now disk) [] (past disk)
-DoneOn now past failures first (load text new asked) was is status disk =
-    LoadedFrom now past first asked disk was is status
+abbrev pub DoneOn : {D : Type 0} → DiskGhosts D → Moment → Task → Option (List ℕ) → Option (List ℕ) → ℕ → D → Type 0
+DoneOn d first demonstration was is status disk = ⊥
+DoneOn d first (format image cells elements slots is_new) was is status disk =
+    IsFormatted d cells elements slots status disk
+DoneOn d first (serial image script once) was is status disk = ScriptServed d once first disk was is status
+DoneOn d first (run image script planned once trace) was is status disk =
+    (calls : TraceState) × ScriptRan d planned once first disk was is calls status
+DoneOn d first (serve image watch backups) was is status disk =
+    (kept : List Backup) × TalkedFrom watch d.now d.past first disk (outputs was []) (outputs is kept) status
+DoneOn d first (inspect image look) was is status disk =
+    (status ≡ 0 → ShowsView look first.bytes was is) × ReadsOnly first (d.now disk) [] (d.past disk)
+DoneOn d first (migrate old new) was is status disk = Unit {0}
+DoneOn d first (copy old new asked) was is status disk = Unit {0}
+DoneOn d first (dump image) was is status disk =
+    (status ≡ 0 → Dumps first.bytes was is) × ReadsOnly first (d.now disk) [] (d.past disk)
+DoneOn d first (load text new asked) was is status disk = LoadedFrom d.now d.past first asked disk was is status
 
 -- ---- the same, if the disk is honest
+
+-- the new image of these sizes was made on this disk
+abbrev pub WasMade : {D : Type 0} → DiskGhosts D → Sizes → D → Type 0
+WasMade d sizes disk = d.honest disk → IsNewImage d sizes disk
+
+-- the image that was asked for was made on this disk, with status 0
+abbrev pub WasFormatted : {D : Type 0} → DiskGhosts D → (cells elements slots : ℕ) → ℕ → D → Type 0
+WasFormatted d cells elements slots status disk = d.honest disk → IsFormatted d cells elements slots status disk
 
 -- a script was served on this disk
 abbrev pub WasScriptServed : {D : Type 0} → DiskGhosts D → Moment → Bool → Option (List ℕ) → Option (List ℕ) → ℕ → D
     → Type 0
-WasScriptServed d first once was is status disk =
-    d.honest disk → ScriptServed once d.now d.past d.failures first disk was is status
+WasScriptServed d first once was is status disk = d.honest disk → ScriptServed d once first disk was is status
 
--- a script was run on this disk
-abbrev pub WasRun : {D : Type 0} → DiskGhosts D → Moment → Way → Option (List ℕ) → Option (List ℕ) → TraceState → ℕ → D
-    → Type 0
-WasRun d first way was is calls status disk =
-    d.honest disk → ScriptRan (is_once way) d.now d.past d.failures first disk was is calls status
-
--- the same, with a trace if there is one
-abbrev pub WasRunWith : {D : Type 0} → DiskGhosts D → Moment → Way → Option (List ℕ) → Option (List ℕ)
-    → Option TraceState → ℕ → D → Type 0
-WasRunWith d first way was is some status disk = d.honest disk
-    → IfSome some (λ calls. ScriptRan (is_once way) d.now d.past d.failures first disk was is calls status)
-
--- the same, with some trace
-abbrev pub WasRunSomehow : {D : Type 0} → DiskGhosts D → Moment → Way → Option (List ℕ) → Option (List ℕ) → ℕ → D
-    → Type 0
-WasRunSomehow d first way was is status disk = d.honest disk
-    → (calls : TraceState) × ScriptRan (is_once way) d.now d.past d.failures first disk was is calls status
+-- a script was run on this disk, with some trace
+abbrev pub WasRun : {D : Type 0} → DiskGhosts D → Moment → (planned once : Bool) → Option (List ℕ)
+    → Option (List ℕ) → ℕ → D → Type 0
+WasRun d first planned once was is status disk =
+    d.honest disk → (calls : TraceState) × ScriptRan d planned once first disk was is calls status
 
 -- a dialogue was served on this disk
 abbrev pub WasTalked : {D : Type 0} → DiskGhosts D → Moment → Bool → Outputs → Outputs → ℕ → D → Type 0
@@ -98,35 +107,22 @@ WasTalked d first watch was is status disk = d.honest disk → TalkedFrom watch 
 
 -- a task was done on this disk
 abbrev pub WasDone : {D : Type 0} → DiskGhosts D → Moment → Task → Option (List ℕ) → Option (List ℕ) → ℕ → D → Type 0
-WasDone d first task was is status disk =
-    d.honest disk → DoneOn d.now d.past d.failures first task was is status disk
+WasDone d first task was is status disk = d.honest disk → DoneOn d first task was is status disk
+
+-- ---- two files
 
 -- the task opens two files
 abbrev pub IsOfTwo : Task → Type 0
-IsOfTwo demonstration = ⊥
-IsOfTwo (format image cells elements slots is_new) = ⊥
-IsOfTwo (serial image script once) = ⊥
-IsOfTwo (run image script way trace) = ⊥
-IsOfTwo (serve image watch backups) = ⊥
-IsOfTwo (inspect image look) = ⊥
 IsOfTwo (migrate old new) = Unit {0}
 IsOfTwo (copy old new asked) = Unit {0}
-IsOfTwo (dump image) = ⊥
-IsOfTwo (load text new asked) = ⊥
+IsOfTwo _ = ⊥
 
 module _ {S T : Type 0} (start : Ghosts S) (other : Ghosts T) where
   -- a task that opens two files was done with these disks, as DoneOn says it of one
   abbrev pub MovedBy : Task → Option (List ℕ) → Option (List ℕ) → ℕ → FileDisk T other → FileDisk S start → Type 0
-  MovedBy demonstration was is status old new = ⊥
-  MovedBy (format image cells elements slots is_new) was is status old new = ⊥
-  MovedBy (serial image script once) was is status old new = ⊥
-  MovedBy (run image script way trace) was is status old new = ⊥
-  MovedBy (serve image watch backups) was is status old new = ⊥
-  MovedBy (inspect image look) was is status old new = ⊥
   MovedBy (migrate from to) was is status old new = MigratedFrom start other was is status old new
   MovedBy (copy from to asked) was is status old new = CopiedFrom start other asked was is status old new
-  MovedBy (dump image) was is status old new = ⊥
-  MovedBy (load text to asked) was is status old new = ⊥
+  MovedBy _ was is status old new = ⊥
 
   -- the same, if the old file's disk is returned too
   abbrev pub HasMoved : Task → Option (List ℕ) → Option (List ℕ) → ℕ → Option (FileDisk T other) → FileDisk S start

@@ -3,13 +3,13 @@
 use crate::descriptors::Descriptors;
 use crate::loading::{LoadFault, LoadObserver};
 use crate::opening::call_of;
-use crate::shown::{Shown, folder_of, input_or};
+use crate::shown::{EscapedName, folder_of, input_or};
 use im_disk::Failure;
 use im_files::Noting;
 use im_migration::{Follower, Misfit};
 use im_text::{Observer, PathFault, Progress, Reason, Waited, Warning, make_now};
 use im_types::{Entry, Refusal};
-use im_words::{Job, Work};
+use im_words::Work;
 use std::alloc::Global;
 use std::fmt::Display;
 use std::io::Eprint;
@@ -55,18 +55,7 @@ impl<'a, R: Eprint + AllocGlobal> Console<'a, R> {
         work: &Work<'a>,
         terminals: Terminals,
     ) -> Console<'a, R> {
-        let (image, script) = match *work {
-            Work::Alone(Job::Demonstration) => ("", ""),
-            Work::Alone(Job::Format { image, .. })
-            | Work::Alone(Job::Inspect { image, .. })
-            | Work::Alone(Job::Dump { image }) => (image, ""),
-            Work::Alone(Job::Serial { image, script, .. }) | Work::Run { image, script, .. } => {
-                (image, script)
-            }
-            Work::Alone(Job::Serve { image, .. }) => (image, "-"),
-            Work::Migrate { old, new } | Work::Copy { old, new, .. } => (old, new),
-            Work::Alone(Job::Load { text, new, .. }) => (text, new),
-        };
+        let (image, script) = work.paths();
         Console {
             rt,
             alloc: rt.alloc(),
@@ -96,7 +85,7 @@ impl<'a, R: Eprint + AllocGlobal> Console<'a, R> {
 
     /// Asks a person whether an existing file may be replaced.
     pub(crate) fn ask(&self, image: &str, is: &impl Display) {
-        let path = Shown(image);
+        let path = EscapedName(image);
         let _printed = eprint!(self.rt;
             "imem: {path} is {is}. Make it anew, and lose that? y or n: "
         );
@@ -113,13 +102,13 @@ impl<'a, R: Eprint + AllocGlobal> Console<'a, R> {
 
     // Prints why the work is refused.
     fn tell(&self, reason: Reason) {
-        let path = Shown(self.path(reason));
+        let path = EscapedName(self.path(reason));
         let _printed = match reason {
             Reason::File(PathFault::InUse) | Reason::NewFile(PathFault::InUse) => {
                 eprintln!(self.rt; "imem: {path} is in use by another program")
             }
             Reason::File(PathFault::NoFolder) | Reason::NewFile(PathFault::NoFolder) => {
-                let folder = Shown(folder_of(self.path(reason)));
+                let folder = EscapedName(folder_of(self.path(reason)));
                 eprintln!(self.rt; "imem: the folder {folder} isn't there")
             }
             Reason::File(PathFault::Unsynced) | Reason::NewFile(PathFault::Unsynced) => {
@@ -156,7 +145,7 @@ impl<'a, R: Eprint + AllocGlobal> Console<'a, R> {
 
     /// Prints what is wrong with the file of a trace.
     pub(crate) fn tell_trace(&self, trace: &str, reason: Reason) {
-        let path = Shown(trace);
+        let path = EscapedName(trace);
         let _printed = eprintln!(self.rt; "imem: the trace {path}: {reason}");
     }
 
@@ -204,7 +193,7 @@ impl<'a, R: Eprint + AllocGlobal> Console<'a, R> {
 
     // Prints whether a note was left, or couldn't be left.
     fn tell_note(&self, path: &str, noting: Noting) {
-        let path = Shown(path);
+        let path = EscapedName(path);
         let _printed = match noting {
             Noting::Unneeded => Ok(()),
             Noting::Left => eprintln!(self.rt; "imem: the note {path}.unsynced says so"),
@@ -261,7 +250,7 @@ impl<R: Eprint + AllocGlobal> Observer for Console<'_, R> {
     }
 
     fn warned(&mut self, warning: Warning) {
-        let path = Shown(self.image);
+        let path = EscapedName(self.image);
         let _printed = eprintln!(self.rt; "imem: {path}: {warning}");
     }
 
@@ -273,7 +262,7 @@ impl<R: Eprint + AllocGlobal> Observer for Console<'_, R> {
 impl<R: Eprint + AllocGlobal> Follower for Console<'_, R> {
     fn writes(&self, written: u64, all: u64) {
         if self.is_watched() && written % WRITES == 0 {
-            let path = Shown(self.script);
+            let path = EscapedName(self.script);
             let _printed = eprintln!(self.rt;
                 "imem: {path}: {written} of {all} pages and slots written"
             );
@@ -281,14 +270,14 @@ impl<R: Eprint + AllocGlobal> Follower for Console<'_, R> {
     }
 
     fn misfits(&self, misfit: Misfit) {
-        let path = Shown(input_or(self.image));
+        let path = EscapedName(input_or(self.image));
         let _printed = eprintln!(self.rt; "imem: {path}: {misfit}");
     }
 }
 
 impl<R: Eprint + AllocGlobal> LoadObserver for Console<'_, R> {
     fn unloaded(&mut self, fault: LoadFault) {
-        let path = Shown(input_or(self.image));
+        let path = EscapedName(input_or(self.image));
         let _printed = match fault {
             LoadFault::NoInput => eprintln!(self.rt; "imem: {fault}"),
             _ => eprintln!(self.rt; "imem: {path}: {fault}"),

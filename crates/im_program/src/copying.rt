@@ -5,30 +5,18 @@ ghost use Rattle.im_disk.specs.Runs.{ReadsAlone};
 ghost use Rattle.im_migration.specs.Copying.{MayRefuseCopy, MayRefuseSource};
 ghost use Rattle.im_program.specs.Moving.{CopiedFrom};
 
-use crate::descriptors::Descriptors;
+use crate::hand::AtHand;
 use crate::moving::{place_at, print_counted, source_at};
 use crate::opening::{call_of, give_up};
 use im_disk::{Disk, Failure, FileDisk, Start};
 use im_migration::{Asked, Follower, copy, length_for_copy};
 use im_text::{Observer, Reason, diagnose, end};
 use im_types::Refusal;
+use im_words::Copying;
 use std::alloc::Global;
 use std::fs::File;
 use std::io::Write;
 use std::rt::Files;
-
-/// What a copy is made of: the paths of the image and of the new file, and the sizes that are asked for.
-#[derive(Clone, Copy)]
-pub struct Copying<'h, 'a> {
-    /// What takes the numbers of the standard streams while the files are opened.
-    pub held: &'h Descriptors,
-    /// The path of the image.
-    pub old: &'a str,
-    /// The path of the new file.
-    pub new: &'a str,
-    /// The sizes.
-    pub asked: Asked,
-}
 
 // The length that the new file needs. If the image or the sizes are refused, the observer is told why.
 fn length_of<O: Disk, V: Observer + Follower>(
@@ -86,13 +74,13 @@ pub fn copy_file<
     R: Files<File = File> + AllocGlobal,
     S: Start,
     T: Start,
+    I,
     W: Write,
     V: Observer + Follower,
 >(
-    rt: &R,
+    hand: AtHand<'_, R, I, V>,
     copying: &Copying,
     out: &mut W,
-    observer: &mut V,
     starts: (S, T),
 ) -> Result<(u8, FileDisk<S>, FileDisk<T>), Refusal>
     ensures status { IfOk result (λ r. r.0 ≤ 1) }
@@ -101,6 +89,7 @@ pub fn copy_file<
     ensures refused { IfErr result (λ refusal. MayRefuseCopy refusal) }
     ensures same { OnErr result (Keeps (W.contents out.old) (W.contents out.new)) }
 {
+    let (rt, _held, _input, observer) = hand.parts();
     let (old, new, asked) = (copying.old, copying.new, copying.asked);
     let (start, other) = starts;
     let mut from = source_at(rt, old, new, observer, other)?;

@@ -1,10 +1,14 @@
 //! What is done if no work is named.
 ghost use Rattle.std.specs.Prelude.{◌≡◌, ◌≤◌, IfOk};
 
+use crate::console::Console;
 use crate::formatting::limits_of;
+use crate::hand::AtHand;
+use crate::work::refuse;
 use im_damage::Damage;
 use im_disk::MemDisk;
 use im_engine::Engine;
+use im_files::Noting;
 use im_image::image_length;
 use im_script::read_script;
 use im_serial::serial_on;
@@ -12,7 +16,7 @@ use im_text::{Observer, Reason};
 use im_types::Refusal;
 use im_words::{DEFAULT_CELLS, DEFAULT_ELEMENTS, DEFAULT_SLOTS};
 use std::alloc::Global;
-use std::io::Write;
+use std::io::{Eprint, Write};
 
 // The script that is served then.
 const DEMONSTRATION: &str = "setup
@@ -43,8 +47,8 @@ fn usual_image(alloc: Global) -> Result<MemDisk, Refusal> {
     }
 }
 
-/// Serves a short script on an image in memory.
-pub(crate) fn demonstrate<W: Write, N: Observer>(
+// Serves the script on an image in memory.
+fn serve_in_memory<W: Write, N: Observer>(
     alloc: Global,
     out: &mut W,
     observer: &mut N,
@@ -61,4 +65,28 @@ pub(crate) fn demonstrate<W: Write, N: Observer>(
     };
     let (status, _) = serial_on(alloc, disk, &script, out, observer);
     Ok(status)
+}
+
+/// Serves a short script on an image in memory. Returns the status: 0, or 1 if something was refused or a write of the
+/// output failed.
+pub fn demonstrate<W: Write, N: Observer>(alloc: Global, out: &mut W, observer: &mut N) -> u8
+    ensures status { result ≤ 1 }
+{
+    match serve_in_memory(alloc, out, observer) {
+        Ok(status) => status,
+        Err(refusal) => refuse(alloc, refusal, out),
+    }
+}
+
+/// The same, with a refusal told on the console.
+pub(crate) fn act_with_no_file<R: Eprint + AllocGlobal, I, W: Write>(
+    hand: AtHand<'_, R, I, Console<'_, R>>,
+    out: &mut W,
+) -> u8
+    ensures status { result ≤ 1 }
+{
+    let (rt, _held, _input, console) = hand.parts();
+    let status = demonstrate(rt.alloc(), out, console);
+    console.settle(None, Noting::Unneeded);
+    status
 }

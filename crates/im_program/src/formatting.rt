@@ -1,10 +1,9 @@
 //! Makes an image.
-ghost use Rattle.std.specs.Prelude.{◌≡◌, ◌⊎◌, ◌↔◌, IsOk, IfOk, IfErr};
+ghost use Rattle.std.specs.Prelude.{◌≡◌, ◌⊎◌, ◌≤◌, ◌↔◌, IsOk, IfOk, IfErr};
 ghost use Rattle.im_types.specs.declared.refusals.Refusal.TheVariants.{Device, NoMemory, WrongLength};
 ghost use Rattle.im_types.specs.Layout.{sizes_of};
 ghost use Rattle.im_types.specs.Sizes.{AreLimits};
-ghost use Rattle.im_disk.specs.Since.{LeavesNow};
-ghost use Rattle.im_image.specs.Fresh.{new_image};
+ghost use Rattle.im_program.specs.Working.{WasFormatted, WasMade};
 
 use crate::hand::AtHand;
 use crate::opening::{format_reason, give_up, refusal_of};
@@ -14,6 +13,7 @@ use im_files::make_image;
 use im_image::image_length;
 use im_text::{Observer, Reason};
 use im_types::{Limits, MAX_CELLS, MAX_ELEMENTS, Refusal};
+use im_words::Formatting;
 use std::fs::File;
 use std::rt::Files;
 
@@ -40,34 +40,6 @@ fn limits_reason(cells: u32, elements: u32, slots: u32) -> Reason {
     }
 }
 
-// Makes an image at the path, as [`format_file`] says.
-fn make_formatted<R: Files<File = File> + AllocGlobal, S: Start, N: Observer>(
-    rt: &R,
-    observer: &mut N,
-    image: &str,
-    limits: Limits,
-    is_new: bool,
-    start: S,
-) -> Result<FileDisk<S>, Refusal>
-    ensures made { IfOk result (λ disk. ⟦<FileDisk<S> as Disk>⟧.honest disk →
-        LeavesNow (⟦<FileDisk<S> as Disk>⟧.now disk) (λ file. file ≡ new_image 0xA5 (sizes_of limits))) }
-    ensures refused { IfErr result (λ refusal. (refusal ≡ WrongLength) ⊎ (refusal ≡ NoMemory) ⊎ (refusal ≡ Device)) }
-{
-    let (disk, is_made) = match make_image(rt, image, image_length(limits), is_new, start) {
-        Ok(made) => made,
-        Err(fault) => return Err(refusal_of(rt, image, fault, observer)),
-    };
-    match Engine::format(rt.alloc(), disk, limits) {
-        Ok(engine) => Ok(engine.close()),
-        Err((refusal, disk)) => {
-            let reason = format_reason(refusal, disk.failure(), is_made);
-            give_up(rt, image, disk, is_made);
-            observer.refused(reason);
-            Err(refusal)
-        }
-    }
-}
-
 /// Makes an image at the path and returns its disk. An existing file loses its bytes; if a new file is asked for, it is
 /// refused. As long as the file was honest, each file that a crash may leave is the new image, byte for byte.
 ///
@@ -86,49 +58,54 @@ pub fn format_file<R: Files<File = File> + AllocGlobal, S: Start, I, N: Observer
     is_new: bool,
     start: S,
 ) -> Result<FileDisk<S>, Refusal>
-    ensures made { IfOk result (λ disk. ⟦<FileDisk<S> as Disk>⟧.honest disk →
-        LeavesNow (⟦<FileDisk<S> as Disk>⟧.now disk) (λ file. file ≡ new_image 0xA5 (sizes_of limits))) }
+    ensures made { IfOk result (λ disk. WasMade ⟦<FileDisk<S> as Disk>⟧ (sizes_of limits) disk) }
     ensures refused { IfErr result (λ refusal. (refusal ≡ WrongLength) ⊎ (refusal ≡ NoMemory) ⊎ (refusal ≡ Device)) }
 {
     let (rt, _held, _input, observer) = hand.parts();
-    make_formatted(rt, observer, image, limits, is_new, start)
+    let (disk, is_made) = match make_image(rt, image, image_length(limits), is_new, start) {
+        Ok(made) => made,
+        Err(fault) => return Err(refusal_of(rt, image, fault, observer)),
+    };
+    match Engine::format(rt.alloc(), disk, limits) {
+        Ok(engine) => Ok(engine.close()),
+        Err((refusal, disk)) => {
+            let reason = format_reason(refusal, disk.failure(), is_made);
+            give_up(rt, image, disk, is_made);
+            observer.refused(reason);
+            Err(refusal)
+        }
+    }
 }
 
-/// The numbers of cells, elements and journal slots that the command line asks for.
-#[derive(Clone, Copy)]
-pub(crate) struct GivenSizes {
-    pub(crate) cells: u32,
-    pub(crate) elements: u32,
-    pub(crate) slots: u32,
-}
-
-/// Makes the image that the command line asks for. Returns `BadLimits` if a number is out of its range; then no file is
-/// made.
-pub(crate) fn format_image<R: Files<File = File> + AllocGlobal, S: Start, I, N: Observer>(
-    hand: AtHand<'_, R, I, N>,
-    image: &str,
-    sizes: GivenSizes,
-    is_new: bool,
-    start: S,
-) -> Result<FileDisk<S>, Refusal>
-    ensures limits { IfOk result (λ _. AreLimits sizes.cells sizes.elements sizes.slots) }
-    ensures made { IfOk result (λ disk. ⟦<FileDisk<S> as Disk>⟧.honest disk →
-        LeavesNow (⟦<FileDisk<S> as Disk>⟧.now disk)
-        (λ file. file ≡ new_image 0xA5
-        (record { cells = sizes.cells; elements = sizes.elements; slots = sizes.slots }))) }
+// Returns the limits that are asked for. If a number is out of its range, the observer is told which.
+fn limits_asked<N: Observer>(asked: &Formatting, observer: &mut N) -> Result<Limits, Refusal>
+    ensures limits { IfOk result (λ limits. (limits.cells ≡ asked.now.cells) × (limits.elements ≡ asked.now.elements)
+        × (limits.slots ≡ asked.now.slots)) }
+    ensures found { IfOk result (λ _. AreLimits asked.now.cells asked.now.elements asked.now.slots) }
 {
-    let (rt, _held, _input, observer) = hand.parts();
-    let GivenSizes {
-        cells,
-        elements,
-        slots,
-    } = sizes;
-    let limits = match limits_of(cells, elements, slots) {
-        Ok(limits) => limits,
+    let (cells, elements, slots) = (asked.cells, asked.elements, asked.slots);
+    match limits_of(cells, elements, slots) {
+        Ok(limits) => Ok(limits),
         Err(refusal) => {
             observer.refused(limits_reason(cells, elements, slots));
-            return Err(refusal);
+            Err(refusal)
         }
-    };
-    make_formatted(rt, observer, image, limits, is_new, start)
+    }
+}
+
+/// Makes the image that the command line asks for. Returns the status 0, and the image's disk. Returns `BadLimits` if a
+/// number is out of its range; then no file is made.
+pub(crate) fn format_image<R: Files<File = File> + AllocGlobal, S: Start, I, N: Observer>(
+    hand: AtHand<'_, R, I, N>,
+    formatting: &Formatting,
+    start: S,
+) -> Result<(u8, FileDisk<S>), Refusal>
+    ensures status { IfOk result (λ r. r.0 ≤ 1) }
+    ensures limits { IfOk result (λ _. AreLimits formatting.now.cells formatting.now.elements formatting.now.slots) }
+    ensures made { IfOk result (λ r. WasFormatted ⟦<FileDisk<S> as Disk>⟧ formatting.now.cells formatting.now.elements
+        formatting.now.slots r.0 r.1) }
+{
+    let limits = limits_asked(formatting, &mut *hand.observer)?;
+    let disk = format_file(hand, formatting.image, limits, formatting.is_new, start)?;
+    Ok((0, disk))
 }

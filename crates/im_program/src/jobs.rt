@@ -1,19 +1,18 @@
-//! Does the work of one thread.
-ghost use Rattle.std.specs.Prelude.{◌≡◌, ◌⊎◌, ◌≤◌, IfOk, IfSome, IfNone};
-ghost use Rattle.im_words.specs.Words.{demonstration, task_of_job};
+//! Does the work of one thread on one file.
+ghost use Rattle.std.specs.Prelude.{◌≡◌, ◌≤◌, IfOk, IfSome, IfNone};
+ghost use Rattle.im_words.specs.Words.{task_of_job};
 ghost use Rattle.im_program.specs.Working.{WasDone};
 
 use crate::backups::Folder;
 use crate::console::Console;
-use crate::demonstrating::demonstrate;
 use crate::dumping::dump_file;
-use crate::formatting::{GivenSizes, format_image};
+use crate::formatting::format_image;
 use crate::hand::AtHand;
-use crate::loading::{LoadObserver, Loading, load_file};
+use crate::loading::{LoadObserver, load_file};
 use crate::looking::inspect_file;
 use crate::overwriting::may_be_made;
-use crate::serving::{Serving, serve_file};
-use crate::talking::{Talking, talk_file};
+use crate::serving::serve_file;
+use crate::talking::talk_file;
 use crate::work::refuse;
 use im_disk::{Disk, FileDisk, Start};
 use im_files::{Noting, note_failed_sync};
@@ -21,103 +20,33 @@ use im_listening::Ear;
 use im_migration::Follower;
 use im_text::{Observer, PathFault, Reason};
 use im_types::Refusal;
-use im_words::Job;
+use im_words::{Formatting, Job};
 use std::fs::File;
 use std::io::{BufRead, Eprint, Write};
 use std::rt::Files;
 
-// Does the job. Returns the status, and the disk of the file if one was opened.
+// Does the job. Returns the status and the disk of the file.
 fn do_job<
     R: Files<File = File> + AllocGlobal,
     S: Start,
     I: BufRead + Ear,
     W: Write,
     N: Observer + Follower + LoadObserver,
->(
-    hand: AtHand<'_, R, I, N>,
-    job: &Job,
-    out: &mut W,
-    start: S,
-) -> Result<(u8, Option<FileDisk<S>>), Refusal>
+>(hand: AtHand<'_, R, I, N>, job: &Job, out: &mut W, start: S) -> Result<(u8, FileDisk<S>), Refusal>
     ensures status { IfOk result (λ r. r.0 ≤ 1) }
-    ensures done { IfOk result (λ r. IfSome r.1 (λ disk. WasDone ⟦<FileDisk<S> as Disk>⟧ S.first
-        (task_of_job job.now) (W.contents out.old) (W.contents out.new) r.0 disk)) }
-    ensures none { IfOk result (λ r. IfNone r.1 (task_of_job job.now ≡ demonstration)) }
+    ensures done { IfOk result (λ r. WasDone ⟦<FileDisk<S> as Disk>⟧ S.first
+        (task_of_job job.now) (W.contents out.old) (W.contents out.new) r.0 r.1) }
 {
     match *job {
-        Job::Demonstration => match demonstrate(hand.rt.alloc(), out, hand.observer) {
-            Ok(status) => Ok((status, None)),
-            Err(refusal) => Err(refusal),
-        },
-        Job::Format {
-            image,
-            cells,
-            elements,
-            slots,
-            is_new,
-        } => {
-            let sizes = GivenSizes {
-                cells,
-                elements,
-                slots,
-            };
-            match format_image(hand, image, sizes, is_new, start) {
-                Ok(disk) => Ok((0, Some(disk))),
-                Err(refusal) => Err(refusal),
-            }
+        Job::Format(formatting) => format_image(hand, &formatting, start),
+        Job::Serial(serving) => serve_file(hand, &serving, out, start),
+        Job::Serve(talking) => {
+            let mut folder = Folder::new(hand.rt, hand.held, talking.backups);
+            talk_file(hand, &talking, &mut folder, out, start)
         }
-        Job::Serial {
-            image,
-            script,
-            once,
-        } => {
-            let serving = Serving {
-                image,
-                script,
-                once,
-            };
-            match serve_file(hand, &serving, out, start) {
-                Ok((status, disk)) => Ok((status, Some(disk))),
-                Err(refusal) => Err(refusal),
-            }
-        }
-        Job::Serve {
-            image,
-            watch,
-            backups,
-        } => {
-            let talking = Talking { image, watch };
-            let mut folder = Folder::new(hand.rt, hand.held, backups);
-            match talk_file(hand, &talking, &mut folder, out, start) {
-                Ok((status, disk)) => Ok((status, Some(disk))),
-                Err(refusal) => Err(refusal),
-            }
-        }
-        Job::Inspect { image, look } => match inspect_file(hand, image, &look, out, start) {
-            Ok((status, disk)) => Ok((status, Some(disk))),
-            Err(refusal) => Err(refusal),
-        },
-        Job::Dump { image } => match dump_file(hand, image, out, start) {
-            Ok((status, disk)) => Ok((status, Some(disk))),
-            Err(refusal) => Err(refusal),
-        },
-        Job::Load { text, new, asked } => {
-            let loading = Loading { text, new, asked };
-            match load_file(hand, &loading, out, start) {
-                Ok((status, disk)) => Ok((status, Some(disk))),
-                Err(refusal) => Err(refusal),
-            }
-        }
-    }
-}
-
-// The path of the job's image.
-fn image_of<'a>(job: &Job<'a>) -> &'a str {
-    match *job {
-        Job::Demonstration => "",
-        Job::Format { image, .. } | Job::Inspect { image, .. } | Job::Dump { image } => image,
-        Job::Serial { image, .. } | Job::Serve { image, .. } => image,
-        Job::Load { new, .. } => new,
+        Job::Inspect { image, look } => inspect_file(hand, image, &look, out, start),
+        Job::Dump { image } => dump_file(hand, image, out, start),
+        Job::Load(loading) => load_file(hand, &loading, out, start),
     }
 }
 
@@ -129,11 +58,13 @@ fn may_do<R: Files<File = File> + AllocGlobal + Eprint, I: BufRead>(
     console: &Console<'_, R>,
 ) -> bool {
     match *job {
-        Job::Format {
-            image,
-            is_new: false,
-            ..
-        } => may_be_made(rt, image, input, console),
+        Job::Format(
+            Formatting {
+                image,
+                is_new: false,
+                ..
+            },
+        ) => may_be_made(rt, image, input, console),
         _ => true,
     }
 }
@@ -146,11 +77,11 @@ fn settle_job<R: Files<File = File> + AllocGlobal + Eprint, S: Start>(
     disk: &Option<FileDisk<S>>,
     console: &mut Console<'_, R>,
 ) {
-    if let (Job::Load { new, .. }, Some(disk)) = (job, disk) {
-        console.settle_new(disk.failure(), note_failed_sync(rt, new, disk));
+    if let (Job::Load(loading), Some(disk)) = (job, disk) {
+        console.settle_new(disk.failure(), note_failed_sync(rt, loading.new, disk));
         console.settle(None, Noting::Unneeded);
     } else {
-        settle(rt, image_of(job), disk, console);
+        settle(rt, job.paths().0, disk, console);
     }
 }
 
@@ -178,11 +109,11 @@ fn work_alone<
     ensures status { result.0 ≤ 1 }
     ensures done { IfSome result.1 (λ disk. WasDone ⟦<FileDisk<S> as Disk>⟧ S.first
         (task_of_job job.now) (W.contents out.old) (W.contents out.new) result.0 disk) }
-    ensures none { IfNone result.1 ((task_of_job job.now ≡ demonstration) ⊎ (result.0 ≡ 1)) }
+    ensures none { IfNone result.1 (result.0 ≡ 1) }
 {
     let alloc = hand.rt.alloc();
     match do_job(hand, job, out, start) {
-        Ok(done) => done,
+        Ok((status, disk)) => (status, Some(disk)),
         Err(refusal) => (refuse(alloc, refusal, out), None),
     }
 }
@@ -204,7 +135,7 @@ fn work_alone<
 /// Refusals: `Device` for a file that isn't to be replaced; `BadLimits` for a number out of its range, and then no file
 /// is made; and the errors of [`format_file`], [`serve_file`], [`talk_file`], [`inspect_file`], [`dump_file`] and
 /// [`load_file`]. If a disk is returned, the status and the output are those of the function that was called. Else the
-/// status is 1, except for the demonstration.
+/// status is 1.
 ///
 /// `start` stands for what the image holds when it is opened. It is used up, and no code reads it.
 pub fn act_alone<
@@ -221,7 +152,7 @@ pub fn act_alone<
     ensures status { result.0 ≤ 1 }
     ensures done { IfSome result.1 (λ disk. WasDone ⟦<FileDisk<S> as Disk>⟧ S.first
         (task_of_job job.now) (W.contents out.old) (W.contents out.new) result.0 disk) }
-    ensures none { IfNone result.1 ((task_of_job job.now ≡ demonstration) ⊎ (result.0 ≡ 1)) }
+    ensures none { IfNone result.1 (result.0 ≡ 1) }
 {
     let (rt, held, input, console) = hand.parts();
     if !may_do(rt, job, input, console) {

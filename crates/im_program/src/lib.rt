@@ -25,27 +25,30 @@ mod statuses;
 mod talking;
 mod telling;
 mod tracing;
+mod transferring;
 mod watching;
 mod work;
 
 pub use console::{Console, Terminals};
-pub use copying::{Copying, copy_file};
+pub use copying::copy_file;
+pub use demonstrating::demonstrate;
 pub use descriptors::Descriptors;
 pub use dumping::dump_file;
 pub use formatting::format_file;
 pub use hand::AtHand;
 pub use im_words::{
-    DEFAULT_CELLS, DEFAULT_ELEMENTS, DEFAULT_SLOTS, Job, Order, Way, WordFault, Work, read_words,
+    CommandLine, Copying, DEFAULT_CELLS, DEFAULT_ELEMENTS, DEFAULT_SLOTS, Formatting, Job, Loading,
+    Paths, ScriptRun, Serving, Talking, Transfer, WordFault, Work, read_words,
 };
 pub use jobs::act_alone;
-pub use loading::{LoadFault, LoadObserver, Loading, load_file};
+pub use loading::{LoadFault, LoadObserver, load_file};
 pub use looking::inspect_file;
-pub use moving::{Paths, migrate_file, migrate_on};
+pub use moving::{migrate_file, migrate_on};
 pub use prompting::Prompter;
-pub use running::{ScriptRun, run_file};
-pub use serving::{Serving, serve_file};
+pub use running::run_file;
+pub use serving::serve_file;
 pub use statuses::status_for;
-pub use talking::{Talking, talk_file};
+pub use talking::talk_file;
 pub use telling::act_told;
 pub use tracing::write_traced;
 pub use work::{act, refuse};

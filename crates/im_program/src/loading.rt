@@ -19,6 +19,7 @@ use im_migration::{Asked, Follower, Original, Resized, prepare, put_new};
 use im_script::{ScriptFault, TextFault};
 use im_text::{Observer, Reason, Words, end};
 use im_types::Refusal;
+use im_words::Loading;
 use std::alloc::Global;
 use std::fmt;
 use std::fmt::{Display, Formatter};
@@ -70,17 +71,6 @@ impl Display for LoadFault {
 pub trait LoadObserver {
     /// Is called before a text is refused.
     fn unloaded(&mut self, fault: LoadFault);
-}
-
-/// What an image is made of: the paths of the text and of the new file, and the sizes that are asked for.
-#[derive(Clone, Copy)]
-pub struct Loading<'a> {
-    /// The path of the text. `-` stands for the input.
-    pub text: &'a str,
-    /// The path of the new file.
-    pub new: &'a str,
-    /// The sizes.
-    pub asked: Asked,
 }
 
 // Returns the refusal of a text, and tells the observer why.

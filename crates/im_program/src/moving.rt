@@ -9,7 +9,7 @@ ghost use Rattle.im_image.specs.Headers.{MayRefuseImage};
 ghost use Rattle.im_migration.specs.Migration.{LeavesBlankOrSame, MeansSame};
 ghost use Rattle.im_program.specs.Moving.{BeginsNew, BeginsOld, MigratedFrom, TellsCount, counted_line};
 
-use crate::descriptors::Descriptors;
+use crate::hand::AtHand;
 use crate::opening::{is_one_file, reason_of, refusal_of, warn};
 use im_disk::{Disk, FileDisk, Start};
 use im_files::{FileFault, make_image, open_image, open_image_to_read};
@@ -17,21 +17,11 @@ use im_image::read_header;
 use im_migration::{Follower, length_for, migrate};
 use im_text::{Observer, PathFault, Reason, diagnose, end, put_through};
 use im_types::Refusal;
+use im_words::Paths;
 use std::alloc::{AllocError, Global};
 use std::fs::{self, File};
 use std::io::{ErrorKind, Write};
 use std::rt::Files;
-
-/// The paths of an old file and a new one, and what takes the numbers of the standard streams while they are opened.
-#[derive(Clone, Copy)]
-pub struct Paths<'h, 'a> {
-    /// What takes the numbers of the standard streams.
-    pub held: &'h Descriptors,
-    /// The path of the old file.
-    pub old: &'a str,
-    /// The path of the new file.
-    pub new: &'a str,
-}
 
 // A line of a word and a number of commands.
 fn make_counted(alloc: Global, word: &str, count: u64) -> Result<String, AllocError>
@@ -220,13 +210,13 @@ pub fn migrate_file<
     R: Files<File = File> + AllocGlobal,
     S: Start,
     T: Start,
+    I,
     W: Write,
     V: Observer + Follower,
 >(
-    rt: &R,
+    hand: AtHand<'_, R, I, V>,
     paths: &Paths,
     out: &mut W,
-    observer: &mut V,
     starts: (S, T),
 ) -> Result<(u8, FileDisk<S>, FileDisk<T>), Refusal>
     ensures status { IfOk result (λ r. r.0 ≤ 1) }
@@ -235,6 +225,7 @@ pub fn migrate_file<
     ensures refused { IfErr result (λ refusal. MayRefuseImage refusal) }
     ensures same { OnErr result (Keeps (W.contents out.old) (W.contents out.new)) }
 {
+    let (rt, _held, _input, observer) = hand.parts();
     let (start, other) = starts;
     let mut from = match source_at(rt, paths.old, paths.new, observer, other) {
         Ok(from) => from,

@@ -1,10 +1,10 @@
 //! Why a file wasn't made, opened or written, in the words for a person; and how it is given up.
-ghost use Rattle.std.specs.Prelude.{◌≡◌};
+ghost use Rattle.std.specs.Prelude.{◌≡◌, [], IfOk, IfErr};
 ghost use Rattle.im_types.specs.declared.refusals.Refusal.{Refusal};
 
 use im_damage::Damage;
-use im_disk::{Failure, FileDisk, OpenFault, Start};
-use im_files::{FileFault, Noting, note_failed_sync, remove_image};
+use im_disk::{Disk, Failure, FileDisk, OpenFault, Start};
+use im_files::{FileFault, Noting, note_failed_sync, open_image, remove_image};
 use im_text::{CallFault, Observer, PathFault, Reason, Warning};
 use im_types::Refusal;
 use std::fs::{self, File};
@@ -97,6 +97,23 @@ pub(crate) fn refusal_of<R: Files<File = File>, N: Observer>(
 {
     observer.refused(Reason::File(reason_of(rt, image, fault)));
     Refusal::from(fault)
+}
+
+/// Opens the image at a path. If it isn't opened, the observer is told why.
+pub(crate) fn image_at<R: Files<File = File> + AllocGlobal, S: Start, N: Observer>(
+    rt: &R,
+    image: &str,
+    observer: &mut N,
+    start: S,
+) -> Result<FileDisk<S>, Refusal>
+    ensures now { IfOk result (λ disk. ⟦<FileDisk<S> as Disk>⟧.now disk ≡ S.first) }
+    ensures past { IfOk result (λ disk. ⟦<FileDisk<S> as Disk>⟧.past disk ≡ []) }
+    ensures refused { IfErr result (λ refusal. refusal ≡ Refusal.Device) }
+{
+    match open_image(rt, image, start) {
+        Ok(disk) => Ok(disk),
+        Err(fault) => Err(refusal_of(rt, image, fault, observer)),
+    }
 }
 
 /// Removes a file that was made and holds no image or a torn one. A file that existed before stays. If a sync of it

@@ -12,35 +12,35 @@ use std::rt::Files;
 
 // What is at the path of the file that is to be made. Its text is for a person.
 #[derive(Clone, Copy)]
-enum Found {
+enum ExistingFile {
     // An image with this number of commands.
     Image(u64),
     // Another file, or an image that can't be read.
     Other,
 }
 
-impl Display for Found {
+impl Display for ExistingFile {
     fn fmt<W: fmt::Write>(&self, f: &mut Formatter<W>) -> fmt::Result {
         match *self {
-            Found::Image(1) => f.write_str("an image with 1 command"),
-            Found::Image(count) => write!(f, "an image with {count} commands"),
-            Found::Other => f.write_str("a file that isn't empty, and no image"),
+            ExistingFile::Image(1) => f.write_str("an image with 1 command"),
+            ExistingFile::Image(count) => write!(f, "an image with {count} commands"),
+            ExistingFile::Other => f.write_str("a file that isn't empty, and no image"),
         }
     }
 }
 
 // What is at the path, if a file is there and isn't empty.
-fn found_at<R: Files<File = File> + AllocGlobal>(rt: &R, path: &str) -> Option<Found> {
+fn found_at<R: Files<File = File> + AllocGlobal>(rt: &R, path: &str) -> Option<ExistingFile> {
     match fs::metadata(rt, path) {
         Ok(data) if data.is_file() && data.len() > 0 => {}
         _ => return None,
     }
     let Ok((mut disk, _)) = open_image_to_read(rt, path, Unknown) else {
-        return Some(Found::Other);
+        return Some(ExistingFile::Other);
     };
     match inspect(rt.alloc(), &mut disk) {
-        Ok(report) => Some(Found::Image(report.header.count.saturating_add(report.run))),
-        Err(_) => Some(Found::Other),
+        Ok(report) => Some(ExistingFile::Image(report.header.count.saturating_add(report.run))),
+        Err(_) => Some(ExistingFile::Other),
     }
 }
 

@@ -2,55 +2,40 @@
 ghost use Rattle.std.specs.Prelude.{◌≡◌, ◌⊎◌, ◌≤◌, IfOk, IfErr, OnErr, IfSome, IfNone, IsSome};
 ghost use Rattle.std.specs.Io.KnownBytes.{Keeps};
 ghost use Rattle.im_types.specs.declared.refusals.Refusal.TheVariants.{BadScript, Device, NoMemory};
-ghost use Rattle.im_program.specs.Working.{WasRun, WasRunSomehow, WasRunWith, is_once};
+ghost use Rattle.im_program.specs.Working.{ScriptRan, WasRun};
 
 use crate::console::Console;
 use crate::hand::AtHand;
 use crate::jobs::settle;
-use crate::opening::refusal_of;
+use crate::opening::image_at;
 use crate::scripts::{read_file, script_in};
-use crate::tracing::{TraceFile, keep_trace, make_file_if};
+use crate::tracing::{keep_trace, make_file_if};
 use crate::watching::Watch;
 use crate::work::refuse;
 use im_disk::{Disk, FileDisk, Start};
-use im_files::open_image;
 use im_run::{RunMode, STALLED, Trace, run_on, run_once_on};
 use im_serving::{Open, Watcher};
 use im_text::Observer;
 use im_types::Refusal;
-use im_words::Way;
+use im_words::ScriptRun;
 use std::fs::File;
 use std::io::{Eprint, Read, Write};
 use std::rt::Files;
 use std::sync::Wait;
 use std::thread::Threads;
 
-/// What is run: the paths of the image and of the script, and how.
-#[derive(Clone, Copy)]
-pub struct ScriptRun<'a> {
-    /// The path of the image.
-    pub image: &'a str,
-    /// The path of the script. `-` stands for the input.
-    pub script: &'a str,
-    /// How it is run.
-    pub way: Way,
-    /// Whether its servers' calls are recorded, so that they can be written as a trace.
-    pub traced: bool,
-}
-
-// Whether a script is run once.
-fn is_once(way: Way) -> bool
-    ensures { result ≡ is_once way }
+// How a script is run by threads.
+fn mode_of(running: &ScriptRun) -> RunMode
+    ensures { result.planned ≡ running.now.planned }
 {
-    match way {
-        Way::Free => false,
-        Way::Planned => false,
-        Way::Once => true,
+    RunMode {
+        planned: running.planned,
+        recorded: running.trace.is_some(),
     }
 }
 
 /// Runs the script of one file on the image of another, each element's requests by threads of its own. The script may
-/// have glances, and is a plan if `way` says so. Returns the status of [`run_on`], the image's disk and the trace;
+/// have glances, and is a plan if that is asked for. Returns the status of [`run_on`], the image's disk and the trace;
 /// [`run_on`] also says which lines are printed. The script is read first. The path `-` stands for the input, which is
 /// read to its end. If it is done once, [`run_once_on`] stands for [`run_on`] here.
 ///
@@ -81,40 +66,27 @@ pub fn run_file<
     start: S,
 ) -> Result<(u8, FileDisk<S>, Trace), Refusal>
     ensures status { IfOk result (λ r. (r.0 ≤ 1) ⊎ (r.0 ≡ STALLED)) }
-    ensures ran { IfOk result (λ r. WasRun ⟦<FileDisk<S> as Disk>⟧ S.first running.now.way
-        (W.contents out.old) (W.contents out.new) r.2 r.0 r.1) }
+    ensures ran { IfOk result (λ r. ScriptRan ⟦<FileDisk<S> as Disk>⟧ running.now.planned running.now.once S.first r.1
+        (W.contents out.old) (W.contents out.new) r.2 r.0) }
     ensures refused { IfErr result (λ refusal. (refusal ≡ BadScript) ⊎ (refusal ≡ NoMemory) ⊎ (refusal ≡ Device)) }
     ensures same { OnErr result (Keeps (W.contents out.old) (W.contents out.new)) }
 {
     let (rt, held, input, observer) = hand.parts();
-    let text = match read_file(rt, held, running.script, input, observer) {
-        Ok(text) => text,
-        Err(refusal) => return Err(refusal),
-    };
-    let script = match script_in(rt.alloc(), text.as_slice(), true, observer) {
-        Ok(script) => script,
-        Err(refusal) => return Err(refusal),
-    };
-    match open_image(rt, running.image, start) {
-        Ok(disk) => {
-            let alloc = rt.alloc();
-            let recorded = running.traced;
-            if is_once(running.way) {
-                Ok(run_once_on(
-                    rt, alloc, disk, &script, &Open, watcher, out, observer, recorded,
-                ))
-            } else {
-                let mode = RunMode {
-                    planned: running.way == Way::Planned,
-                    recorded,
-                };
-                let (ended, disk, trace) = run_on(
-                    rt, alloc, disk, &script, &Open, watcher, out, observer, mode,
-                );
-                Ok((ended, disk, trace))
-            }
-        }
-        Err(fault) => Err(refusal_of(rt, running.image, fault, observer)),
+    let text = read_file(rt, held, running.script, input, observer)?;
+    let script = script_in(rt.alloc(), text.as_slice(), true, observer)?;
+    let disk = image_at(rt, running.image, observer, start)?;
+    let alloc = rt.alloc();
+    let mode = mode_of(running);
+    let recorded = mode.recorded;
+    if running.once {
+        Ok(run_once_on(
+            rt, alloc, disk, &script, &Open, watcher, out, observer, recorded,
+        ))
+    } else {
+        let (ended, disk, trace) = run_on(
+            rt, alloc, disk, &script, &Open, watcher, out, observer, mode,
+        );
+        Ok((ended, disk, trace))
     }
 }
 
@@ -134,8 +106,8 @@ fn run_at_once<
     start: S,
 ) -> (u8, Option<FileDisk<S>>, Option<Trace>)
     ensures status { (result.0 ≤ 1) ⊎ (result.0 ≡ STALLED) }
-    ensures ran { IfSome result.1 (λ disk. WasRunWith ⟦<FileDisk<S> as Disk>⟧ S.first running.now.way
-        (W.contents out.old) (W.contents out.new) result.2 result.0 disk) }
+    ensures ran { IfSome result.1 (λ disk. IfSome result.2 (λ trace. ScriptRan ⟦<FileDisk<S> as Disk>⟧
+        running.now.planned running.now.once S.first disk (W.contents out.old) (W.contents out.new) trace result.0)) }
     ensures none { IfNone result.1 (result.0 ≡ 1) }
     ensures both { IfSome result.1 (λ _. IsSome result.2) }
 {
@@ -146,8 +118,8 @@ fn run_at_once<
     }
 }
 
-/// Runs a script with threads for its elements, and writes its trace if one is asked for. Returns the status, and the
-/// disk of the image if it was opened.
+/// Runs a script with threads for its elements, and writes its trace if one is asked for: as objects of JSON if
+/// `objects` is set. Returns the status, and the disk of the image if it was opened.
 pub(crate) fn act_at_once<
     R: Files<File = File> + AllocGlobal + Eprint + Threads + Wait + Sync,
     S: Start + Send,
@@ -156,17 +128,17 @@ pub(crate) fn act_at_once<
 >(
     hand: AtHand<'_, R, I, Console<'_, R>>,
     running: &ScriptRun,
-    traced: TraceFile,
+    objects: bool,
     out: &mut W,
     start: S,
 ) -> (u8, Option<FileDisk<S>>)
     ensures status { (result.0 ≤ 1) ⊎ (result.0 ≡ STALLED) }
-    ensures ran { IfSome result.1 (λ disk. WasRunSomehow ⟦<FileDisk<S> as Disk>⟧ S.first running.now.way
-        (W.contents out.old) (W.contents out.new) result.0 disk) }
+    ensures ran { IfSome result.1 (λ disk. WasRun ⟦<FileDisk<S> as Disk>⟧ S.first running.now.planned
+        running.now.once (W.contents out.old) (W.contents out.new) result.0 disk) }
     ensures none { IfNone result.1 (result.0 ≡ 1) }
 {
     let (rt, held, input, console) = hand.parts();
-    let file = match make_file_if(rt, held, traced.path, console) {
+    let file = match make_file_if(rt, held, running.trace, console) {
         Ok(file) => file,
         Err(refusal) => return (refuse(rt.alloc(), refusal, out), None),
     };
@@ -178,7 +150,7 @@ pub(crate) fn act_at_once<
         observer: &mut *console,
     };
     let (status, disk, run) = run_at_once(inner, running, &watch, out, start);
-    keep_trace(rt, file, run, traced.objects, console);
+    keep_trace(rt, file, run, objects, console);
     settle(rt, running.image, &disk, console);
     (status, disk)
 }

@@ -5,27 +5,16 @@ ghost use Rattle.im_types.specs.declared.refusals.Refusal.TheVariants.{BadScript
 ghost use Rattle.im_program.specs.Working.{WasScriptServed};
 
 use crate::hand::AtHand;
-use crate::opening::refusal_of;
+use crate::opening::image_at;
 use crate::scripts::{read_file, script_in};
 use im_disk::{Disk, FileDisk, Start};
-use im_files::open_image;
 use im_serial::{serial_on, serial_once_on};
 use im_text::Observer;
 use im_types::Refusal;
+use im_words::Serving;
 use std::fs::File;
 use std::io::{Read, Write};
 use std::rt::Files;
-
-/// What is served: the paths of the image and of the script, and whether it is done once.
-#[derive(Clone, Copy)]
-pub struct Serving<'a> {
-    /// The path of the image.
-    pub image: &'a str,
-    /// The path of the script. `-` stands for the input.
-    pub script: &'a str,
-    /// Whether what the image has of the script isn't asked anew.
-    pub once: bool,
-}
 
 /// Serves the script of one file on the image of another. Returns the status of [`serial_on`] and the image's disk;
 /// [`serial_on`] also says which lines are printed. The script is read first. The path `-` stands for the input, which
@@ -58,22 +47,12 @@ pub fn serve_file<R: Files<File = File> + AllocGlobal, S: Start, I: Read, W: Wri
 {
     let (rt, held, input, observer) = hand.parts();
     let once = serving.once;
-    let text = match read_file(rt, held, serving.script, input, observer) {
-        Ok(text) => text,
-        Err(refusal) => return Err(refusal),
-    };
-    let script = match script_in(rt.alloc(), text.as_slice(), false, observer) {
-        Ok(script) => script,
-        Err(refusal) => return Err(refusal),
-    };
-    match open_image(rt, serving.image, start) {
-        Ok(disk) => {
-            if once {
-                Ok(serial_once_on(rt.alloc(), disk, &script, out, observer))
-            } else {
-                Ok(serial_on(rt.alloc(), disk, &script, out, observer))
-            }
-        }
-        Err(fault) => Err(refusal_of(rt, serving.image, fault, observer)),
+    let text = read_file(rt, held, serving.script, input, observer)?;
+    let script = script_in(rt.alloc(), text.as_slice(), false, observer)?;
+    let disk = image_at(rt, serving.image, observer, start)?;
+    if once {
+        Ok(serial_once_on(rt.alloc(), disk, &script, out, observer))
+    } else {
+        Ok(serial_on(rt.alloc(), disk, &script, out, observer))
     }
 }

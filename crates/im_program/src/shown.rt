@@ -6,9 +6,9 @@ use std::path::Path;
 
 /// A name in a message. Control characters are written as escapes, so that a name can't steer a terminal.
 #[derive(Clone, Copy)]
-pub(crate) struct Shown<'a>(pub(crate) &'a str);
+pub(crate) struct EscapedName<'a>(pub(crate) &'a str);
 
-impl Display for Shown<'_> {
+impl Display for EscapedName<'_> {
     fn fmt<W: fmt::Write>(&self, f: &mut Formatter<W>) -> fmt::Result {
         for letter in self.0.chars() {
             if letter.is_control() {

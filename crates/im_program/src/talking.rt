@@ -7,25 +7,16 @@ ghost use Rattle.im_dialogue.specs.Talk.{outputs};
 ghost use Rattle.im_program.specs.Working.{WasTalked};
 
 use crate::hand::AtHand;
-use crate::opening::refusal_of;
+use crate::opening::image_at;
 use im_dialogue::{Backups, dialogue_on};
 use im_disk::{Disk, FileDisk, Start};
-use im_files::open_image;
 use im_listening::Ear;
 use im_text::Observer;
 use im_types::Refusal;
+use im_words::Talking;
 use std::fs::File;
 use std::io::{BufRead, Write};
 use std::rt::Files;
-
-/// What a dialogue is served on: the path of the image, and whether it is watched.
-#[derive(Clone, Copy)]
-pub struct Talking<'a> {
-    /// The path of the image.
-    pub image: &'a str,
-    /// Whether the answers to requests that waited are printed when they come.
-    pub watch: bool,
-}
 
 /// Serves a dialogue on the image of a file. Returns the status of [`dialogue_on`] and the image's disk;
 /// [`dialogue_on`] also says which lines are printed.
@@ -62,8 +53,6 @@ pub fn talk_file<
 {
     let (rt, _held, input, observer) = hand.parts();
     let watch = talking.watch;
-    match open_image(rt, talking.image, start) {
-        Ok(disk) => Ok(dialogue_on(rt.alloc(), disk, backups, input, watch, out, observer)),
-        Err(fault) => Err(refusal_of(rt, talking.image, fault, observer)),
-    }
+    let disk = image_at(rt, talking.image, observer, start)?;
+    Ok(dialogue_on(rt.alloc(), disk, backups, input, watch, out, observer))
 }

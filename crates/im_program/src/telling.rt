@@ -1,7 +1,7 @@
 //! Does the work, and tells its lines as the command line asks.
 ghost use Rattle.std.specs.Prelude.{◌≡◌, ◌⊎◌, ◌≤◌, [], IfSome, IfNone, if◌then◌else◌};
 ghost use Rattle.im_program.specs.Told.{DoneTold, MovedTold};
-ghost use Rattle.im_words.specs.Words.{demonstration, task_of};
+ghost use Rattle.im_words.specs.Words.{demonstration, task_of_work};
 ghost use Rattle.im_program.specs.Working.{IsOfTwo};
 
 use crate::console::Console;
@@ -12,7 +12,7 @@ use im_filters::{Relay, Sieve, Sieving, Telling};
 use im_listening::Ear;
 use im_run::STALLED;
 use im_types::Refusal;
-use im_words::Order;
+use im_words::CommandLine;
 use std::fs::File;
 use std::io::{BufRead, Eprint, Write};
 use std::marker::Brand;
@@ -37,21 +37,21 @@ fn act_sieved<
     W: Write + Drop,
 >(
     hand: AtHand<'_, R, I, Console<'_, R>>,
-    order: &Order,
+    line: &CommandLine,
     sieve: Sieve<W, K>,
     starts: (S, T),
 ) -> (u8, W, Option<FileDisk<S>>, Option<FileDisk<T>>)
     requires { sieve ≡ [] }
     ensures status { (result.0 ≤ 1) ⊎ (result.0 ≡ STALLED) }
-    ensures done { DoneTold ⟦<FileDisk<S> as Disk>⟧ S.first (task_of order.now.work) K.telling
+    ensures done { DoneTold ⟦<FileDisk<S> as Disk>⟧ S.first (task_of_work line.now.work) K.telling
         K.start (W.contents result.1) result.0 result.2 }
-    ensures moved { MovedTold S.Start T.Start (task_of order.now.work) K.telling
+    ensures moved { MovedTold S.Start T.Start (task_of_work line.now.work) K.telling
         K.start (W.contents result.1) result.0 result.3 result.2 }
-    ensures other { IfSome result.3 (λ _. IsOfTwo (task_of order.now.work)) }
-    ensures none { IfNone result.2 ((task_of order.now.work ≡ demonstration) ⊎ (result.0 ≡ 1)) }
+    ensures other { IfSome result.3 (λ _. IsOfTwo (task_of_work line.now.work)) }
+    ensures none { IfNone result.2 ((task_of_work line.now.work ≡ demonstration) ⊎ (result.0 ≡ 1)) }
 {
     let mut out = sieve;
-    let (status, disk, old) = act(hand, order, &mut out, starts);
+    let (status, disk, old) = act(hand, line, &mut out, starts);
     let (out, written) = out.leave();
     (status_told(written.is_ok(), status), out, disk, old)
 }
@@ -66,21 +66,21 @@ fn act_plainly<
     W: Write + Drop,
 >(
     hand: AtHand<'_, R, I, Console<'_, R>>,
-    order: &Order,
+    line: &CommandLine,
     out: W,
     starts: (S, T),
 ) -> (u8, W, Option<FileDisk<S>>, Option<FileDisk<T>>)
     requires { W.contents out ≡ K.start }
     ensures status { (result.0 ≤ 1) ⊎ (result.0 ≡ STALLED) }
-    ensures done { DoneTold ⟦<FileDisk<S> as Disk>⟧ S.first (task_of order.now.work) Telling.Plain
+    ensures done { DoneTold ⟦<FileDisk<S> as Disk>⟧ S.first (task_of_work line.now.work) Telling.Plain
         K.start (W.contents result.1) result.0 result.2 }
-    ensures moved { MovedTold S.Start T.Start (task_of order.now.work) Telling.Plain
+    ensures moved { MovedTold S.Start T.Start (task_of_work line.now.work) Telling.Plain
         K.start (W.contents result.1) result.0 result.3 result.2 }
-    ensures other { IfSome result.3 (λ _. IsOfTwo (task_of order.now.work)) }
-    ensures none { IfNone result.2 ((task_of order.now.work ≡ demonstration) ⊎ (result.0 ≡ 1)) }
+    ensures other { IfSome result.3 (λ _. IsOfTwo (task_of_work line.now.work)) }
+    ensures none { IfNone result.2 ((task_of_work line.now.work ≡ demonstration) ⊎ (result.0 ≡ 1)) }
 {
     let mut out: Relay<W, K> = Relay::new(out);
-    let (status, disk, old) = act(hand, order, &mut out, starts);
+    let (status, disk, old) = act(hand, line, &mut out, starts);
     let (out, written) = out.leave();
     (status_told(written.is_ok(), status), out, disk, old)
 }
@@ -95,24 +95,24 @@ fn act_with<
     W: Write + Drop,
 >(
     hand: AtHand<'_, R, I, Console<'_, R>>,
-    order: &Order,
+    line: &CommandLine,
     out: W,
     starts: (S, T),
 ) -> (u8, W, Option<FileDisk<S>>, Option<FileDisk<T>>)
     requires start { W.contents out ≡ K.start }
-    requires telling { order.now.telling ≡ K.telling }
+    requires telling { line.now.telling ≡ K.telling }
     ensures status { (result.0 ≤ 1) ⊎ (result.0 ≡ STALLED) }
-    ensures done { DoneTold ⟦<FileDisk<S> as Disk>⟧ S.first (task_of order.now.work) K.telling
+    ensures done { DoneTold ⟦<FileDisk<S> as Disk>⟧ S.first (task_of_work line.now.work) K.telling
         K.start (W.contents result.1) result.0 result.2 }
-    ensures moved { MovedTold S.Start T.Start (task_of order.now.work) K.telling
+    ensures moved { MovedTold S.Start T.Start (task_of_work line.now.work) K.telling
         K.start (W.contents result.1) result.0 result.3 result.2 }
-    ensures other { IfSome result.3 (λ _. IsOfTwo (task_of order.now.work)) }
-    ensures none { IfNone result.2 ((task_of order.now.work ≡ demonstration) ⊎ (result.0 ≡ 1)) }
+    ensures other { IfSome result.3 (λ _. IsOfTwo (task_of_work line.now.work)) }
+    ensures none { IfNone result.2 ((task_of_work line.now.work ≡ demonstration) ⊎ (result.0 ≡ 1)) }
 {
     let alloc = hand.rt.alloc();
-    let made: Result<Sieve<W, K>, W> = Sieve::new(alloc, out, order.telling);
+    let made: Result<Sieve<W, K>, W> = Sieve::new(alloc, out, line.telling);
     match made {
-        Ok(sieve) => act_sieved(hand, order, sieve, starts),
+        Ok(sieve) => act_sieved(hand, line, sieve, starts),
         Err(mut out) => {
             let status = refuse(alloc, Refusal::NoMemory, &mut out);
             (status, out, None, None)
@@ -120,8 +120,8 @@ fn act_with<
     }
 }
 
-/// Does the work as [`act`] does, tells its lines on the writer as the order says, and gives the writer back. Returns
-/// the status, the writer, and the disks as [`act`] does.
+/// Does the work as [`act`] does, tells its lines on the writer as the command line says, and gives the writer back.
+/// Returns the status, the writer, and the disks as [`act`] does.
 ///
 /// What [`act`] ensures of a writer holds of the text that its lines make, from nothing on. The writer then holds a
 /// prefix of what is told of that text, behind what it held before. Unless the status is 1 it holds all of it. A line
@@ -137,20 +137,20 @@ pub fn act_told<
     W: Write + Drop,
 >(
     hand: AtHand<'_, R, I, Console<'_, R>>,
-    order: &Order,
+    line: &CommandLine,
     out: W,
     starts: (S, T),
 ) -> (u8, W, Option<FileDisk<S>>, Option<FileDisk<T>>)
     ensures status { (result.0 ≤ 1) ⊎ (result.0 ≡ STALLED) }
-    ensures done { DoneTold ⟦<FileDisk<S> as Disk>⟧ S.first (task_of order.now.work) order.now.telling
+    ensures done { DoneTold ⟦<FileDisk<S> as Disk>⟧ S.first (task_of_work line.now.work) line.now.telling
         (W.contents out) (W.contents result.1) result.0 result.2 }
-    ensures moved { MovedTold S.Start T.Start (task_of order.now.work) order.now.telling
+    ensures moved { MovedTold S.Start T.Start (task_of_work line.now.work) line.now.telling
         (W.contents out) (W.contents result.1) result.0 result.3 result.2 }
-    ensures other { IfSome result.3 (λ _. IsOfTwo (task_of order.now.work)) }
-    ensures none { IfNone result.2 ((task_of order.now.work ≡ demonstration) ⊎ (result.0 ≡ 1)) }
+    ensures other { IfSome result.3 (λ _. IsOfTwo (task_of_work line.now.work)) }
+    ensures none { IfNone result.2 ((task_of_work line.now.work ≡ demonstration) ⊎ (result.0 ≡ 1)) }
 {
-    match order.telling {
-        Telling::Plain => act_plainly::<Brand, R, S, T, I, W>(hand, order, out, starts),
-        _ => act_with::<Brand, R, S, T, I, W>(hand, order, out, starts),
+    match line.telling {
+        Telling::Plain => act_plainly::<Brand, R, S, T, I, W>(hand, line, out, starts),
+        _ => act_with::<Brand, R, S, T, I, W>(hand, line, out, starts),
     }
 }

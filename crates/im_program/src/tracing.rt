@@ -17,13 +17,6 @@ use std::io::{Eprint, ErrorKind, Write};
 use std::marker::Brand;
 use std::rt::Files;
 
-/// Where the trace of a run is written, and whether its lines are objects of JSON.
-#[derive(Clone, Copy)]
-pub(crate) struct TraceFile<'a> {
-    pub(crate) path: Option<&'a str>,
-    pub(crate) objects: bool,
-}
-
 // Whether the lines were taken and written.
 fn both(taken: Result<(), Reason>, written: Result<(), ErrorKind>) -> Result<(), Reason>
     ensures taken { OnOk result (IsOk taken) }

@@ -13,7 +13,7 @@ use Rattle.im_script.specs.declared.script.Heard.{Heard}
 use Rattle.im_script.specs.declared.faults.ScriptFault.{ScriptFault}
 use Rattle.im_script.specs.declared.faults.ScriptFault.TheVariants.{NoMemory, TooLarge, BadLine}
 use Rattle.im_script.specs.declared.script.Script.{Script}
-use Rattle.im_script.specs.Faults.{IsFirstFault, is_of_size, line_of}
+use Rattle.im_script.specs.Faults.{IsFirstBadLine, is_of_size, bad_line}
 
 -- with glances, or without
 module _ (g : Bool) where
@@ -86,7 +86,7 @@ module _ (g : Bool) where
   -- a line isn't in the grammar, though all before it are
   pub first_fault : (text : List ℕ) (d : Draft) (i n : ℕ) (line : List ℕ) → i < length (lines_of text) → line
       ≡ get_or (lines_of text) i line → lines_after g new_draft (take i (lines_of text)) ≡ Some d
-      → heard g d line ≡ None → n ≡ i + 1 → IsFirstFault g text n
+      → heard g d line ≡ None → n ≡ i + 1 → IsFirstBadLine g text n
   first_fault text d i n line inside is so_far none number = record {
     before = take i (lines_of text);
     line = line;
@@ -99,13 +99,13 @@ module _ (g : Bool) where
   }
 
   -- and then the text is no script
-  pub no_lines : (text : List ℕ) (n : ℕ) → IsFirstFault g text n → lines_say g new_draft (lines_of text) ≡ None
+  pub no_lines : (text : List ℕ) (n : ℕ) → IsFirstBadLine g text n → lines_say g new_draft (lines_of text) ≡ None
   no_lines text n f = they_say_none new_draft (lines_of text)
       (ap (lines_after g new_draft) f.lines ∙ lines_append new_draft f.before (f.line ∷ f.rest)
       ∙ ap (option_and_then (λ (e : Draft). lines_after g e (f.line ∷ f.rest))) f.read
       ∙ ap (option_and_then (λ (r : Draft × Heard). lines_after g r.0 f.rest)) f.bad)
 
-  pub no_script : (text : List ℕ) (n : ℕ) → is_few text ≡ true → IsFirstFault g text n → script_of g text ≡ None
+  pub no_script : (text : List ℕ) (n : ℕ) → is_few text ≡ true → IsFirstBadLine g text n → script_of g text ≡ None
   no_script text n few f = rw few (no_lines text n f)
 
   all_said : (text : List ℕ) (d : Draft) (i : ℕ) → length (lines_of text) ≤ i
@@ -121,8 +121,8 @@ module _ (g : Bool) where
   -- what a line's fault says of the text
   first_told : (text : List ℕ) (d : Draft) (i n : ℕ) (line : List ℕ) (f : ScriptFault) → i < length (lines_of text)
       → line ≡ get_or (lines_of text) i line → lines_after g new_draft (take i (lines_of text)) ≡ Some d
-      → n ≡ i + 1 → IfSome (line_of f) (λ at. (at ≡ n) × (heard g d line ≡ None))
-      → IfSome (line_of f) (IsFirstFault g text)
+      → n ≡ i + 1 → IfSome (bad_line f) (λ at. (at ≡ n) × (heard g d line ≡ None))
+      → IfSome (bad_line f) (IsFirstBadLine g text)
   first_told text d i n line NoMemory inside is so_far number h = h
   first_told text d i n line TooLarge inside is so_far number h = h
   first_told text d i n line
@@ -133,13 +133,13 @@ module _ (g : Bool) where
       (r : Result Heard ScriptFault) (s : Result Script ScriptFault) → i < length (lines_of text) → line
       ≡ get_or (lines_of text) i line
       → lines_after g new_draft (take i (lines_of text)) ≡ Some d → n ≡ i + 1 → r ≡ Err f → s ≡ Err f
-      → IfErr r (λ fault. IfSome (line_of fault) (λ at. (at ≡ n) × (heard g d line ≡ None)))
-      → IfErr s (λ fault. IfSome (line_of fault) (IsFirstFault g text))
+      → IfErr r (λ fault. IfSome (bad_line fault) (λ at. (at ≡ n) × (heard g d line ≡ None)))
+      → IfErr s (λ fault. IfSome (bad_line fault) (IsFirstBadLine g text))
   passes_first text d i n line f r s inside is so_far number was now h =
       let P : Result Heard ScriptFault
-      → Type 0 = λ t. IfErr t (λ fault. IfSome (line_of fault) (λ at. (at ≡ n) × (heard g d line ≡ None))) in
+      → Type 0 = λ t. IfErr t (λ fault. IfSome (bad_line fault) (λ at. (at ≡ n) × (heard g d line ≡ None))) in
       let Q : Result Script ScriptFault
-      → Type 0 = λ t. IfErr t (λ fault. IfSome (line_of fault) (IsFirstFault g text)) in
+      → Type 0 = λ t. IfErr t (λ fault. IfSome (bad_line fault) (IsFirstBadLine g text)) in
       subst Q (sym now) (first_told text d i n line f inside is so_far number (subst P was h))
 
   -- nor is it a fault of the text's size
@@ -151,14 +151,14 @@ module _ (g : Bool) where
       subst Q (sym now) (subst P was h)
 
   told_bad : (text : List ℕ) (f : ScriptFault) → is_few text ≡ true → is_of_size f ≡ false
-      → IfSome (line_of f) (IsFirstFault g text) → (f ≡ NoMemory) ⊎ (script_of g text ≡ None)
+      → IfSome (bad_line f) (IsFirstBadLine g text) → (f ≡ NoMemory) ⊎ (script_of g text ≡ None)
   told_bad text NoMemory few size h = inl refl
   told_bad text TooLarge few size h = absurd (cc)
   told_bad text (BadLine at fault) few size h = inr (no_script text at few h)
 
   -- whose text is no script
   pub passes_bad : (text : List ℕ) (s : Result Script ScriptFault) → is_few text ≡ true
-      → IfErr s (λ fault. is_of_size fault ≡ false) → IfErr s (λ fault. IfSome (line_of fault) (IsFirstFault g text))
+      → IfErr s (λ fault. is_of_size fault ≡ false) → IfErr s (λ fault. IfSome (bad_line fault) (IsFirstBadLine g text))
       → IfErr s (λ fault. (fault ≡ NoMemory) ⊎ (script_of g text ≡ None))
   passes_bad text (Ok script) few size h = h
   passes_bad text (Err fault) few size h = told_bad text fault few size h

@@ -15,7 +15,7 @@ use Rattle.im_script.specs.declared.script.Stage.{Stage}
 use Rattle.im_script.specs.declared.script.Stage.TheVariants.{Start, Setup, Part}
 use Rattle.im_script.specs.Grammar.{is_short, texts, words_of}
 use Rattle.im_script.specs.Words.{words_past}
-use Rattle.im_script.specs.Script.{Draft, counted, glance_at, heard, heard_in, line_at, words_after}
+use Rattle.im_script.specs.Script.{Draft, line_says, glance_at, heard, heard_in, line_at, words_after}
 use Rattle.im_script.proofs.ScriptLemmas.{part_ends}
 
 -- ---- one word
@@ -125,7 +125,7 @@ five_heard d words = rw (five_glance d d.stage words, five_tell d words) refl
 
 -- what a line says, by its first words
 pub counted_by : (d : Draft) (line : List ℕ) (words : List (List ℕ)) → is_short line ≡ true
-    → list_all is_ascii line ≡ true → take 5 words ≡ take 5 (words_of line) → words_after d words ≡ counted d line
+    → list_all is_ascii line ≡ true → take 5 words ≡ take 5 (words_of line) → words_after d words ≡ line_says d line
 counted_by d line words short plain same =
     sym (five_tell d words) ∙ ap (words_after d) same ∙ five_tell d (words_of line) ∙ rw (short, plain) refl
 

@@ -11,10 +11,10 @@ use Rattle.im_script.specs.declared.faults.LineFault.TheVariants.{TooLong}
 use Rattle.im_script.specs.Script.{Draft, heard, lines_after, lines_of, new_draft}
 
 -- the number of the line that a fault names, from 1
-abbrev pub line_of : ScriptFault → Option ℕ
-line_of NoMemory = None
-line_of TooLarge = None
-line_of (BadLine line fault) = Some line
+abbrev pub bad_line : ScriptFault → Option ℕ
+bad_line NoMemory = None
+bad_line TooLarge = None
+bad_line (BadLine line fault) = Some line
 
 -- the refusal of a fault
 abbrev pub refusal_of : ScriptFault → Refusal
@@ -43,7 +43,7 @@ tells_length (BadLine line fault) = is_of_length fault
 tells_length fault = false
 
 -- line n of a text, from 1, isn't in the grammar at its place, but each line before it is; with glances, or without
-pub record IsFirstFault (glances : Bool) (text : List ℕ) (n : ℕ) : Type 0 where
+pub record IsFirstBadLine (glances : Bool) (text : List ℕ) (n : ℕ) : Type 0 where
   pub before : List (List ℕ)
   pub line : List ℕ
   pub rest : List (List ℕ)

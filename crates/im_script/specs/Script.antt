@@ -9,7 +9,7 @@ use Rattle.im_script.specs.declared.script.Said.{Said}
 use Rattle.im_script.specs.declared.script.Said.TheVariants.{Nothing, Block, Begins, Asks}
 use Rattle.im_script.specs.declared.script.Heard.{Heard}
 use Rattle.im_script.specs.declared.script.Heard.TheVariants.{Says, Glances}
-use Rattle.im_script.specs.declared.script.Reader.{Reader}
+use Rattle.im_script.specs.declared.reader.Reader.{Reader}
 use Rattle.im_script.specs.declared.script.Stage.{Stage}
 use Rattle.im_script.specs.declared.script.Stage.TheVariants.{Start, Setup, Part}
 use Rattle.im_script.specs.Grammar.{is_line, texts, words_of, number_up_to}
@@ -43,14 +43,14 @@ abbrev pub named : Draft → List (List ℕ) → Option (Draft × Said)
 named d words = option_map (λ b. (record d { names = d.names ++ b.0 ∷ [] }, Block b.1)) (named_block d.names words)
 
 -- a line in a part of this element
-abbrev pub asked : Draft → ℕ → List (List ℕ) → Option (Draft × Said)
-asked d k words = option_map (λ a. (d, Asks (record { element = k; action = a }))) (action_of d.names words)
+abbrev pub requested : Draft → ℕ → List (List ℕ) → Option (Draft × Said)
+requested d k words = option_map (λ a. (d, Asks (record { element = k; action = a }))) (action_of d.names words)
 
 -- a line that begins no part
 abbrev pub line_at : Draft → Stage → List (List ℕ) → Option (Draft × Said)
 line_at d Start words = begun_setup d words
 line_at d Setup words = named d words
-line_at d (Part k) words = asked d k words
+line_at d (Part k) words = requested d k words
 
 -- a line that counts
 abbrev pub line_after : Draft → List (List ℕ) → Option (Draft × Said)
@@ -62,8 +62,8 @@ words_after d [] = Some (d, Nothing)
 words_after d (word ∷ words) = if slice_index_or word 0 0 == 35 then Some (d, Nothing) else line_after d (word ∷ words)
 
 -- a line, which must be ASCII and not too long
-abbrev pub counted : Draft → List ℕ → Option (Draft × Said)
-counted d line = if is_line line then words_after d (words_of line) else None
+abbrev pub line_says : Draft → List ℕ → Option (Draft × Said)
+line_says d line = if is_line line then words_after d (words_of line) else None
 
 -- ---- one line of a script that may have glances
 
@@ -86,7 +86,7 @@ heard_in d words =
 abbrev pub heard : Bool → Draft → List ℕ → Option (Draft × Heard)
 heard glances d line =
     option_or (option_map (λ h. (d, h)) (if glances then glance_of d line else None))
-    (option_map (λ r. (r.0, Says r.1)) (counted d line))
+    (option_map (λ r. (r.0, Says r.1)) (line_says d line))
 
 -- ---- all lines
 

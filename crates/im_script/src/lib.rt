@@ -1,24 +1,25 @@
 //! Reads scripts of requests: what each line says, and at which address each request acts once its names have bases.
 #![tactic(auto)]
 
+mod checking;
 mod explaining;
 mod faults;
 mod grammar;
 mod lines;
 mod places;
+mod reader;
 mod reading;
 mod script;
 
+pub use checking::{read_script, read_script_with_glances, split_line};
 pub use explaining::{behind_request, bytes_fault};
 pub use faults::{Expected, LineFault, Quoted, ScriptFault};
 pub use grammar::{is_line, is_plain, read_number, read_u32, split_words};
 pub use lines::read_action;
 pub use places::{Action, Place};
+pub use reader::Reader;
 pub use reading::{TextFault, read_text};
-pub use script::{
-    Allocation, Heard, Reader, Said, Script, ScriptLine, read_script, read_script_with_glances,
-    split_line,
-};
+pub use script::{Allocation, Heard, Said, Script, ScriptLine};
 
 /// The most bytes of a script: 256 MiB.
 pub const MAX_SCRIPT: usize = 268_435_456;

@@ -22,7 +22,8 @@ use Rattle.im_script.specs.declared.script.Stage.{Stage}
 use Rattle.im_script.specs.declared.script.Stage.TheVariants.{Start, Setup, Part}
 use Rattle.im_script.specs.Grammar.{is_line, number_up_to, words_of}
 use Rattle.im_script.specs.Lines.{action_of, glanced, named_block, part_number, starts_setup}
-use Rattle.im_script.specs.Script.{Draft, begun_part, counted, glance_at, glance_of, line_after, line_at, lines_of}
+use Rattle.im_script.specs.Script.{Draft, begun_part, glance_at, glance_of, line_after, line_at, lines_of}
+use Rattle.im_script.specs.Script.{line_says as said_in}
 use Rattle.im_script.specs.Script.{new_draft, words_after}
 use Rattle.im_serial.specs.Asked.{Wanted, base_told, said_at, said_by, wanted_by, wanted_in, wanted_of}
 
@@ -237,7 +238,7 @@ module _ (d : Draft) where
       by_test true is = subst (Says s) (some_same (d, Nothing) said is) (quiet s at)
       by_test false is = by_number (part_number (word ∷ words)) is
 
-  pub says : (s : Stage) → d.stage ≡ s → (line : List ℕ) (said : Draft × Said) → counted d line ≡ Some said
+  pub says : (s : Stage) → d.stage ≡ s → (line : List ℕ) (said : Draft × Said) → said_in d line ≡ Some said
       → Says s said
   says s at line said is = by_test (is_line line) is
     where
@@ -266,7 +267,7 @@ module _ (d : Draft) where
       → Says s said
   says_at s at line said is = by_glance (glance_of d line) refl is
     where
-      by_line : (o : Option (Draft × Said)) → counted d line ≡ o
+      by_line : (o : Option (Draft × Said)) → said_in d line ≡ o
           → option_map (λ (r : Draft × Heard). (r.0, said_by r.1)) (option_map (λ (r : Draft × Said). (r.0, Spoken r.1))
           o) ≡ Some said → Says s said
       by_line None e is = absurd (cc)
@@ -274,9 +275,9 @@ module _ (d : Draft) where
 
       by_glance : (g : Option Heard) → glance_of d line ≡ g → option_map
           (λ (r : Draft × Heard). (r.0, said_by r.1)) (option_or (option_map (λ (h : Heard). (d, h)) g) (option_map
-          (λ (r : Draft × Said). (r.0, Spoken r.1)) (counted d line))) ≡ Some said
+          (λ (r : Draft × Said). (r.0, Spoken r.1)) (said_in d line))) ≡ Some said
           → Says s said
-      by_glance None e is = by_line (counted d line) refl is
+      by_glance None e is = by_line (said_in d line) refl is
       by_glance (Some (Glances k there)) e is = subst (Says s) (some_same (d, Nothing) said is) (quiet s at)
       by_glance (Some (Spoken x)) e is = absurd (not_said line x e)
 

@@ -1,18 +1,15 @@
-//! Makes room for the next request: in the journal, and in its element's window.
-ghost use Rattle.std.specs.Prelude.{◌≡◌, ◌≤◌, ℕ, false, Ok, IfOk};
+//! Makes room for the next request: in the journal, and in its element's window. A server does so before each request.
+ghost use Rattle.std.specs.Prelude.{◌≡◌, ◌≤◌, ℕ, false, Ok, IfOk, OnOk};
 ghost use Rattle.im_types.specs.Window.{bounds};
+ghost use Rattle.im_turning.specs.Turning.{HasMadeRoom, Leads, point_of};
 ghost use Rattle.im_serial.specs.Serving.{Drops, Keeps};
 
 use im_checkpoint::TurnDone;
 use im_disk::Disk;
 use im_engine::Engine;
 use im_text::{Progress, Reason};
-use im_types::layout::MOST_AREA_PAGES;
+use im_turning::MOST_TURNS;
 use im_types::{Command, Entry, Refusal};
-
-// As many turns as two checkpoints take at the largest sizes. Each has a beginning, pages, a sync, a header and a
-// sweep. The rest of one that is under way, and a whole one, end with room or with nothing left to do.
-const MOST_TURNS: usize = 2 * (MOST_AREA_PAGES + 4);
 
 // Counts a checkpoint that came into force.
 fn count(progress: &mut Progress, done: TurnDone) {
@@ -24,6 +21,7 @@ fn count(progress: &mut Progress, done: TurnDone) {
 // Takes one turn of a checkpoint.
 fn take_turn<D: Disk>(engine: &mut Engine<D>, progress: &mut Progress) -> Result<TurnDone, Refusal>
     ensures goes { Keeps D.Disk result engine.old engine.new }
+    ensures leads { IfOk result (λ done. Leads (point_of engine.old) done (point_of engine.new)) }
 {
     match engine.turn() {
         Ok(done) => {
@@ -34,9 +32,12 @@ fn take_turn<D: Disk>(engine: &mut Engine<D>, progress: &mut Progress) -> Result
     }
 }
 
-/// Takes turns of a checkpoint while there is no room for a command and something is left to do.
+/// Takes turns of a checkpoint while there is no room for a command and something is left to do. At the end there is
+/// room for one, or the last turn had nothing to do, or [`MOST_TURNS`] turns were taken; a law of `im_turning` says how
+/// many are enough.
 pub fn make_room<D: Disk>(engine: &mut Engine<D>, progress: &mut Progress) -> Result<(), Refusal>
     ensures goes { Keeps D.Disk result engine.old engine.new }
+    ensures room { OnOk result (HasMadeRoom 1 (point_of engine.old) (point_of engine.new)) }
 {
     for _turn in 0..MOST_TURNS {
         if engine.room() > 0 {

@@ -37,14 +37,14 @@ mod writers;
 
 use crate::moves::{are_same, move_on, tell_length, tell_with};
 use crate::programs::load;
-use crate::writers::Told;
+use crate::writers::LastReason;
 use im_program::Descriptors;
 use im_story::{Call, Paper, Saying, Scene};
 use im_story_disk::Place;
 use std::process::ExitCode;
 
 /// Two files, and what was last printed and told.
-struct Desk<'a> {
+struct MigrationDesk<'a> {
     /// The folder's files, and standard output.
     rt: &'a HostRuntime,
     /// What occupies the numbers of the standard streams.
@@ -56,13 +56,13 @@ struct Desk<'a> {
     /// What was last printed.
     out: Paper,
     /// Why the last migration or copy was refused.
-    told: Told,
+    told: LastReason,
 }
 
 // By one call, wherever its owner may end.
-impl Drop for Desk<'_> {
+impl Drop for MigrationDesk<'_> {
     fn drop(self) {
-        let Desk {
+        let MigrationDesk {
             rt: _,
             held: _,
             old: _,
@@ -73,17 +73,17 @@ impl Drop for Desk<'_> {
     }
 }
 
-impl<'a> Desk<'a> {
+impl<'a> MigrationDesk<'a> {
     // Starts with nothing.
-    fn new(rt: &'a HostRuntime, held: &'a Descriptors) -> Desk<'a> {
+    fn new(rt: &'a HostRuntime, held: &'a Descriptors) -> MigrationDesk<'a> {
         let alloc = rt.alloc();
-        Desk {
+        MigrationDesk {
             rt,
             held,
             old: Place::new(alloc),
             new: Place::new(alloc),
             out: Paper::new(alloc),
-            told: Told { reason: None },
+            told: LastReason { reason: None },
         }
     }
 }
@@ -97,7 +97,7 @@ fn add_line(text: &str, at: usize, said: &mut Saying) {
 }
 
 // Makes a call by its first word. It is one of the new file if one of its first two words is that.
-fn tell_by_word(desk: &mut Desk, call: &Call, said: &mut Saying) {
+fn tell_by_word(desk: &mut MigrationDesk, call: &Call, said: &mut Saying) {
     match call.word(0) {
         "with" => tell_with(&desk.old, &desk.new, call, said),
         "in" => stops::tell(&desk.old, &desk.new, call, said),
@@ -115,9 +115,9 @@ fn tell_by_word(desk: &mut Desk, call: &Call, said: &mut Saying) {
     }
 }
 
-impl<'a> Scene for Desk<'a> {
+impl<'a> Scene for MigrationDesk<'a> {
     fn begin(&mut self) {
-        *self = Desk::new(self.rt, self.held);
+        *self = MigrationDesk::new(self.rt, self.held);
     }
 
     fn make(&mut self, call: &Call, said: &mut Saying) {
@@ -136,7 +136,7 @@ impl<'a> Scene for Desk<'a> {
 
 fn main(rt: HostRuntime) -> ExitCode {
     let status = match Descriptors::hold(&rt, &rt.stdin(), &rt.stdout(), &rt.stderr()) {
-        Some(held) => im_story::walk_files(&rt, &mut Desk::new(&rt, &held)),
+        Some(held) => im_story::walk_files(&rt, &mut MigrationDesk::new(&rt, &held)),
         None => 1,
     };
     ExitCode::from(status)

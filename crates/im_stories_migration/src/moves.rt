@@ -1,6 +1,6 @@
 //! Migrations, and what the two files mean.
 
-use crate::writers::Told;
+use crate::writers::LastReason;
 use im_migration::{Unfollowed, length_for, migrate};
 use im_report::inspect_on;
 use im_story::{Call, Paper, Saying, change};
@@ -59,7 +59,7 @@ pub fn tell_length(old: &mut Place, said: &mut Saying) {
 pub fn report(place: &mut Place) -> Paper {
     let mut out = Paper::new(place.alloc);
     if let Some(disk) = place.taken() {
-        let mut told = Told { reason: None };
+        let mut told = LastReason { reason: None };
         let (_status, disk) = inspect_on(place.alloc, disk, &mut out, &mut told);
         place.lay_down(disk);
     }

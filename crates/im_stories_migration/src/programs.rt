@@ -1,11 +1,11 @@
 //! The program's work on files, and the folder's files.
 
 use crate::moves::report;
-use crate::writers::Told;
-use crate::{Desk, files};
+use crate::writers::LastReason;
+use crate::{MigrationDesk, files};
 use im_disk::Unknown;
 use im_program::{
-    AtHand, Console, Copying, Job, Paths, Terminals, Work, act_alone, copy_file, migrate_file,
+    AtHand, Console, Job, Terminals, Transfer, Work, act_alone, copy_file, migrate_file,
     read_words, refuse,
 };
 use im_story::{Call, Paper, Saying};
@@ -21,7 +21,7 @@ const NOBODY: Terminals = Terminals {
 };
 
 // Does the work of one thread. Returns the status.
-fn act_by_itself(desk: &mut Desk, job: &Job<'_>) -> u8 {
+fn act_by_itself(desk: &mut MigrationDesk, job: &Job<'_>) -> u8 {
     let mut console = Console::new(desk.rt, desk.held, &Work::Alone(*job), NOBODY);
     let mut nothing = b"".as_slice();
     let hand = AtHand {
@@ -34,40 +34,19 @@ fn act_by_itself(desk: &mut Desk, job: &Job<'_>) -> u8 {
     status
 }
 
-// Does a work. Returns the status.
-fn act(desk: &mut Desk, work: &Work<'_>, said: &mut Saying) -> u8 {
-    let held = desk.held;
-    let done = match *work {
-        Work::Alone(job) => return act_by_itself(desk, &job),
-        Work::Migrate { old, new } => {
-            let paths = Paths { held, old, new };
-            migrate_file(
-                desk.rt,
-                &paths,
-                &mut desk.out,
-                &mut desk.told,
-                (Unknown, Unknown),
-            )
-        }
-        Work::Copy { old, new, asked } => {
-            let copying = Copying {
-                held,
-                old,
-                new,
-                asked,
-            };
-            copy_file(
-                desk.rt,
-                &copying,
-                &mut desk.out,
-                &mut desk.told,
-                (Unknown, Unknown),
-            )
-        }
-        Work::Run { .. } => {
-            said.fail("the words ask for more than one thread");
-            return 1;
-        }
+// Does a transfer, which is told why it is refused. Returns the status.
+fn transfer(desk: &mut MigrationDesk, transfer: &Transfer<'_>) -> u8 {
+    let mut nothing = b"".as_slice();
+    let hand = AtHand {
+        rt: desk.rt,
+        held: desk.held,
+        input: &mut nothing,
+        observer: &mut desk.told,
+    };
+    let starts = (Unknown, Unknown);
+    let done = match *transfer {
+        Transfer::Migrate(paths) => migrate_file(hand, &paths, &mut desk.out, starts),
+        Transfer::Copy(copying) => copy_file(hand, &copying, &mut desk.out, starts),
     };
     match done {
         Ok((status, _, _)) => status,
@@ -75,19 +54,31 @@ fn act(desk: &mut Desk, work: &Work<'_>, said: &mut Saying) -> u8 {
     }
 }
 
+// Does a work. Returns the status.
+fn act(desk: &mut MigrationDesk, work: &Work<'_>, said: &mut Saying) -> u8 {
+    match *work {
+        Work::Alone(job) => act_by_itself(desk, &job),
+        Work::Transfer(of_two) => transfer(desk, &of_two),
+        Work::Demonstration | Work::Run(_) => {
+            said.fail("the words ask for no file, or for more than one thread");
+            1
+        }
+    }
+}
+
 /// Does the work of a command line. Tells the status.
-pub fn run(desk: &mut Desk, call: &Call, said: &mut Saying) {
-    let Ok(order) = read_words(call.alloc(), call.rest(1)) else {
+pub fn run(desk: &mut MigrationDesk, call: &Call, said: &mut Saying) {
+    let Ok(line) = read_words(call.alloc(), call.rest(1)) else {
         return said.fail("bad words");
     };
     desk.out = Paper::new(call.alloc());
-    desk.told = Told { reason: None };
-    let status = act(desk, &order.work, said);
+    desk.told = LastReason { reason: None };
+    let status = act(desk, &line.work, said);
     write!(said, "{status}")
 }
 
 /// Makes a file of these lines. Each line is the words up to a slash.
-pub fn save(desk: &Desk, call: &Call, said: &mut Saying) {
+pub fn save(desk: &MigrationDesk, call: &Call, said: &mut Saying) {
     let mut text = Saying::new(call.alloc());
     for word in call.rest(2) {
         if *word == "/" {

@@ -7,7 +7,7 @@ use im_story_disk::{Place, crash, mode};
 
 // Which disk fails, how, and what the crash after it leaves.
 #[derive(Clone, Copy)]
-struct Way {
+struct Breakdown {
     is_old: bool,
     mode: Mode,
     crash: Option<Crash>,
@@ -15,12 +15,12 @@ struct Way {
 
 // The last result, and how often it came in a row.
 #[derive(Drop)]
-struct Ends {
+struct Repetition {
     last: Saying,
     times: u64,
 }
 
-impl Ends {
+impl Repetition {
     // Tells the result.
     fn tell(&self, said: &mut Saying) {
         if self.times == 0 {
@@ -45,7 +45,7 @@ impl Ends {
 }
 
 // Reads which disk fails and how, and what a crash leaves: `in each MODE [of old] [CRASH]`.
-fn way_of(call: &Call) -> Option<Way> {
+fn breakdown_of(call: &Call) -> Option<Breakdown> {
     let is_old = call.word(3) == "of";
     let left = call.word(if is_old { 5 } else { 3 });
     let crash = if left.is_empty() {
@@ -53,7 +53,7 @@ fn way_of(call: &Call) -> Option<Way> {
     } else {
         Some(crash(left)?)
     };
-    Some(Way {
+    Some(Breakdown {
         is_old,
         mode: mode(call.word(2))?,
         crash,
@@ -61,16 +61,26 @@ fn way_of(call: &Call) -> Option<Way> {
 }
 
 // Migrates while a disk passes this many calls. Returns whether it made no more. Else the migration has to be refused.
-fn is_whole(old: &mut Place, new: &mut Place, passes: u64, way: Way, said: &mut Saying) -> bool {
+fn is_whole(
+    old: &mut Place,
+    new: &mut Place,
+    passes: u64,
+    breakdown: Breakdown,
+    said: &mut Saying,
+) -> bool {
     let mut moved = Saying::new(old.alloc);
-    let fuse = (passes, way.mode);
-    if way.is_old {
+    let fuse = (passes, breakdown.mode);
+    if breakdown.is_old {
         old.fuse = fuse;
     } else {
         new.fuse = fuse;
     }
     move_on(old, new, &mut moved);
-    let calls = if way.is_old { old.calls } else { new.calls };
+    let calls = if breakdown.is_old {
+        old.calls
+    } else {
+        new.calls
+    };
     let is_whole = calls <= passes;
     said.so(is_whole || moved.said() == "refused 8 Device", "");
     is_whole
@@ -78,9 +88,9 @@ fn is_whole(old: &mut Place, new: &mut Place, passes: u64, way: Way, said: &mut 
 
 // Returns what is found of the new file after a crash: refused, or what the old one means. Then the migration is made
 // again.
-fn found(old: &mut Place, new: &mut Place, way: Way) -> Saying {
+fn found(old: &mut Place, new: &mut Place, breakdown: Breakdown) -> Saying {
     let mut end = Saying::new(old.alloc);
-    if let Some(crash) = way.crash {
+    if let Some(crash) = breakdown.crash {
         end.so(new.crash(crash), "");
     }
     new.tell_opening(&mut end);
@@ -91,20 +101,26 @@ fn found(old: &mut Place, new: &mut Place, way: Way) -> Saying {
 }
 
 // Fails at each call, and tells how often each result came in a row. The new file begins with the bytes of `blank`.
-fn tell_each(old: &mut Place, new: &mut Place, blank: &Place, way: Way, said: &mut Saying) {
+fn tell_each(
+    old: &mut Place,
+    new: &mut Place,
+    blank: &Place,
+    breakdown: Breakdown,
+    said: &mut Saying,
+) {
     let bytes = blank.bytes();
     let is_zero = bytes.iter().all(|byte| *byte == 0);
     let start = if is_zero { b"".as_slice() } else { bytes };
-    let mut ends = Ends {
+    let mut results = Repetition {
         last: Saying::new(old.alloc),
         times: 0,
     };
     for passes in 0..10_000 {
         said.so(new.lay(start, bytes.len()), "");
-        if is_whole(old, new, passes, way, said) {
-            return ends.tell(said);
+        if is_whole(old, new, passes, breakdown, said) {
+            return results.tell(said);
         }
-        ends.add(found(old, new, way), said);
+        results.add(found(old, new, breakdown), said);
     }
     said.fail("the calls don't end")
 }
@@ -112,10 +128,10 @@ fn tell_each(old: &mut Place, new: &mut Place, blank: &Place, way: Way, said: &m
 /// Makes the call `in each` with `stop`, `once` or `scar:BYTE`, of the new file or `of old`, and what a crash after it
 /// leaves. The old file must not change.
 pub fn tell(old: &Place, new: &Place, call: &Call, said: &mut Saying) {
-    let Some(way) = way_of(call) else {
+    let Some(breakdown) = breakdown_of(call) else {
         return said.fail("that is no way to fail");
     };
     let (mut from, mut to) = (old.copy(), Place::new(old.alloc));
-    tell_each(&mut from, &mut to, new, way, said);
+    tell_each(&mut from, &mut to, new, breakdown, said);
     said.so(from.bytes() == old.bytes(), "")
 }

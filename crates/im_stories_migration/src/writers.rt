@@ -7,12 +7,12 @@ use im_types::Entry;
 
 /// An observer that keeps why work was last refused.
 #[derive(Drop)]
-pub struct Told {
+pub struct LastReason {
     /// The reason, if work was refused.
     pub reason: Option<Reason>,
 }
 
-impl Told {
+impl LastReason {
     /// Tells the reason.
     pub fn tell(&self, said: &mut Saying) {
         match self.reason {
@@ -22,7 +22,7 @@ impl Told {
     }
 }
 
-impl Observer for Told {
+impl Observer for LastReason {
     fn answered(&mut self, _element: u16, _number: u64, _entry: Entry) {}
 
     fn progressed(&mut self, _progress: Progress) {}
@@ -32,6 +32,6 @@ impl Observer for Told {
     }
 }
 
-impl Follower for Told {
+impl Follower for LastReason {
     fn writes(&self, _written: u64, _all: u64) {}
 }

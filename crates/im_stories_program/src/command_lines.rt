@@ -1,10 +1,10 @@
 //! The words of a command line, and the work that they ask for.
 
 use crate::spelling::{add_text, add_word};
-use crate::{Desk, reasons};
+use crate::{ProgramDesk, reasons};
 use im_filters::Telling;
 use im_migration::Asked;
-use im_program::{Job, Order, Way, WordFault, Work, read_words};
+use im_program::{CommandLine, Job, ScriptRun, Transfer, WordFault, Work, read_words};
 use im_report::{Filter, View};
 use im_story::{Call, Saying};
 
@@ -43,86 +43,68 @@ fn add_look(said: &mut Saying, image: &str, look: View) {
 
 fn add_job(said: &mut Saying, job: &Job) {
     match *job {
-        Job::Demonstration => said.text("demonstration"),
-        Job::Format {
-            image,
-            cells,
-            elements,
-            slots,
-            is_new,
-        } => {
-            write!(
-                said,
-                "make {image} of {cells} cells, {elements} elements, {slots} slots"
-            );
-            said.either(is_new, ", where none is", "")
+        Job::Format(it) => {
+            write!(said, "make {} of {} cells", it.image, it.cells);
+            write!(said, ", {} elements, {} slots", it.elements, it.slots);
+            said.either(it.is_new, ", where none is", "")
         }
-        Job::Serial {
-            image,
-            script,
-            once,
-        } => {
-            write!(said, "serve {script} on {image}");
-            said.either(once, ", once", "")
+        Job::Serial(it) => {
+            write!(said, "serve {} on {}", it.script, it.image);
+            said.either(it.once, ", once", "")
         }
-        Job::Serve { image, watch, .. } => {
-            write!(said, "talk on {image}");
-            said.either(watch, ", watched", ", unwatched")
+        Job::Serve(it) => {
+            write!(said, "talk on {}", it.image);
+            said.either(it.watch, ", watched", ", unwatched")
         }
         Job::Inspect { image, look } => add_look(said, image, look),
         Job::Dump { image } => write!(said, "dump {image}"),
-        Job::Load { text, new, asked } => {
-            write!(said, "load {text} into {new}");
-            add_sizes(said, asked)
+        Job::Load(it) => {
+            write!(said, "load {} into {}", it.text, it.new);
+            add_sizes(said, it.asked)
         }
+    }
+}
+
+fn add_run(said: &mut Saying, run: &ScriptRun) {
+    write!(said, "run {} on {}", run.script, run.image);
+    said.either(run.planned, ", planned", "");
+    said.either(run.once, ", once", "");
+    if let Some(path) = run.trace {
+        write!(said, ", traced to {path}")
     }
 }
 
 fn add_work(said: &mut Saying, work: &Work) {
     match *work {
+        Work::Demonstration => said.text("demonstration"),
         Work::Alone(job) => add_job(said, &job),
-        Work::Run {
-            image,
-            script,
-            way,
-            trace,
-        } => {
-            write!(said, "run {script} on {image}");
-            match way {
-                Way::Free => {}
-                Way::Planned => said.text(", planned"),
-                Way::Once => said.text(", once"),
-            }
-            if let Some(path) = trace {
-                write!(said, ", traced to {path}")
-            }
-        }
-        Work::Migrate { old, new } => write!(said, "move {old} on to {new}"),
-        Work::Copy { old, new, asked } => {
-            write!(said, "copy {old} to {new}");
-            add_sizes(said, asked)
+        Work::Run(run) => add_run(said, &run),
+        Work::Transfer(Transfer::Migrate(it)) => write!(said, "move {} on to {}", it.old, it.new),
+        Work::Transfer(Transfer::Copy(it)) => {
+            write!(said, "copy {} to {}", it.old, it.new);
+            add_sizes(said, it.asked)
         }
     }
 }
 
-fn add_order(said: &mut Saying, order: &Order) {
-    add_work(said, &order.work);
-    said.either(order.statuses, ", by statuses", "");
-    match order.telling {
+fn add_line(said: &mut Saying, line: &CommandLine) {
+    add_work(said, &line.work);
+    said.either(line.statuses, ", by statuses", "");
+    match line.telling {
         Telling::Plain => {}
         Telling::Quiet => write!(said, ", quietly"),
         Telling::Json => write!(said, ", as JSON"),
         Telling::Calls => write!(said, ", as a trace in JSON"),
     }
-    if order.wait > 0 {
-        write!(said, ", waiting {} s", order.wait)
+    if line.wait > 0 {
+        write!(said, ", waiting {} s", line.wait)
     }
 }
 
 // Reads a command line of these words. Tells its work, or the status that it ends with.
-fn read(desk: &mut Desk, words: &[&str], said: &mut Saying) {
+fn read(desk: &mut ProgramDesk, words: &[&str], said: &mut Saying) {
     match read_words(desk.rt.alloc(), words) {
-        Ok(order) => add_order(said, &order),
+        Ok(line) => add_line(said, &line),
         Err(WordFault::NoMemory) => said.text("no memory"),
         Err(WordFault::Bad(error)) => {
             desk.fault = Saying::new(desk.rt.alloc());
@@ -133,7 +115,7 @@ fn read(desk: &mut Desk, words: &[&str], said: &mut Saying) {
 }
 
 // Reads a command line, whose words are spelled as in a text.
-fn read_spelled(desk: &mut Desk, call: &Call, said: &mut Saying) {
+fn read_spelled(desk: &mut ProgramDesk, call: &Call, said: &mut Saying) {
     let mut spelled = Vec::new(call.alloc());
     for word in call.words() {
         add_word(&mut spelled, word, said);
@@ -150,7 +132,7 @@ fn read_spelled(desk: &mut Desk, call: &Call, said: &mut Saying) {
 }
 
 // Tells whether these words are in what was said about a bad command line.
-fn find(desk: &Desk, call: &Call, said: &mut Saying) {
+fn find(desk: &ProgramDesk, call: &Call, said: &mut Saying) {
     let mut spelled = Vec::new(call.alloc());
     add_text(&mut spelled, call.rest(1), said);
     let text = str::from_utf8(spelled.as_slice()).unwrap_or("\n\n");
@@ -158,7 +140,7 @@ fn find(desk: &Desk, call: &Call, said: &mut Saying) {
 }
 
 /// Makes a call on a command line, or else one of those of reasons.
-pub fn tell(desk: &mut Desk, call: &Call, said: &mut Saying) {
+pub fn tell(desk: &mut ProgramDesk, call: &Call, said: &mut Saying) {
     match call.word(0) {
         "imem" => read_spelled(desk, call, said),
         "says" => find(desk, call, said),

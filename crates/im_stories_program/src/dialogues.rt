@@ -2,7 +2,7 @@
 //! reader's buffer at once, or a byte at a time. The client may be silent whenever the buffer is empty.
 
 use crate::serving::opening_calls;
-use crate::{Desk, files};
+use crate::{ProgramDesk, files};
 use im_dialogue::{NoBackups, dialogue_on};
 use im_disk::Mode;
 use im_listening::Ear;
@@ -39,7 +39,7 @@ struct Manner {
 
 // Reads the manner of a dialogue. Lets the disk fail after a number of calls behind those of an opening, or the writer
 // after a number of bytes.
-fn set_manner(desk: &mut Desk, call: &Call, opening: u64, said: &mut Saying) -> Manner {
+fn set_manner(desk: &mut ProgramDesk, call: &Call, opening: u64, said: &mut Saying) -> Manner {
     let mut manner = Manner {
         buffer: 8192,
         is_silent: false,
@@ -62,7 +62,7 @@ fn set_manner(desk: &mut Desk, call: &Call, opening: u64, said: &mut Saying) -> 
 }
 
 // Holds a dialogue in which this is said. Tells the status, and how many calls the disk got behind those of an opening.
-fn hold(desk: &mut Desk, text: &[u8], call: &Call, said: &mut Saying) {
+fn hold(desk: &mut ProgramDesk, text: &[u8], call: &Call, said: &mut Saying) {
     let opening = opening_calls(&mut desk.place);
     let manner = set_manner(desk, call, opening, said);
     let is_silent = manner.is_silent;
@@ -89,7 +89,7 @@ fn hold(desk: &mut Desk, text: &[u8], call: &Call, said: &mut Saying) {
 }
 
 /// Holds a dialogue on the image, in which the text is said that was put together. Or makes one of the calls of files.
-pub fn tell(desk: &mut Desk, call: &Call, said: &mut Saying) {
+pub fn tell(desk: &mut ProgramDesk, call: &Call, said: &mut Saying) {
     if call.word(0) != "talk" {
         return files::tell(desk, call, said);
     }

@@ -1,11 +1,11 @@
 //! Files, and the program's work on them.
 
-use crate::writers::Notes;
-use crate::{Desk, command_lines};
+use crate::writers::ObserverNotes;
+use crate::{ProgramDesk, command_lines};
 use im_disk::Unknown;
 use im_program::{
-    AtHand, Console, Descriptors, Serving, Terminals, Work, act_alone, format_file, inspect_file,
-    read_words, serve_file, status_for,
+    AtHand, Console, Descriptors, Serving, Terminals, Work, act_alone, demonstrate, format_file,
+    inspect_file, read_words, serve_file, status_for,
 };
 use im_report::View;
 use im_story::{Call, Paper, Saying};
@@ -21,24 +21,27 @@ const NOBODY: Terminals = Terminals {
 };
 
 // Does the work of a command line that takes one thread, with these bytes as standard input. Tells the status.
-fn run(desk: &mut Desk, input: &[u8], call: &Call, said: &mut Saying) {
-    let Ok(order) = read_words(call.alloc(), call.rest(1)) else {
+fn run(desk: &mut ProgramDesk, input: &[u8], call: &Call, said: &mut Saying) {
+    let Ok(line) = read_words(call.alloc(), call.rest(1)) else {
         return said.fail("bad words");
     };
-    let Work::Alone(job) = order.work else {
-        return said.fail("the words ask for more than one thread");
-    };
-    let mut console = Console::new(desk.rt, desk.held, &order.work, NOBODY);
+    let mut console = Console::new(desk.rt, desk.held, &line.work, NOBODY);
     let mut input = input;
     desk.print(usize::MAX);
-    let hand = AtHand {
-        rt: desk.rt,
-        held: desk.held,
-        input: &mut input,
-        observer: &mut console,
+    let status = match line.work {
+        Work::Demonstration => demonstrate(call.alloc(), &mut desk.out, &mut console),
+        Work::Alone(job) => {
+            let hand = AtHand {
+                rt: desk.rt,
+                held: desk.held,
+                input: &mut input,
+                observer: &mut console,
+            };
+            act_alone(hand, &job, &mut desk.out, Unknown).0
+        }
+        _ => return said.fail("the words ask for more than one thread or file"),
     };
-    let (status, _disk) = act_alone(hand, &job, &mut desk.out, Unknown);
-    let status = status_for(status, order.statuses, console.reason());
+    let status = status_for(status, line.statuses, console.reason());
     write!(said, "{status}")
 }
 
@@ -48,7 +51,7 @@ fn serves<'a, 'p>(
     held: &'a Descriptors,
     paths: (&'p str, &'p str),
     out: &mut Paper,
-    notes: &'a mut Notes,
+    notes: &'a mut ObserverNotes,
 ) -> bool {
     let mut nothing = b"".as_slice();
     let (image, script) = paths;
@@ -72,7 +75,7 @@ fn inspects<'a>(
     held: &'a Descriptors,
     image: &str,
     out: &mut Paper,
-    notes: &'a mut Notes,
+    notes: &'a mut ObserverNotes,
 ) -> bool {
     let mut nothing = b"".as_slice();
     let hand = AtHand {
@@ -85,7 +88,7 @@ fn inspects<'a>(
 }
 
 // Makes an image. Returns whether that is done.
-fn formats(desk: &mut Desk, image: &str, limits: Limits) -> bool {
+fn formats(desk: &mut ProgramDesk, image: &str, limits: Limits) -> bool {
     let mut nothing = b"".as_slice();
     let hand = AtHand {
         rt: desk.rt,
@@ -97,7 +100,7 @@ fn formats(desk: &mut Desk, image: &str, limits: Limits) -> bool {
 }
 
 // Serves a file's script, tells about an image, or makes one. Tells whether that is done.
-fn attempt(desk: &mut Desk, call: &Call, said: &mut Saying) {
+fn attempt(desk: &mut ProgramDesk, call: &Call, said: &mut Saying) {
     let image = call.word(2);
     desk.print(usize::MAX);
     let is_done = match (call.word(1), Limits::new(1, 1, 16)) {
@@ -122,7 +125,7 @@ fn write(rt: &HostRuntime, name: &str, bytes: &[u8], said: &mut Saying) {
 }
 
 // Tells how long a file is, if it exists. Returns its bytes.
-fn read(desk: &Desk, name: &str, said: &mut Saying) -> Vec<u8> {
+fn read(desk: &ProgramDesk, name: &str, said: &mut Saying) -> Vec<u8> {
     match fs::read(desk.rt, name) {
         Ok(bytes) => {
             write!(said, "{} bytes", bytes.len());
@@ -136,13 +139,13 @@ fn read(desk: &Desk, name: &str, said: &mut Saying) -> Vec<u8> {
 }
 
 // Makes an image in memory of a file.
-fn load(desk: &mut Desk, name: &str, said: &mut Saying) {
+fn load(desk: &mut ProgramDesk, name: &str, said: &mut Saying) {
     let bytes = read(desk, name, said);
     said.so(desk.place.lay(bytes.as_slice(), bytes.len()), "")
 }
 
 // Makes a call that takes the text that was put together, as standard input or as a file's bytes.
-fn tell_text(desk: &mut Desk, call: &Call, said: &mut Saying) {
+fn tell_text(desk: &mut ProgramDesk, call: &Call, said: &mut Saying) {
     let text = desk.take_text();
     match call.word(0) {
         "feed" => run(desk, text.as_slice(), call, said),
@@ -151,7 +154,7 @@ fn tell_text(desk: &mut Desk, call: &Call, said: &mut Saying) {
 }
 
 /// Makes a call on files, or else one of those of command lines.
-pub fn tell(desk: &mut Desk, call: &Call, said: &mut Saying) {
+pub fn tell(desk: &mut ProgramDesk, call: &Call, said: &mut Saying) {
     let name = call.word(1);
     match call.word(0) {
         "run" => run(desk, b"".as_slice(), call, said),

@@ -1,6 +1,6 @@
 //! The image in memory, its bytes, and changes of them.
 
-use crate::{Desk, scripts};
+use crate::{ProgramDesk, scripts};
 use im_story::{Call, Saying, bytes, old_image};
 use im_story_disk::Place;
 
@@ -56,7 +56,7 @@ fn write(place: &mut Place, call: &Call, said: &mut Saying) {
 }
 
 /// Makes a call on the image in memory, or else one of those of scripts.
-pub fn tell(desk: &mut Desk, call: &Call, said: &mut Saying) {
+pub fn tell(desk: &mut ProgramDesk, call: &Call, said: &mut Saying) {
     let place = &mut desk.place;
     match call.form() {
         "disk _" => {
@@ -84,7 +84,7 @@ pub fn tell(desk: &mut Desk, call: &Call, said: &mut Saying) {
 }
 
 // Makes a call that changes bytes, or one of those of scripts.
-fn tell_by_word(desk: &mut Desk, call: &Call, said: &mut Saying) {
+fn tell_by_word(desk: &mut ProgramDesk, call: &Call, said: &mut Saying) {
     match call.word(0) {
         "write" => write(&mut desk.place, call, said),
         _ => scripts::tell(desk, call, said),

@@ -19,10 +19,10 @@ use im_story::{Call, Paper, Saying, Scene, walk_files};
 use im_story_disk::Place;
 use std::mem;
 use std::process::ExitCode;
-use writers::Notes;
+use writers::ObserverNotes;
 
 /// What a story works with: a script, an image in memory, what was last printed, and the folder's files.
-struct Desk<'a> {
+struct ProgramDesk<'a> {
     /// The folder's files, and standard output.
     rt: &'a HostRuntime,
     /// What occupies the numbers of the standard streams.
@@ -42,13 +42,13 @@ struct Desk<'a> {
     /// What was last printed.
     out: Paper,
     /// What was told besides that.
-    notes: Notes,
+    notes: ObserverNotes,
 }
 
 // By one call, wherever its owner may end.
-impl Drop for Desk<'_> {
+impl Drop for ProgramDesk<'_> {
     fn drop(self) {
-        let Desk {
+        let ProgramDesk {
             rt: _,
             held: _,
             place: _,
@@ -63,10 +63,10 @@ impl Drop for Desk<'_> {
     }
 }
 
-impl<'a> Desk<'a> {
-    fn new(rt: &'a HostRuntime, held: &'a Descriptors) -> Desk<'a> {
+impl<'a> ProgramDesk<'a> {
+    fn new(rt: &'a HostRuntime, held: &'a Descriptors) -> ProgramDesk<'a> {
         let alloc = rt.alloc();
-        Desk {
+        ProgramDesk {
             rt,
             held,
             place: Place::new(alloc),
@@ -76,7 +76,7 @@ impl<'a> Desk<'a> {
             bases: Vec::new(alloc),
             fault: Saying::new(alloc),
             out: Paper::new(alloc),
-            notes: Notes::new(alloc),
+            notes: ObserverNotes::new(alloc),
         }
     }
 
@@ -88,13 +88,13 @@ impl<'a> Desk<'a> {
     // Begins a new text of what is printed, of so many bytes at most, and of what is told besides.
     fn print(&mut self, room: usize) {
         self.out = Paper::with_room(self.rt.alloc(), room);
-        self.notes = Notes::new(self.rt.alloc());
+        self.notes = ObserverNotes::new(self.rt.alloc());
     }
 }
 
-impl<'a> Scene for Desk<'a> {
+impl<'a> Scene for ProgramDesk<'a> {
     fn begin(&mut self) {
-        *self = Desk::new(self.rt, self.held);
+        *self = ProgramDesk::new(self.rt, self.held);
     }
 
     fn make(&mut self, call: &Call, said: &mut Saying) {
@@ -106,6 +106,6 @@ fn main(rt: HostRuntime) -> ExitCode {
     let Some(held) = Descriptors::hold(&rt, &rt.stdin(), &rt.stdout(), &rt.stderr()) else {
         return ExitCode::from(1);
     };
-    let mut desk = Desk::new(&rt, &held);
+    let mut desk = ProgramDesk::new(&rt, &held);
     ExitCode::from(walk_files(&rt, &mut desk))
 }

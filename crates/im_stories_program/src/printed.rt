@@ -1,7 +1,7 @@
 //! What was printed, and what was told besides, line by line.
 
 use crate::spelling::line_ends;
-use crate::{Desk, images};
+use crate::{ProgramDesk, images};
 use im_story::{Call, Saying};
 
 // Returns the line at this place of a text, from 0.
@@ -48,7 +48,7 @@ fn add_run(text: &str, call: &Call, said: &mut Saying) {
 }
 
 // Adds how far the work came, as it was last told.
-fn add_progress(desk: &Desk, said: &mut Saying) {
+fn add_progress(desk: &ProgramDesk, said: &mut Saying) {
     match desk.notes.progress {
         Some(progress) => {
             let (served, room, checkpoints) = (
@@ -66,7 +66,7 @@ fn add_progress(desk: &Desk, said: &mut Saying) {
 }
 
 /// Makes a call on what was printed or told, or else one of those of images.
-pub fn tell(desk: &mut Desk, call: &Call, said: &mut Saying) {
+pub fn tell(desk: &mut ProgramDesk, call: &Call, said: &mut Saying) {
     let (printed, told) = (desk.out.text(), desk.notes.told.said());
     match call.form() {
         "printed" => add_count(printed, said),

@@ -1,6 +1,6 @@
 //! Why work is refused: what that says, and how the program ends.
 
-use crate::Desk;
+use crate::ProgramDesk;
 use im_damage::Damage;
 use im_program::refuse;
 use im_story::{Call, Saying};
@@ -82,14 +82,14 @@ fn reason_of(name: &str, call: &Call) -> Option<Reason> {
 }
 
 // Prints that there was no memory.
-fn refuse_memory(desk: &mut Desk, said: &mut Saying) {
+fn refuse_memory(desk: &mut ProgramDesk, said: &mut Saying) {
     desk.print(usize::MAX);
     let status = refuse(desk.rt.alloc(), Refusal::NoMemory, &mut desk.out);
     write!(said, "{status}")
 }
 
 /// Tells what a reason says, or the status of a program that distinguishes its refusals.
-pub fn tell(desk: &mut Desk, call: &Call, said: &mut Saying) {
+pub fn tell(desk: &mut ProgramDesk, call: &Call, said: &mut Saying) {
     if let "refuse NoMemory" = call.form() {
         return refuse_memory(desk, said);
     }

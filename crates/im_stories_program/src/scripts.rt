@@ -1,7 +1,7 @@
 //! Scripts: a text is put together line by line, and read.
 
 use crate::spelling::{add_text, add_word, line_ends};
-use crate::{Desk, serving};
+use crate::{ProgramDesk, serving};
 use im_script::{Action, Place, Reader, Said, ScriptLine, read_script, read_u32};
 use im_story::{Call, Saying};
 use im_types::Kind;
@@ -112,7 +112,7 @@ fn hear(lines: &mut Vec<Said>, text: &[u8], call: &Call, said: &mut Saying) {
 }
 
 // Reads the text that was put together, with these words after it.
-fn read(desk: &mut Desk, call: &Call, said: &mut Saying) {
+fn read(desk: &mut ProgramDesk, call: &Call, said: &mut Saying) {
     add_text(&mut desk.text, call.rest(1), said);
     desk.read = desk.take_text();
     desk.lines.clear();
@@ -139,7 +139,7 @@ fn add_numbered(text: &mut Vec<u8>, lines: &[u8], digits: &Saying, said: &mut Sa
 }
 
 // Adds lines to the text that is put together, for each of these numbers. In them `@` stands for the number.
-fn put(desk: &mut Desk, numbers: (u32, u32), words: &[&str], said: &mut Saying) {
+fn put(desk: &mut ProgramDesk, numbers: (u32, u32), words: &[&str], said: &mut Saying) {
     let alloc = desk.rt.alloc();
     let mut lines = Vec::new(alloc);
     add_text(&mut lines, words, said);
@@ -152,7 +152,7 @@ fn put(desk: &mut Desk, numbers: (u32, u32), words: &[&str], said: &mut Saying) 
     said.text(" lines")
 }
 
-fn set_bases(desk: &mut Desk, call: &Call, said: &mut Saying) {
+fn set_bases(desk: &mut ProgramDesk, call: &Call, said: &mut Saying) {
     desk.bases.clear();
     for at in 0..call.rest(1).len() {
         said.so(desk.bases.push(call.address(at)).is_ok(), "");
@@ -168,7 +168,7 @@ fn read_number(call: &Call, said: &mut Saying) {
 }
 
 // Makes a call on a script that was read, or else one of those of reports and servings.
-fn tell_read(desk: &mut Desk, call: &Call, said: &mut Saying) {
+fn tell_read(desk: &mut ProgramDesk, call: &Call, said: &mut Saying) {
     let (lines, bases) = (desk.lines.as_slice(), desk.bases.as_slice());
     match call.form() {
         "fault" => said.text(desk.fault.said()),
@@ -182,7 +182,7 @@ fn tell_read(desk: &mut Desk, call: &Call, said: &mut Saying) {
 }
 
 /// Makes a call on a script.
-pub fn tell(desk: &mut Desk, call: &Call, said: &mut Saying) {
+pub fn tell(desk: &mut ProgramDesk, call: &Call, said: &mut Saying) {
     match call.word(0) {
         "script" => put(desk, (1, 1), call.rest(1), said),
         "repeat" => put(desk, (1, call.address(0)), call.rest(2), said),

@@ -1,7 +1,7 @@
 //! Serves scripts on the image in memory, and prints reports of it. The disk may stop after a number of calls, or lets
 //! one fail. A writer may take only a number of bytes.
 
-use crate::{Desk, dialogues};
+use crate::{ProgramDesk, dialogues};
 use im_disk::Mode;
 use im_report::{Filter, Span, View, inspect_on, look_on};
 use im_script::read_script;
@@ -19,13 +19,19 @@ pub fn opening_calls(place: &mut Place) -> u64 {
 }
 
 // Returns how a disk fails that passes so many calls behind those of an opening.
-fn past(desk: &mut Desk, calls: u64, mode: Mode) -> (u64, Mode) {
+fn past(desk: &mut ProgramDesk, calls: u64, mode: Mode) -> (u64, Mode) {
     (opening_calls(&mut desk.place).saturating_add(calls), mode)
 }
 
 // Serves the script that was last read, or what the image doesn't have of it, on a disk that fails so. Returns the
 // status.
-fn run(desk: &mut Desk, is_once: bool, fuse: (u64, Mode), room: usize, said: &mut Saying) -> u8 {
+fn run(
+    desk: &mut ProgramDesk,
+    is_once: bool,
+    fuse: (u64, Mode),
+    room: usize,
+    said: &mut Saying,
+) -> u8 {
     let alloc = desk.rt.alloc();
     desk.print(room);
     desk.place.fuse = fuse;
@@ -47,14 +53,14 @@ fn run(desk: &mut Desk, is_once: bool, fuse: (u64, Mode), room: usize, said: &mu
 }
 
 // Does the same, and tells the status.
-fn serve(desk: &mut Desk, is_once: bool, fuse: (u64, Mode), room: usize, said: &mut Saying) {
+fn serve(desk: &mut ProgramDesk, is_once: bool, fuse: (u64, Mode), room: usize, said: &mut Saying) {
     let status = run(desk, is_once, fuse, room, said);
     said.number(u64::from(status))
 }
 
 // Serves the script once, again and again until its status is 0, on a disk that fails in the same way each time. Tells
 // the last status.
-fn serve_stopped(desk: &mut Desk, fuse: (u64, Mode), said: &mut Saying) {
+fn serve_stopped(desk: &mut ProgramDesk, fuse: (u64, Mode), said: &mut Saying) {
     for _ in 0..MOST {
         if run(desk, true, fuse, usize::MAX, said) == 0 {
             return said.text("0");
@@ -64,7 +70,7 @@ fn serve_stopped(desk: &mut Desk, fuse: (u64, Mode), said: &mut Saying) {
 }
 
 // Prints what is wanted of the image, or the report, to a writer with so much room. Tells the status.
-fn look(desk: &mut Desk, wanted: Option<View>, room: usize, said: &mut Saying) {
+fn look(desk: &mut ProgramDesk, wanted: Option<View>, room: usize, said: &mut Saying) {
     let alloc = desk.rt.alloc();
     desk.print(room);
     let Some(disk) = desk.place.taken() else {
@@ -88,7 +94,7 @@ fn lines_of(cells: Option<Span>, element: Option<u32>, waiting: bool) -> Option<
 }
 
 // Prints what the call wants of the image, or makes one of the calls of dialogues.
-fn tell_view(desk: &mut Desk, call: &Call, said: &mut Saying) {
+fn tell_view(desk: &mut ProgramDesk, call: &Call, said: &mut Saying) {
     let (from, to) = (call.address(0), call.address(1));
     let (span, number) = (Some(Span { from, to }), Some(from));
     let view = match call.form() {
@@ -108,7 +114,7 @@ fn tell_view(desk: &mut Desk, call: &Call, said: &mut Saying) {
 }
 
 /// Serves, or tells about the image, or makes one of the calls of dialogues.
-pub fn tell(desk: &mut Desk, call: &Call, said: &mut Saying) {
+pub fn tell(desk: &mut ProgramDesk, call: &Call, said: &mut Saying) {
     let (number, place) = (call.number(0), call.place(0));
     match call.form() {
         "inspect" => look(desk, None, usize::MAX, said),

@@ -7,24 +7,24 @@ use std::alloc::Global;
 
 /// What was told besides the output, a line each.
 #[derive(Drop)]
-pub struct Notes {
+pub struct ObserverNotes {
     /// The lines.
     pub told: Saying,
     /// How far the work came, as it was last told.
     pub progress: Option<Progress>,
 }
 
-impl Notes {
+impl ObserverNotes {
     /// Starts with nothing told.
-    pub fn new(alloc: Global) -> Notes {
-        Notes {
+    pub fn new(alloc: Global) -> ObserverNotes {
+        ObserverNotes {
             told: Saying::new(alloc),
             progress: None,
         }
     }
 }
 
-impl Observer for Notes {
+impl Observer for ObserverNotes {
     fn answered(&mut self, element: u16, number: u64, entry: Entry) {
         write!(self.told, "{element}.{number} now ");
         self.told.entry(entry);

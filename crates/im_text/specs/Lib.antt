@@ -1,3 +1,4 @@
+pub mod Diagnosis
 pub mod Texts
 pub mod Printing
 pub mod Statuses

@@ -1,5 +1,5 @@
 //! Finds why an image was refused and where it is damaged. It only reads.
-ghost use Rattle.im_disk.specs.Since.{OnlyReads};
+ghost use Rattle.im_text.specs.Diagnosis.{OnlyLooks};
 
 use crate::reasons::Reason;
 use im_damage::find_damage;
@@ -10,7 +10,7 @@ use std::alloc::Global;
 /// Returns the reason why an image is refused. It reads the image again to find the place of the damage. If that fails,
 /// or there is no memory for it, the reason has the refusal alone.
 pub fn diagnose<D: Disk>(alloc: Global, disk: &mut D, refusal: Refusal) -> Reason
-    ensures reads { D.honest disk.new → OnlyReads D.now D.past disk.old disk.new }
+    ensures reads { OnlyLooks D.Disk disk.old disk.new }
     ensures honest { D.honest disk.new → D.honest disk.old }
 {
     Reason::Image(refusal, find_damage(alloc, disk, refusal))

@@ -1,4 +1,4 @@
-//! Why work is refused, in words for a person.
+//! Why work is refused, in words for a person. An observer is told a reason, and the program prints it.
 
 use crate::faults::{CallFault, PathFault, Words};
 use im_damage::Damage;
@@ -61,6 +61,8 @@ pub enum Reason {
         answered: u64,
     },
 }
+
+const CURRENT: &str = "it is an image of this version: it needs no migration";
 
 // What a refusal means for an image or a request.
 fn words(refusal: Refusal) -> &'static str {
@@ -185,42 +187,61 @@ fn add_full<W: fmt::Write>(f: &mut Formatter<W>, waiting: u64, answered: u64) ->
     write!(f, "; no place is given back before {oldest} is answered")
 }
 
+// Adds what can't be done, and what the system says.
+fn add_kind<W: fmt::Write>(f: &mut Formatter<W>, what: &str, kind: ErrorKind) -> fmt::Result {
+    let words = Words(kind);
+    write!(f, "{what}: {words}")
+}
+
+// Adds a number that is out of its range.
+fn add_range<W: fmt::Write>(
+    f: &mut Formatter<W>,
+    number: u32,
+    what: &str,
+    range: (u32, u32),
+) -> fmt::Result {
+    let (least, most) = range;
+    write!(f, "{number} {what}: there may be {least} to {most}")
+}
+
+// Adds why something on an open new file failed.
+fn add_new_call<W: fmt::Write>(f: &mut Formatter<W>, fault: CallFault) -> fmt::Result {
+    add_call(f, fault)?;
+    f.write_str("; the same command begins again")
+}
+
+// Adds what is wrong with an image: where it is damaged, or what the refusal means.
+fn add_image<W: fmt::Write>(f: &mut Formatter<W>, refusal: Refusal, damage: Damage) -> fmt::Result {
+    match damage {
+        Damage::Unknown => f.write_str(words(refusal)),
+        _ => write!(f, "{damage}"),
+    }
+}
+
+// Adds why a request of an element is refused.
+fn add_request<W: fmt::Write>(f: &mut Formatter<W>, element: u16, why: &str) -> fmt::Result {
+    write!(f, "a request of element {element}: {why}")
+}
+
 impl Display for Reason {
     fn fmt<W: fmt::Write>(&self, f: &mut Formatter<W>) -> fmt::Result {
         match *self {
-            Reason::Memory => write!(f, "there is not enough memory"),
-            Reason::Output(kind) => {
-                let words = Words(kind);
-                write!(f, "the output can't be written: {words}")
-            }
-            Reason::ScriptFile(kind) => {
-                let words = Words(kind);
-                write!(f, "the script can't be read: {words}")
-            }
-            Reason::Input(kind) => {
-                let words = Words(kind);
-                write!(f, "the input can't be read: {words}")
-            }
+            Reason::Memory => f.write_str("there is not enough memory"),
+            Reason::Output(kind) => add_kind(f, "the output can't be written", kind),
+            Reason::ScriptFile(kind) => add_kind(f, "the script can't be read", kind),
+            Reason::Input(kind) => add_kind(f, "the input can't be read", kind),
             Reason::NoInput => f.write_str("standard input is closed"),
             Reason::Script(fault) => write!(f, "{fault}"),
             Reason::File(fault) | Reason::NewFile(fault) => write!(f, "{fault}"),
             Reason::Unmade(fault, is_lost) => add_unmade(f, fault, is_lost),
             Reason::Call(fault) => add_call(f, fault),
-            Reason::NewCall(fault) => {
-                add_call(f, fault)?;
-                f.write_str("; the same command begins again")
-            }
-            Reason::Current => write!(f, "it is an image of this version: it needs no migration"),
+            Reason::NewCall(fault) => add_new_call(f, fault),
+            Reason::Current => f.write_str(CURRENT),
             Reason::New(refusal) => f.write_str(new_words(refusal)),
-            Reason::Image(refusal, Damage::Unknown) => f.write_str(words(refusal)),
-            Reason::Image(_, damage) => write!(f, "{damage}"),
-            Reason::Cells(cells) => write!(f, "{cells} cells: there may be 1 to {MAX_CELLS}"),
-            Reason::Elements(elements) => {
-                write!(f, "{elements} elements: there may be 1 to {MAX_ELEMENTS}")
-            }
-            Reason::Slots(slots) => {
-                write!(f, "{slots} slots: there may be {MIN_SLOTS} to {MAX_SLOTS}")
-            }
+            Reason::Image(refusal, damage) => add_image(f, refusal, damage),
+            Reason::Cells(cells) => add_range(f, cells, "cells", (1, MAX_CELLS)),
+            Reason::Elements(number) => add_range(f, number, "elements", (1, MAX_ELEMENTS as u32)),
+            Reason::Slots(slots) => add_range(f, slots, "slots", (MIN_SLOTS, MAX_SLOTS)),
             Reason::Block(place) => write!(f, "block {place} of the setup can't be made"),
             Reason::Place(element) => {
                 write!(
@@ -228,16 +249,13 @@ impl Display for Reason {
                     "a place in a part of element {element} lies past the last address"
                 )
             }
-            Reason::Request(element, refusal) => {
-                let words = words(refusal);
-                write!(f, "a request of element {element}: {words}")
-            }
+            Reason::Request(element, refusal) => add_request(f, element, words(refusal)),
             Reason::Window {
                 element,
                 waiting,
                 answered,
             } => {
-                write!(f, "a request of element {element}: its window is full: ")?;
+                add_request(f, element, "its window is full: ")?;
                 add_full(f, waiting, answered)
             }
         }

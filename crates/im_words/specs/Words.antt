@@ -1,6 +1,6 @@
 -- What the words of the command line ask for. (Own.)
 use Rattle.std.specs.Prelude.{ℕ, Bool, List, [], ◌∷◌, Option, Some, None}
-use Rattle.std.specs.Prelude.{◌==◌, ◌||◌, if◌then◌else◌, codes, true, false, unwrap_or, length, nat_le, nat_lt}
+use Rattle.std.specs.Prelude.{◌==◌, ◌&&◌, ◌||◌, if◌then◌else◌, codes, true, false, unwrap_or, length, nat_le, nat_lt}
 use Rattle.std.specs.Option.{option_map, option_and_then, option_map_or}
 use Rattle.std.specs.List.{before_first, after_first, position_or_len}
 use Rattle.std.specs.Str.{bytes_eq}
@@ -18,12 +18,12 @@ use Rattle.clap.specs.Words.{
   with_rule,
   with_subcommand,
 }
-use Rattle.im_words.specs.declared.words.Way.{Way}
-use Rattle.im_words.specs.declared.words.Way.TheVariants.{Free, Planned, Once}
 use Rattle.im_words.specs.declared.words.Work.{Work}
-use Rattle.im_words.specs.declared.words.Work.TheVariants.{Alone, Run, Migrate, Copy}
+use Rattle.im_words.specs.declared.words.Work.TheVariants.{Demonstration, Alone, Run, Transfer as Transfers}
 use Rattle.im_words.specs.declared.words.Job.{Job}
-use Rattle.im_words.specs.declared.words.Job.TheVariants.{Demonstration, Format, Serial, Serve, Inspect, Dump, Load}
+use Rattle.im_words.specs.declared.words.Job.TheVariants.{Format, Serial, Serve, Inspect, Dump, Load}
+use Rattle.im_words.specs.declared.words.Transfer.{Transfer}
+use Rattle.im_words.specs.declared.words.Transfer.TheVariants.{Migrate, Copy}
 use Rattle.im_filters.specs.declared.telling.Telling.{Telling}
 use Rattle.im_filters.specs.declared.telling.Telling.TheVariants.{Plain, Quiet, Json}
 use Rattle.im_migration.specs.declared.asked.Asked.{Asked}
@@ -129,16 +129,12 @@ with_version app = record app { top = record app.top { has_version = true } }
 abbrev pub top_app : App
 top_app = with_version (new_app (codes "imem"))
 
--- imem, alone or with one of its first six subcommands
-abbrev pub earlier_app : App
-earlier_app = with_subcommand (with_subcommand (with_subcommand (with_subcommand (with_subcommand
-    (with_subcommand top_app format_app.top) serial_app.top) run_app.top) serve_app.top)
-    inspect_app.top) migrate_app.top
-
 -- imem, alone or with one of its subcommands
 abbrev pub imem_app : App
-imem_app = with_subcommand (with_subcommand (with_subcommand (with_subcommand earlier_app copy_app.top) dump_app.top)
-    load_app.top) stat_app.top
+imem_app = with_subcommand (with_subcommand (with_subcommand (with_subcommand (with_subcommand (with_subcommand
+    (with_subcommand (with_subcommand (with_subcommand (with_subcommand top_app format_app.top) serial_app.top)
+    run_app.top) serve_app.top) inspect_app.top) migrate_app.top) copy_app.top) dump_app.top) load_app.top)
+    stat_app.top
 
 -- ---- what is asked for
 
@@ -147,7 +143,7 @@ pub data Task : Type 0 where
   demonstration : Task
   format : (image : List ℕ) (cells elements slots : ℕ) (is_new : Bool) → Task
   serial : (image script : List ℕ) (once : Bool) → Task
-  run : (image script : List ℕ) (way : Way) (trace : Option (List ℕ)) → Task
+  run : (image script : List ℕ) (planned once : Bool) (trace : Option (List ℕ)) → Task
   serve : (image : List ℕ) (watch : Bool) (backups : Option (List ℕ)) → Task
   inspect : (image : List ℕ) (look : View) → Task
   migrate : (old new : List ℕ) → Task
@@ -157,20 +153,24 @@ pub data Task : Type 0 where
 
 -- the task that a Job is
 abbrev pub task_of_job : Job → Task
-task_of_job Demonstration = demonstration
-task_of_job (Format image cells elements slots is_new) = format image.now cells elements slots is_new
-task_of_job (Serial image script once) = serial image.now script.now once
-task_of_job (Serve image watch backups) = serve image.now watch (option_map (λ path. path.now) backups)
+task_of_job (Format it) = format it.image.now it.cells it.elements it.slots it.is_new
+task_of_job (Serial it) = serial it.image.now it.script.now it.once
+task_of_job (Serve it) = serve it.image.now it.watch (option_map (λ path. path.now) it.backups)
 task_of_job (Inspect image look) = inspect image.now look
 task_of_job (Dump image) = dump image.now
-task_of_job (Load text new asked) = load text.now new.now asked
+task_of_job (Load it) = load it.text.now it.new.now it.asked
+
+-- the task that a Transfer is
+abbrev pub task_of_transfer : Transfer → Task
+task_of_transfer (Migrate it) = migrate it.old.now it.new.now
+task_of_transfer (Copy it) = copy it.old.now it.new.now it.asked
 
 -- the task that a Work is
-abbrev pub task_of : Work → Task
-task_of (Alone job) = task_of_job job
-task_of (Run image script way trace) = run image.now script.now way (option_map (λ path. path.now) trace)
-task_of (Migrate old new) = migrate old.now new.now
-task_of (Copy old new asked) = copy old.now new.now asked
+abbrev pub task_of_work : Work → Task
+task_of_work Demonstration = demonstration
+task_of_work (Alone job) = task_of_job job
+task_of_work (Run it) = run it.image.now it.script.now it.planned it.once (option_map (λ path. path.now) it.trace)
+task_of_work (Transfers it) = task_of_transfer it
 
 -- an option's number, in decimal digits below 2^32, or `fallback` if the option isn't given
 abbrev pub number_in : List Row → Text → ℕ → Option ℕ
@@ -223,22 +223,12 @@ serial_task rows =
     option_map (λ _. serial (path_in rows (codes "IMAGE")) (path_in rows (codes "SCRIPT"))
     (is_given rows (codes "once"))) (telling_given rows)
 
--- how a script is run, by whether it is planned and whether it is done once; it can't be both
-abbrev pub way_with : Bool → Bool → Option Way
-way_with false false = Some Free
-way_with true false = Some Planned
-way_with false true = Some Once
-way_with true true = None
-
--- how a script is run
-abbrev pub way_given : List Row → Option Way
-way_given rows = way_with (is_given rows (codes "planned")) (is_given rows (codes "once"))
-
--- the task of run, by its two paths, how it is run, and the path of its trace, if it says how lines are told
+-- the task of run, by its two paths, whether it is planned or done once, which it can't be both, and the path of its
+-- trace, if it says how lines are told
 abbrev pub run_task : List Row → Option Task
-run_task rows =
-    option_and_then (λ _. option_map (λ way. run (path_in rows (codes "IMAGE")) (path_in rows (codes "SCRIPT")) way
-    (first_of (codes "trace") rows)) (way_given rows)) (telling_given rows)
+run_task rows = option_and_then (λ _. if is_given rows (codes "planned") && is_given rows (codes "once") then None
+    else Some (run (path_in rows (codes "IMAGE")) (path_in rows (codes "SCRIPT")) (is_given rows (codes "planned"))
+    (is_given rows (codes "once")) (first_of (codes "trace") rows))) (telling_given rows)
 
 -- the task of serve, by its path, whether it is watched, and the folder of its backups
 abbrev pub serve_task : List Row → Task
@@ -368,5 +358,5 @@ abbrev pub asks_statuses : List Text → Bool
 asks_statuses words = has_statuses (subcommand_of imem_app words)
 
 -- what the words ask for, as clap walks them
-abbrev pub asked : List Text → Option Task
-asked words = task_in (subcommand_of imem_app words)
+abbrev pub asks_task : List Text → Option Task
+asks_task words = task_in (subcommand_of imem_app words)

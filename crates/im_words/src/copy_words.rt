@@ -4,11 +4,11 @@ ghost use Rattle.std.specs.Option.{option_map};
 ghost use Rattle.clap.specs.Words.{app_of, found_of, rows_of};
 ghost use Rattle.clap.specs.declared.builder.command.Command.TheViews.{out-Command};
 ghost use Rattle.im_words.specs.Words.{copy_task, dump_app, dump_job, dump_task, given_in, given_number};
-ghost use Rattle.im_words.specs.Words.{load_task, making_app, sized_app, sizes_given, task_of, task_of_job};
+ghost use Rattle.im_words.specs.Words.{load_task, making_app, sized_app, sizes_given, task_of_work, task_of_job};
 
 use crate::look_words::json_command;
 use crate::parts::{Help, file_command, is_given, number_option, path_argument, path_of};
-use crate::words::{Job, Work};
+use crate::words::{Copying, Job, Loading, Transfer, Work};
 use clap::{ArgMatches, Command};
 use im_migration::Asked;
 use im_report::View;
@@ -101,18 +101,18 @@ fn with_sizes<'a>(alloc: Global, command: Command<'a>) -> Result<Command<'a>, Al
         "cells",
         "The number of cells, 1 to 1,048,576 [default: as before]",
     );
+    let one = command.arg(cells)?;
     let elements = number_option(
         alloc,
         "elements",
         "The number of elements, 1 to 64 [default: as before]",
     );
+    let two = one.arg(elements)?;
     let slots = number_option(
         alloc,
         "slots",
         "The number of journal slots, 16 to 4,096 [default: as before]",
     );
-    let one = command.arg(cells)?;
-    let two = one.arg(elements)?;
     let three = two.arg(slots)?;
     Ok(three)
 }
@@ -178,12 +178,12 @@ fn sizes_given(found: &ArgMatches) -> Option<Asked>
 
 /// What `copy` is asked for. Returns `None` if a number is not the decimal number of a u32.
 pub(crate) fn copy_work<'a>(found: &ArgMatches<'a>) -> Option<Work<'a>>
-    ensures { option_map task_of result ≡ copy_task (rows_of (found_of found.now)) }
+    ensures { option_map task_of_work result ≡ copy_task (rows_of (found_of found.now)) }
 {
     let asked = sizes_given(found)?;
     let old = path_of(found, "OLD");
     let new = path_of(found, "NEW");
-    Some(Work::Copy { old, new, asked })
+    Some(Work::Transfer(Transfer::Copy(Copying { old, new, asked })))
 }
 
 // The job of a dump, in words or as objects of JSON.
@@ -200,7 +200,7 @@ fn dump_job<'a>(json: bool, image: &'a str) -> Job<'a>
 
 /// What `dump` is asked for.
 pub(crate) fn dump_work<'a>(found: &ArgMatches<'a>) -> Work<'a>
-    ensures { task_of result ≡ dump_task (rows_of (found_of found.now)) }
+    ensures { task_of_work result ≡ dump_task (rows_of (found_of found.now)) }
 {
     let image = path_of(found, "IMAGE");
     Work::Alone(dump_job(is_given(found, "json"), image))
@@ -208,10 +208,10 @@ pub(crate) fn dump_work<'a>(found: &ArgMatches<'a>) -> Work<'a>
 
 /// What `load` is asked for. Returns `None` if a number is not the decimal number of a u32.
 pub(crate) fn load_work<'a>(found: &ArgMatches<'a>) -> Option<Work<'a>>
-    ensures { option_map task_of result ≡ load_task (rows_of (found_of found.now)) }
+    ensures { option_map task_of_work result ≡ load_task (rows_of (found_of found.now)) }
 {
     let asked = sizes_given(found)?;
     let text = path_of(found, "TEXT");
     let new = path_of(found, "NEW");
-    Some(Work::Alone(Job::Load { text, new, asked }))
+    Some(Work::Alone(Job::Load(Loading { text, new, asked })))
 }

@@ -3,10 +3,10 @@ ghost use Rattle.std.specs.Prelude.{◌≡◌, false, IfOk, codes};
 ghost use Rattle.std.specs.Option.{option_map};
 ghost use Rattle.clap.specs.Words.{app_of, found_of, rows_of};
 ghost use Rattle.clap.specs.declared.builder.command.Command.TheViews.{out-Command};
-ghost use Rattle.im_words.specs.Words.{format_app, format_task, number_in, task_of};
+ghost use Rattle.im_words.specs.Words.{format_app, format_task, number_in, task_of_work};
 
 use crate::parts::{Help, file_command, flag_option, is_given, number_option, path_of};
-use crate::words::{Job, Work};
+use crate::words::{Formatting, Job, Work};
 use clap::{ArgMatches, Command};
 use im_script::read_u32;
 use std::alloc::{AllocError, Global};
@@ -53,20 +53,20 @@ pub(crate) fn format_command<'a>(alloc: Global) -> Result<Command<'a>, AllocErro
         "cells",
         "The number of cells, 1 to 1,048,576 [default: 4096]",
     );
+    let one = image.arg(cells)?;
     let elements = number_option(
         alloc,
         "elements",
         "The number of elements, 1 to 64 [default: 16]",
     );
+    let two = one.arg(elements)?;
     let slots = number_option(
         alloc,
         "slots",
         "The number of journal slots, 16 to 4,096 [default: 256]",
     );
-    let new = flag_option(alloc, "new", "Refuse an existing file");
-    let one = image.arg(cells)?;
-    let two = one.arg(elements)?;
     let three = two.arg(slots)?;
+    let new = flag_option(alloc, "new", "Refuse an existing file");
     let four = three.arg(new)?;
     Ok(four)
 }
@@ -84,20 +84,20 @@ fn number_or(found: &ArgMatches, id: &str, fallback: u32) -> Option<u32>
 
 /// What `format` is asked for. Returns `None` if a number is not the decimal number of a u32.
 pub(crate) fn format_work<'a>(found: &ArgMatches<'a>) -> Option<Work<'a>>
-    ensures { option_map task_of result ≡ format_task (rows_of (found_of found.now)) }
+    ensures { option_map task_of_work result ≡ format_task (rows_of (found_of found.now)) }
 {
     let image = path_of(found, "IMAGE");
     let cells = number_or(found, "cells", DEFAULT_CELLS)?;
     let elements = number_or(found, "elements", DEFAULT_ELEMENTS)?;
     let slots = number_or(found, "slots", DEFAULT_SLOTS)?;
     let is_new = is_given(found, "new");
-    Some(Work::Alone(Job::Format {
+    Some(Work::Alone(Job::Format(Formatting {
         image,
         cells,
         elements,
         slots,
         is_new,
-    }))
+    })))
 }
 
 /// Returns the first option for a size whose text is not the decimal number of a u32, with its text.

@@ -14,4 +14,7 @@ mod words;
 
 pub use format_words::{DEFAULT_CELLS, DEFAULT_ELEMENTS, DEFAULT_SLOTS};
 pub use reading::read_words;
-pub use words::{Job, Order, Way, WordFault, Work};
+pub use words::{
+    CommandLine, Copying, Formatting, Job, Loading, Paths, ScriptRun, Serving, Talking, Transfer,
+    WordFault, Work,
+};

@@ -4,7 +4,7 @@ ghost use Rattle.std.specs.Option.{option_map};
 ghost use Rattle.clap.specs.Words.{app_of, found_of, rows_of};
 ghost use Rattle.clap.specs.declared.builder.command.Command.TheViews.{out-Command};
 ghost use Rattle.im_words.specs.Words.{filter_in, given_cells, inspect_app, inspect_look, inspect_task, json_app};
-ghost use Rattle.im_words.specs.Words.{span_between, span_given, span_in, stat_app, stat_look, stat_task, task_of};
+ghost use Rattle.im_words.specs.Words.{span_between, span_given, span_in, stat_app, stat_look, stat_task, task_of_work};
 
 use crate::copy_words::number_given;
 use crate::parts::{flag_option, image_command, is_given, number_option, path_of, value_option};
@@ -87,16 +87,16 @@ pub(crate) fn inspect_command<'a>(alloc: Global) -> Result<Command<'a>, AllocErr
         "FROM-TO",
         "Print only the lines of the cells at these addresses",
     );
+    let one = image.arg(cells)?;
     let element = number_option(alloc, "element", "Print only the lines of this element");
+    let two = one.arg(element)?;
     let waiting = flag_option(
         alloc,
         "waiting",
         "Print only the lines of cells that somebody waits for",
     );
-    let json = flag_option(alloc, "json", JSON);
-    let one = image.arg(cells)?;
-    let two = one.arg(element)?;
     let three = two.arg(waiting)?;
+    let json = flag_option(alloc, "json", JSON);
     let four = three.arg(json)?;
     Ok(four)
 }
@@ -196,7 +196,7 @@ fn inspect_look(json: bool, filter: Filter) -> View
 
 /// What `inspect` is asked for. Returns `None` if a text is no number, or no addresses.
 pub(crate) fn inspect_work<'a>(found: &ArgMatches<'a>) -> Option<Work<'a>>
-    ensures { option_map task_of result ≡ inspect_task (rows_of (found_of found.now)) }
+    ensures { option_map task_of_work result ≡ inspect_task (rows_of (found_of found.now)) }
 {
     let filter = filter_of(found)?;
     let image = path_of(found, "IMAGE");
@@ -213,7 +213,7 @@ fn stat_look(json: bool) -> View
 
 /// What `stat` is asked for.
 pub(crate) fn stat_work<'a>(found: &ArgMatches<'a>) -> Work<'a>
-    ensures { task_of result ≡ stat_task (rows_of (found_of found.now)) }
+    ensures { task_of_work result ≡ stat_task (rows_of (found_of found.now)) }
 {
     let image = path_of(found, "IMAGE");
     let look = stat_look(is_given(found, "json"));

@@ -2,7 +2,7 @@
 ghost use Rattle.std.specs.Prelude.{◌≡◌, IfSome, codes};
 ghost use Rattle.std.specs.Option.{option_map};
 ghost use Rattle.clap.specs.Words.{subcommand_rows_of};
-ghost use Rattle.im_words.specs.Words.{behind_plus, has_statuses, is_of_script, seconds_of, task_in, task_of};
+ghost use Rattle.im_words.specs.Words.{behind_plus, has_statuses, is_of_script, seconds_of, task_in, task_of_work};
 ghost use Rattle.im_words.specs.Words.{telling_in, wait_in};
 
 use crate::copy_words::{copy_work, dump_work, load_work};
@@ -12,7 +12,7 @@ use crate::migrate_words::migrate_work;
 use crate::parts::{is_given, path_of};
 use crate::script_words::{run_work, serial_work, telling_given};
 use crate::serve_words::serve_work;
-use crate::words::{Job, Order, Work};
+use crate::words::{CommandLine, Work};
 use clap::ArgMatches;
 use im_filters::Telling;
 use im_script::read_u32;
@@ -20,10 +20,10 @@ use im_script::read_u32;
 /// What the command line asks for. Returns `None` if a number is not the decimal number of a u32, if a plan is to be
 /// done once, or if lines are to be told in two ways.
 fn work_of<'a>(matches: &ArgMatches<'a>) -> Option<Work<'a>>
-    ensures { option_map task_of result ≡ task_in (subcommand_rows_of matches.now) }
+    ensures { option_map task_of_work result ≡ task_in (subcommand_rows_of matches.now) }
 {
     match matches.subcommand() {
-        None => Some(Work::Alone(Job::Demonstration)),
+        None => Some(Work::Demonstration),
         Some((name, found)) => {
             if name == "format" {
                 format_work(found)
@@ -115,15 +115,15 @@ fn telling_of(matches: &ArgMatches<'_>) -> Telling
 
 /// The work, how the program is to end, how long its openings wait, and how its lines are told. Returns `None` as
 /// [`work_of`] does.
-pub(crate) fn order_of<'a>(matches: &ArgMatches<'a>) -> Option<Order<'a>>
-    ensures work { option_map (λ (order : Order). task_of order.work) result
+pub(crate) fn line_of<'a>(matches: &ArgMatches<'a>) -> Option<CommandLine<'a>>
+    ensures work { option_map (λ (line : CommandLine). task_of_work line.work) result
         ≡ task_in (subcommand_rows_of matches.now) }
-    ensures statuses { IfSome result (λ order. order.statuses ≡ has_statuses (subcommand_rows_of matches.now)) }
-    ensures wait { IfSome result (λ order. order.wait ≡ wait_in (subcommand_rows_of matches.now)) }
-    ensures telling { IfSome result (λ order. order.telling ≡ telling_in (subcommand_rows_of matches.now)) }
+    ensures statuses { IfSome result (λ line. line.statuses ≡ has_statuses (subcommand_rows_of matches.now)) }
+    ensures wait { IfSome result (λ line. line.wait ≡ wait_in (subcommand_rows_of matches.now)) }
+    ensures telling { IfSome result (λ line. line.telling ≡ telling_in (subcommand_rows_of matches.now)) }
 {
     match work_of(matches) {
-        Some(work) => Some(Order {
+        Some(work) => Some(CommandLine {
             work,
             statuses: statuses_of(matches),
             wait: wait_of(matches),

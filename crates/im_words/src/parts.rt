@@ -94,10 +94,10 @@ pub(crate) fn file_command<'a>(
         .about(help.about)
         .after_help(help.examples);
     let statuses = statuses_option(alloc);
-    let wait = wait_option(alloc);
-    let file = path_argument(alloc, path, help.path);
     let one = empty.arg(statuses)?;
+    let wait = wait_option(alloc);
     let two = one.arg(wait)?;
+    let file = path_argument(alloc, path, help.path);
     let three = two.arg(file)?;
     Ok(three)
 }

@@ -2,17 +2,17 @@
 ghost use Rattle.std.specs.Prelude.{◌≡◌, [], true, Some, IfOk, IfErr, IsOk, IsSome};
 ghost use Rattle.clap.specs.Words.{app_of, fault_of, kind_of, takes};
 ghost use Rattle.im_script.specs.Grammar.{texts};
-ghost use Rattle.im_words.specs.Words.{asked, asks_statuses, asks_telling, asks_wait, earlier_app, imem_app};
-ghost use Rattle.im_words.specs.Words.{task_of, top_app};
+ghost use Rattle.im_words.specs.Words.{asks_statuses, asks_task, asks_telling, asks_wait, imem_app};
+ghost use Rattle.im_words.specs.Words.{task_of_work, top_app};
 
 use crate::copy_words::{COPY_HELP, LOAD_HELP, dump_command, making_command};
 use crate::format_words::{bad_option, format_command};
 use crate::look_words::{bad_look, inspect_command, stat_command};
 use crate::migrate_words::migrate_command;
-use crate::orders::order_of;
+use crate::orders::line_of;
 use crate::script_words::{bad_script, run_command, serial_command};
 use crate::serve_words::serve_command;
-use crate::words::{Order, WordFault, version};
+use crate::words::{CommandLine, WordFault, version};
 use clap::error::ErrorKind;
 use clap::{ArgMatches, Command, Error};
 use std::alloc::{AllocError, Global};
@@ -54,38 +54,30 @@ fn top_command<'a>(alloc: Global) -> Command<'a>
         .after_help(EXAMPLES)
 }
 
-/// The command line with the first six subcommands.
-fn earlier_command<'a>(alloc: Global) -> Result<Command<'a>, AllocError>
-    ensures app { IfOk result (λ c. app_of c ≡ earlier_app) }
-{
-    let empty = top_command(alloc);
-    let format = format_command(alloc)?;
-    let serial = serial_command(alloc)?;
-    let run = run_command(alloc)?;
-    let serve = serve_command(alloc)?;
-    let inspect = inspect_command(alloc)?;
-    let migrate = migrate_command(alloc)?;
-    let one = empty.subcommand(format)?;
-    let two = one.subcommand(serial)?;
-    let three = two.subcommand(run)?;
-    let four = three.subcommand(serve)?;
-    let five = four.subcommand(inspect)?;
-    let six = five.subcommand(migrate)?;
-    Ok(six)
-}
-
-/// The whole command line.
+/// The whole command line. A subcommand is made just before it is added, so that no other one is owned meanwhile.
 fn imem_command<'a>(alloc: Global) -> Result<Command<'a>, AllocError>
     ensures app { IfOk result (λ c. app_of c ≡ imem_app) }
 {
-    let six = earlier_command(alloc)?;
+    let empty = top_command(alloc);
+    let format = format_command(alloc)?;
+    let one = empty.subcommand(format)?;
+    let serial = serial_command(alloc)?;
+    let two = one.subcommand(serial)?;
+    let run = run_command(alloc)?;
+    let three = two.subcommand(run)?;
+    let serve = serve_command(alloc)?;
+    let four = three.subcommand(serve)?;
+    let inspect = inspect_command(alloc)?;
+    let five = four.subcommand(inspect)?;
+    let migrate = migrate_command(alloc)?;
+    let six = five.subcommand(migrate)?;
     let copy = making_command(alloc, "copy", "OLD", COPY_HELP)?;
-    let dump = dump_command(alloc)?;
-    let load = making_command(alloc, "load", "TEXT", LOAD_HELP)?;
-    let stat = stat_command(alloc)?;
     let seven = six.subcommand(copy)?;
+    let dump = dump_command(alloc)?;
     let eight = seven.subcommand(dump)?;
+    let load = making_command(alloc, "load", "TEXT", LOAD_HELP)?;
     let nine = eight.subcommand(load)?;
+    let stat = stat_command(alloc)?;
     let ten = nine.subcommand(stat)?;
     Ok(ten)
 }
@@ -147,14 +139,14 @@ fn number_fault(alloc: Global, matches: &ArgMatches<'_>) -> WordFault {
 /// Reads the words of a command line, with the program's own name first. [`WordFault::Bad`] has the error
 /// that clap found, or says that a number is not written in decimal digits below 2^32. `--help` and `--version` are
 /// such faults too, with status 0.
-pub fn read_words<'a>(alloc: Global, words: &'a [&'a str]) -> Result<Order<'a>, WordFault>
-    ensures work { IfOk result (λ order. asked (texts words.entry.now) ≡ Some (task_of order.work)) }
-    ensures statuses { IfOk result (λ order. order.statuses ≡ asks_statuses (texts words.entry.now)) }
-    ensures wait { IfOk result (λ order. order.wait ≡ asks_wait (texts words.entry.now)) }
-    ensures telling { IfOk result (λ order. order.telling ≡ asks_telling (texts words.entry.now)) }
+pub fn read_words<'a>(alloc: Global, words: &'a [&'a str]) -> Result<CommandLine<'a>, WordFault>
+    ensures work { IfOk result (λ line. asks_task (texts words.entry.now) ≡ Some (task_of_work line.work)) }
+    ensures statuses { IfOk result (λ line. line.statuses ≡ asks_statuses (texts words.entry.now)) }
+    ensures wait { IfOk result (λ line. line.wait ≡ asks_wait (texts words.entry.now)) }
+    ensures telling { IfOk result (λ line. line.telling ≡ asks_telling (texts words.entry.now)) }
     ensures sound { IsOk result → fault_of imem_app (texts words.entry.now) ≡ [] }
     ensures taken { IfErr result (λ fault. takes imem_app (texts words.entry.now) ≡ true →
-        IsSome (asked (texts words.entry.now)) → fault ≡ WordFault.NoMemory) }
+        IsSome (asks_task (texts words.entry.now)) → fault ≡ WordFault.NoMemory) }
 {
     let command = match imem_command(alloc) {
         Ok(command) => command,
@@ -164,8 +156,8 @@ pub fn read_words<'a>(alloc: Global, words: &'a [&'a str]) -> Result<Order<'a>, 
         Ok(matches) => matches,
         Err(error) => return Err(fault(error)),
     };
-    match order_of(&matches) {
-        Some(order) => Ok(order),
+    match line_of(&matches) {
+        Some(line) => Ok(line),
         None => Err(number_fault(alloc, &matches)),
     }
 }

@@ -3,13 +3,13 @@ ghost use Rattle.std.specs.Prelude.{◌≡◌, false, IfOk, codes};
 ghost use Rattle.std.specs.Option.{option_map};
 ghost use Rattle.clap.specs.Words.{app_of, found_of, rows_of};
 ghost use Rattle.clap.specs.declared.builder.command.Command.TheViews.{out-Command};
-ghost use Rattle.im_words.specs.Words.{path_in, run_app, run_task, script_app, serial_app, serial_task, task_of};
-ghost use Rattle.im_words.specs.Words.{telling_given, telling_with, way_given, way_with};
+ghost use Rattle.im_words.specs.Words.{path_in, run_app, run_task, script_app, serial_app, serial_task, task_of_work};
+ghost use Rattle.im_words.specs.Words.{telling_given, telling_with};
 
 use crate::parts::{
     flag_option, image_command, is_given, path_argument, path_if, path_of, value_option,
 };
-use crate::words::{Job, Way, Work};
+use crate::words::{Job, ScriptRun, Serving, Work};
 use clap::error::ErrorKind;
 use clap::{ArgMatches, Command, Error};
 use im_filters::Telling;
@@ -114,10 +114,10 @@ fn script_command<'a>(
         "SCRIPT",
         "The file of requests, or - for standard input",
     );
-    let quiet = flag_option(alloc, "quiet", "Print only the line of a refusal");
-    let json = flag_option(alloc, "json", "Print JSON, an object on each line");
     let one = image.arg(script)?;
+    let quiet = flag_option(alloc, "quiet", "Print only the line of a refusal");
     let two = one.arg(quiet)?;
+    let json = flag_option(alloc, "json", "Print JSON, an object on each line");
     let three = two.arg(json)?;
     Ok(three)
 }
@@ -148,19 +148,19 @@ pub(crate) fn run_command<'a>(alloc: Global) -> Result<Command<'a>, AllocError>
         "planned",
         "Serve the script as a plan: fetches, stores and glances, at most one store to a cell",
     );
+    let one = script.arg(planned)?;
     let trace = value_option(
         alloc,
         "trace",
         "FILE",
         "Write each call and its answer to a new file, in the order of the lock",
     );
+    let two = one.arg(trace)?;
     let once = flag_option(
         alloc,
         "once",
         "Continue a run that was stopped: what the image has of the script isn't asked for again",
     );
-    let one = script.arg(planned)?;
-    let two = one.arg(trace)?;
     let three = two.arg(once)?;
     Ok(three)
 }
@@ -195,51 +195,37 @@ pub(crate) fn telling_given(found: &ArgMatches) -> Option<Telling>
 
 /// What `serial` is asked for. Returns `None` if lines are to be told in two ways.
 pub(crate) fn serial_work<'a>(found: &ArgMatches<'a>) -> Option<Work<'a>>
-    ensures { option_map task_of result ≡ serial_task (rows_of (found_of found.now)) }
+    ensures { option_map task_of_work result ≡ serial_task (rows_of (found_of found.now)) }
 {
     let _telling = telling_given(found)?;
     let (image, script) = two_paths(found);
     let once = is_given(found, "once");
-    Some(Work::Alone(Job::Serial {
+    Some(Work::Alone(Job::Serial(Serving {
         image,
         script,
         once,
-    }))
-}
-
-/// How a script is run by two flags. Returns `None` if both are given.
-fn way_with(planned: bool, once: bool) -> Option<Way>
-    ensures { result ≡ way_with planned once }
-{
-    match (planned, once) {
-        (false, false) => Some(Way::Free),
-        (true, false) => Some(Way::Planned),
-        (false, true) => Some(Way::Once),
-        (true, true) => None,
-    }
-}
-
-/// How a script is run. Returns `None` for a plan that is to be done once.
-fn way_given(found: &ArgMatches) -> Option<Way>
-    ensures { result ≡ way_given (rows_of (found_of found.now)) }
-{
-    way_with(is_given(found, "planned"), is_given(found, "once"))
+    })))
 }
 
 /// What `run` is asked for. Returns `None` for a plan that is to be done once, or if lines are to be told in two ways.
 pub(crate) fn run_work<'a>(found: &ArgMatches<'a>) -> Option<Work<'a>>
-    ensures { option_map task_of result ≡ run_task (rows_of (found_of found.now)) }
+    ensures { option_map task_of_work result ≡ run_task (rows_of (found_of found.now)) }
 {
     let _telling = telling_given(found)?;
-    let way = way_given(found)?;
     let (image, script) = two_paths(found);
+    let planned = is_given(found, "planned");
+    let once = is_given(found, "once");
     let trace = path_if(found, "trace");
-    Some(Work::Run {
+    if planned && once {
+        return None;
+    }
+    Some(Work::Run(ScriptRun {
         image,
         script,
-        way,
+        planned,
+        once,
         trace,
-    })
+    }))
 }
 
 /// The error for lines that are to be told in two ways, or for a plan that is to be done once.

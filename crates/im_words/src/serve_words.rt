@@ -2,10 +2,10 @@
 ghost use Rattle.std.specs.Prelude.{◌≡◌, false, IfOk, codes};
 ghost use Rattle.clap.specs.Words.{app_of, found_of, rows_of};
 ghost use Rattle.clap.specs.declared.builder.command.Command.TheViews.{out-Command};
-ghost use Rattle.im_words.specs.Words.{serve_app, serve_task, task_of};
+ghost use Rattle.im_words.specs.Words.{serve_app, serve_task, task_of_work};
 
 use crate::parts::{flag_option, image_command, is_given, path_if, path_of, value_option};
-use crate::words::{Job, Work};
+use crate::words::{Job, Talking, Work};
 use clap::{ArgMatches, Command};
 use std::alloc::{AllocError, Global};
 
@@ -50,27 +50,27 @@ pub(crate) fn serve_command<'a>(alloc: Global) -> Result<Command<'a>, AllocError
         "watch",
         "Print 'E.N now REPLY' when a request that waited is answered",
     );
+    let one = image.arg(watch)?;
     let backups = value_option(
         alloc,
         "backups",
         "FOLDER",
         "Make a new file in this folder for each line 'backup NAME'",
     );
-    let one = image.arg(watch)?;
     let two = one.arg(backups)?;
     Ok(two)
 }
 
 /// What `serve` is asked for.
 pub(crate) fn serve_work<'a>(found: &ArgMatches<'a>) -> Work<'a>
-    ensures { task_of result ≡ serve_task (rows_of (found_of found.now)) }
+    ensures { task_of_work result ≡ serve_task (rows_of (found_of found.now)) }
 {
     let image = path_of(found, "IMAGE");
     let watch = is_given(found, "watch");
     let backups = path_if(found, "backups");
-    Work::Alone(Job::Serve {
+    Work::Alone(Job::Serve(Talking {
         image,
         watch,
         backups,
-    })
+    }))
 }

@@ -6,7 +6,7 @@ ghost use Rattle.std.specs.Prelude.{◌≡◌, ◌≤◌};
 use im_files::Waiting;
 use im_listening::Listener;
 use im_program::{
-    AtHand, Console, Descriptors, Job, Order, Prompter, Terminals, WordFault, Work, act_told,
+    AtHand, CommandLine, Console, Descriptors, Job, Prompter, Terminals, WordFault, Work, act_told,
     read_words, refuse, status_for,
 };
 use im_types::Refusal;
@@ -32,13 +32,13 @@ fn status_after(printed: io::Result<()>, status: u8) -> u8
 }
 
 // Whether a dialogue is to be served.
-fn is_dialogue(order: &Order) -> bool {
-    matches!(order.work, Work::Alone(Job::Serve { .. }))
+fn is_dialogue(line: &CommandLine) -> bool {
+    matches!(line.work, Work::Alone(Job::Serve(_)))
 }
 
 // Whether a person types the lines of a dialogue.
-fn prompts(order: &Order, terminals: Terminals) -> bool {
-    is_dialogue(order) && terminals.input && terminals.errors
+fn prompts(line: &CommandLine, terminals: Terminals) -> bool {
+    is_dialogue(line) && terminals.input && terminals.errors
 }
 
 // A reader of standard input, to which a thread listens in a dialogue.
@@ -46,18 +46,18 @@ fn listen<R: Threads + Wait + Copy + Drop + Send + 'static, I: Read + Drop + Sen
     rt: &R,
     alloc: Global,
     input: I,
-    order: &Order,
+    line: &CommandLine,
 ) -> Listener<R, I> {
     let mut listener = Listener::new(*rt, input);
-    if is_dialogue(order) {
+    if is_dialogue(line) {
         listener.begin(alloc);
     }
     listener
 }
 
-/// Does the work, and tells its lines as the order says. Each read of standard input takes as much as there is, so that
-/// lines of a dialogue that come together are served together. In a dialogue a thread listens to standard input, and a
-/// person at a terminal sees a prompt. If standard input doesn't block, the program waits for it.
+/// Does the work, and tells its lines as the command line says. Each read of standard input takes as much as there is,
+/// so that lines of a dialogue that come together are served together. In a dialogue a thread listens to standard
+/// input, and a person at a terminal sees a prompt. If standard input doesn't block, the program waits for it.
 fn work_on<
     R: Files<File = File>
         + AllocGlobal
@@ -73,23 +73,23 @@ fn work_on<
         + 'static,
     I: BufRead + Drop + Send + 'static,
     W: Write,
->(rt: &R, held: &Descriptors, order: &Order, out: &mut W, terminals: Terminals) -> u8
+>(rt: &R, held: &Descriptors, line: &CommandLine, out: &mut W, terminals: Terminals) -> u8
     ensures { result ≤ 5 }
 {
-    let listener = listen(rt, rt.alloc(), rt.reader(), order);
-    let input = Prompter::new(rt, listener, prompts(order, terminals));
+    let listener = listen(rt, rt.alloc(), rt.reader(), line);
+    let input = Prompter::new(rt, listener, prompts(line, terminals));
     match BufReader::new(rt.alloc(), input) {
         Ok(mut input) => {
-            let mut console = Console::new(rt, held, &order.work, terminals);
+            let mut console = Console::new(rt, held, &line.work, terminals);
             let hand = AtHand {
                 rt,
                 held,
                 input: &mut input,
                 observer: &mut console,
             };
-            let starts = (Waiting::new(*rt, order.wait), Waiting::new(*rt, order.wait));
-            let (status, _out, _disk, _old) = act_told(hand, order, out, starts);
-            status_for(status, order.statuses, console.reason())
+            let starts = (Waiting::new(*rt, line.wait), Waiting::new(*rt, line.wait));
+            let (status, _out, _disk, _old) = act_told(hand, line, out, starts);
+            status_for(status, line.statuses, console.reason())
         }
         Err(_) => refuse(rt.alloc(), Refusal::NoMemory, out),
     }
@@ -116,7 +116,7 @@ fn run<
     ensures { result ≤ 5 }
 {
     match read_words(rt.alloc(), words) {
-        Ok(order) => work_on(rt, held, &order, out, terminals),
+        Ok(line) => work_on(rt, held, &line, out, terminals),
         Err(WordFault::NoMemory) => refuse(rt.alloc(), Refusal::NoMemory, out),
         Err(WordFault::Bad(error)) => {
             let printed = error.print(rt);

@@ -14,7 +14,7 @@ returns-in-Ok-say g c = λ watch kept.
     (outputs (g.W.Write.contents c.args.out.now) kept) (outputs (g.W.Write.contents c.say.new.out) kept) None
     c.wrong-answer.result c.args.line.now
     said.0 _ c.requires.wrong (λ h. h) c.wrong-answer.ensures.answered
-    (λ n a. wrong_line_is watch said.0 engine.memory _ n c.wrong-answer.result c.memory.ensures a) said.1
+    (λ n here a. wrong_line_is watch said.0 engine.memory _ n here c.wrong-answer.result c.memory.ensures a) said.1
     (ap (λ (a : Answer). backup_by engine.memory a ++ kept) (sym c.wrong-answer.ensures.answer))
 
 pub returns-in-Err-say : goal.returns-in-Err-say
@@ -25,7 +25,7 @@ returns-in-Err-say g c = λ watch kept.
     (outputs (g.W.Write.contents c.args.out.now) kept) (outputs (g.W.Write.contents c.say.new.out) kept) None
     c.wrong-answer.result c.args.line.now
     said.0 _ c.requires.wrong (λ h. h) c.wrong-answer.ensures.answered
-    (λ n a. wrong_line_is watch said.0 engine.memory _ n c.wrong-answer.result c.memory.ensures a) said.1
+    (λ n here a. wrong_line_is watch said.0 engine.memory _ n here c.wrong-answer.result c.memory.ensures a) said.1
     (ap (λ (a : Answer). backup_by engine.memory a ++ kept) (sym c.wrong-answer.ensures.answer))
 
 pub returns-in-Err : goal.returns-in-Err

@@ -21,11 +21,15 @@ returns-in-Look-clause-answered g c =
     let engine = c.args.engine.now in
     says_as g.D.Disk.now g.D.Disk.past g.D.Disk.honest engine engine _ (Some c.args.asked) _ (ap Some c.in-Look.is)
     (quiet g.D.Disk.now g.D.Disk.past g.D.Disk.honest engine (Some (Look c.in-Look.look)) (Looked c.in-Look.look)
-    (λ m. refl) (λ f. refl))
+    (λ m. refl) (λ f turns. refl))
 
 pub returns-in-Window-clause-answered : goal.returns-in-Window-clause-answered
 returns-in-Window-clause-answered g c = says_as g.D.Disk.now g.D.Disk.past g.D.Disk.honest c.args.engine.now
     c.args.engine.now _ (Some c.args.asked) _ (ap Some c.in-Window.is) c.window.ensures.answered
+
+pub returns-in-Room-clause-answered : goal.returns-in-Room-clause-answered
+returns-in-Room-clause-answered g c = says_as g.D.Disk.now g.D.Disk.past g.D.Disk.honest c.args.engine.now
+    c.args.engine.now _ (Some c.args.asked) _ (ap Some c.in-Room.is) c.room.ensures.answered
 
 pub returns-in-Count-clause-answered : goal.returns-in-Count-clause-answered
 returns-in-Count-clause-answered g c = says_as g.D.Disk.now g.D.Disk.past g.D.Disk.honest c.args.engine.now
@@ -37,7 +41,7 @@ returns-in-About-clause-answered g c =
     says_as g.D.Disk.now g.D.Disk.past g.D.Disk.honest engine engine _ (Some c.args.asked) _ (ap Some c.in-About.is)
     (quiet g.D.Disk.now g.D.Disk.past g.D.Disk.honest engine (Some About) c.about.result
     (λ m. ap (λ (a : Answer). put_by m a) c.about.ensures)
-    (λ f. (c.args.slots, c.args.engine.now.room, c.about.ensures)))
+    (λ f turns. (c.args.slots, c.about.ensures)))
 
 pub returns-in-Backup-clause-answered : goal.returns-in-Backup-clause-answered
 returns-in-Backup-clause-answered g c = says_as g.D.Disk.now g.D.Disk.past g.D.Disk.honest c.args.engine.now

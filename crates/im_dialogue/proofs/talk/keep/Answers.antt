@@ -12,7 +12,7 @@ returns-in-Ok-clause-answered g c =
     let engine = c.args.engine.now in
     quiet g.D.Disk.now g.D.Disk.past g.D.Disk.honest engine (Some (asks.Backup c.args.name))
     (answer.Backup c.args.name (Ok c.count-count.result)) (λ m. refl)
-    (λ f. (Ok c.count-count.result, refl, c.count-count.ensures))
+    (λ f turns. (Ok c.count-count.result, refl, c.count-count.ensures))
 
 pub returns-in-Ok-clause-kept : goal.returns-in-Ok-clause-kept
 returns-in-Ok-clause-kept g c =
@@ -24,4 +24,4 @@ pub returns-in-Err-clause-answered : goal.returns-in-Err-clause-answered
 returns-in-Err-clause-answered g c =
     let engine = c.args.engine.now in
     quiet g.D.Disk.now g.D.Disk.past g.D.Disk.honest engine (Some (asks.Backup c.args.name))
-    (answer.Backup c.args.name (Err c.in-Err.fault)) (λ m. refl) (λ f. (Err c.in-Err.fault, refl, tt))
+    (answer.Backup c.args.name (Err c.in-Err.fault)) (λ m. refl) (λ f turns. (Err c.in-Err.fault, refl, tt))

@@ -6,7 +6,7 @@ use Rattle.im_dialogue.proofs.talk.serve.Goals as goal
 pub returns-in-Ok-clause-answered : goal.returns-in-Ok-clause-answered
 returns-in-Ok-clause-answered g c = let e = c.serve.ensures in serve_says g.D.Disk.now g.D.Disk.past g.D.Disk.honest
     c.args.engine.now c.serve.new.self c.args.command c.serve.result (Ok c.in-Ok.outcome) e.answered e.honest e.leaves
-    e.means c.in-Ok.is (ok_no_device c.in-Ok.outcome c.serve.result c.in-Ok.is)
+    e.means c.in-Ok.is (ok_no_device c.in-Ok.outcome c.serve.result c.in-Ok.is) c.requires.spent
 
 pub returns-then-ends-clause-answered : goal.returns-then-ends-clause-answered
 returns-then-ends-clause-answered g c = let e = c.serve.ensures in serve_halts g.D.Disk.now g.D.Disk.past
@@ -18,6 +18,7 @@ returns-else-ends-clause-answered g c = let e = c.serve.ensures in serve_says g.
     g.D.Disk.honest c.args.engine.now c.serve.new.self c.args.command c.serve.result (Err c.in-Err.refusal) e.answered
     e.honest e.leaves e.means c.in-Err.is
     (no_device c.in-Err.refusal c.ends.result c.ends.ensures c.if-ends.false c.serve.result c.in-Err.is)
+    c.requires.spent
 
 pub returns-in-Ok-clause-same : goal.returns-in-Ok-clause-same
 returns-in-Ok-clause-same g c = λ m. refl

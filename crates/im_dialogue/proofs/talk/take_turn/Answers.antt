@@ -1,3 +1,4 @@
+use Rattle.im_turning.proofs.TurningLemmas.{turn_leads}
 use Rattle.im_dialogue.proofs.TalkLemmas.{turn_goes, turn_halts}
 use Rattle.im_dialogue.proofs.talk.take_turn.Goals as goal
 
@@ -8,3 +9,7 @@ returns-in-Ok-clause-goes g c = let e = c.turn.ensures in turn_goes g.D.Disk.now
 pub returns-in-Err-clause-goes : goal.returns-in-Err-clause-goes
 returns-in-Err-clause-goes g c = let e = c.turn.ensures in turn_halts g.D.Disk.now g.D.Disk.past g.D.Disk.honest
     c.args.engine.now c.turn.new.self c.turn.result e.answered e.honest e.leaves e.now
+
+pub returns-in-Ok-clause-leads : goal.returns-in-Ok-clause-leads
+returns-in-Ok-clause-leads g c = turn_leads c.args.engine.now c.turn.new.self c.turn.result c.in-Ok.done
+    c.turn.ensures.answered c.in-Ok.is

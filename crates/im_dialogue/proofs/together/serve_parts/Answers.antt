@@ -40,6 +40,7 @@ returns-in-Ok-put_through g c = λ watch group.
     let tells = c.in-Ok.ensures watch old cs (record {
       is_memory = memory;
       group = group;
+      room = c.lacks_places.ensures c.if-lacks_places.false;
       many = many;
       first = refl;
       answers_are = c.as_slice.ensures.value ∙ done.answers;
@@ -66,6 +67,7 @@ returns-in-Err-put_through g c = λ watch group.
     let tells = c.in-Ok.ensures watch old cs (record {
       is_memory = memory;
       group = group;
+      room = c.lacks_places.ensures c.if-lacks_places.false;
       many = many;
       first = refl;
       answers_are = c.as_slice.ensures.value ∙ done.answers;
@@ -84,8 +86,11 @@ returns-in-Err g c = λ watch group.
     let group_now = c.args.group.now in
     let alive : new.failed ≡ false = search rules in
     let text = some_text watch old many group_now.parts.items (map string_bytes group_now.nows.items)
-    group_now.members.items group in
+    group_now.members.items group (c.lacks_places.ensures c.if-lacks_places.false) in
     group_cut g.D.Disk.now g.D.Disk.past g.D.Disk.honest old new (take many group_now.members.items) watch
     c.serve_commands.new.served.items text.0 text.1 e.answered e.runs.honest e.runs.leaves e.runs.means alive
     (g.W.Write.contents c.args.out.now) (g.W.Write.contents c.args.out.now)
     (none_of (g.W.Write.contents c.args.out.now) text.0)
+
+pub returns-then-lacks_places : goal.returns-then-lacks_places
+returns-then-lacks_places g c = λ watch group kept start held so_far. so_far

@@ -2,18 +2,18 @@ use Rattle.im_program.proofs.serving.serve_file.Goals as goal
 
 pub returns-then-once-clause-served : goal.returns-then-once-clause-served
 returns-then-once-clause-served g c = λ honest. rw c.if-once.true (record {
-  old = c.in-Ok-open_image.disk;
-  was = c.in-Ok-open_image.ensures.now;
-  none = c.in-Ok-open_image.ensures.past;
+  old = c.in_ok-disk.disk;
+  was = c.in_ok-disk.ensures.now;
+  none = c.in_ok-disk.ensures.past;
   text = _;
   served = c.serial_once_on.ensures.served honest;
 })
 
-pub returns-in-Ok-open_image-clause-served : goal.returns-in-Ok-open_image-clause-served
-returns-in-Ok-open_image-clause-served g c = λ honest. rw c.if-once.false (record {
-  old = c.in-Ok-open_image.disk;
-  was = c.in-Ok-open_image.ensures.now;
-  none = c.in-Ok-open_image.ensures.past;
+pub returns-clause-served : goal.returns-clause-served
+returns-clause-served g c = λ honest. rw c.if-once.false (record {
+  old = c.in_ok-disk.disk;
+  was = c.in_ok-disk.ensures.now;
+  none = c.in_ok-disk.ensures.past;
   text = _;
   served = c.serial_on.ensures.served honest;
 })

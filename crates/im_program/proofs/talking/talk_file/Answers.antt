@@ -1,9 +1,9 @@
 use Rattle.im_program.proofs.talking.talk_file.Goals as goal
 
-pub returns-in-Ok-clause-talked : goal.returns-in-Ok-clause-talked
-returns-in-Ok-clause-talked g c = λ honest. record {
-  old = c.in-Ok.disk;
-  was = c.in-Ok.ensures.now;
-  none = c.in-Ok.ensures.past;
+pub returns-clause-talked : goal.returns-clause-talked
+returns-clause-talked g c = λ honest. record {
+  old = c.in_ok-disk.disk;
+  was = c.in_ok-disk.ensures.now;
+  none = c.in_ok-disk.ensures.past;
   talked = c.dialogue_on.ensures.talked honest;
 }

@@ -1,4 +1,20 @@
+use Rattle.std.proofs.Common.{⊎_elim}
+use Rattle.im_program.proofs.OkLemmas.{some_each, some_then}
+use Rattle.im_program.proofs.TransferLemmas.{is_of_two, of_two}
 use Rattle.im_program.proofs.work.act.Goals as goal
 
 pub returns-in-Run-clause-done : goal.returns-in-Run-clause-done
 returns-in-Run-clause-done g c = rw c.in-Run.is c.act_at_once-status.ensures.ran
+
+pub returns-in-Transfer-clause-done : goal.returns-in-Transfer-clause-done
+returns-in-Transfer-clause-done g c = rw c.in-Transfer.is
+    (some_each _ c.act_on_two.result.1 (λ disk honest.
+    ⊎_elim (λ m. rw m.2 tt) (λ m. rw m.3 tt) (of_two c.in-Transfer.transfer)))
+
+pub returns-in-Transfer-clause-moved : goal.returns-in-Transfer-clause-moved
+returns-in-Transfer-clause-moved g c = rw c.in-Transfer.is
+    (some_then _ _ c.act_on_two.result.1 (λ disk moved of_two. moved) c.act_on_two.ensures.moved)
+
+pub returns-in-Transfer-clause-other : goal.returns-in-Transfer-clause-other
+returns-in-Transfer-clause-other g c = rw c.in-Transfer.is
+    (some_each _ c.act_on_two.result.2 (λ disk. is_of_two c.in-Transfer.transfer))

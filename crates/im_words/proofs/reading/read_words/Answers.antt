@@ -3,7 +3,7 @@ use Rattle.std.specs.Prelude.{IsSome}
 use Rattle.clap.specs.Simple.{is_simple, subcommand_of}
 use Rattle.clap.specs.Words.{App, app_of, fault_of, is_simple_and_free, takes}
 use Rattle.im_script.specs.Grammar.{texts}
-use Rattle.im_words.specs.Words.{Task, asked, has_statuses, imem_app, task_in, telling_in, wait_in}
+use Rattle.im_words.specs.Words.{Task, asks_task, has_statuses, imem_app, task_in, telling_in, wait_in}
 use Rattle.im_words.proofs.reading.read_words.Goals as goal
 
 free : is_simple_and_free imem_app ≡ true
@@ -56,7 +56,7 @@ returns-clause-taken c = λ taken some.
     let app : app_of c.in-Ok.command ≡ imem_app = c.in-Ok.ensures.app in
     let met = c.in-Ok-try_get_matches_from.ensures.matches (ap is_simple app ∙ simple) in
     let same = met.1 ∙ ap (λ (a : App). subcommand_of a (texts c.args.words.now)) app in
-    let none : asked (texts c.args.words.now) ≡ None = sym (c.in-None.ensures.work ∙ ap task_in same) in
+    let none : asks_task (texts c.args.words.now) ≡ None = sym (c.in-None.ensures.work ∙ ap task_in same) in
     let nothing : Option Task = None in
     let it : IsSome nothing = subst (λ (o : Option Task). IsSome o) none some in
     absurd (search rules)

@@ -27,7 +27,7 @@ returns-in-Ok-clause-talks g c = λ line read.
     (outputs (g.W.Write.contents c.say.new.out) (g.B.Backups.kept c.answer.new.backups))
     (Some c.args.asked) answer line said.0 _ read
     c.answer.ensures.honest (rw c.in-Ok-Some.field-0-is at c.in-Ok-Some.ensures.answered)
-    (λ n a. line_is watch said.0 old.memory _ n c.args.asked answer c.told_with-told.result.now
+    (λ n here a. line_is watch said.0 old.memory _ n here c.args.asked answer c.told_with-told.result.now
     (λ look is. c.memory-in-Ok-Some.ensures
     ∙ ap (λ (e : EngineState _). e.memory) (c.answer.ensures.same look is))
     told a) said.1 (rw c.in-Ok-Some.field-0-is at c.in-Ok-Some.ensures.kept)
@@ -46,7 +46,7 @@ returns-in-Err-say-clause-talks g c = λ line read.
     (outputs (g.W.Write.contents c.say.new.out) (g.B.Backups.kept c.answer.new.backups))
     (Some c.args.asked) answer line said.0 _ read
     c.answer.ensures.honest (rw c.in-Ok-Some.field-0-is at c.in-Ok-Some.ensures.answered)
-    (λ n a. line_is watch said.0 old.memory _ n c.args.asked answer c.told_with-told.result.now
+    (λ n here a. line_is watch said.0 old.memory _ n here c.args.asked answer c.told_with-told.result.now
     (λ look is. c.memory-in-Ok-Some.ensures
     ∙ ap (λ (e : EngineState _). e.memory) (c.answer.ensures.same look is))
     told a) said.1 (rw c.in-Ok-Some.field-0-is at c.in-Ok-Some.ensures.kept)

@@ -1,0 +1,11 @@
+use Rattle.std.proofs.Common.{ap, refl}
+use Rattle.std.specs.Prelude.{Some}
+use Rattle.im_dialogue.specs.declared.asking.Asked.TheVariants as asks
+use Rattle.im_dialogue.specs.declared.answers.Answer.TheVariants as answer
+use Rattle.im_dialogue.proofs.TalkLemmas.{quiet}
+use Rattle.im_dialogue.proofs.talk.room.Goals as goal
+
+pub returns-clause-answered : goal.returns-clause-answered
+returns-clause-answered g c = quiet g.D.Disk.now g.D.Disk.past g.D.Disk.honest c.args.engine.now
+    (Some asks.Room) (answer.Room c.room.result) (λ m. refl)
+    (λ f turns. ap (λ r. answer.Room r) c.room.ensures)
