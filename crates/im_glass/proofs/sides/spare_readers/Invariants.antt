@@ -1,7 +1,7 @@
 use Rattle.std.proofs.Common.{◌≡◌, length}
 use Rattle.std.specs.List.{AllByRecursion}
 use Rattle.left_right.specs.Sides.{view}
-use Rattle.im_glass.proofs.pane.spare_readers.Given as goal
+use Rattle.im_glass.proofs.sides.spare_readers.Given as goal
 
 abbrev pub invariant-loop-reader : goal.invariant-loop-reader
 invariant-loop-reader l =

@@ -1,7 +1,7 @@
 use Rattle.std.proofs.Common.{◌≡◌, drop}
 use Rattle.im_glass.specs.Copies.{IsIdle}
 use Rattle.im_glass.specs.Rule.{state_of}
-use Rattle.im_glass.proofs.pane.make_room.Given as goal
+use Rattle.im_glass.proofs.sides.make_room.Given as goal
 
 abbrev pub invariant-loop-place : goal.invariant-loop-place
 invariant-loop-place l =

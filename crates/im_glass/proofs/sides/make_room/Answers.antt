@@ -4,7 +4,7 @@ use Rattle.im_glass.specs.declared.copies.Ahead.{Ahead}
 use Rattle.im_glass.specs.Copies.{CopyState, History, applied_to}
 use Rattle.im_glass.specs.Rule.{state_of}
 use Rattle.im_glass.proofs.CopyLemmas.{idle-more}
-use Rattle.im_glass.proofs.pane.make_room.Goals as goal
+use Rattle.im_glass.proofs.sides.make_room.Goals as goal
 
 pub loop-place-preserved : goal.loop-place-preserved
 loop-place-preserved c =

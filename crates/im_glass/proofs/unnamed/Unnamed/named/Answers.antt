@@ -5,7 +5,7 @@ use Rattle.logbook.specs.Pages.{Book}
 use Rattle.im_glass.specs.declared.copies.Ahead.{Ahead}
 use Rattle.im_glass.specs.Copies.{GoesOn, changes_ahead}
 use Rattle.im_glass.specs.Panes.{UnnamedView}
-use Rattle.im_glass.proofs.pane.Unnamed.named.Goals as goal
+use Rattle.im_glass.proofs.unnamed.Unnamed.named.Goals as goal
 
 pub invariant_of-result : goal.invariant_of-result
 invariant_of-result g c =

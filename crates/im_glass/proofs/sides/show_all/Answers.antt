@@ -2,7 +2,7 @@ use Rattle.std.proofs.Common.{◌∙◌, ap, sym, subst, length}
 use Rattle.im_glass.specs.Copies.{CopyState, IsKept}
 use Rattle.im_glass.specs.Rule.{state_of}
 use Rattle.im_glass.proofs.CopyLemmas.{brought}
-use Rattle.im_glass.proofs.pane.show_all.Goals as goal
+use Rattle.im_glass.proofs.sides.show_all.Goals as goal
 
 pub publish-requires-clause-kept : goal.publish-requires-clause-kept
 publish-requires-clause-kept g c =

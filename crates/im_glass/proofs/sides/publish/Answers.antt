@@ -1,7 +1,7 @@
 use Rattle.std.proofs.Common.{sym, ◌∙◌, ap, subst}
 use Rattle.im_glass.specs.Copies.{CopyState, IsKept}
 use Rattle.im_glass.proofs.RuleLemmas.{moves}
-use Rattle.im_glass.proofs.pane.publish.Goals as goal
+use Rattle.im_glass.proofs.sides.publish.Goals as goal
 
 pub publish_as-both-requires : goal.publish_as-both-requires
 publish_as-both-requires g c next is =

@@ -2,7 +2,7 @@ use Rattle.std.proofs.Common.{◌∙◌, ap, sym, subst}
 use Rattle.im_glass.specs.Copies.{CopyState, IsKept}
 use Rattle.im_glass.specs.Rule.{state_of}
 use Rattle.im_glass.proofs.CopyLemmas.{idle-all}
-use Rattle.im_glass.proofs.pane.show_nothing.Goals as goal
+use Rattle.im_glass.proofs.sides.show_nothing.Goals as goal
 
 pub publish-requires-clause-kept : goal.publish-requires-clause-kept
 publish-requires-clause-kept g c = subst (λ (s : CopyState). IsKept s)
