@@ -14,7 +14,7 @@ use Rattle.im_serial.specs.Serving.{ServedFrom}
 use Rattle.im_dialogue.specs.Backups.{Backup}
 use Rattle.im_dialogue.specs.Dialogue.{TalkedFrom}
 use Rattle.im_dialogue.specs.Talk.{Outputs, outputs}
-use Rattle.im_run.specs.Once.{RunsOnceOn}
+use Rattle.im_run.specs.Once.{RunsOnceOn, RunsOnceOnPlan}
 use Rattle.im_run.specs.Running.{RunsOn, RunsOnPlan}
 use Rattle.im_run.specs.Tracing.{TraceState}
 use Rattle.im_dump.specs.Dumping.{Dumps}
@@ -46,7 +46,7 @@ ScriptRuns d false = RunsOn d
 -- what is said of it besides, if it is a plan
 abbrev pub PlanRuns : {D : Type 0} → DiskGhosts D → Bool → Bool → List ℕ → D → D → Option (List ℕ)
     → Option (List ℕ) → TraceState → ℕ → Type 0
-PlanRuns d true planned text old new was is calls status = Unit {0}
+PlanRuns d true planned text old new was is calls status = RunsOnceOnPlan d planned text old new was is calls status
 PlanRuns d false planned text old new was is calls status = RunsOnPlan d planned text old new was is calls status
 
 -- a script was run on this disk, once or anew, freely or as a plan; the disk was at this moment, and had no moment

@@ -77,10 +77,9 @@ pub fn run_file<
     let disk = image_at(rt, running.image, observer, start)?;
     let alloc = rt.alloc();
     let mode = mode_of(running);
-    let recorded = mode.recorded;
     if running.once {
         Ok(run_once_on(
-            rt, alloc, disk, &script, &Open, watcher, out, observer, recorded,
+            rt, alloc, disk, &script, &Open, watcher, out, observer, mode,
         ))
     } else {
         let (ended, disk, trace) = run_on(

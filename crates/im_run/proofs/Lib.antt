@@ -5,3 +5,4 @@ pub mod PlannedLemmas
 pub mod RestLemmas
 pub mod RunningLemmas
 pub mod TracingLemmas
+pub mod WholeLemmas

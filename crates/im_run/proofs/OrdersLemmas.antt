@@ -30,10 +30,10 @@ use Rattle.im_serial.proofs.NotedLemmas.{get_set_here, get_set_other}
 use Rattle.im_serving.specs.declared.intent.Intent.{Intent}
 use Rattle.im_serving.specs.declared.intent.Intent.TheVariants as intent_kinds
 use Rattle.im_run.specs.declared.sheet.Order.{Order}
-use Rattle.im_run.specs.Orders.{AddsGlance, AddsRequest, AreInTurn, AreOrders, ArePlaced, Ask, HasAdded, HasHeard}
-use Rattle.im_run.specs.Orders.{HasReadTo, HaveOps, all_asked_in_part, ask_if, ask_of, asked_in_part, asks_among}
-use Rattle.im_run.specs.Orders.{asks_from}
-use Rattle.im_run.specs.Orders.{first_asked, intents_at, line_asks, lines_heard, part_of, request_asked, settled_past}
+use Rattle.im_run.specs.Orders.{AddsGlance, AddsRequest, AreInTurn, AreOrdersFrom, ArePlaced, Ask, HasAdded}
+use Rattle.im_run.specs.Orders.{HasHeard, HasReadTo, HaveOps, all_asked_in_part, ask_if, ask_of, asked_in_part}
+use Rattle.im_run.specs.Orders.{asks_among, asks_from}
+use Rattle.im_run.specs.Orders.{intents_at, line_asks, lines_heard, part_of, request_asked, settled_past}
 
 -- ---- results
 
@@ -375,19 +375,18 @@ among_from first asked (o ∷ orders) element it same =
     let next : element + suc i ≡ suc element + i = omega arith in same (suc i) ∙ ap asked next in
     ap₂ (λ (l r : List Ask). l ++ r) head (among_from first asked orders (suc element) it.1 behind)
 
-pub orders_read : (once : Bool) (m : Contents) (had left bases : List ℕ) (script : List Heard)
-    (none orders numbered : List Order) → AreInTurn 0 none → ((k : ℕ) → intents_at none k ≡ [])
+pub orders_read : (first : ℕ → ℕ) (had left bases : List ℕ) (script : List Heard) (none orders numbered : List Order)
+    → AreInTurn 0 none → ((k : ℕ) → intents_at none k ≡ [])
     → HasReadTo had script none left [] bases orders
-    → map ask_of numbered ≡ asks_among (first_asked once m) orders
-    → AreOrders once m had bases script (map ask_of numbered)
-orders_read once m had left bases script none orders numbered turn blank it asked =
+    → map ask_of numbered ≡ asks_among first orders → AreOrdersFrom first had bases script (map ask_of numbered)
+orders_read first had left bases script none orders numbered turn blank it asked =
     let whole : (k : ℕ) → intents_at orders k ≡ part_of bases had k script = λ k.
     sym (append-nil (intents_at orders k)) ∙ it.intents [] k
     ∙ ap (λ (l : List Intent). l ++ part_of (bases ++ []) had k script) (blank k)
     ∙ ap (λ (b : List ℕ). part_of b had k script) (append-nil bases) in
     record {
       many = length orders;
-      all = asked ∙ among_from (first_asked once m) (λ k. part_of bases had k script) orders 0 (it.places turn)
+      all = asked ∙ among_from first (λ k. part_of bases had k script) orders 0 (it.places turn)
           (λ k. let same : k ≡ 0 + k = omega arith in whole k ∙ ap (λ (i : ℕ). part_of bases had i script) same);
       none = λ k past. sym (whole k)
           ∙ ap (λ (o : Option Order). option_map_or (λ (p : Order). p.intents.items) o [])

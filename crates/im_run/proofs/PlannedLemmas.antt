@@ -1,7 +1,7 @@
 -- A planned run whose requests were all told: each of them was served. (Own.)
 use Rattle.std.proofs.Common.{◌≡◌, ◌∙◌, ◌⊎◌, inl, inr, ⊎_elim, ℕ, zero, suc, List, [], ◌∷◌, ◌++◌, length, refl, sym}
 use Rattle.std.proofs.Common.{ap, subst, append_assoc, arith}
-use Rattle.std.specs.Prelude.{Option, Some, slice_get}
+use Rattle.std.specs.Prelude.{Option, None, Some, IfSome, map, slice_get}
 use Rattle.im_types.specs.declared.operations.Entry.{Entry}
 use Rattle.im_types.specs.declared.operations.Waiter.{Waiter}
 use Rattle.im_types.specs.declared.commands.Call.{Call}
@@ -11,7 +11,6 @@ use Rattle.im_types.specs.declared.commands.Line.{Line}
 use Rattle.im_types.specs.declared.commands.Request.{Request}
 use Rattle.im_types.specs.Agreement.{WaitingAgrees}
 use Rattle.im_types.specs.Contents.{Contents}
-use Rattle.im_types.specs.Plan.{FitsPlan}
 use Rattle.im_types.specs.Step.{asker, step}
 use Rattle.im_types.specs.Trace.{IsLegal, contents_after, end_of}
 use Rattle.im_laws.proofs.EntryLemmas.{told-kept}
@@ -25,8 +24,10 @@ use Rattle.im_serving.specs.declared.intent.Intent.TheVariants as intent_kinds
 use Rattle.im_serving.specs.Serving.{StandIn, asked_line, asked_lines, ops_of}
 use Rattle.im_run.specs.declared.served.Did.{Did}
 use Rattle.im_run.specs.Doing.{AreAllTold}
-use Rattle.im_run.specs.Orders.{Ask}
-use Rattle.im_run.specs.Planned.{EndsOnPlan, plan_of, requests_from}
+use Rattle.im_run.specs.declared.sheet.AllOrders.{AllOrders}
+use Rattle.im_run.specs.Orders.{Ask, ask_of, asks_in}
+use Rattle.im_run.proofs.WholeLemmas.{all_served, in_either}
+use Rattle.im_run.specs.Planned.{AreServed, EndsOnPlan, FitsIfNew, plan_of, planned_orders, requests_from}
 
 -- ---- the plan of the controller
 
@@ -98,12 +99,6 @@ module _ (m : Contents) (trace : List Line) (agrees : WaitingAgrees m) (legal : 
       taken_all (front ++ before ++ line ∷ []) after element (suc number) intents firsts (is ∙ split)
       (omega (arith, count)) stand.3 i r there
 
-  in_either : (xs ys : List Request) (i : ℕ) (r : Request) → slice_get (xs ++ ys) i ≡ Some r
-      → IsInPlan xs r ⊎ IsInPlan ys r
-  in_either [] ys i r is = inr (i, is)
-  in_either (x ∷ xs) ys zero r is = inl (zero, is)
-  in_either (x ∷ xs) ys (suc i) r is = ⊎_elim (λ h. inl (suc h.0, h.1)) (λ h. inr h) (in_either xs ys i r is)
-
   -- of all orders
   orders_taken : (none : Type 0) (orders : List Ask) (told : List Did) → AreAllTold m trace none orders told → none
       → (r : Request) → IsInPlan (plan_of orders) r → IsTaken (end_of m trace).windows (asker r)
@@ -129,12 +124,19 @@ module _ (m : Contents) (trace : List Line) (agrees : WaitingAgrees m) (legal : 
 -- ---- a planned run
 
 -- it ended as planned, and if all was told, all was served
-pub ends_on_plan : (m : Contents) (trace : List Line) (orders : List Ask) (told : List Did) (end : Contents)
-    (none : Type 0) → IsLegal m trace → end_of m trace ≡ end → AreAllTold m trace none orders told
-    → FitsPlan m (plan_of orders) → EndsAsPlanned m (plan_of orders) trace end → EndsOnPlan m orders trace end none
-ends_on_plan m trace orders told end none legal ends it fits planned = inl (
+pub ends_on_plan : (m : Contents) (trace : List Line) (whole : Option AllOrders) (orders : List Ask) (told : List Did)
+    (end : Contents) (none : Type 0) → IsLegal m trace → end_of m trace ≡ end → AreAllTold m trace none orders told
+    → (none → IfSome whole (λ w. AreServed end.windows w.orders.items))
+    → FitsIfNew (asks_in whole) m (plan_of (planned_orders (asks_in whole) orders))
+    → EndsAsPlanned m (plan_of (planned_orders (asks_in whole) orders)) trace end
+    → EndsOnPlan m (asks_in whole) orders trace end none
+ends_on_plan m trace None orders told end none legal ends it served fits planned = inl (
   fits,
-  planned,
-  λ well. subst (λ (e : Contents). HasServed e.windows (plan_of orders)) ends
-      (orders_taken m trace planned.starts.agrees legal none orders told it well),
+  (
+    planned,
+    λ well. subst (λ (e : Contents). HasServed e.windows (plan_of orders)) ends
+        (orders_taken m trace planned.starts.agrees legal none orders told it well),
+  ),
 )
+ends_on_plan m trace (Some whole) orders told end none legal ends it served fits planned =
+    inl (fits, (planned, λ well. all_served end.windows whole.orders.items (served well)))

@@ -1,5 +1,5 @@
 -- A script that is run once: what is known at its end. (Own.)
-use Rattle.std.proofs.Common.{◌≡◌, ◌∙◌, inl, inr, ⊎_elim, ℕ, false, true, List, [], ◌++◌, length, refl, sym, ap}
+use Rattle.std.proofs.Common.{◌≡◌, ◌∙◌, inl, inr, ⊎_elim, ℕ, Bool, false, true, List, [], ◌++◌, length, refl, sym, ap}
 use Rattle.std.proofs.Common.{subst}
 use Rattle.std.specs.Prelude.{◌⊎◌, Option}
 use Rattle.std.specs.Io.KnownBytes.{Appends}
@@ -23,7 +23,7 @@ use Rattle.im_run.specs.Orders.{bases_first}
 use Rattle.im_run.specs.Running.{RunOn}
 use Rattle.im_run.specs.Setup.{CanServe}
 use Rattle.im_run.specs.Tracing.{TraceState}
-use Rattle.im_run.proofs.RunningLemmas.{ran_on}
+use Rattle.im_run.proofs.RunningLemmas.{ran_on, unplanned}
 
 module _ {D : Type 0} (disk : Ghosts D) where
   -- ---- on an engine
@@ -35,7 +35,8 @@ module _ {D : Type 0} (disk : Ghosts D) where
           → FitsScript old.engine.memory script ⊎ (mid ≡ old) → (new : D) (is : Option (List ℕ)) (calls : TraceState)
           (status : ℕ) → status ≡ 1 → new ≡ mid.engine.disk → ((start : Option (List ℕ)) (text : List ℕ)
           → Prints start mid.held mid.lines text → (last : List ℕ) × (IsLast last × Begins start is (text ++ last)))
-          → calls ≡ record { setup = []; served = []; recorded = true } → IsUnrun script old.engine new old.held is calls status
+          → calls ≡ record { setup = []; served = []; recorded = true }
+          → IsUnrun script old.engine new old.held is calls status
       unrun_by same breaks fit new is calls status one at_disk last none = ⊎_elim by_fit by_same fit
         where
           make : (had : List ℕ) → IsPrefix had (lines_had old.engine.memory (numbers_had old.engine.memory) script)
@@ -86,32 +87,32 @@ module _ {D : Type 0} (disk : Ghosts D) where
             ∙ ap (bases_had (numbers_had mid.engine.memory) 0) same
 
         -- it ran
-        pub rest_by : (text : List ℕ) → script ≡ wanted_of text → FitsScript old.engine.memory script → (new : D)
-            (is : Option (List ℕ)) (calls : TraceState) (status : ℕ)
-            → RunOn disk.now disk.past disk.failures true false text mid.engine new mid.held is calls status
-            → IsRest disk text old.engine new old.held is calls status
-        rest_by text same fit new is calls status run = record {
+        pub rest_by : (planned : Bool) (text : List ℕ) → script ≡ wanted_of text
+            → FitsScript old.engine.memory script → (new : D) (is : Option (List ℕ)) (calls : TraceState) (status : ℕ)
+            → RunOn disk.now disk.past disk.failures true planned text mid.engine new mid.held is calls status
+            → IsRest disk planned text old.engine new old.held is calls status
+        rest_by planned text same fit new is calls status run = record {
           fit = subst (FitsScript old.engine.memory) same fit;
           made = subst (HasMade old.engine.memory) same it.made;
           mid = mid.held;
           shown = subst (λ (s : List Wanted). Appends old.held mid.held (lines_had old.engine.memory
               (numbers_had old.engine.memory) s)) same (shown_written disk script bases known old mid it fit ready);
-          run = subst (λ (e : EngineState D). RunOn disk.now disk.past disk.failures true false text e new mid.held is calls
-              status) it.engine run;
+          run = subst (λ (e : EngineState D). RunOn disk.now disk.past disk.failures true planned text e new mid.held is
+              calls status) it.engine run;
         }
 
   -- ---- on an image
 
   -- an opening leaves nothing new, and what it found was there
-  pub opened_rest : (text : List ℕ) (old : D) (start : EngineState D) (new : D) (was is : Option (List ℕ))
-      (calls : TraceState) (status : ℕ)
+  pub opened_rest : (planned : Bool) (text : List ℕ) (old : D) (start : EngineState D) (new : D)
+      (was is : Option (List ℕ)) (calls : TraceState) (status : ℕ)
       → Leaves (disk.now old) (disk.now start.disk) (disk.past old) (disk.past start.disk) (Left (disk.now old))
       → LeavesNow (disk.now start.disk) (MeansState start) → disk.failures start.disk ≡ disk.failures old
-      → IsUnrun (wanted_of text) start new was is calls status ⊎ IsRest disk text start new was is calls status
+      → IsUnrun (wanted_of text) start new was is calls status ⊎ IsRest disk planned text start new was is calls status
       → NotRun disk.now disk.past (wanted_of text) old new was is calls status
-      ⊎ RanRest disk.now disk.past disk.failures text old new was is calls status
+      ⊎ RanRest disk.now disk.past disk.failures planned text old new was is calls status
   unfolding ran_on
-  opened_rest text old start new was is calls status opened means same (inl unrun) = inl (record {
+  opened_rest planned text old start new was is calls status opened means same (inl unrun) = inl (record {
     start = start;
     found = (
       (disk.now start.disk).bytes,
@@ -124,10 +125,24 @@ module _ {D : Type 0} (disk : Ghosts D) where
     leaves = subst (λ (d : D). Leaves (disk.now old) (disk.now d) (disk.past old) (disk.past d) (Left (disk.now old)))
         (sym unrun.same) opened;
   })
-  opened_rest text old start new was is calls status opened means same (inr rest) = inr (record {
+  opened_rest planned text old start new was is calls status opened means same (inr rest) = inr (record {
     mid = rest.mid;
-    ran = ran_on disk true false text old start new rest.mid is calls status opened means same rest.run;
+    ran = ran_on disk true planned text old start new rest.mid is calls status opened means same rest.run;
     fit = rest.fit;
     made = rest.made;
     shown = rest.shown;
+  })
+
+  -- a run of the rest of which nothing is said of a plan
+  pub unplanned_rest : (planned : Bool) (text : List ℕ) (start : EngineState D) (new : D) (was is : Option (List ℕ))
+      (calls : TraceState) (status : ℕ)
+      → IsUnrun (wanted_of text) start new was is calls status ⊎ IsRest disk planned text start new was is calls status
+      → IsUnrun (wanted_of text) start new was is calls status ⊎ IsRest disk false text start new was is calls status
+  unplanned_rest planned text start new was is calls status (inl unrun) = inl unrun
+  unplanned_rest planned text start new was is calls status (inr rest) = inr (record {
+    fit = rest.fit;
+    made = rest.made;
+    mid = rest.mid;
+    shown = rest.shown;
+    run = unplanned disk.now disk.past disk.failures true planned text start new rest.mid is calls status rest.run;
   })

@@ -1,6 +1,6 @@
 -- What a run puts on a disk, and what it prints. (Own.)
 use Rattle.std.proofs.Common.{◌≡◌, ◌∙◌, ◌-◌, ◌+◌, ◌≤◌, inl, inr, ⊎_elim, ℕ, zero, suc, Bool, true, false, List, [], ◌++◌, length, refl, sym, ap, subst, take, drop, length-append, append_assoc, arith}
-use Rattle.std.specs.Prelude.{None, Option, Some, ◌⊎◌, slice_get}
+use Rattle.std.specs.Prelude.{Option, None, Some, ◌⊎◌, slice_get}
 use Rattle.std.specs.Io.KnownBytes.{Appends}
 use Rattle.std.proofs.lemmas.List.{append-nil, take_all, take-append-le, take-append-drop, length-take-le}
 use Rattle.im_types.specs.declared.commands.Command.{Command}
@@ -35,7 +35,7 @@ use Rattle.im_run.specs.declared.run.TheConstants.{STALLED}
 use Rattle.im_run.specs.declared.served.Did.{Did}
 use Rattle.im_run.specs.Tracing.{TraceState}
 use Rattle.im_run.specs.Doing.{AreAllTold}
-use Rattle.im_run.specs.Orders.{Ask, AreOrders, SetsUp, bases_made, script_heard, settled_when}
+use Rattle.im_run.specs.Orders.{Ask, AreOrders, IsOfAll, SetsUp, bases_made, script_heard, settled_when}
 use Rattle.im_run.specs.Planned.{EndsOnPlan}
 use Rattle.im_run.specs.Running.{BeginsFinals, Closes, EndedOn, PrintsFinals, Puts, Ran, RanOn, RunOn, ServedOn}
 use Rattle.im_run.specs.Running.{Settles, final_line, finals}
@@ -197,18 +197,21 @@ module _ {D : Type 0} (now : D → Moment) (past : D → List Moment) (failures 
     }
 
 -- no servers began
-pub none_served : {D : Type 0} (now : D → Moment) (past : D → List Moment) (failures : D → ℕ) (begun engine : EngineState D) (trace : List Line)
-    → trace ≡ [] → engine ≡ begun → engine.failed ≡ false → LeavesNow (now engine.disk) (MeansState engine)
-    → ServedOn now past failures (begun_in now past failures begun) begun.memory trace engine
-none_served {D} now past failures begun engine trace none same alive means =
-    let here = begun_in now past failures engine in
-    subst (λ (b : EngineState D). ServedOn now past failures (begun_in now past failures b) b.memory trace engine) same
-    (subst (λ (t : List Line). ServedOn now past failures here engine.memory t engine) (sym none) (record {
+pub none_served : {D : Type 0} (disk : Ghosts D) (begun engine : EngineState D) (trace : List Line) → trace ≡ []
+    → engine ≡ begun → engine.failed ≡ false → LeavesNow (disk.now engine.disk) (MeansState engine)
+    → ServedOn disk.now disk.past disk.failures (begun_in disk.now disk.past disk.failures begun) begun.memory trace
+    engine
+none_served {D} disk begun engine trace none same alive means =
+    let here = begun_in disk.now disk.past disk.failures engine in
+    let all : ServedOn disk.now disk.past disk.failures here engine.memory [] engine = record {
       legal = tt;
       ends = refl;
       plan = None;
       kept = kept_start _ _ _ here engine.memory None engine refl refl alive means;
-    }))
+    } in
+    subst (λ (b : EngineState D). ServedOn disk.now disk.past disk.failures
+    (begun_in disk.now disk.past disk.failures b) b.memory trace engine) same
+    (subst (λ (t : List Line). ServedOn disk.now disk.past disk.failures here engine.memory t engine) (sym none) all)
 
 -- a server that was just made can serve
 pub ready_new : {D : Type 0} (disk : Ghosts D) (start engine : EngineState D) (held : Option (List ℕ))
@@ -289,14 +292,15 @@ module _ {D : Type 0} (now : D → Moment) (past : D → List Moment) (failures 
       }
 
   -- the elements' servers ended
-  pub ended_run : (once planned : Bool) (script bases : List ℕ) (orders : List Ask) (start mid : EngineState D) (setup : List Command) (text : List ℕ) (names : List Waiter) (was held is : Option (List ℕ)) (lines : Lines) (disk : D) (calls : TraceState) (status : ℕ) → GoesWith now past failures start mid setup text names
-      → Prints was held lines text → EndedOn now past failures planned orders mid disk held lines is calls.served status
+  pub ended_run : (once planned : Bool) (script bases : List ℕ) (whole : Option (List Ask)) (orders : List Ask) (start mid : EngineState D) (setup : List Command) (text : List ℕ) (names : List Waiter) (was held is : Option (List ℕ)) (lines : Lines) (disk : D) (calls : TraceState) (status : ℕ) → GoesWith now past failures start mid setup text names
+      → Prints was held lines text → EndedOn now past failures planned whole orders mid disk held lines is calls.served status
       → AreOrders once mid.memory (settled_when once start.memory) bases (script_heard script) orders
+      → (planned ≡ true → IsOfAll once bases (script_heard script) whole)
       → SetsUp once start.memory script setup [] → bases ≡ bases_made once start.memory script setup
       → RunOn now past failures once planned script start disk was is calls status
   unfolding puts_on
-  ended_run once planned script bases orders start mid setup text names was held is lines disk calls status it prints
-      ended of_script set_up named =
+  ended_run once planned script bases whole orders start mid setup text names was held is lines disk calls status it
+      prints ended of_script is_whole set_up named =
       let served = ended.served in
       let trace = calls.served in
       let begun = it.has.memory it.works in
@@ -333,10 +337,15 @@ module _ {D : Type 0} (now : D → Moment) (past : D → List Moment) (failures 
               (subst (λ (m : Contents). AreOrders once m (settled_when once start.memory) bases (script_heard script)
               orders) begun of_script);
           all = subst (λ (m : Contents). AreAllTold m trace (status ≡ 0) orders ended.did) begun ended.told;
-          as_planned = λ is. subst (λ (m : Contents). EndsOnPlan m orders trace (after start.memory on.told)
-              (status ≡ 0)) begun
-              (subst (λ (end : Contents). EndsOnPlan mid.memory orders trace end (status ≡ 0)) told_is
-              (ended.as_planned is));
+          as_planned = λ by. (
+            whole,
+            (
+              subst (λ (b : List ℕ). IsOfAll once b (script_heard script) whole) named (is_whole by),
+              subst (λ (m : Contents). EndsOnPlan m whole orders trace (after start.memory on.told) (status ≡ 0)) begun
+                  (subst (λ (end : Contents). EndsOnPlan mid.memory whole orders trace end (status ≡ 0)) told_is
+                  (ended.as_planned by)),
+            ),
+          );
         });
       }
 

@@ -10,6 +10,7 @@ use Rattle.im_types.specs.declared.refusals.Refusal.{Refusal}
 use Rattle.im_types.specs.Contents.{Contents}
 use Rattle.im_types.specs.Run.{after}
 use Rattle.im_controller.specs.State.{PortState}
+use Rattle.im_script.specs.declared.script.Heard.{Heard}
 use Rattle.im_serving.specs.declared.intent.Intent.{Intent}
 use Rattle.im_serving.specs.declared.intent.Intent.TheVariants.{Request, Glance}
 use Rattle.im_serving.specs.declared.glances.Glanced.{Glanced}
@@ -17,7 +18,7 @@ use Rattle.im_serving.specs.Elements.{Asked, End}
 use Rattle.im_serving.specs.Serving.{AreDone, AreGlanced, HasAnswers, IsGlanced, ops_of, requests, sites}
 use Rattle.im_run.specs.declared.served.Did.{Did}
 use Rattle.im_run.specs.declared.served.Did.TheVariants as did
-use Rattle.im_run.specs.Orders.{AreOrders, Ask, SetsUp, bases_made, script_heard, settled_when}
+use Rattle.im_run.specs.Orders.{AreOrders, Ask, IsOfAll, SetsUp, bases_made, script_heard, settled_when}
 use Rattle.im_run.specs.Planned.{EndsOnPlan}
 
 -- ---- what is told of it
@@ -56,9 +57,16 @@ AreAllTold m trace none (order ∷ orders) told =
     (mine : List Did) × ((others : List Did) × ((told ≡ mine ++ others)
     × (IsOrderTold m trace none order mine × AreAllTold m trace none orders others)))
 
+-- A planned run of these orders of a script ended as its plan says. The plan is of all requests of the script's parts
+-- if it is done once, the names standing for these bases, and else of the orders.
+abbrev pub EndsByScript : Bool → List ℕ → List Heard → Contents → List Ask → List Line → Contents → Type 0 → Type 0
+EndsByScript once bases script m orders trace end none =
+    (whole : Option (List Ask)) × (IsOfAll once bases script whole × EndsOnPlan m whole orders trace end none)
+
 -- The setup of a script was served whole on this memory, by these commands, and the names stand for the bases that they
 -- made. Then its parts were served, with this trace, which ends in that memory, and this is told of them. It is told of
--- all that they ask for if nothing was refused. If the run was planned, it ended as its plan says.
+-- all that they ask for if nothing was refused. If the run was planned, it ended as its plan says: that of all requests
+-- of the parts, if the script is done once.
 pub record HasToldScript (once planned : Bool) (start : Contents) (text : List ℕ) (setup : List Command)
     (trace : List Line) (end : Contents) (none : Type 0) (told : List Did) : Type 0 where
   pub made : SetsUp once start text setup []
@@ -66,7 +74,8 @@ pub record HasToldScript (once planned : Bool) (start : Contents) (text : List �
   pub of_script : AreOrders once (after start setup) (settled_when once start) (bases_made once start text setup)
       (script_heard text) orders
   pub all : AreAllTold (after start setup) trace none orders told
-  pub as_planned : planned ≡ true → EndsOnPlan (after start setup) orders trace end none
+  pub as_planned : planned ≡ true → EndsByScript once (bases_made once start text setup) (script_heard text)
+      (after start setup) orders trace end none
 
 -- ---- while it is noted
 

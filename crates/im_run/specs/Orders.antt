@@ -1,7 +1,7 @@
 -- What each element asks for in a script. (Own.)
-use Rattle.std.specs.Prelude.{◌≡◌, ◌≤◌, ℕ, zero, suc, ◌==◌, ◌&&◌, Bool, true, not, List, [], ◌∷◌, ◌++◌, map, length}
-use Rattle.std.specs.Prelude.{Option, IsSome, slice_get, if◌then◌else◌}
-use Rattle.std.specs.Option.{option_map_or}
+use Rattle.std.specs.Prelude.{◌≡◌, ◌≤◌, ℕ, zero, suc, ◌==◌, ◌&&◌, Bool, true, false, not, List, [], ◌∷◌, ◌++◌}
+use Rattle.std.specs.Prelude.{map, length, Option, None, Some, IsSome, slice_get, if◌then◌else◌}
+use Rattle.std.specs.Option.{option_map, option_map_or}
 use mathlib.Core.List.{IsPrefix}
 use Rattle.im_types.specs.declared.commands.Command.{Command}
 use Rattle.im_types.specs.Contents.{Contents}
@@ -17,6 +17,7 @@ use Rattle.im_serial.specs.Had.{bases_had, first_open, met_all, news, numbers_ha
 use Rattle.im_serving.specs.declared.intent.Intent.{Intent}
 use Rattle.im_serving.specs.declared.intent.Intent.TheVariants.{Request, Glance}
 use Rattle.im_run.specs.declared.sheet.Order.{Order}
+use Rattle.im_run.specs.declared.sheet.AllOrders.{AllOrders}
 
 -- ---- what a script says
 
@@ -145,6 +146,10 @@ pub record Ask : Type 0 where
 abbrev pub ask_of : Order → Ask
 ask_of o = record { element = o.element; first = o.next; intents = o.intents.items }
 
+-- the orders of all requests, as contracts see them, if there are any
+abbrev pub asks_in : Option AllOrders → Option (List Ask)
+asks_in whole = option_map (λ w. map ask_of w.orders.items) whole
+
 -- the order of this element, if it asks for something
 abbrev pub ask_if : List Intent → ℕ → ℕ → List Ask
 ask_if [] element first = []
@@ -157,14 +162,31 @@ asks_from intents first element zero = []
 asks_from intents first element (suc many) =
     ask_if (intents element) element (first element) ++ asks_from intents first (suc element) many
 
--- These are the orders of a script: of each element, from the least, that asks for something in a part. Each place has
--- an address.
-pub record AreOrders (once : Bool) (m : Contents) (had bases : List ℕ) (script : List Heard)
-    (orders : List Ask) : Type 0 where
+-- These are the orders of a script, under these first numbers, where so many requests of each element aren't asked for:
+-- of each element, from the least, that asks for something in a part. Each place has an address.
+pub record AreOrdersFrom (first : ℕ → ℕ) (had bases : List ℕ) (script : List Heard) (orders : List Ask) : Type 0 where
   pub many : ℕ
-  pub all : orders ≡ asks_from (λ k. part_of bases had k script) (first_asked once m) 0 many
+  pub all : orders ≡ asks_from (λ k. part_of bases had k script) first 0 many
   pub none : (element : ℕ) → many ≤ element → part_of bases had element script ≡ []
   pub placed : ArePlaced bases had script
+
+-- the same, under the numbers that this memory gives
+abbrev pub AreOrders : Bool → Contents → List ℕ → List ℕ → List Heard → List Ask → Type 0
+AreOrders once m had bases script orders = AreOrdersFrom (first_asked once m) had bases script orders
+
+-- the number of an element's first request in a part, if the setup makes so many blocks: they are element 0's first
+abbrev pub first_behind : ℕ → ℕ → ℕ
+first_behind blocks element = if element == 0 then suc blocks else 1
+
+-- The orders of all requests of a script's parts, the settled ones too: the n-th request of an element has number n.
+-- The names stand for these bases, one for each block of the setup.
+abbrev pub AreAllOrders : List ℕ → List Heard → List Ask → Type 0
+AreAllOrders bases script orders = AreOrdersFrom (first_behind (length bases)) [] bases script orders
+
+-- if there are such orders, the script is done once, and they are those of all its requests
+abbrev pub IsOfAll : Bool → List ℕ → List Heard → Option (List Ask) → Type 0
+IsOfAll once bases script None = once ≡ false
+IsOfAll once bases script (Some whole) = (once ≡ true) × AreAllOrders bases script whole
 
 -- The setup of a script led from the one memory to the other, and its names stand for these bases. These are its orders
 -- then.

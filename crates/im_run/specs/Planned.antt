@@ -1,13 +1,17 @@
 -- A script's requests as a plan. (Own.)
-use Rattle.std.specs.Prelude.{◌≡◌, ◌⊎◌, ℕ, suc, List, [], ◌∷◌, ◌++◌}
+use Rattle.std.specs.Prelude.{◌≡◌, ◌⊎◌, ℕ, suc, List, [], ◌∷◌, ◌++◌, Option, None, Some}
+use Rattle.std.specs.Prelude.{Bool, true, ◌&&◌, nat_lt, slice_get}
+use Rattle.std.specs.Option.{option_map_or}
 use Rattle.im_types.specs.declared.commands.Line.{Line}
 use Rattle.im_types.specs.declared.commands.Request.{Request}
-use Rattle.im_types.specs.Contents.{Contents}
+use Rattle.im_types.specs.Contents.{Contents, Window}
 use Rattle.im_types.specs.Plan.{FitsPlan}
+use Rattle.im_types.specs.Window.{next_number}
 use Rattle.im_plans.specs.Runs.{HasServed}
 use Rattle.im_controller.specs.Planned.{EndsAsPlanned}
 use Rattle.im_serving.specs.declared.intent.Intent.{Intent}
 use Rattle.im_serving.specs.declared.intent.Intent.TheVariants.{Request as Asks, Glance}
+use Rattle.im_run.specs.declared.sheet.Order.{Order}
 use Rattle.im_run.specs.Orders.{Ask}
 
 -- what an element asks for under a number, as a request; a glance is none
@@ -31,11 +35,36 @@ abbrev pub plan_of : List Ask → List Request
 plan_of [] = []
 plan_of (order ∷ orders) = requests_from order.element order.first order.intents ++ plan_of orders
 
--- A planned run of these orders went from the one memory to the other, with this trace: the plan of their requests
--- fitted, it ended as the plan says, and all of them were served if nothing was refused. If it didn't begin, no request
--- was served, and something was refused.
-abbrev pub EndsOnPlan : Contents → List Ask → List Line → Contents → Type 0 → Type 0
-EndsOnPlan m orders trace end none =
-    (FitsPlan m (plan_of orders) × EndsAsPlanned m (plan_of orders) trace end
-    × (none → HasServed end.windows (plan_of orders)))
+-- the requests among these intents, the first of which has this number, lie below a number
+abbrev pub all_below : ℕ → ℕ → List Intent → Bool
+all_below next number [] = true
+all_below next number (Asks op ∷ intents) = nat_lt number next && all_below next (suc number) intents
+all_below next number (Glance a ∷ intents) = all_below next number intents
+
+-- the next number of an element, or 0 for one that isn't there
+abbrev pub next_or : List Window → ℕ → ℕ
+next_or windows element = option_map_or next_number (slice_get windows element) 0
+
+-- the requests of these orders were served: each number lies below the next one of its element
+abbrev pub AreServed : List Window → List Order → Type 0
+AreServed windows [] = Unit {0}
+AreServed windows (o ∷ orders) =
+    (all_below (next_or windows o.element) o.next o.intents.items ≡ true) × AreServed windows orders
+
+-- the orders of a plan: of all requests of a script, if they are known, and else those that are served
+abbrev pub planned_orders : Option (List Ask) → List Ask → List Ask
+planned_orders None orders = orders
+planned_orders (Some whole) orders = whole
+
+-- the plan fits the memory, if it doesn't go on from what was done before
+abbrev pub FitsIfNew : Option (List Ask) → Contents → List Request → Type 0
+FitsIfNew None m plan = FitsPlan m plan
+FitsIfNew (Some whole) m plan = Unit {0}
+
+-- A planned run of these orders went from the one memory to the other, with this trace: it ended as the plan says, and
+-- all of the plan was served if nothing was refused. If it didn't begin, no request was served, and something was
+-- refused. The plan is of all requests of a script, if it goes on with one, and else of those of the orders.
+abbrev pub EndsOnPlan : Contents → Option (List Ask) → List Ask → List Line → Contents → Type 0 → Type 0
+EndsOnPlan m whole orders trace end none = let plan = plan_of (planned_orders whole orders) in
+    (FitsIfNew whole m plan × (EndsAsPlanned m plan trace end × (none → HasServed end.windows plan)))
     ⊎ ((trace ≡ []) × (none → ⊥))

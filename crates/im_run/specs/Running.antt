@@ -121,8 +121,8 @@ abbrev pub Closes : Option (List ℕ) → Lines → Option (List ℕ) → Conten
 Closes was before is m did status = (start : Option (List ℕ)) (text : List ℕ) → Prints start was before text
     → BeginsFinals start is text m did × (status ≡ 0 → Appends start is (text ++ finals m did (length did)))
 
--- what elements' servers left since they began: this trace is legal and leads to the engine's memory, and a crash left
--- a prefix of it
+-- What elements' servers left since they began: this trace is legal and leads to the engine's memory, and a crash left
+-- a prefix of it. If they were under a plan, it has what is in doubt too.
 pub record ServedOn {D : Type 0} (now : D → Moment) (past : D → List Moment) (failures : D → ℕ) (b : Begun)
     (m : Contents) (trace : List Line) (engine : EngineState D) : Type 0 where
   pub legal : IsLegal m trace
@@ -130,10 +130,11 @@ pub record ServedOn {D : Type 0} (now : D → Moment) (past : D → List Moment)
   pub plan : Option (List Requests)
   pub kept : HasKept now past failures b m plan (accepted_in m trace) engine
 
--- an engine's servers of these orders ended with this trace, the engine was closed, and this status was given
+-- An engine's servers of these orders ended with this trace, the engine was closed, and this status was given. If all
+-- requests of the script are known, a plan is of them.
 pub record EndedOn {D : Type 0} (now : D → Moment) (past : D → List Moment) (failures : D → ℕ) (planned : Bool)
-    (orders : List Ask) (begun : EngineState D) (disk : D) (was : Option (List ℕ)) (before : Lines)
-    (is : Option (List ℕ)) (trace : List Line) (status : ℕ) : Type 0 where
+    (whole : Option (List Ask)) (orders : List Ask) (begun : EngineState D) (disk : D) (was : Option (List ℕ))
+    (before : Lines) (is : Option (List ℕ)) (trace : List Line) (status : ℕ) : Type 0 where
   pub engine : EngineState D
   pub disk_is : disk ≡ engine.disk
   pub served : ServedOn now past failures (begun_in now past failures begun) begun.memory trace engine
@@ -141,14 +142,14 @@ pub record EndedOn {D : Type 0} (now : D → Moment) (past : D → List Moment) 
   pub means : engine.failed ≡ false → LeavesNow (now disk) (MeansState engine)
   pub did : List Did
   pub told : AreAllTold begun.memory trace (status ≡ 0) orders did
-  pub as_planned : planned ≡ true → EndsOnPlan begun.memory orders trace engine.memory (status ≡ 0)
+  pub as_planned : planned ≡ true → EndsOnPlan begun.memory whole orders trace engine.memory (status ≡ 0)
   pub printed : Closes was before is engine.memory did status
 
 -- the same of an engine that works, and of a disk that is honest at the end
-abbrev pub EndsServing : {D : Type 0} → Ghosts D → Bool → List Ask → EngineState D → D → Option (List ℕ) → Lines
-    → Option (List ℕ) → List Line → ℕ → Type 0
-EndsServing disk planned orders begun new was before is trace status = disk.honest new → begun.failed ≡ false
-    → EndedOn disk.now disk.past disk.failures planned orders begun new was before is trace status
+abbrev pub EndsServing : {D : Type 0} → Ghosts D → Bool → Option (List Ask) → List Ask → EngineState D → D
+    → Option (List ℕ) → Lines → Option (List ℕ) → List Line → ℕ → Type 0
+EndsServing disk planned whole orders begun new was before is trace status = disk.honest new → begun.failed ≡ false
+    → EndedOn disk.now disk.past disk.failures planned whole orders begun new was before is trace status
 
 -- Since the image was opened these commands were put on it: those of the setup, then those of the elements' servers.
 -- Each was accepted in its turn. All were acknowledged but those in doubt. There are commands in doubt only if a call

@@ -3,8 +3,10 @@
 //! The crate stands on `im_serving`. The setup is served first, through the engine.
 #![tactic(auto)]
 
+mod beginning;
 mod calls;
 mod closing;
+mod context;
 mod deeds;
 mod noting;
 mod numbering;
@@ -17,6 +19,8 @@ mod served;
 mod sheet;
 mod telling;
 mod tracing;
+mod unserved;
+mod whole;
 mod wording;
 
 pub use once::run_once_on;

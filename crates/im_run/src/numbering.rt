@@ -59,8 +59,8 @@ fn base_of(memory: &Memory, element: u16) -> u64 {
     }
 }
 
-// Returns the next number of an element, or 0 for one that doesn't exist.
-fn next_of(memory: &Memory, element: u16) -> u64
+/// Returns the next number of an element, or 0 for one that doesn't exist.
+pub(crate) fn next_of(memory: &Memory, element: u16) -> u64
     ensures { result ≡ option_map_or next_number (slice_get memory.now.contents.windows element) 0 }
 {
     match memory.window(element) {
@@ -81,8 +81,13 @@ fn first_of(memory: &Memory, element: u16, once: bool) -> u64
     }
 }
 
-// Keeps an order that asks for something, with its element's numbers.
-fn keep_order(numbered: &mut Vec<Order>, order: Order, base: u64, next: u64) -> Result<(), Reason>
+/// Keeps an order that asks for something, with its element's numbers.
+pub(crate) fn keep_order(
+    numbered: &mut Vec<Order>,
+    order: Order,
+    base: u64,
+    next: u64,
+) -> Result<(), Reason>
     ensures { OnOk result (map ask_of numbered.new.items
         ≡ map ask_of numbered.old.items ++ ask_if order.intents.items order.element next) }
 {

@@ -3,8 +3,9 @@ ghost use Rattle.std.specs.Prelude.{◌≡◌, ◌⊎◌, ◌≤◌, ◌++◌, �
 ghost use Rattle.im_text.specs.Printing.{Begins, IsLast, Prints};
 ghost use Rattle.im_serial.specs.Once.{HasServedNothing};
 ghost use Rattle.im_serial.specs.Serving.{seen_by};
-ghost use Rattle.im_run.specs.Once.{EndsOnce, RunsOnceOn};
+ghost use Rattle.im_run.specs.Once.{EndsOnce, RunsOnceOn, RunsOnceOnPlan};
 
+use crate::context::RunContext;
 use crate::run::{STALLED, run_server};
 use crate::sheet::{Commission, RunMode};
 use crate::tracing::Trace;
@@ -54,33 +55,31 @@ fn run_rest<
     V: Watcher + Sync,
     R: Threads + Wait + Sync,
 >(
-    rt: &R,
-    alloc: Global,
+    context: &RunContext<'_, G, V, R>,
     server: Server<D>,
     script: &Script<'_>,
-    gate: &G,
-    watcher: &V,
+    mode: RunMode,
     out: &mut W,
     observer: &mut N,
-    recorded: bool,
 ) -> (u8, D, Trace)
     requires ready { HasServedNothing D.Disk (seen_by server (W.contents out.old)) server.bases.items }
     ensures status { (result.0 ≤ 1) ⊎ (result.0 ≡ STALLED) }
-    ensures ends { EndsOnce D.Disk script.now server.engine result.1 (W.contents out.old) (W.contents out.new)
-        result.2 result.0 }
-    ensures recorded { recorded ≡ true → result.2.recorded ≡ true }
+    ensures ends { EndsOnce D.Disk mode.planned script.now server.engine result.1 (W.contents out.old)
+        (W.contents out.new) result.2 result.0 }
+    ensures recorded { mode.recorded ≡ true → result.2.recorded ≡ true }
 {
+    let alloc = context.alloc;
     let mut server = server;
     match server.show_past(alloc, script, out) {
         Ok(()) => {
             let none = Vec::new(alloc);
             server.waited = none; // Those that wait are sent again.
-            let asked = Commission { script, once: true };
-            let mode = RunMode {
-                planned: false,
-                recorded,
+            let asked = Commission {
+                script,
+                once: true,
+                mode,
             };
-            run_server(rt, alloc, server, asked, gate, watcher, out, observer, mode)
+            run_server(context, server, asked, out, observer)
         }
         Err(reason) => {
             let (status, disk) = refuse_rest(alloc, server, reason, out, observer);
@@ -105,6 +104,12 @@ fn run_rest<
 /// So at status 0 each request of a part was sent now, or is before its element's first one that waits: confirmed,
 /// or kept with its operation.
 ///
+/// If the run is planned, the plan is of all requests of the script's parts, those that aren't sent too, under their
+/// numbers. It has to be under way in the memory after the setup, as calls with this script leave it; else nothing more
+/// is served, and it is refused with `BadPlan`. At the end the entry that is kept for a request of the plan has its
+/// result by the plan, or it waits. If the status is 0, all of the plan was served, and the plan and the blocks alone
+/// say what is kept for it, whatever stops came before.
+///
 /// All else is as [`run_on`](crate::run_on) says. Nothing more is confirmed at the end, so that one more call prints
 /// the last replies again.
 pub fn run_once_on<
@@ -123,12 +128,14 @@ pub fn run_once_on<
     watcher: &V,
     out: &mut W,
     observer: &mut N,
-    recorded: bool,
+    mode: RunMode,
 ) -> (u8, D, Trace)
     ensures status { (result.0 ≤ 1) ⊎ (result.0 ≡ STALLED) }
     ensures run { RunsOnceOn D.Disk script.now disk result.1 (W.contents out.old) (W.contents out.new) result.2
         result.0 }
-    ensures recorded { recorded ≡ true → result.2.recorded ≡ true }
+    ensures planned { RunsOnceOnPlan D.Disk mode.planned script.now disk result.1 (W.contents out.old)
+        (W.contents out.new) result.2 result.0 }
+    ensures recorded { mode.recorded ≡ true → result.2.recorded ≡ true }
 {
     let Ok(desk) = Desk::new(alloc) else {
         let status = end(alloc, Err(Reason::Memory), out, observer);
@@ -137,9 +144,13 @@ pub fn run_once_on<
     match Engine::open(alloc, disk) {
         Ok(engine) => {
             let server = Server::new(alloc, engine, desk);
-            run_rest(
-                rt, alloc, server, script, gate, watcher, out, observer, recorded,
-            )
+            let context = RunContext {
+                rt,
+                alloc,
+                gate,
+                watcher,
+            };
+            run_rest(&context, server, script, mode, out, observer)
         }
         Err((refusal, mut disk)) => {
             let reason = diagnose(alloc, &mut disk, refusal);

@@ -1,16 +1,19 @@
 //! What each element asks for in a script.
-ghost use Rattle.std.specs.Prelude.{◌≡◌, ◌==◌, ◌++◌, ◌∷◌, [], OnOk, IfOk, false, if◌then◌else◌};
+ghost use Rattle.std.specs.Prelude.{◌≡◌, ◌==◌, ◌++◌, ◌∷◌, [], OnOk, IfOk, false, true, map, if◌then◌else◌};
 ghost use mathlib.Core.List.{IsPrefix};
 ghost use Rattle.im_script.specs.declared.script.Heard.TheVariants.{Says};
 ghost use Rattle.im_serial.specs.Asked.{wanted_by};
 ghost use Rattle.im_serial.specs.Serving.{ServedBy};
 ghost use Rattle.im_run.specs.Orders.{AddsGlance, AddsRequest, HasAdded, HasHeard, HasOrders, HasReadTo};
-ghost use Rattle.im_run.specs.Orders.{blocks_asked, blocks_of, line_blocks, script_heard, settled_by};
+ghost use Rattle.im_run.specs.Orders.{IsOfAll, ask_of, asks_among, asks_in, blocks_asked, blocks_of, first_asked};
+ghost use Rattle.im_run.specs.Orders.{line_blocks, script_heard, settled_by};
 
 use crate::noting::note_block;
 use crate::numbering::number_orders;
-use crate::sheet::{Commission, Order, Sheet};
+use crate::sheet::{AllOrders, Commission, Order, Sheet, Workload};
+use crate::whole::read_whole;
 use im_disk::Disk;
+use im_memory::Memory;
 use im_script::{
     Allocation, Heard, Place, Reader, Said, Script, ScriptFault, ScriptLine, split_line,
 };
@@ -44,8 +47,12 @@ fn add_intent(orders: &mut Vec<Order>, element: u16, intent: Intent) -> Result<(
     push_intent(&mut orders[at], intent)
 }
 
-// Adds a request to its element's order.
-fn add_line(orders: &mut Vec<Order>, bases: &[u32], line: ScriptLine) -> Result<(), Reason>
+/// Adds a request to its element's order.
+pub(crate) fn add_line(
+    orders: &mut Vec<Order>,
+    bases: &[u32],
+    line: ScriptLine,
+) -> Result<(), Reason>
     ensures { OnOk result (AddsRequest bases.now (record {
       element = line.element;
       action = line.action;
@@ -58,8 +65,8 @@ fn add_line(orders: &mut Vec<Order>, bases: &[u32], line: ScriptLine) -> Result<
     }
 }
 
-// Adds a glance to its element's order.
-fn add_glance(
+/// Adds a glance to its element's order.
+pub(crate) fn add_glance(
     orders: &mut Vec<Order>,
     bases: &[u32],
     element: u16,
@@ -195,13 +202,63 @@ fn set_up<D: Disk, W: Write, N: Observer>(
     }
 }
 
-/// Serves the setup of a script, and prints its lines at once. Returns what each element asks for in the script's
-/// lines, from the least element, and the setup's calls with their answers. Nothing after the setup is served. The
-/// blocks of the setup are element 0's next requests, in their order; a name stands for the base in its block's answer,
-/// and for the one that the server knew.
+// Reads all that a script asks for, if it is planned and done once.
+fn read_whole_if(
+    alloc: Global,
+    bases: &[u32],
+    asked: Commission<'_, '_>,
+) -> Result<Option<AllOrders>, Reason>
+    ensures { IfOk result (λ whole. asked.entry.mode.planned ≡ true → IsOfAll asked.entry.once bases.now
+        (script_heard asked.entry.script.now) (asks_in whole)) }
+{
+    if !asked.once {
+        return Ok(None);
+    }
+    if !asked.mode.planned {
+        return Ok(None);
+    }
+    match read_whole(alloc, bases, asked.script) {
+        Ok(whole) => Ok(Some(whole)),
+        Err(reason) => Err(reason),
+    }
+}
+
+// Returns what the servers do for these orders.
+fn make_workload(
+    alloc: Global,
+    memory: &Memory,
+    bases: &[u32],
+    orders: Vec<Order>,
+    asked: Commission<'_, '_>,
+) -> Result<Workload, Reason>
+    ensures asked { IfOk result (λ work. map ask_of work.orders.items
+        ≡ asks_among (first_asked asked.entry.once memory.now.contents) orders.items) }
+    ensures whole { IfOk result (λ work. asked.entry.mode.planned ≡ true → IsOfAll asked.entry.once bases.now
+        (script_heard asked.entry.script.now) (asks_in work.whole)) }
+    ensures mode { IfOk result (λ work. work.mode ≡ asked.entry.mode) }
+{
+    let orders = match number_orders(alloc, memory, orders, asked.once) {
+        Ok(orders) => orders,
+        Err(reason) => return Err(reason),
+    };
+    match read_whole_if(alloc, bases, asked) {
+        Ok(whole) => Ok(Workload {
+            orders,
+            whole,
+            mode: asked.mode,
+        }),
+        Err(reason) => Err(reason),
+    }
+}
+
+/// Serves the setup of a script, and prints its lines at once. Returns what the servers do for the script's lines, from
+/// the least element, and the setup's calls with their answers. Nothing after the setup is served. The blocks of the
+/// setup are element 0's next requests, in their order; a name stands for the base in its block's answer, and for the
+/// one that the server knew.
 ///
 /// If the script is done once, a block that the memory has isn't made again, and an element doesn't ask for what is
 /// settled: its requests before the first that waits. Those from that one on are asked for again, under their numbers.
+/// If it is planned too, all that the script asks for is read beside it.
 ///
 /// It is refused with what serving a block is refused with, with `Place` if a request's place lies past the last
 /// address, and with `Memory`. The setup's calls until then are returned.
@@ -211,12 +268,15 @@ pub fn read_orders<D: Disk, W: Write, N: Observer>(
     asked: Commission<'_, '_>,
     out: &mut W,
     observer: &mut N,
-) -> (Result<Vec<Order>, Reason>, Vec<Line>)
+) -> (Result<Workload, Reason>, Vec<Line>)
     ensures served { ServedBy D.Disk
         (blocks_asked asked.entry.once server.old.engine.memory asked.entry.script.now) result.0 server.old
         (W.contents out.old) server.new (W.contents out.new) }
-    ensures orders { IfOk result.0 (λ orders. HasOrders asked.entry.once server.old.engine.memory
-        server.new.engine.memory server.new.bases.items asked.entry.script.now orders.items) }
+    ensures orders { IfOk result.0 (λ work. HasOrders asked.entry.once server.old.engine.memory
+        server.new.engine.memory server.new.bases.items asked.entry.script.now work.orders.items) }
+    ensures whole { IfOk result.0 (λ work. asked.entry.mode.planned ≡ true → IsOfAll asked.entry.once
+        server.new.bases.items (script_heard asked.entry.script.now) (asks_in work.whole)) }
+    ensures mode { IfOk result.0 (λ work. work.mode ≡ asked.entry.mode) }
 {
     let Ok(mut sheet) = Sheet::new(alloc, server.engine.memory(), asked.once) else {
         return (Err(Reason::Memory), Vec::new(alloc));
@@ -225,7 +285,8 @@ pub fn read_orders<D: Disk, W: Write, N: Observer>(
         Ok(()) => {
             let Sheet { orders, setup, .. } = sheet;
             let memory = server.engine.memory();
-            (number_orders(alloc, memory, orders, asked.once), setup)
+            let bases = server.bases.as_slice();
+            (make_workload(alloc, memory, bases, orders, asked), setup)
         }
         Err(reason) => {
             let Sheet { setup, .. } = sheet;

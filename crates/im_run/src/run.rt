@@ -1,17 +1,19 @@
 //! A script on the image of a disk, from opening to end.
 ghost use Rattle.std.specs.Prelude.{◌≡◌, ◌⊎◌, ◌≤◌, None, false, true, map, IsOk};
 ghost use Rattle.im_serial.specs.Serving.{seen_by};
-ghost use Rattle.im_run.specs.Orders.{ask_of, bases_first};
+ghost use Rattle.im_run.specs.Orders.{ask_of, asks_in, bases_first};
 ghost use Rattle.im_run.specs.Running.{EndsRun, EndsServing, Ran, RunsOn, RunsOnPlan};
 ghost use Rattle.im_run.specs.Setup.{CanServe};
 
+use crate::beginning::begin;
 use crate::calls::Calls;
 use crate::closing::close;
+use crate::context::RunContext;
 use crate::orders::read_orders;
-use crate::planned::begin;
 use crate::served::{Outcome, serve_orders};
-use crate::sheet::{Commission, Order, RunMode};
+use crate::sheet::{Commission, RunMode, Workload};
 use crate::tracing::Trace;
+use crate::unserved::with_plan;
 use im_disk::Disk;
 use im_engine::Engine;
 use im_script::Script;
@@ -48,33 +50,31 @@ fn serve_on<
     V: Watcher + Sync,
     R: Threads + Wait + Sync,
 >(
-    rt: &R,
-    alloc: Global,
+    context: &RunContext<'_, G, V, R>,
     engine: Engine<D>,
-    orders: Vec<Order>,
+    work: Workload,
     paper: Paper,
-    gate: &G,
-    watcher: &V,
     out: &mut W,
     observer: &mut N,
-    mode: RunMode,
 ) -> (u8, D, Calls)
     ensures status { (result.0 ≤ 1) ⊎ (result.0 ≡ STALLED) }
-    ensures ended { EndsServing D.Disk mode.planned (map ask_of orders.items) engine result.1 (W.contents out.old)
-        paper.lines (W.contents out.new) result.2.items result.0 }
-    ensures recorded { mode.recorded ≡ true → result.2.recorded ≡ true }
+    ensures ended { EndsServing D.Disk work.mode.planned (asks_in work.whole) (map ask_of work.orders.items) engine
+        result.1 (W.contents out.old) paper.lines (W.contents out.new) result.2.items result.0 }
+    ensures recorded { work.mode.recorded ≡ true → result.2.recorded ≡ true }
     ensures honest { D.honest result.1 → D.honest engine.disk }
 {
+    let alloc = context.alloc;
     let none = Vec::new(alloc);
-    match begin(rt, alloc, engine, orders.as_slice(), mode) {
+    match begin(context.rt, alloc, engine, &work) {
         Ok(opening) => {
+            let Workload { orders, whole, .. } = work;
             let Outcome {
                 engine,
                 did,
                 trace,
                 refused,
-            } = serve_orders::<D, Brand, G, V, R>(rt, alloc, opening, orders, gate, watcher);
-            let reason = reason_of(refused);
+            } = serve_orders::<D, Brand, G, V, R>(context, opening, orders);
+            let reason = with_plan(engine.memory(), &whole, reason_of(refused));
             let (status, disk) = close(alloc, engine, did, reason, paper, out, observer);
             (status, disk, trace)
         }
@@ -95,33 +95,28 @@ pub(crate) fn run_server<
     V: Watcher + Sync,
     R: Threads + Wait + Sync,
 >(
-    rt: &R,
-    alloc: Global,
+    context: &RunContext<'_, G, V, R>,
     server: Server<D>,
     asked: Commission<'_, '_>,
-    gate: &G,
-    watcher: &V,
     out: &mut W,
     observer: &mut N,
-    mode: RunMode,
 ) -> (u8, D, Trace)
     requires ready { CanServe D.Disk (seen_by server (W.contents out.old)) }
     requires bases { server.bases.items ≡ bases_first asked.once server.engine.memory asked.script.now }
     ensures status { (result.0 ≤ 1) ⊎ (result.0 ≡ STALLED) }
-    ensures run { EndsRun D.Disk asked.entry.once mode.planned asked.entry.script.now server.engine result.1
+    ensures run { EndsRun D.Disk asked.entry.once asked.entry.mode.planned asked.entry.script.now server.engine result.1
         (W.contents out.old) (W.contents out.new) result.2 result.0 }
-    ensures recorded { mode.recorded ≡ true → result.2.recorded ≡ true }
+    ensures recorded { asked.entry.mode.recorded ≡ true → result.2.recorded ≡ true }
     ensures honest { D.honest result.1 → D.honest server.engine.disk }
 {
+    let alloc = context.alloc;
     let none = Vec::new(alloc);
     let mut server = server;
     let (read, setup) = read_orders(alloc, &mut server, asked, out, observer);
     let (engine, paper) = server.leave();
     match read {
-        Ok(orders) => {
-            let (status, disk, served) = serve_on(
-                rt, alloc, engine, orders, paper, gate, watcher, out, observer, mode,
-            );
+        Ok(work) => {
+            let (status, disk, served) = serve_on(context, engine, work, paper, out, observer);
             (status, disk, Trace { setup, served })
         }
         Err(reason) => {
@@ -228,8 +223,15 @@ pub fn run_on<
             let asked = Commission {
                 script,
                 once: false,
+                mode,
             };
-            run_server(rt, alloc, server, asked, gate, watcher, out, observer, mode)
+            let context = RunContext {
+                rt,
+                alloc,
+                gate,
+                watcher,
+            };
+            run_server(&context, server, asked, out, observer)
         }
         Err((refusal, mut disk)) => {
             let reason = diagnose(alloc, &mut disk, refusal);

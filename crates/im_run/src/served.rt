@@ -9,6 +9,7 @@ ghost use Rattle.im_run.specs.Orders.{ask_of};
 ghost use Rattle.im_run.specs.Running.{ServedOn};
 
 use crate::calls::Calls;
+use crate::context::RunContext;
 use crate::deeds::told_at;
 use crate::parts::{Parts, first_refusal, make_parts};
 use crate::sheet::Order;
@@ -208,14 +209,7 @@ pub(crate) fn serve_orders<
     G: Gate + Sync,
     V: Watcher + Sync,
     R: Threads + Wait + Sync,
->(
-    rt: &R,
-    alloc: Global,
-    opening: Opening<D>,
-    orders: Vec<Order>,
-    gate: &G,
-    watcher: &V,
-) -> Outcome<D>
+>(context: &RunContext<'_, G, V, R>, opening: Opening<D>, orders: Vec<Order>) -> Outcome<D>
     requires memory { opening.engine.memory ≡ K.memory }
     requires lines { opening.lines_name ≡ K.lines_name }
     requires marked { opening.marked_name ≡ K.marked_name }
@@ -234,6 +228,8 @@ pub(crate) fn serve_orders<
     ensures told { AreAllTold K.memory result.trace.items (result.refused ≡ None) (map ask_of orders.items)
         result.did.items }
 {
+    let rt = context.rt;
+    let alloc = context.alloc;
     let controller = opening.named::<K>();
     let Parts {
         parts,
@@ -241,7 +237,7 @@ pub(crate) fn serve_orders<
         refused: unmade,
         ..
     } = make_parts(rt, alloc, &controller, orders);
-    let served = serve_elements(rt, alloc, &controller, gate, watcher, parts);
+    let served = serve_elements(rt, alloc, &controller, context.gate, context.watcher, parts);
     let Notes {
         ports,
         did,

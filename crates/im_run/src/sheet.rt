@@ -21,6 +21,13 @@ pub struct Order {
     pub intents: Vec<Intent>,
 }
 
+/// What each element asks for in all of a script, be it settled or not. The n-th request of an element has number n.
+#[derive(Drop)]
+pub struct AllOrders {
+    /// The orders, from the least element.
+    pub orders: Vec<Order>,
+}
+
 /// How a script is run.
 #[derive(Clone, Copy, Debug, PartialEq, Eq)]
 pub struct RunMode {
@@ -37,6 +44,19 @@ pub struct Commission<'s, 'a> {
     pub script: &'s Script<'a>,
     /// Whether it is done once.
     pub once: bool,
+    /// How it is run.
+    pub mode: RunMode,
+}
+
+/// What the servers of a run do.
+#[derive(Drop)]
+pub struct Workload {
+    /// What each element asks for.
+    pub orders: Vec<Order>,
+    /// All that the script asks for, if its plan goes on with what was done before.
+    pub whole: Option<AllOrders>,
+    /// How it is run.
+    pub mode: RunMode,
 }
 
 /// What was read of a script.

@@ -27,6 +27,8 @@ imem run a.img s = run s on a.img
 imem run a.img s --planned = run s on a.img, planned
 imem run --planned a.img - = run - on a.img, planned
 imem run a.img s --once = run s on a.img, once
+imem run a.img s --planned --once = run s on a.img, planned, once
+imem run --once a.img s --trace t --planned = run s on a.img, planned, once, traced to t
 imem run --once a.img - --trace t = run - on a.img, once, traced to t
 imem run a.img s --trace t = run s on a.img, traced to t
 imem run --trace=t --planned a.img s --statuses = run s on a.img, planned, traced to t, by statuses
@@ -92,9 +94,6 @@ says --quiet = yes
 imem run a.img s --json --planned --quiet = status 2
 says --json = yes
 imem serve a.img --quiet = status 2
--- What is left of a plan is none.
-imem run a.img s --planned --once = status 2
-says --once = yes
 imem run a.img s --trace = status 2
 says --trace = yes
 imem serial a.img s --trace t = status 2

@@ -34,7 +34,7 @@ fn run_to_end<R: Threads + Wait + Sync>(
     for stops in 0..MOST_RUNS {
         here.place.fuse = (many, Mode::Stop);
         many = many.saturating_add(passes).saturating_add(MORE);
-        let status = serve(rt, here, How::Once, text, &Open);
+        let status = serve(rt, here, here.again, text, &Open);
         let _crashed = here.place.crash(crash);
         if status == 0 {
             return Some(stops);
@@ -51,7 +51,7 @@ fn has_come_to<R: Threads + Wait + Sync>(
     ends: &[Saying],
 ) -> bool {
     let end = here.lines();
-    let status = serve(rt, here, How::Once, text, &Open);
+    let status = serve(rt, here, here.again, text, &Open);
     let printed = printed_after(here.alloc, end.said());
     let is_printed = status == 0 && here.out.text() == printed.said();
     is_printed && has_end(ends, end.said()) && here.lines().said() == end.said()
@@ -101,7 +101,8 @@ fn number(word: &str) -> u64 {
 
 /// Stops a script behind each number of calls, as the words behind its name tell. Tells how many ends there are by the
 /// plain memory, how often it comes to one of them, and whether the disk that passed the most calls stopped no run.
-pub fn run_again<R: Threads + Wait + Sync>(rt: &R, here: &mut Stage, words: &str) {
+pub fn run_again<R: Threads + Wait + Sync>(rt: &R, here: &mut Stage, how: How, words: &str) {
+    here.again = how;
     let (words, by) = words.split_once(" by ").unwrap_or((words, "1"));
     let (name, most) = words.rsplit_once(' ').unwrap_or((words, "0"));
     let text = script_of(here.alloc, name);

@@ -26,13 +26,13 @@ pub fn serve<G: Gate + Sync, R: Threads + Wait + Sync>(
         return 2;
     };
     let (out, told, watcher) = (&mut here.out, &mut here.told, &Unwatched);
-    let (status, disk, trace) = if how == How::Once {
-        run_once_on(rt, alloc, disk, &script, gate, watcher, out, told, true)
+    let mode = RunMode {
+        planned: how == How::Plan || how == How::OncePlan,
+        recorded: how == How::Trace || how == How::Marks,
+    };
+    let (status, disk, trace) = if how == How::Once || how == How::OncePlan {
+        run_once_on(rt, alloc, disk, &script, gate, watcher, out, told, mode)
     } else {
-        let mode = RunMode {
-            planned: how == How::Plan,
-            recorded: how == How::Trace,
-        };
         run_on(rt, alloc, disk, &script, gate, watcher, out, told, mode)
     };
     here.lay_down(disk, &trace, how);

@@ -7,15 +7,16 @@
 //! held TEXT                      tells the text, and whether the last run held requests back so
 //! report, report windows         the image's cells and entries, or its windows
 //! fault NAME                     a run on an image whose calls fail behind its opening
-//! once NAME                      runs what the image doesn't have of a script
+//! marks NAME                     as a trace, with its marks
+//! once NAME, once-plan NAME      runs what the image doesn't have of a script, or goes on with its plan
 //! again NAME N, again NAME N by M    the same on new images, stopped behind 0 to N calls of the disk, or each M of
 //!                                them, with each crash, until the script is done. It tells how many ends the plain
 //!                                memory has for it in all orders, and how often it came to one of them and one more
-//!                                run printed that
+//!                                run printed that; again-plan NAME N: the same of a plan that is gone on with
 //! ```
 
 /// The scenes.
-pub const SCENES: [&str; 112] = [
+pub const SCENES: [&str; 124] = [
     // A server that waits for a store that nobody sends is stalled. The store of a later run answers it.
     "# a fetch without its store",
     "new",
@@ -126,6 +127,16 @@ pub const SCENES: [&str; 112] = [
     "again round 84 by 4",
     "# more requests than a window has: stopped and gone on with until its end",
     "again long 700 by 100",
+    // Plans that are gone on with. Of the second one requests are confirmed before the end.
+    "# plan: as a plan, stopped and gone on with until its end",
+    "again-plan plan 45",
+    "# more requests of a plan than a window has: stopped and gone on with until its end",
+    "again-plan long 700 by 100",
+    "# a cell of a plan that is full before its store is served: it isn't under way",
+    "new",
+    "once-plan waits",
+    "run fills",
+    "once-plan both",
     // Traces, where the order is fixed.
     "# the trace of a fetch that waits",
     "new",
@@ -133,6 +144,9 @@ pub const SCENES: [&str; 112] = [
     "# the trace of a fetch behind its store",
     "new",
     "trace both after 2",
+    "# the marks of a fetch that waits",
+    "new",
+    "marks both after 1",
     "# the trace of a setup whose last block is not made",
     "new",
     "trace no block",

@@ -4,7 +4,8 @@ use im_story::{Saying, request};
 use im_types::{Op, Request, WINDOW};
 use std::alloc::Global;
 
-// Scripts. Each begins with its name, in brackets, and what it is.
+// Scripts. Each begins with its name, in brackets, and what it is, or its requests if it is stopped: then its blocks
+// lie from address 0 on.
 const SCRIPTS: &str = "# [waits] a fetch without its store
 setup
 alloc x i 1
@@ -13,6 +14,9 @@ fetch x
 # [stores] the store, in a later run
 element 2
 store 0 6
+# [fills] a store of an element that no other script names
+element 4
+store 0 9
 # [both] both in one run, by two servers
 setup
 alloc x i 1
@@ -57,7 +61,7 @@ glance x
 element 3
 glance 4095
 glance 4294967295
-# [plan] two elements fetch a cell, and an address is in no block
+# [plan] 0.1 alloc i 2, 1.1 fetch 0, 1.2 fetch 1, 2.1 store 0 5, 2.2 store 1 6, 3.1 fetch 0, 3.2 fetch 9
 setup
 alloc x i 2
 element 1
@@ -69,7 +73,7 @@ store x+1 6
 element 3
 fetch x
 fetch 9
-# [stored twice] no plan, two elements store to one cell
+# [stored twice] 0.1 alloc i 2, 2.1 store 0 5, 3.1 store 0 7
 setup
 alloc x i 2
 element 2
@@ -125,7 +129,7 @@ fetch 1
 setup
 alloc x m 2
 alloc y i 0
-# [puts] two puts of one element and a take of another, to one cell
+# [puts] 0.1 alloc m 1, 1.1 put 0 5, 1.2 put 0 6, 2.1 take 0
 setup
 alloc x m 1
 element 1
@@ -133,7 +137,7 @@ put x 5
 put x 6
 element 2
 take x
-# [crowd] two takes and two puts of one cell, each of another element
+# [crowd] 0.1 alloc m 1, 1.1 take 0, 2.1 take 0, 3.1 put 0 5, 4.1 put 0 6
 setup
 alloc x m 1
 element 1
@@ -144,12 +148,12 @@ element 3
 put x 5
 element 4
 put x 6
-# [blocks] two elements make a block each
+# [blocks] 1.1 alloc i 1, 2.1 alloc m 2
 element 1
 alloc i 1
 element 2
 alloc m 2
-# [round] a cell that is emptied and filled again, and a fetch and a store of another block
+# [round] 0.1 alloc i 1,0.2 alloc i 1,1.1 store 0 5,1.2 reset 0,1.3 store 0 6,1.4 fetch 0,2.1 fetch 1,3.1 store 1 7
 setup
 alloc x i 1
 alloc y i 1
@@ -162,64 +166,37 @@ element 2
 fetch y
 element 3
 store y 7
-# [long] more requests than a window has entries
+# [long] 0.1 alloc i 1, 1.1 store 0 5
 setup
 alloc x i 1
 element 1
 store x 5
 ";
 
-// The requests of scripts that are stopped. Blocks lie from address 0 on.
-const REQUESTS: [(&str, &str); 7] = [
-    (
-        "plan",
-        "0.1 alloc i 2, 1.1 fetch 0, 1.2 fetch 1, 2.1 store 0 5, 2.2 store 1 6, 3.1 fetch 0, 3.2 fetch 9",
-    ),
-    (
-        "stored twice",
-        "0.1 alloc i 2, 2.1 store 0 5, 3.1 store 0 7",
-    ),
-    (
-        "puts",
-        "0.1 alloc m 1, 1.1 put 0 5, 1.2 put 0 6, 2.1 take 0",
-    ),
-    (
-        "crowd",
-        "0.1 alloc m 1, 1.1 take 0, 2.1 take 0, 3.1 put 0 5, 4.1 put 0 6",
-    ),
-    ("blocks", "1.1 alloc i 1, 2.1 alloc m 2"),
-    (
-        "round",
-        "0.1 alloc i 1, 0.2 alloc i 1, 1.1 store 0 5, 1.2 reset 0, 1.3 store 0 6, 1.4 fetch 0, 2.1 fetch 1, \
-            3.1 store 1 7",
-    ),
-    ("long", "0.1 alloc i 1, 1.1 store 0 5"),
-];
-
 // The last request of the long one, all others of which are fetches.
 const LONG: u64 = 70;
 
-// Returns the script of this name, or an empty one.
-fn named(name: &str) -> &'static str {
+// Returns what stands behind the name of a script, and the script.
+fn named(name: &str) -> (&'static str, &'static str) {
     for part in SCRIPTS.split("# [") {
         if let Some((other, script)) = part.split_once("] ") {
             if other == name {
-                return script.split_once('\n').unwrap_or((script, "")).1;
+                return script.split_once('\n').unwrap_or((script, ""));
             }
         }
     }
-    ""
+    ("", "")
 }
 
 /// Returns the script of this name.
 pub fn script_of(alloc: Global, name: &str) -> Saying {
     let mut text = Saying::new(alloc);
-    text.text(named(name));
+    text.text(named(name).1);
     if name == "reads" {
         for _ in 0..WINDOW {
             text.text("fetch x+1\n");
         }
-        text.text(named("reads on"));
+        text.text(named("reads on").1);
     }
     if name == "long" {
         for _ in 1..LONG {
@@ -242,12 +219,8 @@ fn add_request(alloc: Global, requests: &mut Vec<Request>, text: &str) {
 /// Returns the requests of the script of this name.
 pub fn requests_of(alloc: Global, name: &str) -> Vec<Request> {
     let mut requests = Vec::new(alloc);
-    for (other, texts) in REQUESTS {
-        if other == name {
-            for text in texts.split(", ") {
-                add_request(alloc, &mut requests, text);
-            }
-        }
+    for text in named(name).0.split(',') {
+        add_request(alloc, &mut requests, text);
     }
     if name == "long" {
         for before in 1..LONG {

@@ -3,20 +3,23 @@
 use crate::writers::Told;
 use im_disk::FuseDisk;
 use im_report::inspect_on;
-use im_run::{Trace, write_trace};
+use im_run::{Trace, write_marked_trace, write_trace};
 use im_story::{Paper, Saying, old_image};
 use im_story_disk::Place;
 use im_types::{Limits, Refusal};
 use std::alloc::Global;
 
-/// How a script is run: as it is, as a plan, for its trace, on a disk that fails behind the opening, or once.
+/// How a script is run: as it is, as a plan, for its trace, for that with its marks, on a disk that fails behind the
+/// opening, once, or once as a plan.
 #[derive(Clone, Copy, PartialEq, Eq)]
 pub enum How {
     Run,
     Plan,
     Trace,
+    Marks,
     Fault,
     Once,
+    OncePlan,
 }
 
 /// An image, what was printed, and what is told.
@@ -28,6 +31,8 @@ pub struct Stage {
     pub place: Place,
     /// What was last printed.
     pub out: Paper,
+    /// How a script is run that is stopped: once, or once as a plan.
+    pub again: How,
     /// Why the last run was refused, if it was.
     pub told: Told,
     /// Whether the last run held requests back until another one was answered.
@@ -62,6 +67,7 @@ impl Stage {
             alloc,
             place: Place::new(alloc),
             out: Paper::new(alloc),
+            again: How::Once,
             told: Told { reason: None },
             held: false,
             said: Saying::new(alloc),
@@ -90,10 +96,14 @@ impl Stage {
     /// Keeps the disk behind a run, whose trace is told if that is asked for.
     pub fn lay_down(&mut self, disk: FuseDisk, trace: &Trace, how: How) {
         self.place.lay_down(disk);
-        if let How::Trace = how {
+        if how == How::Trace || how == How::Marks {
             self.out = Paper::new(self.alloc);
-            let is_written = write_trace(self.alloc, trace, &mut self.out).is_ok();
-            self.said.so(is_written, "")
+            let written = if how == How::Trace {
+                write_trace(self.alloc, trace, &mut self.out)
+            } else {
+                write_marked_trace(self.alloc, trace, &mut self.out)
+            };
+            self.said.so(written.is_ok(), "")
         }
     }
 
@@ -103,7 +113,7 @@ impl Stage {
             How::Fault => self.tell_fault(),
             _ => self.said.text(self.out.text()),
         }
-        if how != How::Trace {
+        if how != How::Trace && how != How::Marks {
             write!(self.said, "status {status}\n")
         }
     }

@@ -223,12 +223,13 @@ serial_task rows =
     option_map (λ _. serial (path_in rows (codes "IMAGE")) (path_in rows (codes "SCRIPT"))
     (is_given rows (codes "once"))) (telling_given rows)
 
--- the task of run, by its two paths, whether it is planned or done once, which it can't be both, and the path of its
--- trace, if it says how lines are told
+-- the task of run, by its two paths, whether it is planned or done once, and the path of its trace, if it says how
+-- lines are told
 abbrev pub run_task : List Row → Option Task
-run_task rows = option_and_then (λ _. if is_given rows (codes "planned") && is_given rows (codes "once") then None
-    else Some (run (path_in rows (codes "IMAGE")) (path_in rows (codes "SCRIPT")) (is_given rows (codes "planned"))
-    (is_given rows (codes "once")) (first_of (codes "trace") rows))) (telling_given rows)
+run_task rows =
+    option_map (λ _. run (path_in rows (codes "IMAGE")) (path_in rows (codes "SCRIPT"))
+    (is_given rows (codes "planned")) (is_given rows (codes "once")) (first_of (codes "trace") rows))
+    (telling_given rows)
 
 -- the task of serve, by its path, whether it is watched, and the folder of its backups
 abbrev pub serve_task : List Row → Task

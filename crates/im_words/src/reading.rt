@@ -120,8 +120,8 @@ fn bad_size(alloc: Global, name: &str, found: Option<&ArgMatches>) -> Result<Err
 /// The error for a text that is no number, or for two flags that can't go together, with the usage of the subcommand.
 fn bad_number(alloc: Global, matches: &ArgMatches<'_>) -> Result<Error, AllocError> {
     match matches.subcommand() {
-        Some(("run", found)) => bad_script(alloc, "run", found),
-        Some(("serial", found)) => bad_script(alloc, "serial", found),
+        Some(("run", _)) => bad_script(alloc, "run"),
+        Some(("serial", _)) => bad_script(alloc, "serial"),
         Some(("inspect", found)) => bad_look(alloc, found),
         Some((name, found)) => bad_size(alloc, name, Some(found)),
         None => bad_size(alloc, "format", None),

@@ -71,7 +71,7 @@ its setup with 'refused 23 BadPlan', and none of its parts is served.
 With --once, a run that was stopped is continued by the same command, as 'imem serial --once' continues a
 script. First each request that the image has prints 'K.N REPLY', or 'K.N done' if it was confirmed. From an
 element's first request on that waits, the requests are sent again, and print their final replies as well.
-All glances are made. It can't be used with --planned.
+All glances are made. With --planned, its plan is of all its requests, also of those that aren't sent.
 
 With --quiet or --json, it prints what 'imem serial' does, and for a glance {glance, element, value}: glance
 is the address, and value null if none was seen.
@@ -207,46 +207,28 @@ pub(crate) fn serial_work<'a>(found: &ArgMatches<'a>) -> Option<Work<'a>>
     })))
 }
 
-/// What `run` is asked for. Returns `None` for a plan that is to be done once, or if lines are to be told in two ways.
+/// What `run` is asked for. Returns `None` if lines are to be told in two ways.
 pub(crate) fn run_work<'a>(found: &ArgMatches<'a>) -> Option<Work<'a>>
     ensures { option_map task_of_work result ≡ run_task (rows_of (found_of found.now)) }
 {
     let _telling = telling_given(found)?;
     let (image, script) = two_paths(found);
-    let planned = is_given(found, "planned");
-    let once = is_given(found, "once");
-    let trace = path_if(found, "trace");
-    if planned && once {
-        return None;
-    }
     Some(Work::Run(ScriptRun {
         image,
         script,
-        planned,
-        once,
-        trace,
+        planned: is_given(found, "planned"),
+        once: is_given(found, "once"),
+        trace: path_if(found, "trace"),
     }))
 }
 
-/// The error for lines that are to be told in two ways, or for a plan that is to be done once.
-fn bad_flags(found: &ArgMatches) -> &'static str {
-    if telling_given(found).is_none() {
-        "the argument '--json' cannot be used with '--quiet'"
-    } else {
-        "the argument '--once' cannot be used with '--planned'"
-    }
-}
-
-/// The same with the usage of the subcommand.
-pub(crate) fn bad_script(
-    alloc: Global,
-    name: &str,
-    found: &ArgMatches,
-) -> Result<Error, AllocError> {
+/// The error for lines that are to be told in two ways, with the usage of the subcommand.
+pub(crate) fn bad_script(alloc: Global, name: &str) -> Result<Error, AllocError> {
     let mut command = if name == "run" {
         run_command(alloc)?.bin_name("imem run")?
     } else {
         serial_command(alloc)?.bin_name("imem serial")?
     };
-    command.error(ErrorKind::ArgumentConflict, bad_flags(found))
+    let why = "the argument '--json' cannot be used with '--quiet'";
+    command.error(ErrorKind::ArgumentConflict, why)
 }

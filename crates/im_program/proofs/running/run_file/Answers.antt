@@ -21,7 +21,7 @@ returns-then-running-clause-ran g c = rw c.if-running.true (record {
   none = c.in_ok-disk.ensures.past;
   text = c.in_ok-script.script;
   run = c.run_once_on.ensures.run;
-  plan = tt;
+  plan = rw c.mode_of-mode.ensures at c.run_once_on.ensures.planned;
 })
 
 pub returns-clause-ran : goal.returns-clause-ran

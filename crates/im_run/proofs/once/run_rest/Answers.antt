@@ -36,9 +36,8 @@ returns-in-Ok-clause-ends g c = λ honest.
       subst (λ (e : EngineState g.row.D.Denot). g.D.Disk.honest e.disk) c.show_past.ensures.engine
           (r.ensures.honest honest),
       inr (rest_by g.D.Disk (wanted_of c.args.script.now) old mid was.bases.items c.requires.ready s.bases.items
-          c.in-Ok.ensures.shown c.args.script.now refl c.in-Ok.ensures.fit r.result.1 (g.W.Write.contents r.new.out)
-          r.result.2 r.result.0
-          (r.ensures.run honest)),
+          c.in-Ok.ensures.shown c.args.mode.planned c.args.script.now refl c.in-Ok.ensures.fit r.result.1
+          (g.W.Write.contents r.new.out) r.result.2 r.result.0 (r.ensures.run honest)),
     )
 
 pub returns-in-Err-clause-ends : goal.returns-in-Err-clause-ends

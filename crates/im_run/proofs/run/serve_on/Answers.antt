@@ -1,14 +1,13 @@
 use Rattle.std.proofs.Common.{◌≡◌, ◌∙◌, List, ap, inr, map, subst, sym}
-use Rattle.std.specs.Prelude.{None, Some}
+use Rattle.std.specs.Prelude.{IfSome, None}
+use Rattle.im_types.specs.Contents.{Contents}
 use Rattle.im_disk.specs.Since.{LeavesNow}
 use Rattle.im_engine.specs.State.{EngineState, MeansState}
 use Rattle.im_controller.specs.Kept.{begun_in}
 use Rattle.im_laws.proofs.Tests.{true_false}
-use Rattle.im_types.specs.Plan.{FitsPlan}
-use Rattle.im_run.specs.declared.sheet.Order.{Order}
 use Rattle.im_run.specs.Doing.{AreAllTold}
-use Rattle.im_run.specs.Orders.{ask_of}
-use Rattle.im_run.specs.Planned.{plan_of}
+use Rattle.im_run.specs.Orders.{ask_of, asks_in}
+use Rattle.im_run.specs.Planned.{AreServed, plan_of, planned_orders}
 use Rattle.im_run.specs.Running.{ServedOn}
 use Rattle.im_run.proofs.DoingLemmas.{none_of_all, told_weaker}
 use Rattle.im_run.proofs.PlannedLemmas.{ends_on_plan, plan_ends}
@@ -22,7 +21,9 @@ returns-in-Ok-clause-ended g c = λ honest alive.
     let k = c.close-status in
     let same = c.in-Ok.ensures.found in
     let works = ap (λ (e : EngineState g.row.D.Denot). e.failed) same ∙ alive in
-    let orders = map ask_of c.args.orders.items in
+    let orders = map ask_of c.args.work.orders.items in
+    let whole = c.args.work.whole in
+    let plan = plan_of (planned_orders (asks_in whole) orders) in
     let m = c.args.engine.memory in
     let trace = s.result.trace.items in
     let end = s.result.engine.memory in
@@ -30,7 +31,7 @@ returns-in-Ok-clause-ended g c = λ honest alive.
     (begun_in d.now d.past d.failures e) e.memory trace s.result.engine) same
     (s.ensures.kept (subst g.D.Disk.honest k.ensures.disk honest) works) in
     let told = told_weaker m trace (s.result.refused ≡ None) (k.result.0 ≡ 0) orders s.result.did.items
-    (λ zero. c.reason_of-reason.ensures.none (k.ensures.done zero))
+    (λ zero. c.reason_of.ensures.none (c.with_plan-reason.ensures.done (k.ensures.done zero)))
     (subst (λ (e : EngineState g.row.D.Denot). AreAllTold e.memory trace (s.result.refused ≡ None) orders
     s.result.did.items) same s.ensures.told) in
     record {
@@ -41,14 +42,12 @@ returns-in-Ok-clause-ended g c = λ honest alive.
       means = k.ensures.means honest;
       did = s.result.did.items;
       told = told;
-      as_planned = λ planned. ends_on_plan m trace orders s.result.did.items end (k.result.0 ≡ 0) served.legal
-          served.ends told
-          (subst (λ (l : List Order). FitsPlan m (plan_of (map ask_of l))) c.as_slice.ensures.value
-          (c.in-Ok.ensures.fits planned))
-          (plan_ends c.in-Ok.opening.engine.memory m (plan_of orders) c.in-Ok.opening.plan trace end
-          (ap (λ (e : EngineState g.row.D.Denot). e.memory) same)
-          (subst (λ (l : List Order). c.in-Ok.opening.plan ≡ Some (plan_of (map ask_of l))) c.as_slice.ensures.value
-          (c.in-Ok.ensures.plan planned)) s.ensures.planned);
+      as_planned = λ planned. ends_on_plan m trace whole orders s.result.did.items end (k.result.0 ≡ 0) served.legal
+          served.ends told (λ zero. subst (λ (n : Contents). IfSome whole (λ w. AreServed n.windows
+          w.orders.items)) c.memory.ensures
+          (c.with_plan-reason.ensures.served (k.ensures.done zero))) (c.in-Ok.ensures.fits planned)
+          (plan_ends c.in-Ok.opening.engine.memory m plan c.in-Ok.opening.plan trace end
+          (ap (λ (e : EngineState g.row.D.Denot). e.memory) same) (c.in-Ok.ensures.plan planned) s.ensures.planned);
       printed = k.ensures.printed;
     }
 
@@ -65,14 +64,14 @@ returns-in-Err-clause-ended g c = λ honest alive.
     record {
       engine = e;
       disk_is = k.ensures.disk;
-      served = none_served g.D.Disk.now g.D.Disk.past g.D.Disk.failures c.args.engine e
+      served = none_served g.D.Disk c.args.engine e
           c.new-trace.result.items c.new-trace.ensures.items same works
           (subst (λ d. LeavesNow (g.D.Disk.now d) (MeansState e)) k.ensures.disk (k.ensures.means honest works));
       works = k.ensures.works;
       means = k.ensures.means honest;
       did = c.new-none.result.items;
       told = none_of_all c.args.engine.memory c.new-trace.result.items (k.result.0 ≡ 0)
-          (map ask_of c.args.orders.items) c.new-none.result.items c.new-none.ensures.items
+          (map ask_of c.args.work.orders.items) c.new-none.result.items c.new-none.ensures.items
           (λ zero. true_false (sym (k.ensures.done zero)));
       as_planned = λ planned. inr (c.new-trace.ensures.items, λ zero. true_false (sym (k.ensures.done zero)));
       printed = k.ensures.printed;

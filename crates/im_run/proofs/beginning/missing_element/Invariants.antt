@@ -1,6 +1,6 @@
 use Rattle.std.proofs.Common.{drop}
 use Rattle.im_run.specs.Running.{AreThere}
-use Rattle.im_run.proofs.planned.missing_element.Given as goal
+use Rattle.im_run.proofs.beginning.missing_element.Given as goal
 
 -- those that were passed are there
 abbrev pub invariant-loop-order : goal.invariant-loop-order

@@ -1,0 +1,115 @@
+-- All requests of a script, the settled ones too. (Own.)
+use Rattle.std.proofs.Common.{◌≡◌, ◌∙◌, ℕ, zero, suc, Bool, true, false, List, [], ◌∷◌, ◌++◌, map, refl, sym, ap}
+use Rattle.std.proofs.Common.{subst, append-nil, arith, ◌⊎◌, ⊎_elim, inl, inr}
+use Rattle.std.specs.Prelude.{◌<◌, ◌&&◌, nat_lt, Option, None, Some, slice_get}
+use Rattle.std.specs.Option.{option_map_or}
+use Rattle.std.proofs.lemmas.Bool.Decides.{nat_tests}
+use mathlib.Core.List.{IsPrefix}
+use Rattle.im_types.proofs.Tests.{and_both}
+use Rattle.im_types.specs.declared.commands.Request.{Request}
+use Rattle.im_types.specs.Contents.{Contents, Window}
+use Rattle.im_types.specs.Step.{asker}
+use Rattle.im_types.specs.Window.{next_number}
+use Rattle.im_laws.proofs.Tests.{some_same}
+use Rattle.im_plans.specs.Runs.{HasServed, IsInPlan, IsTaken}
+use Rattle.im_script.specs.declared.places.Place.{Place}
+use Rattle.im_script.specs.declared.script.Allocation.{Allocation}
+use Rattle.im_script.specs.declared.script.Heard.TheVariants.{Says}
+use Rattle.im_script.specs.declared.script.Said.{Said}
+use Rattle.im_script.specs.declared.script.Said.TheVariants.{Block, Asks}
+use Rattle.im_script.specs.declared.script.ScriptLine.{ScriptLine}
+use Rattle.im_serial.specs.Asked.{Wanted, wanted_by}
+use Rattle.im_serial.specs.Had.{met_all, news}
+use Rattle.im_serving.specs.declared.intent.Intent.{Intent}
+use Rattle.im_serving.specs.declared.intent.Intent.TheVariants as intent_kinds
+use Rattle.im_run.specs.declared.sheet.Order.{Order}
+use Rattle.im_run.specs.Orders.{AddsRequest, Ask, HasHeard, ask_of}
+use Rattle.im_run.specs.Planned.{AreServed, all_below, next_or, plan_of, requests_from}
+use Rattle.im_run.proofs.OrdersLemmas.{heard_asked, heard_block, heard_nothing, prefix_same}
+
+-- ---- a line, where nothing is settled
+
+all_new : (wanted : List Wanted) → news [] wanted ≡ wanted
+all_new [] = refl
+all_new (w ∷ wanted) = ap (λ (l : List Wanted). w ∷ l) (all_new wanted)
+
+none_left : (wanted : List Wanted) → met_all [] wanted ≡ []
+none_left [] = refl
+none_left (w ∷ wanted) = none_left wanted
+
+-- it asks for nothing
+pub whole_nothing : (bases : List ℕ) (said : Said) (orders : List Order) → wanted_by said ≡ []
+    → HasHeard [] (Says said) bases bases orders orders []
+whole_nothing bases said orders none = heard_nothing [] [] bases bases said orders (prefix_same bases bases refl)
+    (all_new (wanted_by said) ∙ none) (sym (none_left (wanted_by said)))
+
+-- it makes a block
+pub whole_block : (bases : List ℕ) (said : Said) (b : Allocation) (orders : List Order) → said ≡ Block b
+    → HasHeard [] (Says said) bases bases orders orders []
+whole_block bases said b orders block = heard_block [] [] bases bases said b orders block
+    (prefix_same bases bases refl) (all_new (wanted_by said)) (sym (none_left (wanted_by said)))
+
+-- it is a request of a part
+pub whole_asked : (bases : List ℕ) (said : Said) (line : ScriptLine) (old new : List Order) → said ≡ Asks line
+    → AddsRequest bases (record { element = line.element; action = line.action; named = false }) old new
+    → HasHeard [] (Says said) bases bases old new []
+whole_asked bases said line old new asks adds = heard_asked [] [] bases bases bases said line old new asks refl
+    (prefix_same bases bases refl) adds (all_new (wanted_by said)) (sym (none_left (wanted_by said)))
+
+-- ---- what was served of it
+
+-- the number of each request among these lies below that number
+below_at : (next element first : ℕ) (intents : List Intent) → all_below next first intents ≡ true
+    → (i : ℕ) (r : Request) → slice_get (requests_from element first intents) i ≡ Some r
+    → (r.element ≡ element) × (r.number < next)
+below_at next element first [] all i r there = absurd (cc)
+below_at next element first (intent_kinds.Glance a ∷ intents) all i r there =
+    below_at next element first intents all i r there
+below_at next element first (intent_kinds.Request op ∷ intents) all zero r there =
+    let asked : Request = record { element = element; number = first; op = op } in
+    let both = and_both (nat_lt first next) (all_below next (suc first) intents) all in
+    let test = both.0 in
+    subst (λ (q : Request). (q.element ≡ element) × (q.number < next)) (some_same asked r there)
+    (refl, grind (arith, nat_tests, test))
+below_at next element first (intent_kinds.Request op ∷ intents) all (suc i) r there =
+    below_at next element (suc first) intents
+    (and_both (nat_lt first next) (all_below next (suc first) intents) all).1 i r there
+
+taken_below : (windows : List Window) (element number : ℕ) (found : Option Window)
+    → slice_get windows element ≡ found → number < option_map_or next_number found 0
+    → IsTaken windows (record { element = element; number = number })
+taken_below windows element number (Some w) is below = record { window = w; there = is; below = below }
+taken_below windows element number None is below = absurd (omega (arith, below))
+
+-- all requests of an order
+order_taken : (windows : List Window) (element first : ℕ) (intents : List Intent)
+    → all_below (next_or windows element) first intents ≡ true
+    → HasServed windows (requests_from element first intents)
+order_taken windows element first intents all r in_plan =
+    let it = below_at (next_or windows element) element first intents all in_plan.0 r in_plan.1 in
+    subst (λ (e : ℕ). IsTaken windows (record { element = e; number = r.number })) (sym it.0)
+    (taken_below windows element r.number (slice_get windows element) refl it.1)
+
+pub in_either : (xs ys : List Request) (i : ℕ) (r : Request) → slice_get (xs ++ ys) i ≡ Some r
+    → IsInPlan xs r ⊎ IsInPlan ys r
+in_either [] ys i r is = inr (i, is)
+in_either (x ∷ xs) ys zero r is = inl (zero, is)
+in_either (x ∷ xs) ys (suc i) r is =
+    ⊎_elim (λ h. inl (suc h.0, h.1)) (λ h. inr h) (in_either xs ys i r is)
+
+-- one order more
+orders_taken_more : (windows : List Window) (order : Ask) (orders : List Ask)
+    → HasServed windows (requests_from order.element order.first order.intents)
+    → HasServed windows (plan_of orders) → HasServed windows (plan_of (order ∷ orders))
+orders_taken_more windows order orders here behind r in_plan = ⊎_elim (λ h. here r h) (λ h. behind r h)
+    (in_either (requests_from order.element order.first order.intents) (plan_of orders) in_plan.0 r in_plan.1)
+
+-- all requests of these orders
+pub all_served : (windows : List Window) (orders : List Order) → AreServed windows orders
+    → HasServed windows (plan_of (map ask_of orders))
+all_served windows [] it r in_plan = absurd (no_place in_plan.0 r in_plan.1)
+  where
+    no_place : (i : ℕ) (r : Request) → ◌≡◌ {A = Option Request} (slice_get [] i) (Some r) → ⊥
+    no_place i r e = cc
+all_served windows (o ∷ orders) it r in_plan = orders_taken_more windows (ask_of o) (map ask_of orders)
+    (order_taken windows o.element o.next o.intents.items it.0) (all_served windows orders it.1) r in_plan

@@ -1,0 +1,224 @@
+//! The beginning of a run, before any thread starts.
+ghost use Rattle.std.specs.Prelude.{◌≡◌, ◌≤◌, IfOk, IfErr, IfSome, IfNone, OnOk, Some, false, length, map, true};
+ghost use Rattle.im_types.specs.Plan.{FitsPlan};
+ghost use Rattle.im_controller.specs.State.{is_recorded};
+ghost use Rattle.im_run.specs.Orders.{ask_of, asks_in};
+ghost use Rattle.im_run.specs.Planned.{FitsIfNew, plan_of, planned_orders};
+ghost use Rattle.im_run.specs.Running.{AreThere};
+
+use crate::planned::{make_plan, plan_fault};
+use crate::sheet::{Order, Workload};
+use im_controller::{
+    Opening, resume_planned, resume_planned_unrecorded, start, start_planned,
+    start_planned_unrecorded, start_unrecorded,
+};
+use im_disk::Disk;
+use im_engine::Engine;
+use im_memory::Memory;
+use im_planning::Plan;
+use im_text::Reason;
+use im_types::{Refusal, WINDOW};
+use std::alloc::Global;
+use std::sync::Wait;
+
+// Returns the element of an order that doesn't exist, if there is one.
+fn missing_element(memory: &Memory, orders: &[Order]) -> Option<u16>
+    ensures none { IfNone result (AreThere memory.now.contents orders.now) }
+    ensures some { IfSome result (λ element. length memory.now.contents.windows ≤ element) }
+{
+    for order in orders {
+        if order.element >= memory.elements() {
+            return Some(order.element);
+        }
+    }
+    None
+}
+
+// How a plan is begun: with room for a trace or without a record of one, and whether it goes on with what was done of
+// it before.
+#[derive(Clone, Copy)]
+struct PlanStart {
+    room: Option<usize>,
+    resumed: bool,
+}
+
+// Starts under a plan.
+fn start_by<D: Disk + Drop, R: Wait>(
+    rt: &R,
+    alloc: Global,
+    engine: Engine<D>,
+    plan: Plan,
+    start: PlanStart,
+) -> Result<Opening<D>, (Refusal, Engine<D>)>
+    ensures found { IfOk result (λ o. (o.engine ≡ engine) × (o.plan ≡ Some plan)) }
+    ensures recorded { IfOk result (λ o. o.book.recorded ≡ is_recorded start.room) }
+    ensures fits { OnOk result (start.resumed ≡ false → FitsPlan engine.memory plan) }
+    ensures same { IfErr result (λ e. e.1 ≡ engine) }
+{
+    match start.room {
+        Some(room) => {
+            if start.resumed {
+                return resume_planned(rt, alloc, engine, plan, room);
+            }
+            start_planned(rt, alloc, engine, plan, room)
+        }
+        None => {
+            if start.resumed {
+                return resume_planned_unrecorded(rt, alloc, engine, plan);
+            }
+            start_planned_unrecorded(rt, alloc, engine, plan)
+        }
+    }
+}
+
+// The same without a plan.
+fn start_freely<D: Disk + Drop, R: Wait>(
+    rt: &R,
+    alloc: Global,
+    engine: Engine<D>,
+    room: Option<usize>,
+) -> Result<Opening<D>, (Refusal, Engine<D>)>
+    ensures found { IfOk result (λ o. o.engine ≡ engine) }
+    ensures recorded { IfOk result (λ o. o.book.recorded ≡ is_recorded room) }
+    ensures same { IfErr result (λ e. e.1 ≡ engine) }
+{
+    match room {
+        Some(room) => start(rt, alloc, engine, room),
+        None => start_unrecorded(rt, alloc, engine),
+    }
+}
+
+// Opens for a run under the plan of these orders.
+fn begin_planned<D: Disk + Drop, R: Wait>(
+    rt: &R,
+    alloc: Global,
+    engine: Engine<D>,
+    orders: &[Order],
+    start: PlanStart,
+) -> Result<Opening<D>, (Reason, Engine<D>)>
+    ensures found { IfOk result (λ o. (o.engine ≡ engine) × (o.plan ≡ Some (plan_of (map ask_of orders.now)))) }
+    ensures recorded { IfOk result (λ o. o.book.recorded ≡ is_recorded start.room) }
+    ensures fits { OnOk result (start.resumed ≡ false → FitsPlan engine.memory (plan_of (map ask_of orders.now))) }
+    ensures same { IfErr result (λ e. e.1 ≡ engine) }
+{
+    let plan = match make_plan(alloc, orders) {
+        Ok(plan) => plan,
+        Err(refusal) => {
+            let reason = plan_fault(alloc, engine.memory(), orders, refusal);
+            return Err((reason, engine));
+        }
+    };
+    match start_by(rt, alloc, engine, plan, start) {
+        Ok(opening) => Ok(opening),
+        Err((refusal, engine)) => {
+            let reason = plan_fault(alloc, engine.memory(), orders, refusal);
+            Err((reason, engine))
+        }
+    }
+}
+
+// Opens for a run without a plan.
+fn begin_free<D: Disk + Drop, R: Wait>(
+    rt: &R,
+    alloc: Global,
+    engine: Engine<D>,
+    room: Option<usize>,
+) -> Result<Opening<D>, (Reason, Engine<D>)>
+    ensures found { IfOk result (λ o. o.engine ≡ engine) }
+    ensures recorded { IfOk result (λ o. o.book.recorded ≡ is_recorded room) }
+    ensures same { IfErr result (λ e. e.1 ≡ engine) }
+{
+    match start_freely(rt, alloc, engine, room) {
+        Ok(opening) => Ok(opening),
+        Err((_, engine)) => Err((Reason::Memory, engine)),
+    }
+}
+
+// How many lines the trace has room for: as many as servers leave at most. A request leaves one line when it is asked
+// for and one when it is found answered. If its window is full, there are two more before it: a confirmation, and an
+// entry that still waits. Each entry that an element's window had before leaves one line when it is found answered.
+// Glances leave none, but are counted too.
+fn trace_room(orders: &[Order], elements: u16) -> usize {
+    let mut room = (elements as usize).saturating_mul(WINDOW as usize);
+    for order in orders {
+        room = room.saturating_add(order.intents.len().saturating_mul(4));
+    }
+    room
+}
+
+// Returns the room for a trace, if it is recorded.
+fn room_if(recorded: bool, orders: &[Order], elements: u16) -> Option<usize>
+    ensures { is_recorded result ≡ recorded }
+{
+    if recorded {
+        Some(trace_room(orders, elements))
+    } else {
+        None
+    }
+}
+
+// Opens for a run under the plan of these orders, or of all that the script asks for, if that is known.
+fn begin_by<D: Disk + Drop, R: Wait>(
+    rt: &R,
+    alloc: Global,
+    engine: Engine<D>,
+    work: &Workload,
+    room: Option<usize>,
+) -> Result<Opening<D>, (Reason, Engine<D>)>
+    ensures found { IfOk result (λ o. (o.engine ≡ engine)
+        × (o.plan ≡ Some (plan_of (planned_orders (asks_in work.now.whole) (map ask_of work.now.orders.items))))) }
+    ensures recorded { IfOk result (λ o. o.book.recorded ≡ is_recorded room) }
+    ensures fits { OnOk result (FitsIfNew (asks_in work.now.whole) engine.memory
+        (plan_of (planned_orders (asks_in work.now.whole) (map ask_of work.now.orders.items)))) }
+    ensures same { IfErr result (λ e. e.1 ≡ engine) }
+{
+    match &work.whole {
+        Some(whole) => {
+            let start = PlanStart {
+                room,
+                resumed: true,
+            };
+            begin_planned(rt, alloc, engine, whole.orders.as_slice(), start)
+        }
+        None => {
+            let start = PlanStart {
+                room,
+                resumed: false,
+            };
+            begin_planned(rt, alloc, engine, work.orders.as_slice(), start)
+        }
+    }
+}
+
+/// Makes room for what the elements ask for, and for the trace if it is recorded, before any thread starts. Returns
+/// `NoElement` if one of the elements doesn't exist.
+///
+/// If the run is planned, its plan is of all requests of the orders. It then returns `BadPlan` if they make no plan:
+/// a request is no fetch or store, two requests store to one address, a cell that a request names isn't empty or has a
+/// waiter, or a number lies past the last one. If all that the script asks for is known, the plan is of that, and goes
+/// on with what was done of it: it then returns `BadPlan` if the plan isn't under way in the memory.
+pub fn begin<D: Disk + Drop, R: Wait>(
+    rt: &R,
+    alloc: Global,
+    engine: Engine<D>,
+    work: &Workload,
+) -> Result<Opening<D>, (Reason, Engine<D>)>
+    ensures found { IfOk result (λ o. o.engine ≡ engine) }
+    ensures plan { IfOk result (λ o. work.now.mode.planned ≡ true
+        → o.plan ≡ Some (plan_of (planned_orders (asks_in work.now.whole) (map ask_of work.now.orders.items)))) }
+    ensures fits { OnOk result (work.now.mode.planned ≡ true → FitsIfNew (asks_in work.now.whole) engine.memory
+        (plan_of (planned_orders (asks_in work.now.whole) (map ask_of work.now.orders.items)))) }
+    ensures recorded { IfOk result (λ o. o.book.recorded ≡ work.now.mode.recorded) }
+    ensures there { IfOk result (λ _. AreThere engine.memory work.now.orders.items) }
+    ensures same { IfErr result (λ e. e.1 ≡ engine) }
+{
+    let orders = work.orders.as_slice();
+    if let Some(element) = missing_element(engine.memory(), orders) {
+        return Err((Reason::Request(element, Refusal::NoElement), engine));
+    }
+    let room = room_if(work.mode.recorded, orders, engine.memory().elements());
+    if work.mode.planned {
+        return begin_by(rt, alloc, engine, work, room);
+    }
+    begin_free(rt, alloc, engine, room)
+}
