@@ -269,11 +269,12 @@ inline serve_member(m) {
   fi;
   asked[m] = Nothing
 }
-/* of im_controller::hold 35c3d7c5c91d
+/* of im_controller::hold 44a87d44aac3
+   of im_controller::claim 2b1067bb12ec
    of im_controller::serve_asked 9d0732c5dba0
    of im_queue::Inbox::next_group e08c6e94a090
    of im_queue::Inbox::gather a3fa78f93397
-   of im_trace::Log::claim efb56824253b */
+   of im_trace::Log::claim f63c5cb84308 */
 inline hold(e) {
   if :: unclaimed[e] != Nothing -> skip
      :: else ->
@@ -294,10 +295,10 @@ inline who_is_answered() {
   do :: i < N -> if :: unclaimed[i] != Nothing -> answered = answered | (1 << i) :: else fi; i++ :: else -> break od;
   i = 0
 }
-/* of im_controller::Port::submit 17ace1e7fabb
-   of im_controller::Controller::serve 78bd7c75275c
+/* of im_controller::Port::submit 2de2e13636a4
+   of im_controller::Controller::serve 2a5feda0c157
    of im_queue::Inbox::ask 23fb3d79a544
-   of im_controller::Controller::serve_all a8a7d26820b6 */
+   of im_controller::Controller::serve_all 473781457ac3 */
 inline submit(e, op) {
   d_step { asked[e] = op; got = Nothing };
   do :: got == Nothing ->
@@ -321,13 +322,13 @@ inline help(e) {
   pass_on(answered);
   wake(AFTER_A_TURN)
 }
-/* of im_controller::Port::confirm b90c345e38e2 */
+/* of im_controller::Port::confirm 8dc4488aea90 */
 inline confirm(e) {
   submit(e, Confirm)
 }
 /* of im_controller::Port::collect f2ef03b29c5d
    of im_controller::find 22f41e2bec52
-   of im_controller::look 4a40d63c418d */
+   of im_controller::look 49884123aa8e */
 inline collect(e) {
   wait_turn(e);
   got = (failed -> Failed : Told);

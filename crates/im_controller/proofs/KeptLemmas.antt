@@ -1,10 +1,11 @@
 -- What a crash leaves, with a command, a group or a turn more.
 use Rattle.std.proofs.Common.{◌≡◌, ◌⊎◌, inl, inr, ⊎_elim, ℕ, zero, suc, ◌+◌, ◌≤◌, ◌<◌, Bool, true, false, ◌&&◌, List}
-use Rattle.std.proofs.Common.{[], ◌∷◌, ◌++◌, length, length-append, append_assoc, map, refl, sym, ap, ◌∙◌, subst, arith}
+use Rattle.std.proofs.Common.{[], ◌∷◌, ◌++◌, length, length-append, append_assoc, map, refl, sym, ap}
+use Rattle.std.proofs.Common.{◌∙◌, subst, arith}
 use Rattle.std.proofs.Common.{if◌then◌else◌, Result, Ok, Err}
 use Rattle.std.specs.Prelude.{Option, Some, nat_lt, ◌==◌, IfErr}
 use Rattle.std.proofs.lemmas.Bool.Decides.{nat_tests}
-use Rattle.std.proofs.lemmas.List.{append-nil, take_all, take-append-le}
+use Rattle.std.proofs.lemmas.List.{append-nil, length-map, take_all, take-append-le}
 use Rattle.im_types.specs.declared.commands.Command.{Command}
 use Rattle.im_types.specs.declared.commands.Outcome.{Outcome}
 use Rattle.im_types.specs.declared.commands.Call.TheVariants.{Command as Commands, Collect}
@@ -19,13 +20,16 @@ use Rattle.im_types.specs.Run.{after, accepted}
 use Rattle.im_types.specs.Step.{step, is_accepted}
 use Rattle.im_types.specs.Trace.{end_of}
 use Rattle.im_laws.specs.Traces.{command_in, commands_of}
-use Rattle.im_laws.proofs.Tests.{true_false, true_or_false}
+use Rattle.im_laws.proofs.Tests.{true_false, true_or_false, below_or_from}
 use Rattle.im_laws.proofs.AcceptLemmas.{accepted-ok}
 use Rattle.im_laws.proofs.RunLemmas.{after-append, accepted-append, after-accepted}
 use Rattle.im_laws.proofs.TraceLemmas.{end_of-commands}
-use Rattle.im_disk.specs.Moment.{Moment, Rises, Faults}
+use Rattle.im_disk.specs.declared.disk.Disk.{Ghosts}
+use Rattle.im_disk.specs.Moment.{Moment, Left, LeftSince, Rises, Faults}
 use Rattle.im_disk.specs.Since.{Leaves, LeavesNow}
-use Rattle.im_disk.proofs.SinceLemmas.{leaves_start, leaves_then, leaves_weaker}
+use Rattle.im_disk.proofs.SinceLemmas.{leaves_start, leaves_then, leaves_weaker, only_now}
+use Rattle.im_glass.proofs.PrefixLemmas.{prefix_shorter}
+use mathlib.Core.List.{IsPrefix}
 use Rattle.im_checkpoint.specs.declared.checkpoint.TurnDone.{TurnDone}
 use Rattle.im_checkpoint.specs.declared.checkpoint.TurnDone.TheVariants.{Idle, Began, Page, Synced, InForce, Swept}
 use Rattle.im_checkpoint.proofs.Fitting.{none_or_some}
@@ -39,10 +43,13 @@ use Rattle.im_groups.specs.Commands.{commands_at, takes_place}
 use Rattle.im_groups.proofs.CommandLemmas.{at-after, at-accepted}
 use Rattle.im_engine.proofs.Keeping.{accept_both, accept_one}
 use Rattle.im_engine.proofs.Running.{Failures, failures_more, failures_turned}
-use Rattle.im_trace.specs.Lines.{leaves_line, line_of, lines_of}
+use Rattle.im_trace.specs.Lines.{leaves_line, line_of, lines_of, time_at, times_of}
+use Rattle.im_trace.specs.Log.{TimedLog, GoesOnAt}
+use Rattle.im_trace.proofs.TimeLemmas.{time-later, time-new}
 use Rattle.im_controller.specs.Groups.{answer_in, MembersAnswered}
 use Rattle.im_controller.specs.Lends.{IsTurnFault, told_turn}
-use Rattle.im_controller.specs.Kept.{Begun, begun_in, accepted_in, MeansSome, MeansAll, HasKept}
+use Rattle.im_controller.specs.Kept.{Begun, begun_in, accepted_in, MeansSome, MeansAll, MeansFrom, HasKept}
+use Rattle.im_controller.specs.Kept.{IsLeftAt, KeepsSince}
 use Rattle.im_controller.specs.Planned.{IsOnPlan, AreOnPlan}
 use Rattle.im_controller.proofs.LendLemmas.{ok-leaves}
 use Rattle.im_controller.proofs.GroupLemmas.{answers_served}
@@ -216,10 +223,45 @@ module _ (m : Contents) (count : ℕ) (told : List Command) where
   some_told : (file : List ℕ) → MeansAll m count told file → MeansSome m count told file
   some_told file means = (length told, omega arith, means)
 
-module _ {D : Type 0} (now : D → Moment) (past : D → List Moment) (failures : D → ℕ) (b : Begun) (m : Contents)
-    (plan : Option (List Request)) where
+module _ (m : Contents) (count : ℕ) where
+  all_from : (commands : List Command) (least : ℕ) (file : List ℕ) → least ≤ length commands
+      → MeansAll m count commands file → MeansFrom m count commands least file
+  all_from commands least file few means = (length commands, few, omega arith, means)
+
+  longer_from : (told more : List Command) (least : ℕ) (file : List ℕ) → MeansFrom m count told least file
+      → MeansFrom m count (told ++ more) least file
+  longer_from told more least file means =
+      let within : means.0 ≤ length told = means.2 in (
+        means.0,
+        means.1,
+        omega (arith, length-append told more, within),
+        subst (λ (l : List Command). Means (after m l) (count + means.0) 0 file)
+            (sym (take-append-le means.0 told more within)) means.3,
+      )
+
+-- the same as `HasKept`, and since which times each file has how many of the commands
+pub record HasSince {D : Type 0} (disk : Ghosts D) (b : Begun) (m : Contents) (plan : Option (List Request))
+    (held : ℕ → ℕ → Type 0) (told : List Command) (engine : EngineState D) : Type 0 where
+  pub kept : HasKept disk.now disk.past disk.failures b m plan told engine
+  pub few : (many time : ℕ) → held many time → many ≤ length told
+  pub by : (many time : ℕ) → held many time → time ≤ length (disk.past engine.disk)
+  pub since : (many time : ℕ) → held many time → (file : List ℕ)
+      → LeftSince (disk.now engine.disk ∷ disk.past engine.disk) time file
+      → MeansFrom m b.count (told ++ kept.doubt) many file
+
+module _ {D : Type 0} (disk : Ghosts D) (b : Begun) (m : Contents) (plan : Option (List Request))
+    (held : ℕ → ℕ → Type 0) where
+  abbrev now : D → Moment
+  now d = disk.now d
+
+  abbrev past : D → List Moment
+  past d = disk.past d
+
+  abbrev failures : D → ℕ
+  failures d = disk.failures d
+
   abbrev Has : List Command → EngineState D → Type 0
-  Has told e = HasKept now past failures b m plan told e
+  Has told e = HasSince disk b m plan held told e
 
   -- nothing was done
   pub kept_same : (told told' : List Command) (e f : EngineState D) → f ≡ e → told' ≡ told → Has told e → Has told' f
@@ -234,8 +276,8 @@ module _ {D : Type 0} (now : D → Moment) (past : D → List Moment) (failures 
       (means : f.failed ≡ false → LeavesNow (now f.disk) (MeansState f))
       (rose : f.failed ≡ true → Rises (failures e.disk) (failures f.disk))
       (stayed : f.failed ≡ false → failures f.disk ≡ failures e.disk) (on : AreOnPlan plan cs) where
-    no_doubt : told ++ it.doubt ≡ told
-    no_doubt = ap (λ l. told ++ l) (it.sure alive) ∙ append-nil told
+    no_doubt : told ++ it.kept.doubt ≡ told
+    no_doubt = ap (λ l. told ++ l) (it.kept.sure alive) ∙ append-nil told
 
     all : List Command
     all = told ++ cs
@@ -243,12 +285,12 @@ module _ {D : Type 0} (now : D → Moment) (past : D → List Moment) (failures 
     takes_all : accept_each m (told ++ cs) ≡ Some (after m (told ++ cs))
     takes_all =
         accept_both m e.memory (after e.memory cs) told cs
-        (subst (λ (l : List Command). accept_each m l ≡ Some (after m l)) no_doubt it.accepts
+        (subst (λ (l : List Command). accept_each m l ≡ Some (after m l)) no_doubt it.kept.accepts
         ∙ ap Some (sym ends)) takes
         ∙ ap Some (ap (λ n. after n cs) ends ∙ sym (after-append m told cs))
 
     counted : e.count ≡ b.count + length told
-    counted = it.count alive
+    counted = it.kept.count alive
 
     both : (file : List ℕ) → MeansBoth e cs file → MeansAll m b.count told file ⊎ MeansAll m b.count (told ++ cs) file
     both file (inl image) = inl (all_told m b.count told e.memory e.count file ends counted image)
@@ -266,36 +308,65 @@ module _ {D : Type 0} (now : D → Moment) (past : D → List Moment) (failures 
         leaves_then b.now (now e.disk) (now f.disk) b.past (past e.disk) (past f.disk) (MeansSome m b.count told)
         (MeansBoth e cs) (MeansSome m b.count (told ++ cs))
         (subst (λ (l : List Command). Leaves b.now (now e.disk) b.past (past e.disk)
-        (MeansSome m b.count l)) no_doubt it.leaves) leaves (longer m b.count told cs) some_both
+        (MeansSome m b.count l)) no_doubt it.kept.leaves) leaves (longer m b.count told cs) some_both
+
+    few_all : (many time : ℕ) → held many time → many ≤ length (told ++ cs)
+    few_all many time h = omega (arith, it.few many time h, length-append told cs)
+
+    by_all : (many time : ℕ) → held many time → time ≤ length (past f.disk)
+    by_all many time h = omega (arith, it.by many time h, leaves.later)
+
+    since_all : (many time : ℕ) → held many time → (file : List ℕ)
+        → LeftSince (now f.disk ∷ past f.disk) time file → MeansFrom m b.count (told ++ cs) many file
+    since_all many time h file left = ⊎_elim
+        (λ old. longer_from m b.count told cs many file
+        (subst (λ (l : List Command). MeansFrom m b.count l many file) no_doubt (it.since many time h file old)))
+        (λ image. ⊎_elim
+        (λ old. longer_from m b.count told cs many file
+        (all_from m b.count told many file (it.few many time h) old))
+        (λ new. all_from m b.count (told ++ cs) many file (few_all many time h) new)
+        (both file image))
+        (leaves.each time file (it.by many time h) left)
 
     by_failed : (dead : Bool) → f.failed ≡ dead → Has (told ++ (if dead then [] else cs)) f
     by_failed true is = subst (λ (l : List Command). Has l f) (sym (append-nil told)) (record {
-      doubt = cs;
-      sure = λ living. absurd (true_false (sym is ∙ living));
-      on_plan = on;
-      accepts = takes_all;
-      count = λ living. absurd (true_false (sym is ∙ living));
-      leaves = leaves_all;
-      last = λ file left. both file (last file left);
-      rose = λ dead. subst (λ (n : ℕ). Rises n (failures f.disk)) (it.stayed alive) (rose dead);
-      stayed = λ living. absurd (true_false (sym is ∙ living));
+      kept = record {
+        doubt = cs;
+        sure = λ living. absurd (true_false (sym is ∙ living));
+        on_plan = on;
+        accepts = takes_all;
+        count = λ living. absurd (true_false (sym is ∙ living));
+        leaves = leaves_all;
+        last = λ file left. both file (last file left);
+        rose = λ dead. subst (λ (n : ℕ). Rises n (failures f.disk)) (it.kept.stayed alive) (rose dead);
+        stayed = λ living. absurd (true_false (sym is ∙ living));
+      };
+      few = it.few;
+      by = by_all;
+      since = since_all;
     })
     by_failed false is = record {
-      doubt = [];
-      sure = λ _. refl;
-      on_plan = tt;
-      accepts = subst (λ (l : List Command). accept_each m l ≡ Some (after m l))
-          (sym (append-nil (told ++ cs))) takes_all;
-      count = λ living. omega (arith, (far living).1, counted, length-append told cs);
-      leaves = subst (λ (l : List Command). Leaves b.now (now f.disk) b.past (past f.disk) (MeansSome m b.count l))
-          (sym (append-nil (told ++ cs))) leaves_all;
-      last = λ file left. inl
-          (all_told m b.count (told ++ cs) f.memory f.count file
-          ((far is).0 ∙ ap (λ n. after n cs) ends ∙ sym (after-append m told cs))
-          (omega (arith, (far is).1, counted, length-append told cs))
-          (meant f file (means is file left)));
-      rose = λ dead. absurd (true_false (sym dead ∙ is));
-      stayed = λ living. stayed living ∙ it.stayed alive;
+      kept = record {
+        doubt = [];
+        sure = λ _. refl;
+        on_plan = tt;
+        accepts = subst (λ (l : List Command). accept_each m l ≡ Some (after m l))
+            (sym (append-nil (told ++ cs))) takes_all;
+        count = λ living. omega (arith, (far living).1, counted, length-append told cs);
+        leaves = subst (λ (l : List Command). Leaves b.now (now f.disk) b.past (past f.disk) (MeansSome m b.count l))
+            (sym (append-nil (told ++ cs))) leaves_all;
+        last = λ file left. inl
+            (all_told m b.count (told ++ cs) f.memory f.count file
+            ((far is).0 ∙ ap (λ n. after n cs) ends ∙ sym (after-append m told cs))
+            (omega (arith, (far is).1, counted, length-append told cs))
+            (meant f file (means is file left)));
+        rose = λ dead. absurd (true_false (sym dead ∙ is));
+        stayed = λ living. stayed living ∙ it.kept.stayed alive;
+      };
+      few = few_all;
+      by = by_all;
+      since = λ many time h file left. subst (λ (l : List Command). MeansFrom m b.count l many file)
+          (sym (append-nil (told ++ cs))) (since_all many time h file left);
     }
 
     -- these commands more, which are in doubt where the engine has failed
@@ -303,20 +374,26 @@ module _ {D : Type 0} (now : D → Moment) (past : D → List Moment) (failures 
     kept_more = by_failed f.failed refl
 
   -- where nothing was acknowledged yet
-  pub kept_start : (e : EngineState D) → begun_in now past failures e ≡ b → e.memory ≡ m → e.failed ≡ false
-      → LeavesNow (now e.disk) (MeansState e) → Has [] e
-  kept_start e is same alive means =
-      subst (λ (x : Begun). HasKept now past failures x m plan [] e) is (record {
-        doubt = [];
-        sure = λ _. refl;
-        on_plan = tt;
-        accepts = refl;
-        count = λ _. omega arith;
-        leaves = leaves_start (now e.disk) (past e.disk) (MeansSome m e.count []);
-        last = λ file left. inl
-            (all_told m e.count [] e.memory e.count file same (omega arith) (meant e file (means file left)));
-        rose = λ dead. absurd (true_false (sym dead ∙ alive));
-        stayed = λ _. refl;
+  pub kept_start : (e : EngineState D) → begun_in disk.now disk.past disk.failures e ≡ b → e.memory ≡ m
+      → e.failed ≡ false
+      → LeavesNow (now e.disk) (MeansState e) → ((many time : ℕ) → held many time → ⊥) → Has [] e
+  kept_start e is same alive means none =
+      subst (λ (x : Begun). HasSince disk x m plan held [] e) is (record {
+        kept = record {
+          doubt = [];
+          sure = λ _. refl;
+          on_plan = tt;
+          accepts = refl;
+          count = λ _. omega arith;
+          leaves = leaves_start (now e.disk) (past e.disk) (MeansSome m e.count []);
+          last = λ file left. inl
+              (all_told m e.count [] e.memory e.count file same (omega arith) (meant e file (means file left)));
+          rose = λ dead. absurd (true_false (sym dead ∙ alive));
+          stayed = λ _. refl;
+        };
+        few = λ many time h. absurd (none many time h);
+        by = λ many time h. absurd (none many time h);
+        since = λ many time h. absurd (none many time h);
       })
 
   -- ---- a command, a turn, a group
@@ -517,6 +594,121 @@ module _ {D : Type 0} (now : D → Moment) (past : D → List Moment) (failures 
       (λ dead. kept_same told told e f (quiet.dead dead) refl it)
       (λ alive. kept_alive e f alive told it ends quiet.stays (quiet.counts alive) (leaves alive) (last alive) means)
       (true_or_false e.failed)
+
+-- ---- the times of lines
+
+-- no fewer commands of a longer trace are accepted
+accepted-few : (m : Contents) (history trace : List Line) → IsPrefix history trace
+    → length (accepted_in m history) ≤ length (accepted_in m trace)
+accepted-few m history trace p =
+    let more = accepted-more m (end_of m history) history p.0 refl in
+    let long = length-append (accepted_in m history) (accepted_in (end_of m history) p.0) in
+    omega (arith, long, ap length more, ap (λ (l : List Line). length (accepted_in m l)) p.1)
+
+-- how many accepted commands a line of the trace has up to it, and its time
+abbrev pub held_of : Contents → List Line → List ℕ → ℕ → ℕ → Type 0
+held_of m trace times many time =
+    (history : List Line) × IsLeftAt trace times history time × (many ≡ length (accepted_in m history))
+
+-- a line of a longer trace is one of before, or it was left now
+module _ (trace trace' more : List Line) (times times' : List ℕ) (time : ℕ) (whole : length times ≡ length trace)
+    (lines : trace' ≡ trace ++ more) (timed : times' ≡ times ++ times_of time more) where
+  pub whole-more : length times' ≡ length trace'
+  whole-more =
+      let here = length-append times (times_of time more) in
+      let each = length-map more (λ (l : Line). time) in
+      omega (arith, whole, ap length lines, ap length timed, length-append trace more, here, each)
+
+  pub line-of : (history : List Line) (at : ℕ) → IsLeftAt trace' times' history at
+      → IsLeftAt trace times history at ⊎ (at ≡ time)
+  line-of history at it = ⊎_elim
+      (λ new.
+      let few = length-append history it.begins.0 in
+      let long : length history ≤ length times + length more = omega
+      (arith, whole, ap length lines, length-append trace more, ap length it.begins.1, few) in
+      inr (it.time_is ∙ ap (λ ts. time_at ts (length history)) timed
+      ∙ time-new times time more (length history) (omega (arith, whole, new)) long))
+      (λ old. inl (record {
+        begins = prefix_shorter history trace trace' it.begins (more, sym lines) old;
+        some = it.some;
+        time_is = it.time_is
+            ∙ sym (time-later times times' (length history) (times_of time more, sym timed)
+            (omega (arith, whole, old)));
+      }))
+      (below_or_from (length trace) (length history))
+
+module _ {D : Type 0} (disk : Ghosts D) (b : Begun) (m : Contents) (plan : Option (List Request)) where
+  pub since_of : (trace : List Line) (times : List ℕ) (e : EngineState D)
+      → KeepsSince disk b m plan trace times e
+      → HasSince disk b m plan (held_of m trace times) (accepted_in m trace) e
+  since_of trace times e k = record {
+    kept = k.kept;
+    few = λ many time h. omega (arith, h.2, accepted-few m h.0 trace h.1.begins);
+    by = λ many time h. k.by h.0 time h.1;
+    since = λ many time h file left. subst
+        (λ (n : ℕ). MeansFrom m b.count (accepted_in m trace ++ k.kept.doubt) n file) (sym h.2)
+        (k.since h.0 time h.1 file left);
+  }
+
+  -- lines more are left now
+  module _ (trace trace' more : List Line) (times times' : List ℕ) (f : EngineState D)
+      (whole : length times ≡ length trace) (lines : trace' ≡ trace ++ more)
+      (timed : times' ≡ times ++ times_of (length (disk.past f.disk)) more)
+      (it : HasSince disk b m plan (held_of m trace times) (accepted_in m trace') f) where
+    pub since_now : (history : List Line) → IsPrefix history trace' → (file : List ℕ) → Left (disk.now f.disk) file
+        → MeansFrom m b.count (accepted_in m trace' ++ it.kept.doubt) (length (accepted_in m history)) file
+    since_now history begins file left =
+        let few = accepted-few m history trace' begins in
+        let told = accepted_in m trace' in ⊎_elim
+        (λ sure. longer_from m b.count told it.kept.doubt (length (accepted_in m history)) file
+        (all_from m b.count told (length (accepted_in m history)) file few sure))
+        (λ doubt. all_from m b.count (told ++ it.kept.doubt) (length (accepted_in m history)) file
+        (omega (arith, few, length-append told it.kept.doubt)) doubt)
+        (it.kept.last file left)
+
+    pub keeps_more : KeepsSince disk b m plan trace' times' f
+    keeps_more = record {
+      kept = it.kept;
+      whole = whole-more trace trace' more times times' (length (disk.past f.disk)) whole lines timed;
+      by = λ history time at. ⊎_elim
+          (λ old. it.by (length (accepted_in m history)) time (history, old, refl))
+          (λ new. omega (arith, new))
+          (line-of trace trace' more times times' (length (disk.past f.disk)) whole lines timed history time at);
+      since = λ history time at file left. ⊎_elim
+          (λ old. it.since (length (accepted_in m history)) time (history, old, refl) file left)
+          (λ new. since_now history at.begins file
+          (only_now (disk.now f.disk) (disk.past f.disk) file
+          (subst (λ (t : ℕ). LeftSince (disk.now f.disk ∷ disk.past f.disk) t file) new left)))
+          (line-of trace trace' more times times' (length (disk.past f.disk)) whole lines timed history time at);
+    }
+
+  -- the same of a log
+  pub keeps_at : (time : ℕ) (old new : TimedLog) (f : EngineState D) → time ≡ length (disk.past f.disk)
+      → length old.times ≡ length old.state.trace → GoesOnAt time old new
+      → HasSince disk b m plan (held_of m old.state.trace old.times) (accepted_in m new.state.trace) f
+      → KeepsSince disk b m plan new.state.trace new.times f
+  keeps_at time old new f is whole goes it = keeps_more old.state.trace new.state.trace goes.more old.times new.times f
+      whole goes.lines (goes.times ∙ ap (λ t. old.times ++ times_of t goes.more) is) it
+
+  -- no line more
+  pub keeps_still : (trace : List Line) (times : List ℕ) (f : EngineState D) → length times ≡ length trace
+      → HasSince disk b m plan (held_of m trace times) (accepted_in m trace) f
+      → KeepsSince disk b m plan trace times f
+  keeps_still trace times f whole it = keeps_more trace trace [] times times f whole (sym (append-nil trace))
+      (sym (append-nil times)) it
+
+  -- before the first line
+  pub keeps_first : (trace : List Line) (times : List ℕ) (e : EngineState D) → trace ≡ [] → times ≡ []
+      → begun_in disk.now disk.past disk.failures e ≡ b → e.memory ≡ m → e.failed ≡ false
+      → LeavesNow (disk.now e.disk) (MeansState e)
+      → KeepsSince disk b m plan trace times e
+  keeps_first trace times e none no_times is same alive means = rw (none, no_times) (keeps_still [] [] e refl
+      (kept_start disk b m plan (held_of m [] []) e is same alive means
+      (λ many time h. nothing h.0 h.1.begins h.1.some)))
+    where
+      nothing : (history : List Line) → IsPrefix history [] → 0 < length history → ⊥
+      nothing [] p some = absurd (omega (arith, some))
+      nothing (l ∷ history) p some = absurd (cc (p.1))
 
 -- why a turn is refused
 module _ {D : Type 0} (e f : EngineState D) (done : Result TurnDone Refusal) (answered : TurnAnswered e done f) where

@@ -20,6 +20,7 @@ use Rattle.im_types.specs.Changes.{change_by, changes_at, changes_of, opening, s
 use Rattle.im_laws.proofs.Tests.{true_false}
 use Rattle.im_laws.proofs.AcceptLemmas.{accepted-ok}
 use Rattle.im_laws.proofs.MemoryLemmas.{step-cell_count}
+use Rattle.im_disk.specs.declared.disk.Disk.{Ghosts}
 use Rattle.im_engine.specs.State.{EngineState}
 use Rattle.im_engine.specs.Run.{Answered}
 use Rattle.im_glass.specs.Panes.{PaneView}
@@ -175,15 +176,18 @@ pub told-all : (m : Contents) (trace : List Line) (told : List Change) → told 
 told-all m trace told is = ([], append-nil (shown_by m trace) ∙ sym is)
 
 -- a command that the engine was lent to
-module _ {D : Type 0} (marks : Line → Bool) (plan : Option (List Request)) (s s' : SharedState D) (t t' : Counts)
-    (command : Command) (a : Result Outcome Refusal) (answer : Result ReceiptState Refusal) where
-  pub lends-served : answer ≡ receipt_for s'.log.trace s'.shown command a → s.engine.failed ≡ false
+module _ {D : Type 0} (disk : Ghosts D) (marks : Line → Bool) (plan : Option (List Request)) (s s' : SharedState D)
+    (t t' : Counts) (command : Command) (a : Result Outcome Refusal) (answer : Result ReceiptState Refusal) where
+  abbrev time : ℕ
+  time = length (disk.past s'.engine.disk)
+
+  pub lends-served : answer ≡ receipt_for s'.log.trace time s'.shown command a → s.engine.failed ≡ false
       → length s.log.trace < s.log.limit → has_command plan command ≡ true
       → Answered s.engine command a s'.engine → s'.log ≡ with_line s.log (Commands command) a → s'.servers ≡ s.servers
       → t' ≡ counts_after marks t (lines_of (Commands command) a) → s'.shown
-      ≡ s.shown ++ shows s.engine.memory command a → Lends marks plan s t command answer s' t'
+      ≡ s.shown ++ shows s.engine.memory command a → Lends disk marks plan s t command answer s' t'
   lends-served is alive room has answered log servers tally shown =
-      let same : a ≡ plain answer = sym (ap plain is ∙ plain-receipt s'.log.trace s'.shown command a) in record {
+      let same : a ≡ plain answer = sym (ap plain is ∙ plain-receipt s'.log.trace time s'.shown command a) in record {
         dead = λ dead. absurd (true_false (sym dead ∙ alive));
         full = λ _ over. absurd (omega (arith, over, room));
         off = λ _ _ lacks. absurd (true_false (sym has ∙ lacks));
@@ -193,7 +197,7 @@ module _ {D : Type 0} (marks : Line → Bool) (plan : Option (List Request)) (s 
         );
         tally = tally ∙ ap (λ x. counts_after marks t (lines_of (Commands command) x)) same;
         shown = shown ∙ ap (λ x. s.shown ++ shows s.engine.memory command x) same;
-        receipt = is ∙ ap (receipt_for s'.log.trace s'.shown command) same;
+        receipt = is ∙ ap (receipt_for s'.log.trace time s'.shown command) same;
       }
 
 pub some_room : (room limit lines : ℕ) → (room ≡ 0 → ⊥) → room ≡ limit - lines → lines < limit

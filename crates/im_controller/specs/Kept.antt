@@ -1,5 +1,7 @@
 -- What a crash leaves of an engine after a trace of its answers began. (Own.)
-use Rattle.std.specs.Prelude.{◌≡◌, ◌⊎◌, ℕ, ◌+◌, ◌≤◌, true, false, List, [], ◌++◌, length, take, Option, Some}
+use Rattle.std.specs.Prelude.{◌≡◌, ◌⊎◌, ℕ, ◌+◌, ◌<◌, ◌≤◌, true, false, List, [], ◌∷◌, ◌++◌, length, take, Option}
+use Rattle.std.specs.Prelude.{Some}
+use mathlib.Core.List.{IsPrefix}
 use Rattle.im_types.specs.declared.commands.Command.{Command}
 use Rattle.im_types.specs.declared.commands.Line.{Line}
 use Rattle.im_types.specs.declared.commands.Request.{Request}
@@ -7,10 +9,12 @@ use Rattle.im_types.specs.Contents.{Contents}
 use Rattle.im_types.specs.Meaning.{Means, accept_each}
 use Rattle.im_types.specs.Run.{after, accepted}
 use Rattle.im_laws.specs.Traces.{commands_of}
-use Rattle.im_disk.specs.Moment.{Moment, Rises}
+use Rattle.im_disk.specs.declared.disk.Disk.{Ghosts}
+use Rattle.im_disk.specs.Moment.{Moment, LeftSince, Rises}
 use Rattle.im_disk.specs.Since.{Leaves, LeavesNow}
 use Rattle.im_engine.specs.State.{EngineState}
 pub use Rattle.im_trace.specs.Begun.{Begun}
+use Rattle.im_trace.specs.Lines.{time_at}
 use Rattle.im_controller.specs.Planned.{AreOnPlan}
 
 -- an engine when its trace begins, given what is known of its disk
@@ -51,3 +55,38 @@ pub record HasKept {D : Type 0} (now : D → Moment) (past : D → List Moment) 
   -- the count of failures rose if the engine has failed, and stayed if it hasn't
   pub rose : engine.failed ≡ true → Rises b.failures (failures engine.disk)
   pub stayed : engine.failed ≡ false → failures engine.disk ≡ b.failures
+
+-- a line of a trace with these times: the last one of this history, left at this time
+pub record IsLeftAt (trace : List Line) (times : List ℕ) (history : List Line) (time : ℕ) : Type 0 where
+  pub begins : IsPrefix history trace
+  pub some : 0 < length history
+  pub time_is : time ≡ time_at times (length history)
+
+-- the file means the memory after a prefix of these commands that has at least so many of them
+abbrev pub MeansFrom : Contents → ℕ → List Command → ℕ → List ℕ → Type 0
+MeansFrom m count commands least file =
+    (many : ℕ) × (least ≤ many) × (many ≤ length commands) × MeansThrough m count commands many file
+
+-- A trace was kept, and since when its lines were: each file that a crash may leave at the time of a line or later has
+-- all accepted commands up to that line. A time is the number of the disk's moments before it.
+pub record KeepsSince {D : Type 0} (disk : Ghosts D) (b : Begun) (m : Contents) (plan : Option (List Request))
+    (trace : List Line) (times : List ℕ) (engine : EngineState D) : Type 0 where
+  pub kept : HasKept disk.now disk.past disk.failures b m plan (accepted_in m trace) engine
+  -- each line has a time, and none is later than now
+  pub whole : length times ≡ length trace
+  pub by : (history : List Line) (time : ℕ) → IsLeftAt trace times history time → time ≤ length (disk.past engine.disk)
+  pub since : (history : List Line) (time : ℕ) → IsLeftAt trace times history time → (file : List ℕ)
+      → LeftSince (disk.now engine.disk ∷ disk.past engine.disk) time file
+      → MeansFrom m b.count (accepted_in m trace ++ kept.doubt) (length (accepted_in m history)) file
+
+-- what was kept of this trace, if the disk is honest and the engine worked when its trace began
+abbrev pub KeptAll : {D : Type 0} → Ghosts D → Begun → Contents → Option (List Request) → List Line → EngineState D
+    → Type 0
+KeptAll disk b m plan trace engine = disk.honest engine.disk → b.failed ≡ false
+    → HasKept disk.now disk.past disk.failures b m plan (accepted_in m trace) engine
+
+-- since when it was kept, with the same premises
+abbrev pub KeptSince : {D : Type 0} → Ghosts D → Begun → Contents → Option (List Request) → List Line → List ℕ
+    → EngineState D → Type 0
+KeptSince disk b m plan trace times engine =
+    disk.honest engine.disk → b.failed ≡ false → KeepsSince disk b m plan trace times engine

@@ -17,6 +17,7 @@ use Rattle.im_types.specs.Contents.{Contents}
 use Rattle.im_types.specs.Step.{is_accepted}
 use Rattle.im_types.specs.Trace.{told}
 use Rattle.im_types.specs.Changes.{change_by, changes_at}
+use Rattle.im_disk.specs.declared.disk.Disk.{Ghosts}
 use Rattle.im_checkpoint.specs.declared.checkpoint.TurnDone.{TurnDone}
 use Rattle.im_checkpoint.specs.declared.checkpoint.TurnDone.TheVariants.{Idle}
 use Rattle.im_engine.specs.Run.{Answered, TurnAnswered}
@@ -59,8 +60,9 @@ pub record IsRoomless {D : Type 0} (s : SharedState D) (command : Command) (answ
 
 -- A command that is lent to the engine, with its answer. It is refused first if the engine has failed, and then if the
 -- trace is full.
-pub record Lends {D : Type 0} (marks : Line → Bool) (plan : Option (List Request)) (s : SharedState D) (t : Counts)
-    (command : Command) (answer : Result ReceiptState Refusal) (s' : SharedState D) (t' : Counts) : Type 0 where
+pub record Lends {D : Type 0} (disk : Ghosts D) (marks : Line → Bool) (plan : Option (List Request))
+    (s : SharedState D) (t : Counts) (command : Command) (answer : Result ReceiptState Refusal) (s' : SharedState D)
+    (t' : Counts) : Type 0 where
   pub dead : s.engine.failed ≡ true → (answer ≡ Err Failed) × (s' ≡ s)
   pub full : s.engine.failed ≡ false → s.log.limit ≤ length s.log.trace → (answer ≡ Err TraceFull) × (s' ≡ s)
   -- then if there is a plan that doesn't have its operation under its number
@@ -73,9 +75,11 @@ pub record Lends {D : Type 0} (marks : Line → Bool) (plan : Option (List Reque
       ⊎ IsRoomless s command answer s'
   -- its port has counted the line, if there is one; an outcome has the trace that ends in the line
   pub tally : t' ≡ counts_after marks t (lines_of (Commands command) (plain answer))
-  -- the change of an accepted command is shown if it has an outcome, and the outcome has what is shown then
+  -- The change of an accepted command is shown if it has an outcome. The outcome has what is shown then, and the time:
+  -- how many moments the disk had had.
   pub shown : s'.shown ≡ s.shown ++ shows s.engine.memory command (plain answer)
-  pub receipt : answer ≡ receipt_for s'.log.trace s'.shown command (plain answer)
+  pub receipt : answer
+      ≡ receipt_for s'.log.trace (length (disk.past s'.engine.disk)) s'.shown command (plain answer)
 
 -- A collect, with the refusals in the same order. The engine stays, and the line is left.
 pub record Looks {D : Type 0} (marks : Line → Bool) (s : SharedState D) (t : Counts) (element number : ℕ)

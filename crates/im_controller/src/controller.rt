@@ -14,14 +14,13 @@ ghost use Rattle.im_controller.specs.Lends.{IsTurnFault};
 use crate::groups::hold;
 use crate::keeper::{Kept, keep_once, mark_ended};
 use crate::ports::Port;
-use crate::shared::{
-    Shared, Sleepers, make_glance, make_port, stands_for, who_is_answered, who_sleeps,
-};
+use crate::shared::Shared;
+use crate::sleepers::{Sleepers, make_glance, make_port, stands_for, who_is_answered, who_sleeps};
 use crate::tellers::{Silent, Teller};
 use im_disk::Disk;
 use im_glass::Glance;
 use im_queue::{Bell, Bells, Inbox, Turns};
-use im_trace::{Name, Prefix, Receipt, Shown, Tally, element_of};
+use im_trace::{Name, Receipt, Shown, element_of};
 use im_types::{Command, Refusal};
 use std::sync::{Mutex, MutexGuard, Wait};
 
@@ -54,6 +53,18 @@ impl<D: Disk, K: Name> Controller<D, K> {
             answers,
             work: Bell::new(),
         }
+    }
+
+    // Returns what lies under the lock, at the end.
+    pub(crate) fn into_shared(self) -> Shared<D, K> {
+        let Controller {
+            shared,
+            inbox: _,
+            turns: _,
+            answers: _,
+            work: _,
+        } = self;
+        shared.into_inner()
     }
 
     /// Makes an element's port, which has been told no line yet. Its server is active from now on. Returns `NoElement`
@@ -158,20 +169,21 @@ impl<D: Disk, K: Name> Controller<D, K> {
     pub(crate) fn serve<R: Wait>(
         &self,
         rt: &R,
-        tally: &mut Tally<K>,
-        seen: &mut Prefix<K>,
+        port: &mut Port<K>,
         command: &Command,
     ) -> Result<Receipt<K>, Refusal>
         ensures asked { IfOk result (λ r. r.command ≡ command.now) }
         ensures planned { TellsOf K.memory K.plan result }
         ensures legal { IfOk result (λ r. IsLegal K.memory r.history) }
         ensures last { IfOk result (λ r. EndsIn r.history (line_of (Commands r.command) (plain result))) }
-        ensures counts { tally.new ≡ counts_after K.marks tally.old (lines_of (Commands command.now) (plain result)) }
-        ensures order { SeesReceipt seen.old command.now result seen.new }
+        ensures counts { port.new.told
+            ≡ counts_after K.marks port.old.told (lines_of (Commands command.now) (plain result)) }
+        ensures order { SeesReceipt port.old.history command.now result port.new.history }
+        ensures element { port.new.element ≡ port.old.element }
     {
         self.inbox.lock(rt).ask(command);
         for _ in rt.forever() {
-            if let Some(answer) = self.serve_all(rt, tally, seen, command) {
+            if let Some(answer) = self.serve_all(rt, port, command) {
                 return answer;
             }
         }
@@ -183,17 +195,17 @@ impl<D: Disk, K: Name> Controller<D, K> {
     fn serve_all<R: Wait>(
         &self,
         rt: &R,
-        tally: &mut Tally<K>,
-        seen: &mut Prefix<K>,
+        port: &mut Port<K>,
         command: &Command,
     ) -> Option<Result<Receipt<K>, Refusal>>
-        ensures holds { Holds K.marks tally.old command.now result tally.new }
+        ensures holds { Holds K.marks port.old.told command.now result port.new.told }
         ensures planned { IfSome result (TellsOf K.memory K.plan) }
-        ensures order { SeesAnswer seen.old command.now result seen.new }
+        ensures order { SeesAnswer port.old.history command.now result port.new.history }
+        ensures element { port.new.element ≡ port.old.element }
     {
         let turn = self.turns.wait(rt, element_of(command) as usize);
         let mut guard = self.shared.lock(rt);
-        let answer = hold(rt, &mut *guard, &self.inbox, tally, seen, command);
+        let answer = hold(rt, &mut *guard, &self.inbox, port, command);
         let sleepers = who_sleeps(&mut *guard);
         let answered = who_is_answered(&*guard);
         let _lock = MutexGuard::unlock(guard);

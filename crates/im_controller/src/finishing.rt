@@ -4,7 +4,7 @@ ghost use Rattle.std.specs.List.{AllByRecursion};
 ghost use mathlib.Core.List.{IsPrefix};
 ghost use Rattle.im_types.specs.Trace.{IsLegal, end_of};
 ghost use Rattle.im_controller.specs.Ends.{HaveCome};
-ghost use Rattle.im_controller.specs.Kept.{HasKept, accepted_in};
+ghost use Rattle.im_controller.specs.Kept.{KeptAll, KeptSince};
 ghost use Rattle.im_controller.specs.Planned.{EndsBy};
 
 use crate::controller::Controller;
@@ -43,6 +43,10 @@ pub struct Finished<D: Disk> {
 /// trace's accepted commands. Each file that a crash may leave now means it after all of them. If a call of the disk
 /// has failed, the commands that it left in doubt may be there too, all of them or none.
 ///
+/// Each file that a crash may have left at the time of a line or later has all accepted commands of the trace up to
+/// that line. So what a receipt tells is on the disk from then on: its history and its time are the trace's, as
+/// [`Recording::knows`] and [`Recording::times`] say.
+///
 /// Under a plan, an answered entry of a planned request has its result by the plan. Once the whole plan is served, the
 /// memory that was opened and the plan alone say what is kept, whatever the threads did. A plan that isn't served yet
 /// may be gone on with ([`resume_planned`](crate::resume_planned)), after a crash too
@@ -56,20 +60,11 @@ pub fn finish<D: Disk, K: Name, R: Wait>(
     ensures end { end_of K.memory result.trace.items ≡ result.engine.memory }
     ensures recorded { result.trace.recorded ≡ K.book.recorded }
     ensures planned { EndsBy K.memory K.plan result.trace.items result.engine.memory }
-    ensures kept { D.honest result.engine.disk → K.begun.failed ≡ false → HasKept D.now D.past D.failures
-        K.begun K.memory K.plan (accepted_in K.memory result.trace.items) result.engine }
+    ensures kept { KeptAll D.Disk K.begun K.memory K.plan result.trace.items result.engine }
+    ensures keeps { KeptSince D.Disk K.begun K.memory K.plan result.trace.items result.trace.times result.engine }
     ensures honest { D.honest result.engine.disk → K.honest }
-    ensures came { HaveCome K.marks result.trace.items K.ports ports.items result.left result.came result.claimed }
-    // Each port has seen a prefix of the trace: so have all receipts that it was told.
-    ensures seen { AllByRecursion (λ p. IsPrefix p.history result.trace.items) ports.items }
+    ensures came { HaveCome K.marks K.book result.trace K.ports ports.items result.left result.came result.claimed }
 {
-    let Controller {
-        shared,
-        inbox: _,
-        turns: _,
-        answers: _,
-        work: _,
-    } = controller;
     let Shared {
         engine,
         log,
@@ -80,7 +75,7 @@ pub fn finish<D: Disk, K: Name, R: Wait>(
         reserve,
         keeper: _,
         most_room: _,
-    } = shared.into_inner();
+    } = controller.into_shared();
     pane.end(rt);
     let all = reserve.ports();
     let left = reserve.left();
@@ -104,7 +99,7 @@ fn take_all_back<K: Name>(log: &mut Ended<K>, ports: Vec<Port<K>>)
     ensures lines { log.new.told.lines ≡ log.old.told.lines + sum_by (λ p. p.told.lines) ports.items }
     ensures marked { log.new.told.marked ≡ log.old.told.marked + sum_by (λ p. p.told.marked) ports.items }
     ensures bound { log.new.back ≤ K.ports }
-    ensures trace { log.new.trace ≡ log.old.trace }
+    ensures trace { (log.new.trace ≡ log.old.trace) × (log.new.times ≡ log.old.times) }
     ensures claimed { log.new.claimed ≡ log.old.claimed }
     ensures seen { AllByRecursion (λ p. IsPrefix p.history log.old.trace) ports.items }
 {

@@ -6,15 +6,19 @@
 //! by the definitions of `im_types`.
 #![tactic(auto)]
 
+mod admitting; // Members that a plan has.
 mod controller; // The lock, and the loop of the keeper.
 mod finishing; // Its end.
 mod groups; // Groups of commands that the engine is lent to.
 mod keeper; // Checkpoints, and who makes room.
+mod looks; // What is looked up under the lock.
+mod members; // What the members of a group are answered.
 mod opening; // An engine with room for a trace.
 mod panes; // Changes, put ahead and shown.
 mod plans; // Whether a plan has a command.
 mod ports; // The way of one element to the lock.
 mod shared; // What lies under the lock.
+mod sleepers; // Who sleeps, and who is to be woken.
 mod starts; // With a trace that is recorded, and with one that isn't; fresh, or gone on with.
 mod stops; // Laws of planned runs that are stopped.
 mod tellers; // Who is told how things stand.
@@ -23,11 +27,12 @@ pub use controller::Controller;
 pub use finishing::{Finished, finish};
 pub use im_queue::{Ask, Server, stuck_is_each};
 pub use im_trace::{
-    Found, Lines, Marked, Name, Prefix, Receipt, Recording, Shown, Since, Tally, Traced,
+    Found, Lines, Marked, Name, Prefix, Receipt, Recording, Shown, Since, Tally, Traced, When,
 };
+pub use looks::{begin_wait, look};
 pub use opening::Opening;
 pub use ports::Port;
-pub use shared::{Shared, begin_wait, lend, lend_turn, look};
+pub use shared::{Shared, lend, lend_turn};
 pub use starts::{
     resume_planned, resume_planned_unrecorded, start, start_planned, start_planned_unrecorded,
     start_unrecorded,

@@ -106,24 +106,30 @@ fn places_behind(taken: bool, left: u64) -> u64
     left
 }
 
+// Which members of a group are lent: for each, whether the pane has room for what it changes, and those for which it
+// has.
+pub(crate) struct Choice {
+    pub(crate) roomy: ArrayVec<bool, 16>,
+    pub(crate) lent: ArrayVec<Command, 16>,
+}
+
 // Puts ahead what the members of a group change, as far as the pane has room, and chooses those that are lent.
 pub(crate) fn choose<J: PaneName>(
     pane: &mut Pane<J>,
     memory: &Memory,
     left: u64,
     members: &[Command],
-    roomy: &mut ArrayVec<bool, 16>,
-    lent: &mut ArrayVec<Command, 16>,
-)
+) -> Choice
     requires cells { pane.old.cells ≡ length memory.now.contents.cells }
     requires fits { length members.now ≤ 16 }
-    requires empty { (roomy.old.items ≡ []) × (lent.old.items ≡ []) }
-    ensures roomless { AreRoomless memory.now.contents left roomy.new.items members.now }
-    ensures lent { lent.new.items ≡ those roomy.new.items members.now }
+    ensures roomless { AreRoomless memory.now.contents left result.roomy.items members.now }
+    ensures lent { result.lent.items ≡ those result.roomy.items members.now }
     ensures ahead { pane.new ≡ record pane.old {
-      ahead = pane.old.ahead ++ changes_put_all memory.now.contents left lent.new.items;
+      ahead = pane.old.ahead ++ changes_put_all memory.now.contents left result.lent.items;
     } }
 {
+    let mut roomy = ArrayVec::new();
+    let mut lent = ArrayVec::new();
     let mut left = left;
     for i in 0..members.len() {
         let member = members[i];
@@ -136,4 +142,5 @@ pub(crate) fn choose<J: PaneName>(
             Err(_) => roomy.push(false),
         }
     }
+    Choice { roomy, lent }
 }

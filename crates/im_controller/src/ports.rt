@@ -12,9 +12,9 @@ ghost use Rattle.im_controller.specs.Waits.{entry_of, IsFoundOf, IsAwaited, Sees
 ghost use Rattle.im_controller.specs.Planned.{TellsOf, TellsFound};
 
 use crate::controller::Controller;
-use crate::shared::{
-    ask_once, find_seen, lend_turn, note_sleep, retire, who_may_be_stuck, who_sleeps,
-};
+use crate::looks::{ask_once, find_seen};
+use crate::shared::lend_turn;
+use crate::sleepers::{note_sleep, retire, who_may_be_stuck, who_sleeps};
 use im_checkpoint::TurnDone;
 use im_disk::Disk;
 use im_trace::{Found, Name, Prefix, Receipt, Tally};
@@ -86,12 +86,7 @@ impl<K: Name> Port<K> {
             number,
             op,
         };
-        controller.serve(
-            rt,
-            &mut self.tally,
-            &mut self.seen,
-            &Command::Request(request),
-        )
+        controller.serve(rt, self, &Command::Request(request))
     }
 
     /// Confirms this element's entries below a number: they are forgotten. This port serves it, or another port serves
@@ -111,15 +106,8 @@ impl<K: Name> Port<K> {
         ensures element { self.new.element ≡ self.old.element }
         ensures order { SeesReceipt self.old.history (Confirm self.old.element upto) result self.new.history }
     {
-        controller.serve(
-            rt,
-            &mut self.tally,
-            &mut self.seen,
-            &Command::Confirm {
-                element: self.element,
-                upto,
-            },
-        )
+        let element = self.element;
+        controller.serve(rt, self, &Command::Confirm { element, upto })
     }
 
     /// Returns what is kept under a number of this element. It is refused as by [`look`](crate::look): `Failed`,

@@ -8,7 +8,10 @@ mod copies;
 mod glance;
 mod pane;
 mod rule;
+mod sides;
+mod unnamed;
 
 pub use book::{NewBook, PaneName};
 pub use glance::Glance;
-pub use pane::{Pane, Told, Unnamed, open};
+pub use pane::{Pane, Told};
+pub use unnamed::{Unnamed, open};

@@ -1,44 +1,33 @@
 //! Panes, which show the full cells.
-ghost use Rattle.std.specs.Prelude.{◌≡◌, ◌+◌, ◌-◌, ◌<◌, ◌++◌, ◌∷◌, [], None, Some, drop, length, replicate, true};
-ghost use Rattle.std.specs.Prelude.{IfOk, IsOkUnless};
-ghost use Rattle.std.specs.Prelude.{IfSome, IsSome, OnErr, OnOk, ◌↔◌};
-ghost use Rattle.std.specs.List.{AllByRecursion};
+ghost use Rattle.std.specs.Prelude.{◌≡◌, ◌-◌, ◌<◌, ◌++◌, ◌∷◌, [], true, IfOk, IfSome, IsOkUnless, IsSome, OnErr, OnOk};
+ghost use Rattle.std.specs.Prelude.{◌↔◌};
 ghost use mathlib.Core.List.{IsPrefix};
-ghost use Rattle.left_right.specs.Sides.{view};
 ghost use Rattle.im_types.specs.declared.refusals.Refusal.TheVariants.{NoMemory};
 ghost use Rattle.im_types.specs.Changes.{is_below};
-ghost use Rattle.im_glass.specs.Copies.{IsKept, IsIdle, GoesOn, after_all, changes_ahead};
-ghost use Rattle.im_glass.specs.Rule.{state_of, IsKeptOf};
 ghost use Rattle.im_glass.specs.Panes.{PaneView, with_name};
 
-use crate::book::{Beginning, Book, NewBook, PaneName, UnnamedBook};
-use crate::cells::FullCells;
-use crate::copies::{Ahead, Copy, History};
+use crate::book::{Beginning, Book, NewBook, PaneName};
+use crate::copies::Ahead;
 use crate::glance::{Glance, Spare};
-use crate::rule::{Known, Sees, Shows};
+use crate::sides::{Both, copies, show_all, spare_readers};
+use crate::unnamed::Unnamed;
 use core::mem::replace_with;
 use im_types::{Change, Refusal};
-use left_right::writer::Writer;
-use std::alloc::{AllocError, Global};
-use std::marker::{Brand, Model};
+use std::alloc::Global;
+use std::marker::Model;
 use std::sync::Wait;
 
 // The list never has more changes than this.
 const MOST: u64 = 1 << 61;
 
-// How many changes, put ahead or shown last, have room.
-const GROUPS: u32 = 32;
-
-type Both = Writer<Copy, Ahead, Known, Shows>;
-
 /// A pane shows the full cells, as a list of changes. Contracts see the changes that are shown, those that are put
 /// ahead, how many cells there are, and how many readers weren't given out. [`Pane::end`] ends it; it is never dropped.
 pub struct Pane<J: PaneName> {
-    both: Both,
-    book: Book<J>,
+    pub(crate) both: Both,
+    pub(crate) book: Book<J>,
     // The changes that are shown, followed by those that are put ahead.
-    all: Beginning<J>,
-    spare: Vec<Spare>,
+    pub(crate) all: Beginning<J>,
+    pub(crate) spare: Vec<Spare>,
 }
 
 impl<J: PaneName> Model for Pane<J> {
@@ -237,237 +226,4 @@ impl<J: PaneName> Pane<J> {
         } = self;
         let _last = both.take(rt);
     }
-}
-
-/// A pane without a name, on which nothing is put ahead. Contracts also see its book. [`Unnamed::end`] ends it.
-pub struct Unnamed {
-    both: Both,
-    book: UnnamedBook,
-    spare: Vec<Spare>,
-}
-
-impl Model for Unnamed {
-    ghost use Rattle.std.specs.Prelude.{◌≡◌, [], length, drop, Some};
-    ghost use Rattle.std.specs.List.{AllByRecursion};
-    ghost use Rattle.left_right.specs.Sides.{view as known};
-    ghost use Rattle.im_glass.specs.Copies.{IsKept};
-    ghost use Rattle.im_glass.specs.Rule.{state_of};
-    ghost use Rattle.im_glass.specs.Panes.{UnnamedView};
-
-    ghost Value = { UnnamedView };
-
-    ghost view = { λ u. record {
-      book = u.book.seen.book;
-      shown = u.both.desk.shown.value.seen.log;
-      cells = length u.both.desk.shown.value.cells;
-      spare = length u.spare.items;
-    } };
-
-    ghost invariant = { λ u.
-        (drop u.both.behind u.both.log.items ≡ [])
-        × (u.book.seen.log ≡ u.both.desk.shown.value.seen.log)
-        × (u.both.desk.shown.value.seen.book ≡ u.book.seen.book)
-        × IsKept (state_of u.both.desk.shown.value)
-        × ((known u.both.desk.place).seen ≡ Some u.both.desk.shown.value.seen)
-        × AllByRecursion (λ b. b ≡ u.book.seen.book) u.spare.items };
-}
-
-impl Unnamed {
-    /// Gives the pane the name of its book. (Own.)
-    pub fn named<J: PaneName>(self) -> Pane<J>
-        requires { self.book ≡ J.book }
-        ensures { result ≡ with_name self }
-    {
-        let Unnamed { both, book, spare } = self;
-        let (book, all) = book.named::<J>();
-        Pane {
-            both,
-            book,
-            all,
-            spare,
-        }
-    }
-
-    /// Ends the pane. (Own.)
-    pub fn end<R: Wait>(self, rt: &R) {
-        let Unnamed {
-            both,
-            book: _,
-            spare: _,
-        } = self;
-        let _last = both.take(rt);
-    }
-}
-
-/// Makes a new pane, without a name, on which these changes of its cells are shown. Returns `NoMemory` if there is no
-/// room for it. (Own.)
-pub fn open<R: Wait>(
-    rt: &R,
-    alloc: Global,
-    cells: u32,
-    readers: u16,
-    changes: &[Change],
-) -> Result<Unnamed, Refusal>
-    requires readers { 0 < readers }
-    requires below { AllByRecursion (λ c. is_below cells c ≡ true) changes.now }
-    ensures found { IfOk result (λ u. (u.shown ≡ changes.now) × (u.cells ≡ cells) × (u.spare ≡ readers)) }
-    ensures only { IsOkUnless result NoMemory }
-{
-    opened::<Brand, R>(rt, alloc, NewBook::new(), cells, readers, changes)
-}
-
-// Does the same with a book that has a name meanwhile.
-fn opened<J: PaneName, R: Wait>(
-    rt: &R,
-    alloc: Global,
-    book: NewBook,
-    cells: u32,
-    readers: u16,
-    changes: &[Change],
-) -> Result<Unnamed, Refusal>
-    requires book { book ≡ J.book }
-    requires readers { 0 < readers }
-    requires below { AllByRecursion (λ c. is_below cells c ≡ true) changes.now }
-    ensures found { IfOk result (λ u. (u.shown ≡ changes.now) × (u.cells ≡ cells) × (u.spare ≡ readers)) }
-    ensures only { IsOkUnless result NoMemory }
-{
-    let mut pane = Pane::<J>::new(rt, alloc, book, cells, readers)?;
-    for change in changes {
-        match pane.put_ahead(*change) {
-            Ok(()) => {
-                let _told = pane.show(rt);
-            }
-            Err(refusal) => {
-                pane.end(rt);
-                return Err(refusal);
-            }
-        }
-    }
-    Ok(pane.unnamed())
-}
-
-// Makes the two copies, with no cell full, after no change, and with room for what is put ahead.
-fn copies<R: Wait>(
-    rt: &R,
-    alloc: Global,
-    seen: History,
-    cells: u32,
-    readers: u16,
-) -> Result<Both, AllocError>
-    requires readers { 0 < readers }
-    requires none { seen.log ≡ [] }
-    ensures state { IfOk result (λ w. state_of w.desk.shown.value ≡ (seen, replicate cells None, 0)) }
-    ensures known { IfOk result (λ w. (view w.desk.place).seen ≡ Some w.desk.shown.value.seen) }
-    ensures none { IfOk result (λ w. drop w.behind w.log.items ≡ []) }
-{
-    let mut both = new_copies(alloc, &seen, cells, readers)?;
-    match make_room(&mut both, &seen) {
-        Ok(()) => {
-            // It is called twice, because the copy that was shown first takes in what was put ahead at the second call.
-            let both = show_nothing(rt, both);
-            Ok(show_nothing(rt, both))
-        }
-        Err(_) => {
-            let _last = both.take(rt);
-            Err(AllocError)
-        }
-    }
-}
-
-// Makes the two copies alone.
-fn new_copies(alloc: Global, seen: &History, cells: u32, readers: u16) -> Result<Both, AllocError>
-    requires readers { 0 < readers }
-    requires none { seen.now.log ≡ [] }
-    ensures state { IfOk result (λ w. state_of w.desk.shown.value ≡ (seen.now, replicate cells None, 0)) }
-    ensures none { IfOk result (λ w. drop w.behind w.log.items ≡ []) }
-{
-    let first = Copy {
-        cells: FullCells::new(alloc, cells)?,
-        count: 0,
-        seen: seen.again(),
-    };
-    let second = Copy {
-        cells: FullCells::new(alloc, cells)?,
-        count: 0,
-        seen: seen.again(),
-    };
-    Writer::new(alloc, first, second, readers as usize)
-}
-
-// Shows changes that change nothing.
-fn show_nothing<R: Wait>(rt: &R, both: Both) -> Both
-    requires kept { IsKept (state_of both.desk.shown.value) }
-    requires idle { IsIdle (state_of both.desk.shown.value) (drop both.behind both.log.items) }
-    ensures state { state_of result.desk.shown.value ≡ state_of both.desk.shown.value }
-    ensures known { (view result.desk.place).seen ≡ Some result.desk.shown.value.seen }
-    ensures none { drop result.behind result.log.items ≡ [] }
-{
-    publish(rt, both).0
-}
-
-// Puts ahead changes that change nothing, so that there is room for that many afterwards.
-fn make_room(both: &mut Both, seen: &History) -> Result<(), AllocError>
-    requires shown { state_of both.old.desk.shown.value ≡ (seen.now, both.old.desk.shown.value.cells, 0) }
-    requires none { drop both.old.behind both.old.log.items ≡ [] }
-    ensures same { both.new.desk ≡ both.old.desk }
-    ensures idle { IsIdle (state_of both.old.desk.shown.value) (drop both.new.behind both.new.log.items) }
-{
-    for _place in 0..GROUPS {
-        let ahead = Ahead {
-            change: Change::Same,
-            count: 0,
-            seen: seen.again(),
-        };
-        match both.append(ahead) {
-            Ok(()) => {}
-            Err(_) => return Err(AllocError),
-        }
-    }
-    Ok(())
-}
-
-// Makes the given number of readers, which have seen what is shown.
-fn spare_readers(alloc: Global, both: &mut Both, readers: u16) -> Result<Vec<Spare>, AllocError>
-    requires kept { IsKept (state_of both.old.desk.shown.value) }
-    requires known { (view both.old.desk.place).seen ≡ Some both.old.desk.shown.value.seen }
-    ensures count { IfOk result (λ spare. length spare.items ≡ readers) }
-    ensures book { IfOk result (λ spare. AllByRecursion (λ b. b ≡ both.old.desk.shown.value.seen.book) spare.items) }
-    ensures same { (both.new.desk.shown ≡ both.old.desk.shown) × (both.new.log ≡ both.old.log)
-        × (both.new.behind ≡ both.old.behind) }
-    ensures known { view both.new.desk.place ≡ view both.old.desk.place }
-{
-    let mut spare = Vec::new(alloc);
-    for _reader in 0..readers {
-        spare.push(Spare::new(both)?)?;
-    }
-    Ok(spare)
-}
-
-// Shows what is put ahead.
-fn publish<R: Wait>(rt: &R, both: Both) -> (Both, ())
-    requires kept { IsKept (after_all (state_of both.desk.shown.value) (drop both.behind both.log.items)) }
-    requires book { (after_all (state_of both.desk.shown.value) (drop both.behind both.log.items)).0.book
-        ≡ both.desk.shown.value.seen.book }
-    ensures state { state_of result.0.desk.shown.value
-        ≡ after_all (state_of both.desk.shown.value) (drop both.behind both.log.items) }
-    ensures known { (view result.0.desk.place).seen ≡ Some result.0.desk.shown.value.seen }
-    ensures none { drop result.0.behind result.0.log.items ≡ [] }
-{
-    let (both, _shown) = both.publish_as::<Sees, R>(rt);
-    (both, ())
-}
-
-// Shows the changes that are put ahead, of this book.
-fn show_all<J: PaneName, R: Wait>(rt: &R, both: Both) -> (Both, ())
-    requires goes_on { GoesOn (length both.desk.shown.value.cells) J.book both.desk.shown.value.seen.log
-        (drop both.behind both.log.items) }
-    requires kept { IsKeptOf J.book both.desk.shown.value }
-    ensures log { result.0.desk.shown.value.seen.log
-        ≡ both.desk.shown.value.seen.log ++ changes_ahead (drop both.behind both.log.items) }
-    ensures kept { IsKeptOf J.book result.0.desk.shown.value }
-    ensures cells { length result.0.desk.shown.value.cells ≡ length both.desk.shown.value.cells }
-    ensures known { (view result.0.desk.place).seen ≡ Some result.0.desk.shown.value.seen }
-    ensures none { drop result.0.behind result.0.log.items ≡ [] }
-{
-    publish(rt, both)
 }

@@ -211,8 +211,8 @@ impl Inbox {
         members: &mut ArrayVec<Command, 16>,
     ) -> bool
         requires room { length members.old.items < 16 }
-        requires before { Gathers log.now.places memory.now.contents element members.old.items }
-        ensures gathered { Gathers log.now.places memory.now.contents (element + 1) members.new.items }
+        requires before { Gathers log.now.state.places memory.now.contents element members.old.items }
+        ensures gathered { Gathers log.now.state.places memory.now.contents (element + 1) members.new.items }
         ensures few { length members.new.items ≤ length members.old.items + 1 }
     {
         if !log.is_free(element) {
@@ -239,7 +239,7 @@ impl Inbox {
         most: usize,
     ) -> NextGroup
         ensures apart { AreOneOfEach result.members.items }
-        ensures free { AreFreeFor log.now.places result.members.items }
+        ensures free { AreFreeFor log.now.state.places result.members.items }
         ensures cut { IsCut result.members.items }
         ensures sure { AreSureBehind memory.now.contents result.members.items }
         ensures few { length result.members.items ≤ most }

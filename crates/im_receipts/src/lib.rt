@@ -1,9 +1,12 @@
-//! What receipts of threads say together: two receipts of one request tell it alike, and it acted once.
+//! What receipts of threads say: two receipts of one request tell it alike, and it acted once. What a receipt tells is
+//! on the disk from then on.
 //!
 //! The crate stands on `im_controller` and `im_promise`. No program calls it. A client that compares its receipts does,
 //! and contracts alone see what it says.
 #![tactic(auto)]
 
 mod alike;
+mod durable;
 
 pub use alike::told_alike;
+pub use durable::finish_with_receipt;

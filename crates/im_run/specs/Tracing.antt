@@ -16,7 +16,7 @@ use Rattle.im_types.specs.Contents.{Contents}
 use Rattle.im_types.specs.Trace.{IsLegal}
 use Rattle.im_types.specs.Run.{after}
 pub use Rattle.im_trace.specs.declared.traced.Since.{Since}
-use Rattle.im_trace.specs.Ends.{RecordingState}
+use Rattle.im_trace.specs.Ends.{RecordingState, empty_recording}
 use Rattle.im_trace.specs.Lines.{may_begin}
 use Rattle.im_controller.specs.Kept.{accepted_in}
 use Rattle.im_text.specs.declared.lines.Lines.{Lines}
@@ -58,7 +58,7 @@ lines_text lines = first_lines lines (length lines)
 
 -- the calls of the elements' servers, if any started
 abbrev pub calls_in : Option RecordingState → RecordingState
-calls_in None = record { items = []; recorded = true }
+calls_in None = empty_recording
 calls_in (Some recording) = recording
 
 -- a run's calls, each with its answer: those of the setup, and those of the elements' servers; and whether the latter

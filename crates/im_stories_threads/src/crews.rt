@@ -133,10 +133,7 @@ fn begin_to_watch<'s, E, K: Name + Send + Sync + 's>(
     scope: &Scope<'s, E>,
     glance: Glance<Shown<K>>,
 ) -> Option<JoinHandle<Looked<Shown<K>>>> {
-    match scope.spawn(move || watch(glance, ROUNDS)) {
-        Ok(watcher) => Some(watcher),
-        Err(_) => None,
-    }
+    scope.spawn(move || watch(glance, ROUNDS)).ok()
 }
 
 // Waits for the end of a thread, if it could be made.

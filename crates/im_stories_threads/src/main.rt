@@ -63,6 +63,7 @@ fn main(rt: HostRuntime) -> ExitCode {
         Scene::KeeperWorks,
         Scene::KeeperAlone,
         Scene::OneLine,
+        Scene::Unrecorded,
         Scene::ServersWait,
         Scene::RetiredWaits,
         Scene::Sixteen,

@@ -1,6 +1,6 @@
 //! New memories, and their openings.
 
-use im_controller::{Opening, start};
+use im_controller::{Opening, start, start_unrecorded};
 use im_disk::FuseDisk;
 use im_engine::Engine;
 use im_story_disk::{Place, STEADY};
@@ -15,15 +15,15 @@ pub fn new_memory(alloc: Global, limits: Limits) -> Option<Engine<FuseDisk>> {
     place.engine.take()
 }
 
-/// Makes room for a trace of this many lines.
+/// Makes room for a trace of this many lines, or for one that isn't recorded.
 pub fn started<R: Wait>(
     rt: &R,
     alloc: Global,
     engine: Engine<FuseDisk>,
-    room: usize,
+    room: Option<usize>,
 ) -> Option<Opening<FuseDisk>> {
-    match start(rt, alloc, engine, room) {
-        Ok(opening) => Some(opening),
-        Err(_) => None,
+    match room {
+        Some(lines) => start(rt, alloc, engine, lines).ok(),
+        None => start_unrecorded(rt, alloc, engine).ok(),
     }
 }

@@ -27,6 +27,8 @@ pub enum Scene {
     KeeperAlone,
     /// A trace with room for one line.
     OneLine,
+    /// The same with a trace that isn't recorded.
+    Unrecorded,
     /// A server that is woken, and one that waits for nobody.
     ServersWait,
     /// A port that waits after its server has ended, and is woken.
@@ -45,7 +47,7 @@ impl Scene {
         match self {
             Scene::Two => Limits::new(64, 3, 256),
             Scene::KeeperWorks | Scene::KeeperAlone => Limits::new(64, 3, SLOTS),
-            Scene::OneLine => Limits::new(64, 2, 16),
+            Scene::OneLine | Scene::Unrecorded => Limits::new(64, 2, 16),
             Scene::ServersWait | Scene::RetiredWaits => Limits::new(64, 3, 256),
             Scene::Sixteen => Limits::new(512, 17, 4096),
             Scene::Great => Limits::new(65_536, 64, 4096),
@@ -53,13 +55,13 @@ impl Scene {
         }
     }
 
-    /// Returns how many lines its trace has room for.
-    pub fn room(self) -> usize {
+    /// Returns how many lines its trace has room for, if it is recorded.
+    pub fn room(self) -> Option<usize> {
         match self {
-            Scene::OneLine => 1,
-            Scene::Sixteen => 20_000,
-            Scene::Readers => 1_000,
-            _ => 100,
+            Scene::OneLine => Some(1),
+            Scene::Unrecorded => None,
+            Scene::Sixteen | Scene::Readers => Some(20_000),
+            _ => Some(100),
         }
     }
 
@@ -67,7 +69,7 @@ impl Scene {
     fn threads(self) -> u16 {
         match self {
             Scene::Two | Scene::KeeperWorks | Scene::ServersWait | Scene::RetiredWaits => 2,
-            Scene::OneLine | Scene::Readers | Scene::KeeperAlone => 1,
+            Scene::OneLine | Scene::Unrecorded | Scene::Readers | Scene::KeeperAlone => 1,
             Scene::Sixteen => 16,
             Scene::Great => 0,
         }
@@ -80,7 +82,7 @@ impl Scene {
             (Scene::KeeperWorks, 1) => Part::Fetches(16),
             (Scene::KeeperWorks, _) => Part::Fetches(1),
             (Scene::KeeperAlone, _) => Part::Fetches(8), // The ports make no room while as many slots are free.
-            (Scene::OneLine, _) => Part::Fetches(2),
+            (Scene::OneLine | Scene::Unrecorded, _) => Part::Fetches(2),
             (Scene::ServersWait, 1) => Part::Waits,
             (Scene::ServersWait, _) => Part::StoresAndStalls,
             (Scene::RetiredWaits, 1) => Part::RetiresAndWaits,
@@ -118,7 +120,7 @@ impl Scene {
     fn asks(self) -> Option<u64> {
         match self {
             Scene::Two => Some(10),
-            Scene::OneLine => Some(1),
+            Scene::OneLine | Scene::Unrecorded => Some(1),
             _ => None,
         }
     }
@@ -148,6 +150,7 @@ impl Scene {
             Scene::KeeperAlone =>
                 "eight fetches, and nobody asks while all slots are made free again",
             Scene::OneLine => "a trace with room for one line",
+            Scene::Unrecorded => "the same calls, and a trace that isn't recorded",
             Scene::ServersWait => "one server is woken, and one waits for nobody",
             Scene::RetiredWaits => "a port waits whose server has ended, and is woken",
             Scene::Sixteen => "sixteen threads of 1,002 requests each",
@@ -282,8 +285,7 @@ fn ask<K: Name, R: Wait>(
     notes.call("collect", found);
     let confirmed = outcome_of(port.confirm(rt, controller, number.saturating_add(1)));
     notes.call("confirm", confirmed);
-    let helped = port.help(rt, controller).is_ok();
-    writeln!(notes.said, "  help: {helped}")
+    writeln!(notes.said, "  help: {}", port.help(rt, controller).is_ok())
 }
 
 /// Plays a scene, and then asks the port of element 1. The ports come back.

@@ -34,7 +34,7 @@ fn opening_of<R: Wait>(rt: &R, image: &Place, passes: u64) -> Option<Opening<Fus
     let mut place = image.copy();
     place.fuse = (passes, Mode::Stop);
     let _made = place.start(None);
-    started(rt, image.alloc, place.engine.take()?, 100)
+    started(rt, image.alloc, place.engine.take()?, Some(100))
 }
 
 // Notes what the request for a cell was told.

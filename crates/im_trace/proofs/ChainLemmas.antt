@@ -1,6 +1,6 @@
 -- The steps keep the rule of the book of lines, and what they leave of its lines.
 use Rattle.std.proofs.Common.{◌≡◌, ◌⊎◌, inl, inr, ℕ, zero, suc, ◌<◌, ◌==◌, Bool, true, false, List, [], ◌∷◌}
-use Rattle.std.proofs.Common.{◌++◌, length, refl, ap, sym}
+use Rattle.std.proofs.Common.{◌++◌, length, refl, ap, sym, ◌≤◌}
 use Rattle.std.proofs.Common.{◌∙◌, subst, arith, None, set, take, drop, append-nil, append_assoc, take-append-drop}
 use Rattle.std.proofs.Common.{if◌then◌else◌}
 use Rattle.std.proofs.lemmas.Bool.Decides.{nat_tests}
@@ -13,7 +13,8 @@ use Rattle.im_types.specs.declared.commands.Line.{Line}
 use Rattle.im_laws.proofs.Tests.{true_false, test-self}
 use Rattle.im_trace.specs.declared.rule.Link.{Link}
 use Rattle.im_trace.specs.Lines.{AreInOrder}
-use Rattle.im_trace.specs.Chains.{IsChained, IsUsed, IsApart, MakesPen, KeepsPen, UsesPen, lines_from, tip_from}
+use Rattle.im_trace.specs.Chains.{IsChained, IsUsed, IsApart, MakesPen, KeepsPen, UsesPen, KnowsAll, read_from}
+use Rattle.im_trace.specs.Chains.{lines_from, times_from, tip_from}
 
 abbrev pub shown : List Link → List Link
 shown log = []
@@ -144,7 +145,7 @@ pub add_moves : (v : List Link) (p : Nib) (e : Link) → p.right ≡ may_write
     → Moves IsChained shown moved 0 (v, (p, None)) (λ n. either (n == 0) 0 n)
     (UsesPen (step 0 0 0 e) (v, (p, None)))
 add_moves v p e right cs log is pre away =
-    let l : Link = record { from = p.key; line = e.line; next = e.next } in
+    let l : Link = record { from = p.key; line = e.line; time = e.time; next = e.next } in
     let n = either ((cell cs 0).0 == 0) 0 (cell cs 0).0 in
     let ds = set cs 0 (n, true) in
     let less : p.key < length ds = omega (arith, length-set cs 0 (n, true), (away right).0) in (
@@ -163,21 +164,29 @@ add_moves v p e right cs log is pre away =
       ),
     )
 
--- ---- the lines
+-- ---- what is read off the entries
 
-lines_by : (b : Bool) (l : Link) (key : ℕ) (xs ys : List Link)
-    → lines_from l.next (xs ++ ys) ≡ lines_from l.next xs ++ lines_from (tip_from l.next xs) ys
-    → lines_from key (xs ++ ys) ≡ lines_from key xs ++ lines_from (tip_from key xs) ys
-    → (if b then l.line ∷ lines_from l.next (xs ++ ys) else lines_from key (xs ++ ys))
-    ≡ (if b then l.line ∷ lines_from l.next xs else lines_from key xs)
-    ++ lines_from (if b then tip_from l.next xs else tip_from key xs) ys
-lines_by true l key xs ys p q = ap (λ ls. l.line ∷ ls) p
-lines_by false l key xs ys p q = q
+module _ {X : Type 0} (read : Link → X) where
+  read_by : (b : Bool) (l : Link) (key : ℕ) (xs ys : List Link)
+      → read_from read l.next (xs ++ ys) ≡ read_from read l.next xs ++ read_from read (tip_from l.next xs) ys
+      → read_from read key (xs ++ ys) ≡ read_from read key xs ++ read_from read (tip_from key xs) ys
+      → (if b then read l ∷ read_from read l.next (xs ++ ys) else read_from read key (xs ++ ys))
+      ≡ (if b then read l ∷ read_from read l.next xs else read_from read key xs)
+      ++ read_from read (if b then tip_from l.next xs else tip_from key xs) ys
+  read_by true l key xs ys p q = ap (λ ls. read l ∷ ls) p
+  read_by false l key xs ys p q = q
 
-pub lines-append : (key : ℕ) (xs ys : List Link) → lines_from key (xs ++ ys)
-    ≡ lines_from key xs ++ lines_from (tip_from key xs) ys
-lines-append key [] ys = refl
-lines-append key (l ∷ xs) ys = lines_by (l.from == key) l key xs ys (lines-append l.next xs ys) (lines-append key xs ys)
+  pub read-append : (key : ℕ) (xs ys : List Link) → read_from read key (xs ++ ys)
+      ≡ read_from read key xs ++ read_from read (tip_from key xs) ys
+  read-append key [] ys = refl
+  read-append key (l ∷ xs) ys =
+      read_by (l.from == key) l key xs ys (read-append l.next xs ys) (read-append key xs ys)
+
+  -- entries of other pens add nothing
+  read-apart : (key : ℕ) (ys : List Link) → AllByRecursion (IsApart key) ys → read_from read key ys ≡ []
+  read-apart key [] all = refl
+  read-apart key (l ∷ ys) all =
+      ap (λ b. if b then read l ∷ read_from read l.next ys else read_from read key ys) all.0 ∙ read-apart key ys all.1
 
 tip_by : (b : Bool) (l : Link) (key : ℕ) (xs ys : List Link)
     → tip_from l.next (xs ++ ys) ≡ tip_from (tip_from l.next xs) ys
@@ -190,12 +199,6 @@ tip_by false l key xs ys p q = q
 pub tip-append : (key : ℕ) (xs ys : List Link) → tip_from key (xs ++ ys) ≡ tip_from (tip_from key xs) ys
 tip-append key [] ys = refl
 tip-append key (l ∷ xs) ys = tip_by (l.from == key) l key xs ys (tip-append l.next xs ys) (tip-append key xs ys)
-
--- entries of other pens add no line
-lines-apart : (key : ℕ) (ys : List Link) → AllByRecursion (IsApart key) ys → lines_from key ys ≡ []
-lines-apart key [] all = refl
-lines-apart key (l ∷ ys) all =
-    ap (λ b. if b then l.line ∷ lines_from l.next ys else lines_from key ys) all.0 ∙ lines-apart key ys all.1
 
 tip-apart : (key : ℕ) (ys : List Link) → AllByRecursion (IsApart key) ys → tip_from key ys ≡ key
 tip-apart key [] all = refl
@@ -216,21 +219,21 @@ module _ (root : ℕ) (seen log : List Link) (begins : IsPrefix seen log)
   rest-apart = all-behind (IsApart (tip_from root seen)) seen rest
       (subst (λ ls. AllByRecursion (IsApart (tip_from root seen)) ls) (sym begins.1) apart)
 
-  pub lines-same : lines_from root log ≡ lines_from root seen
-  lines-same = ap (lines_from root) (sym begins.1) ∙ lines-append root seen rest
-      ∙ ap (λ ls. lines_from root seen ++ ls) (lines-apart (tip_from root seen) rest rest-apart)
-      ∙ append-nil (lines_from root seen)
+  pub read-same : {X : Type 0} (read : Link → X) → read_from read root log ≡ read_from read root seen
+  read-same read = ap (read_from read root) (sym begins.1) ∙ read-append read root seen rest
+      ∙ ap (λ ls. read_from read root seen ++ ls) (read-apart read (tip_from root seen) rest rest-apart)
+      ∙ append-nil (read_from read root seen)
 
   pub tip-same : tip_from root log ≡ tip_from root seen
   tip-same = ap (tip_from root) (sym begins.1) ∙ tip-append root seen rest
       ∙ tip-apart (tip_from root seen) rest rest-apart
 
--- a line more, by the pen that writes next
-pub lines-added : (root key : ℕ) (log : List Link) (l : Link) → tip_from root log ≡ key → l.from ≡ key
-    → lines_from root (log ++ l ∷ []) ≡ lines_from root log ++ l.line ∷ []
-lines-added root key log l tip from = lines-append root log (l ∷ [])
-    ∙ ap (λ ls. lines_from root log ++ ls)
-    (ap (λ b. if b then l.line ∷ [] else []) (ap (λ k. l.from == k) (tip ∙ sym from) ∙ test-self l.from))
+-- an entry more, by the pen that writes next
+pub read-added : {X : Type 0} (read : Link → X) (root key : ℕ) (log : List Link) (l : Link) → tip_from root log ≡ key
+    → l.from ≡ key → read_from read root (log ++ l ∷ []) ≡ read_from read root log ++ read l ∷ []
+read-added {X} read root key log l tip from = read-append read root log (l ∷ [])
+    ∙ ap (λ ls. read_from read root log ++ ls)
+    (ap {B = List X} (λ b. if b then read l ∷ [] else []) (ap (λ k. l.from == k) (tip ∙ sym from) ∙ test-self l.from))
 
 pub tip-added : (root key : ℕ) (log : List Link) (l : Link) → tip_from root log ≡ key → l.from ≡ key
     → tip_from root (log ++ l ∷ []) ≡ l.next
@@ -238,13 +241,27 @@ tip-added root key log l tip from = tip-append root log (l ∷ [])
     ∙ ap {B = ℕ} (λ b. if b then l.next else tip_from root log) (ap (λ k. l.from == k) (tip ∙ sym from)
     ∙ test-self l.from)
 
--- the lines of a longer log go on
-pub lines-prefix : (root : ℕ) (xs ys : List Link) → IsPrefix xs ys → IsPrefix (lines_from root xs) (lines_from root ys)
-lines-prefix root xs ys p = (
-  lines_from (tip_from root xs) p.0,
-  sym (lines-append root xs p.0)
-      ∙ ap (lines_from root) p.1,
+-- what is read off a longer log goes on
+pub read-prefix : {X : Type 0} (read : Link → X) (root : ℕ) (xs ys : List Link) → IsPrefix xs ys
+    → IsPrefix (read_from read root xs) (read_from read root ys)
+read-prefix read root xs ys p = (
+  read_from read (tip_from root xs) p.0,
+  sym (read-append read root xs p.0)
+      ∙ ap (read_from read root) p.1,
 )
+
+lengths_by : (b : Bool) (l : Link) (key : ℕ) (xs : List Link)
+    → length (times_from l.next xs) ≡ length (lines_from l.next xs)
+    → length (times_from key xs) ≡ length (lines_from key xs)
+    → length (if b then l.time ∷ times_from l.next xs else times_from key xs)
+    ≡ length (if b then l.line ∷ lines_from l.next xs else lines_from key xs)
+lengths_by true l key xs p q = ap suc p
+lengths_by false l key xs p q = q
+
+-- each line has a time
+pub times-length : (key : ℕ) (xs : List Link) → length (times_from key xs) ≡ length (lines_from key xs)
+times-length key [] = refl
+times-length key (l ∷ xs) = lengths_by (l.from == key) l key xs (times-length l.next xs) (times-length key xs)
 
 -- ---- prefixes of one list
 
@@ -268,31 +285,29 @@ prefix-either (x ∷ xs) (y ∷ ys) (z ∷ zs) p q =
     prefix-heads x y xs ys (cc (p.1, q.1)) (prefix-either xs ys zs (p.0, cc (p.1)) (q.0, cc (q.1)))
 
 -- what a step by the next pen leaves
-pub added : (root key : ℕ) (seen log new : List Link) (l : Link) → IsPrefix seen log → AllByRecursion (IsApart key) log
+pub added : {X : Type 0} (read : Link → X) (root key : ℕ) (seen log new : List Link) (l : Link) → IsPrefix seen log
+    → AllByRecursion (IsApart key) log
     → tip_from root seen ≡ key → l.from ≡ key → new ≡ log ++ l ∷ []
-    → (lines_from root new ≡ lines_from root seen ++ l.line ∷ []) × (tip_from root new ≡ l.next)
-added root key seen log new l pre apart tip from is =
+    → (read_from read root new ≡ read_from read root seen ++ read l ∷ []) × (tip_from root new ≡ l.next)
+added read root key seen log new l pre apart tip from is =
     let here = subst (λ k. AllByRecursion (IsApart k) log) (sym tip) apart in
     let now : tip_from root log ≡ key = tip-same root seen log pre here ∙ tip in (
-      ap (lines_from root) is ∙ lines-added root key log l now from
-          ∙ ap (λ ls. ls ++ l.line ∷ []) (lines-same root seen log pre here),
+      ap (read_from read root) is ∙ read-added read root key log l now from
+          ∙ ap (λ ls. ls ++ read l ∷ []) (read-same root seen log pre here read),
       ap (tip_from root) is ∙ tip-added root key log l now from,
     )
 
 -- what was seen by others begins what the next pen's owner has
-pub known : (root key : ℕ) (seen other both new : List Link) (lines : List Line) → IsPrefix seen both
-    → IsPrefix other both
-    → IsPrefix both new → AllByRecursion (IsApart key) new → tip_from root seen ≡ key
-    → IsPrefix lines (lines_from root other) → IsPrefix lines (lines_from root seen)
-known root key seen other both new lines p q r apart tip begins =
-    let here = subst (λ k. AllByRecursion (IsApart k) new) (sym tip) apart in
-    subst (λ ls. IsPrefix lines ls) (lines-same root seen new (prefix-trans seen both new p r) here)
-    (prefix-trans lines (lines_from root other) (lines_from root new) begins
-    (lines-prefix root other new (prefix-trans other both new q r)))
+pub known : {X : Type 0} (read : Link → X) (root key : ℕ) (mine other : List Link) → KnowsAll key mine other
+    → tip_from root mine ≡ key → IsPrefix (read_from read root other) (read_from read root mine)
+known {X} read root key mine other k tip =
+    let here = subst (λ n. AllByRecursion (IsApart n) k.all) (sym tip) k.apart in
+    subst (λ (xs : List X). IsPrefix (read_from read root other) xs) (read-same root mine k.all k.goes here read)
+    (read-prefix read root other k.all k.holds)
 
 -- two prefixes of lines that were seen
 pub ordered : (root : ℕ) (one two both : List Link) (xs ys : List Line) → IsPrefix one both → IsPrefix two both
     → IsPrefix xs (lines_from root one) → IsPrefix ys (lines_from root two) → AreInOrder xs ys
 ordered root one two both xs ys p q a b = prefix-either xs ys (lines_from root both)
-    (prefix-trans xs (lines_from root one) (lines_from root both) a (lines-prefix root one both p))
-    (prefix-trans ys (lines_from root two) (lines_from root both) b (lines-prefix root two both q))
+    (prefix-trans xs (lines_from root one) (lines_from root both) a (read-prefix (λ l. l.line) root one both p))
+    (prefix-trans ys (lines_from root two) (lines_from root both) b (read-prefix (λ l. l.line) root two both q))

@@ -1,4 +1,5 @@
 pub mod ChainLemmas
+pub mod TimeLemmas
 pub mod ToldLemmas
 pub mod SeenLemmas
 pub mod LogLemmas

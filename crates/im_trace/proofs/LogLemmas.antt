@@ -22,10 +22,10 @@ use Rattle.im_types.specs.declared.commands.Outcome.TheVariants.{Entry as Tells}
 use Rattle.im_types.specs.Trace.{told, answer_to, contents_after, IsLegal, end_of}
 use Rattle.im_laws.proofs.TraceLemmas.{end_of-append, IsLegal-push, IsLegal-split}
 use Rattle.im_trace.specs.Lines.{Counts, EndsIn, EndsInAll, leaves_line, line_of, lines_of, memory_after}
-use Rattle.im_trace.specs.Lines.{counts_after}
+use Rattle.im_trace.specs.Lines.{counts_after, time_at}
 use Rattle.im_trace.specs.Log.{sender_of, UnclaimedState, LogState, IsProof, StandsIn, unclaimed_lines, with_line}
 use Rattle.im_trace.specs.Log.{with_unclaimed, without_unclaimed, AreFree, AreClaimed, IsLog, IsOfTrace}
-use Rattle.im_trace.specs.Log.{receipt_for}
+use Rattle.im_trace.specs.Log.{receipt_for, IsTimed}
 
 -- the line of a call, if it leaves one
 abbrev pub lines_by : Bool → Call → Result Outcome Refusal → List Line
@@ -80,7 +80,7 @@ taken history trace n p is = ap (λ ls. take n ls) (sym p.1) ∙ take-append-le 
 
 -- an answer that waits: the trace up to its line is legal, and ends in it
 module _ (trace : List Line) (w : UnclaimedState) (s : StandsIn trace (Some w)) where
-  waiting-length : w.before + length (unclaimed_lines (Some w)) ≡ length s.0
+  pub waiting-length : w.before + length (unclaimed_lines (Some w)) ≡ length s.0
   waiting-length = omega (arith, s.2.1, ap length s.2.2, length-append s.2.0 (unclaimed_lines (Some w)))
 
   pub waiting-within : w.before + length (unclaimed_lines (Some w)) ≤ length trace
@@ -254,8 +254,15 @@ last-told l trace call (Ok entry) is = (l.trace, is)
 last-told l trace call (Err refusal) is = tt
 
 -- a receipt with the trace of an answer
-pub receipt-of_trace : (m : Contents) (trace history : List Line) (told : List Change) (command : Command)
+pub receipt-of_trace : (m : Contents) (trace history : List Line) (time : ℕ) (told : List Change) (command : Command)
     (a : Result Outcome Refusal) → IsPrefix history trace → IsProof m (Commands command) a history
-    → IsOfTrace m trace (receipt_for history told command a)
-receipt-of_trace m trace history told command (Ok outcome) begins proof = (begins, proof)
-receipt-of_trace m trace history told command (Err refusal) begins proof = tt
+    → IsOfTrace m trace (receipt_for history time told command a)
+receipt-of_trace m trace history time told command (Ok outcome) begins proof = (begins, proof)
+receipt-of_trace m trace history time told command (Err refusal) begins proof = tt
+
+-- it has the time of its line
+pub receipt-timed : (times : List ℕ) (history : List Line) (time : ℕ) (told : List Change) (command : Command)
+    (a : Result Outcome Refusal) → time ≡ time_at times (length history)
+    → IsTimed times (receipt_for history time told command a)
+receipt-timed times history time told command (Ok outcome) is = is
+receipt-timed times history time told command (Err refusal) is = tt

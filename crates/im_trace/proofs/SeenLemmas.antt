@@ -29,29 +29,29 @@ prefix-before xs start last ys order is less = ⊎_elim
 
 -- ---- an answer that waited
 
-pub has-history : (history : List Line) (shown : List Change) (command : Command) (a : Result Outcome Refusal)
-    → HasHistory history (receipt_for history shown command a)
-has-history history shown command (Ok outcome) = refl
-has-history history shown command (Err refusal) = tt
+pub has-history : (history : List Line) (time : ℕ) (shown : List Change) (command : Command)
+    (a : Result Outcome Refusal) → HasHistory history (receipt_for history time shown command a)
+has-history history time shown command (Ok outcome) = refl
+has-history history time shown command (Err refusal) = tt
 
 -- what is seen then, if no more was seen than there were lines before it
-pub claimed-follows : (seen history now : List Line) (shown : List Change) (before : ℕ) (r command : Command)
+pub claimed-follows : (seen history now : List Line) (time : ℕ) (shown : List Change) (before : ℕ) (r command : Command)
     (a : Result Outcome Refusal) (receipt : Result ReceiptState Refusal) → AreInOrder seen history
     → length seen ≤ before
-    → IsBefore before (lines_of (Commands r) a) history → receipt ≡ receipt_for history shown command a
+    → IsBefore before (lines_of (Commands r) a) history → receipt ≡ receipt_for history time shown command a
     → now ≡ history
     → SeesAnswer seen r (Some receipt) now
-claimed-follows seen history now shown before r command a receipt order less behind is same =
+claimed-follows seen history now time shown before r command a receipt order less behind is same =
     let last = lines_of (Commands r) a in
     let start = behind.0 in
     let begins = prefix-before seen start last history order behind.2 (omega (arith, less, behind.1)) in
-    let answers : plain receipt ≡ a = ap plain is ∙ plain-receipt history shown command a in (
+    let answers : plain receipt ≡ a = ap plain is ∙ plain-receipt history time shown command a in (
       (
         begins.0,
         same ∙ behind.2 ∙ ap (λ ls. ls ++ last) (sym begins.1)
             ∙ ap (λ b. (seen ++ begins.0) ++ lines_of (Commands r) b) (sym answers),
       ),
       subst (λ b. HasHistory now b) (sym is)
-          (subst (λ ls. HasHistory ls (receipt_for history shown command a)) (sym same)
-          (has-history history shown command a)),
+          (subst (λ ls. HasHistory ls (receipt_for history time shown command a)) (sym same)
+          (has-history history time shown command a)),
     )

@@ -1,5 +1,5 @@
 -- What a trace shows if it is longer, and what an answer is without its receipt.
-use Rattle.std.proofs.Common.{◌≡◌, List, [], ◌∷◌, ◌++◌, refl, sym, ap, ◌∙◌, Result, Ok, Err, append_assoc}
+use Rattle.std.proofs.Common.{◌≡◌, ℕ, List, [], ◌∷◌, ◌++◌, refl, sym, ap, ◌∙◌, Result, Ok, Err, append_assoc}
 use mathlib.Core.List.{IsPrefix}
 use Rattle.im_types.specs.declared.changes.Change.{Change}
 use Rattle.im_types.specs.declared.commands.Command.{Command}
@@ -36,7 +36,7 @@ told-earlier m history trace told p all =
     )
 
 -- an answer without its receipt
-pub plain-receipt : (history : List Line) (shown : List Change) (command : Command) (a : Result Outcome Refusal)
-    → plain (receipt_for history shown command a) ≡ a
-plain-receipt history shown command (Ok outcome) = refl
-plain-receipt history shown command (Err refusal) = refl
+pub plain-receipt : (history : List Line) (time : ℕ) (shown : List Change) (command : Command)
+    (a : Result Outcome Refusal) → plain (receipt_for history time shown command a) ≡ a
+plain-receipt history time shown command (Ok outcome) = refl
+plain-receipt history time shown command (Err refusal) = refl

@@ -7,6 +7,7 @@ use Rattle.im_types.specs.declared.commands.Line.{Line}
 use Rattle.im_types.specs.Contents.{Contents}
 use Rattle.im_types.specs.Memory.{IsMemory}
 use Rattle.im_trace.specs.declared.rule.Link.{Link}
+use Rattle.im_trace.specs.Books.{LinesBook}
 
 -- these contents are a memory's, as an engine has them when its trace begins
 abbrev pub IsOpened : Contents → Type 0
@@ -26,11 +27,19 @@ pub record IsChained (cells : List Cell) (log : List Link) : Type 0 where
 abbrev pub first_of : Book → Named
 first_of book = record { tracked = true; key = 0; book = book }
 
+-- what is read off the entries that the pen with this key and the pens after it wrote
+abbrev pub read_from : {X : Type 0} → (Link → X) → ℕ → List Link → List X
+read_from read key [] = []
+read_from read key (link ∷ links) =
+    if link.from == key then read link ∷ read_from read link.next links else read_from read key links
+
 -- the lines that the pen with this key and the pens after it wrote
 abbrev pub lines_from : ℕ → List Link → List Line
-lines_from key [] = []
-lines_from key (link ∷ links) =
-    if link.from == key then link.line ∷ lines_from link.next links else lines_from key links
+lines_from key links = read_from (λ link. link.line) key links
+
+-- the times of these lines
+abbrev pub times_from : ℕ → List Link → List ℕ
+times_from key links = read_from (λ link. link.time) key links
 
 -- the key of the pen that writes next
 abbrev pub tip_from : ℕ → List Link → ℕ
@@ -52,4 +61,22 @@ KeepsPen s old found new = AllByRecursion (IsApart old.1.0.key) new.0 × (new.1.
 -- a step that uses a pen up: other pens wrote all entries, and this pen adds one
 abbrev pub UsesPen : Step Link → View Link ℕ → ℕ → View Link ℕ → Type 0
 UsesPen s old found new = (log : List Link) × IsPrefix old.0 log × AllByRecursion (IsApart old.1.0.key) log
-    × (new.0 ≡ log ++ record { from = old.1.0.key; line = s.ask.line; next = s.ask.next } ∷ [])
+    × (new.0 ≡ log ++ record { from = old.1.0.key; line = s.ask.line; next = s.ask.next; time = s.ask.time } ∷ [])
+
+-- other pens wrote all entries of what a pen knows, and of what anyone else has seen
+pub record KnowsAll (key : ℕ) (known seen : List Link) : Type 0 where
+  pub all : List Link
+  pub goes : IsPrefix known all
+  pub holds : IsPrefix seen all
+  pub apart : AllByRecursion (IsApart key) all
+
+-- the lines of a book, and their times
+pub record ChainState : Type 0 where
+  pub lines : List Line
+  pub times : List ℕ
+
+-- the same of a book that has no name any longer, and which book it is
+pub record WrittenState : Type 0 where
+  pub lines : List Line
+  pub times : List ℕ
+  pub book : LinesBook

@@ -1,5 +1,5 @@
 -- A log before it has a name, and at its end; the record of its trace. (Own.)
-use Rattle.std.specs.Prelude.{◌≡◌, ℕ, ◌+◌, ◌<◌, Bool, true, false, List, length, count_by}
+use Rattle.std.specs.Prelude.{◌≡◌, ℕ, ◌+◌, ◌<◌, Bool, true, false, List, [], length, count_by}
 use Rattle.im_types.specs.declared.commands.Line.{Line}
 use Rattle.im_trace.specs.Books.{LinesBook}
 use Rattle.im_trace.specs.Lines.{Counts}
@@ -14,19 +14,32 @@ pub record NewLogState : Type 0 where
   pub marked_name : ℕ
   pub book : LinesBook
 
--- a trace, and how many lines it may have
+-- a trace with the times of its lines, and how many lines it may have
 pub record RecordState : Type 0 where
   pub lines : List Line
+  pub times : List ℕ
   pub limit : ℕ
 
--- a trace at its end, and whether it was recorded at run time
+-- a trace at its end with the times of its lines, whether it was recorded at run time, and its book
 pub record RecordingState : Type 0 where
   pub items : List Line
+  pub times : List ℕ
   pub recorded : Bool
+  pub book : LinesBook
+
+-- a recorded trace of no line and of no book
+abbrev pub empty_recording : RecordingState
+empty_recording = record {
+  items = [];
+  times = [];
+  recorded = true;
+  book = record { book = record { number = 0; log_name = 0; cells_name = 0 }; root = 0 };
+}
 
 -- a log at its end: whether no line waits, how many shares are back, and how many lines their ports were told
 pub record EndedState : Type 0 where
   pub trace : List Line
+  pub times : List ℕ
   pub claimed : Bool
   pub back : ℕ
   pub told : Counts

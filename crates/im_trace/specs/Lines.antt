@@ -1,6 +1,6 @@
 -- The lines that calls leave in a trace, and how many of them a port was told. (Own.)
 use Rattle.std.specs.Prelude.{ℕ, ◌≡◌, ◌+◌, ◌++◌, List, [], ◌∷◌, Bool, true, false, Result, Ok, Err, length, count_by}
-use Rattle.std.specs.Prelude.{nat_lt, if◌then◌else◌, ◌⊎◌}
+use Rattle.std.specs.Prelude.{map, slice_index, nat_lt, if◌then◌else◌, ◌⊎◌}
 use mathlib.Core.List.{IsPrefix}
 use Rattle.im_types.specs.declared.commands.Outcome.{Outcome}
 use Rattle.im_types.specs.declared.commands.Call.{Call}
@@ -51,6 +51,19 @@ pub record Counts : Type 0 where
 abbrev pub counts_after : (Line → Bool) → Counts → List Line → Counts
 counts_after marks counts lines =
     record { lines = counts.lines + length lines; marked = counts.marked + count_by marks lines }
+
+-- The times of lines that are left at once. A time is how many calls of the disk there were: the number of its moments.
+abbrev pub times_of : ℕ → List Line → List ℕ
+times_of time lines = map (λ _. time) lines
+
+-- the time of the last of so many first lines
+abbrev pub time_at : List ℕ → ℕ → ℕ
+time_at times count = slice_index (0 ∷ times) count
+
+-- how many first lines of a trace, and the time of the last of them
+pub record WhenState : Type 0 where
+  pub lines : ℕ
+  pub time : ℕ
 
 -- one of two traces is a prefix of the other
 abbrev pub AreInOrder : List Line → List Line → Type 0

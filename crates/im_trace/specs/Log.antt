@@ -15,21 +15,23 @@ use Rattle.im_types.specs.Contents.{Contents}
 use Rattle.im_types.specs.Trace.{IsLegal}
 use Rattle.im_types.specs.declared.changes.Change.{Change}
 use Rattle.im_types.specs.Changes.{shown_by}
-use Rattle.im_trace.specs.Lines.{EndsIn, Counts, GoesOnTo, line_of, lines_of, counts_after}
+use Rattle.im_trace.specs.Lines.{EndsIn, Counts, GoesOnTo, line_of, lines_of, counts_after, time_at, times_of}
 
--- a command, its outcome, the trace that ends in its line, and what was shown when its port was told
+-- a command, its outcome, the trace that ends in its line, that line's time, and what was shown when its port was told
 pub record ReceiptState : Type 0 where
   pub command : Command
   pub outcome : Outcome
   pub history : List Line
+  pub time : ℕ
   pub told : List Change
 
--- what was kept under a number, the trace that ends in the line of this collect, and what was shown then
+-- what was kept under a number, the trace that ends in the line of this collect, its time, and what was shown then
 pub record FoundState : Type 0 where
   pub element : ℕ
   pub number : ℕ
   pub entry : Entry
   pub history : List Line
+  pub time : ℕ
   pub told : List Change
 
 -- the element of a command
@@ -49,16 +51,27 @@ pub record LogState : Type 0 where
   pub limit : ℕ
   pub places : List (Option UnclaimedState)
 
+-- a log, and the times of its lines
+pub record TimedLog : Type 0 where
+  pub state : LogState
+  pub times : List ℕ
+
+-- lines were left, each at this time
+pub record GoesOnAt (time : ℕ) (old new : TimedLog) : Type 0 where
+  pub more : List Line
+  pub lines : new.state.trace ≡ old.state.trace ++ more
+  pub times : new.times ≡ old.times ++ times_of time more
+
 -- an answer without its receipt
 abbrev pub plain : Result ReceiptState Refusal → Result Outcome Refusal
 plain (Ok receipt) = Ok receipt.outcome
 plain (Err refusal) = Err refusal
 
--- an answer with its receipt, which has this trace and these shown changes
-abbrev pub receipt_for : List Line → List Change → Command → Result Outcome Refusal → Result ReceiptState Refusal
-receipt_for history shown command (Ok outcome) =
-    Ok (record { command = command; outcome = outcome; history = history; told = shown })
-receipt_for history shown command (Err refusal) = Err refusal
+-- an answer with its receipt, which has this trace, the time of its last line, and these shown changes
+abbrev pub receipt_for : List Line → ℕ → List Change → Command → Result Outcome Refusal → Result ReceiptState Refusal
+receipt_for history time shown command (Ok outcome) =
+    Ok (record { command = command; outcome = outcome; history = history; time = time; told = shown })
+receipt_for history time shown command (Err refusal) = Err refusal
 
 -- the full cells that were opened, followed by the changes of this trace, are a prefix of what was shown
 abbrev pub IsToldOf : Contents → List Line → List Change → Type 0
@@ -154,6 +167,11 @@ SeesAnswer seen command (Some answer) seen' = SeesReceipt seen command answer se
 abbrev pub IsOfTrace : Contents → List Line → Result ReceiptState Refusal → Type 0
 IsOfTrace m trace (Ok r) = IsPrefix r.history trace × IsProof m (Commands r.command) (Ok r.outcome) r.history
 IsOfTrace m trace (Err refusal) = Unit {0}
+
+-- an outcome has the time of the last line of its trace
+abbrev pub IsTimed : List ℕ → Result ReceiptState Refusal → Type 0
+IsTimed times (Ok r) = r.time ≡ time_at times (length r.history)
+IsTimed times (Err refusal) = Unit {0}
 
 -- no answer waits in any of these places
 abbrev pub AreFree : List (Option UnclaimedState) → Type 0

@@ -1,9 +1,10 @@
 //! The books that count the lines of a trace, and the shares that ports have in them.
 ghost use Rattle.std.specs.Prelude.{◌≡◌, ◌+◌, ◌<◌, ◌≤◌, [], ◌∷◌, ℕ, count_by};
-ghost use Rattle.im_trace.specs.Lines.{counts_after};
+ghost use Rattle.im_trace.specs.Lines.{counts_after, lines_of};
 
 use crate::name::{Lines, Marked, Name};
-use im_types::Line;
+use crate::record::leaves_line;
+use im_types::{Call, Line, Outcome, Refusal};
 use std::marker::Model;
 use std::sync::ledger::{Book, Ledger, Share};
 
@@ -127,5 +128,20 @@ impl<K: Name> Books<K> {
         let Tally { lines, marked } = tally;
         self.lines.add(lines, 1);
         note_line(&mut self.marked, marked, line);
+    }
+}
+
+// Counts a call's line in the books and in its port's tally, if it leaves one.
+pub(crate) fn count_line<K: Name>(
+    books: &mut Books<K>,
+    tally: &mut Tally<K>,
+    call: Call,
+    answer: Result<Outcome, Refusal>,
+)
+    ensures books { books.new ≡ counts_after K.marks books.old (lines_of call answer) }
+    ensures tally { tally.new ≡ counts_after K.marks tally.old (lines_of call answer) }
+{
+    if leaves_line(answer) {
+        books.count(tally, &Line { call, answer });
     }
 }

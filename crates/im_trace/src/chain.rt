@@ -4,11 +4,13 @@
 ghost use Rattle.std.specs.Prelude.{◌≡◌, ◌<◌, ◌≤◌, ◌++◌, ◌∷◌, [], length, take};
 ghost use mathlib.Core.List.{IsPrefix};
 ghost use Rattle.logbook.specs.Pages.{may_write};
-ghost use Rattle.im_trace.specs.Lines.{AreInOrder};
-ghost use Rattle.im_trace.specs.Chains.{IsOpened, first_of, lines_from};
+ghost use Rattle.im_trace.specs.Lines.{AreInOrder, time_at, times_of};
+ghost use Rattle.im_trace.specs.Chains.{IsOpened, KnowsAll, first_of, lines_from, times_from};
 
 use crate::name::Name;
 use crate::rule::{Chained, KeepPen, Link, MakePen, NoGain, Signed, UsePen};
+use crate::when::{When, Written};
+use im_disk::Disk;
 use im_types::Line;
 use logbook::{Offer, Pen, Seen, Start, Word};
 use std::marker::{Model, PhantomData};
@@ -26,6 +28,25 @@ fn new_pen(head: &Word<Link, u64, Chained>, seen: &Seen<Link, u64, Chained>) -> 
     let _zero = head.compare_exchange::<MakePen, NoGain>(0, 0, &mut seen, &mut offer, &mut pen);
     let _word: Word<Link, u64, Chained> = Word::tracked(0, &mut pen);
     pen
+}
+
+// Looks into the book with a pen that isn't used up: other pens wrote all that anyone has seen.
+pub(crate) fn look(
+    head: &Word<Link, u64, Chained>,
+    known: &Seen<Link, u64, Chained>,
+    pen: &mut Pen,
+    seen: &Seen<Link, u64, Chained>,
+)
+    requires head { head.now ≡ first_of known.now.book }
+    requires pen { (pen.old.book ≡ known.now.book) × (pen.old.nib.right ≡ may_write) }
+    requires seen { seen.now.book ≡ known.now.book }
+    ensures same { (pen.new.book ≡ pen.old.book) × (pen.new.nib ≡ pen.old.nib) }
+    ensures known { KnowsAll pen.old.nib.key known.now.log seen.now.log }
+{
+    let mut all = known.again();
+    all.learn(seen);
+    let mut offer: Offer<Link, u64, Chained, NoGain> = all.plain::<NoGain, u64, KeepPen>(&0);
+    let _zero = head.compare_exchange::<KeepPen, NoGain>(0, 0, &mut all, &mut offer, pen);
 }
 
 /// A book with no lines, which has no name yet. Contracts see which book it is.
@@ -70,7 +91,7 @@ impl NewChain {
     pub(crate) fn named<K: Name>(self) -> Chain<K>
         requires book { self ≡ K.book.lines }
         requires memory { IsOpened K.memory }
-        ensures { result ≡ [] }
+        ensures { result ≡ record { lines = []; times = [] } }
     {
         let NewChain {
             head,
@@ -88,7 +109,7 @@ impl NewChain {
     }
 }
 
-/// The book, with the pen that writes its next line. Contracts see its lines.
+/// The book, with the pen that writes its next line. Contracts see its lines and their times.
 #[derive(Drop)]
 pub struct Chain<K: Name> {
     head: Word<Link, u64, Chained>,
@@ -99,14 +120,16 @@ pub struct Chain<K: Name> {
 }
 
 impl<K: Name> Model for Chain<K> {
-    ghost use Rattle.std.specs.Prelude.{◌≡◌, List};
+    ghost use Rattle.std.specs.Prelude.{◌≡◌};
     ghost use Rattle.logbook.specs.Pages.{may_write};
-    ghost use Rattle.im_types.specs.declared.commands.Line.{Line};
-    ghost use Rattle.im_trace.specs.Chains.{IsOpened, first_of, lines_from, tip_from};
+    ghost use Rattle.im_trace.specs.Chains.{ChainState, IsOpened, first_of, lines_from, times_from, tip_from};
 
-    ghost Value = { List Line };
+    ghost Value = { ChainState };
 
-    ghost view = { λ c. lines_from K.book.lines.root c.seen.log };
+    ghost view = { λ c. record {
+      lines = lines_from K.book.lines.root c.seen.log;
+      times = times_from K.book.lines.root c.seen.log;
+    } };
 
     ghost invariant = { λ c. (c.head ≡ first_of K.book.lines.book) × (c.seen.book ≡ K.book.lines.book)
         × (c.pen.book ≡ K.book.lines.book) × (c.pen.nib.right ≡ may_write)
@@ -115,49 +138,67 @@ impl<K: Name> Model for Chain<K> {
 }
 
 impl<K: Name> Chain<K> {
-    // Adds a line.
-    pub(crate) fn add(&mut self, line: &Line)
-        ensures { self.new ≡ self.old ++ line.now ∷ [] }
+    // Adds a line, at the time of a disk.
+    pub(crate) fn add<D: Disk>(&mut self, line: &Line, disk: &D)
+        ensures lines { self.new.lines ≡ self.old.lines ++ line.now ∷ [] }
+        ensures times { self.new.times ≡ self.old.times ++ times_of (length (D.past disk.now)) (line.now ∷ []) }
     {
         let signed = Signed {
             line: Snapshot::of(line),
+            disk: Snapshot::of(disk),
             next: new_pen(&self.head, &self.seen),
         };
         let mut offer: Offer<Link, u64, Chained, NoGain> = self
             .seen
-            .plain::<NoGain, Signed, UsePen>(&signed);
+            .plain::<NoGain, Signed<D>, UsePen>(&signed);
         let _zero = self
             .head
             .compare_exchange::<UsePen, NoGain>(0, 0, &mut self.seen, &mut offer, &mut self.pen);
-        let Signed { line: _, next } = signed;
+        let Signed {
+            line: _,
+            disk: _,
+            next,
+        } = signed;
         self.pen = next;
     }
 
     // A prefix that anyone has seen is a prefix of these lines.
     pub(crate) fn knows(&mut self, prefix: &Prefix<K>)
         ensures same { self.new ≡ self.old }
-        ensures known { IsPrefix prefix.now self.old }
+        ensures known { IsPrefix prefix.now self.old.lines }
     {
-        let mut seen = self.seen.again();
-        seen.learn(&prefix.seen);
-        let mut offer: Offer<Link, u64, Chained, NoGain> = seen.plain::<NoGain, u64, KeepPen>(&0);
-        let _zero = self
-            .head
-            .compare_exchange::<KeepPen, NoGain>(0, 0, &mut seen, &mut offer, &mut self.pen);
+        look(&self.head, &self.seen, &mut self.pen, &prefix.seen);
     }
 
-    // Returns what was seen of the book, which are all its lines, and its first pen.
-    pub(crate) fn end(self) -> (Seen<Link, u64, Chained>, Snapshot<Pen>)
-        ensures { lines_from result.1.value.nib.key result.0.log ≡ self }
+    // Returns the time of the last of so many first lines.
+    pub(crate) fn when(&self, count: usize) -> When<K>
+        requires few { count ≤ length self.now.lines }
+        ensures { result ≡ record { lines = count; time = time_at self.now.times count } }
+    {
+        When {
+            lines: Snapshot::of(&count),
+            seen: self.seen.again(),
+            of: PhantomData,
+        }
+    }
+
+    // Returns the book without its name.
+    pub(crate) fn end(self) -> Written
+        ensures { result ≡ record { lines = self.lines; times = self.times; book = K.book.lines } }
     {
         let Chain {
-            head: _,
+            head,
             seen,
-            pen: _,
+            pen,
             first,
             of: _,
         } = self;
-        (seen, first)
+        Written {
+            head,
+            seen,
+            pen,
+            first,
+        }
     }
 }
 
@@ -165,7 +206,7 @@ impl<K: Name> Chain<K> {
 #[derive(Drop)]
 pub struct Prefix<K: Name> {
     count: usize,
-    seen: Seen<Link, u64, Chained>,
+    pub(crate) seen: Seen<Link, u64, Chained>,
     of: PhantomData<K>,
 }
 
@@ -199,8 +240,8 @@ fn both_of(
 impl<K: Name> Prefix<K> {
     // Returns the given number of the book's first lines.
     pub(crate) fn begun(count: usize, chain: &Chain<K>) -> Prefix<K>
-        requires few { count ≤ length chain.now }
-        ensures { result ≡ take count chain.now }
+        requires few { count ≤ length chain.now.lines }
+        ensures { result ≡ take count chain.now.lines }
     {
         Prefix {
             count,

@@ -6,8 +6,9 @@ ghost use Rattle.im_trace.specs.Ends.{IsCounted, with_share_back};
 
 use crate::books::{Books, Reserve, Tally};
 use crate::chain::Prefix;
-use crate::log::{Log, are_claimed};
+use crate::log::Log;
 use crate::name::{Lines, Marked, Name};
+use crate::places::are_claimed;
 use crate::record::{Record, Recording};
 use std::marker::Model;
 use std::sync::ledger::Share;
@@ -31,6 +32,7 @@ impl<K: Name> Model for Ended<K> {
 
     ghost view = { λ e. record {
       trace = e.record.lines;
+      times = e.record.times;
       claimed = e.claimed;
       back = e.lines.parts;
       told = record { lines = e.lines.amount; marked = e.marked.amount };
@@ -43,8 +45,8 @@ impl<K: Name> Model for Ended<K> {
 impl<K: Name> Ended<K> {
     /// Ends a log. The shares that weren't given out are back at once.
     pub fn of(log: Log<K>, reserve: Reserve<K>) -> Ended<K>
-        ensures trace { result.trace ≡ log.trace }
-        ensures legal { IsLegal K.memory log.trace }
+        ensures trace { (result.trace ≡ log.state.trace) × (result.times ≡ log.times) }
+        ensures legal { IsLegal K.memory log.state.trace }
         ensures back { result.back ≡ reserve }
         ensures told { result.told ≡ record { lines = 0; marked = 0 } }
     {
@@ -84,7 +86,12 @@ impl<K: Name> Ended<K> {
     /// Audits the books, and returns the trace, and whether no line waits for a port that didn't take its answer. If
     /// all shares are back, no line waits exactly if the ports were told as many lines as the trace has.
     pub fn close(self) -> (Recording, bool)
-        ensures trace { result.0 ≡ record { items = self.trace; recorded = K.book.recorded } }
+        ensures trace { result.0 ≡ record {
+          items = self.trace;
+          times = self.times;
+          recorded = K.book.recorded;
+          book = K.book.lines;
+        } }
         ensures claimed { result.1 ≡ self.claimed }
         ensures counted { self.back ≡ K.ports → IsCounted K.marks self.trace self.claimed self.told }
     {

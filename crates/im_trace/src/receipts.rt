@@ -1,30 +1,32 @@
 //! What goes out of the lock: an answer, with the trace that ends in its line.
-ghost use Rattle.std.specs.Prelude.{◌≡◌, Ok};
+ghost use Rattle.std.specs.Prelude.{◌≡◌, Ok, length};
 ghost use Rattle.im_types.specs.declared.commands.Call.TheVariants.{Command as Commands, Collect};
 ghost use Rattle.im_types.specs.declared.commands.Outcome.TheVariants.{Entry as Tells};
 ghost use Rattle.im_types.specs.Trace.{IsLegal};
 ghost use Rattle.im_trace.specs.Lines.{EndsIn, line_of};
-ghost use Rattle.im_trace.specs.Log.{IsToldOf};
+ghost use Rattle.im_trace.specs.Log.{IsProof, IsToldOf, receipt_for};
 
 use crate::chain::Prefix;
 use crate::name::{Name, Shown};
+use crate::when::When;
 use im_glass::Told;
-use im_types::{Command, Entry, Outcome};
+use im_types::{Command, Entry, Outcome, Refusal};
 use std::marker::Model;
 use std::snapshot::Snapshot;
 
 /// The outcome of a command. Contracts see with it the command, what was shown by then, and the controller's trace up
-/// to the command's line. That trace is legal from the memory that was opened.
+/// to the command's line, with the time of that line. That trace is legal from the memory that was opened.
 #[derive(Drop)]
 pub struct Receipt<K: Name> {
     pub(crate) outcome: Outcome,
     pub(crate) command: Snapshot<Command>,
     pub(crate) history: Prefix<K>,
+    pub(crate) when: When<K>,
     pub(crate) told: Told<Shown<K>>,
 }
 
 impl<K: Name> Model for Receipt<K> {
-    ghost use Rattle.std.specs.Prelude.{Ok};
+    ghost use Rattle.std.specs.Prelude.{◌≡◌, Ok, length};
     ghost use Rattle.im_types.specs.declared.commands.Call.TheVariants.{Command as Commands};
     ghost use Rattle.im_trace.specs.Log.{ReceiptState, IsProof, IsToldOf};
 
@@ -34,11 +36,12 @@ impl<K: Name> Model for Receipt<K> {
       command = r.command.value;
       outcome = r.outcome;
       history = r.history;
+      time = r.when.time;
       told = r.told;
     } };
 
     ghost invariant = { λ r. IsProof K.memory (Commands r.command.value) (Ok r.outcome) r.history
-        × IsToldOf K.memory r.history r.told };
+        × IsToldOf K.memory r.history r.told × (r.when.lines ≡ length r.history) };
 }
 
 impl<K: Name> Receipt<K> {
@@ -67,21 +70,31 @@ impl<K: Name> Receipt<K> {
     {
         &self.history
     }
+
+    /// Returns when the command's line was left.
+    pub fn when(&self) -> &When<K>
+        ensures lines { result.now.lines ≡ length self.now.history }
+        ensures time { result.now.time ≡ self.now.time }
+    {
+        &self.when
+    }
 }
 
 /// What is kept under a number. Contracts see with it the element, the number, what was shown by then, and the
-/// controller's trace up to the line of this collect. That trace is legal from the memory that was opened.
+/// controller's trace up to the line of this collect, with the time of that line. That trace is legal from the memory
+/// that was opened.
 #[derive(Drop)]
 pub struct Found<K: Name> {
     pub(crate) entry: Entry,
     pub(crate) element: u16,
     pub(crate) number: u64,
     pub(crate) history: Prefix<K>,
+    pub(crate) when: When<K>,
     pub(crate) told: Told<Shown<K>>,
 }
 
 impl<K: Name> Model for Found<K> {
-    ghost use Rattle.std.specs.Prelude.{Ok};
+    ghost use Rattle.std.specs.Prelude.{◌≡◌, Ok, length};
     ghost use Rattle.im_types.specs.declared.commands.Call.TheVariants.{Collect};
     ghost use Rattle.im_types.specs.declared.commands.Outcome.TheVariants.{Entry as Tells};
     ghost use Rattle.im_trace.specs.Log.{FoundState, IsProof, IsToldOf};
@@ -93,11 +106,12 @@ impl<K: Name> Model for Found<K> {
       number = f.number;
       entry = f.entry;
       history = f.history;
+      time = f.when.time;
       told = f.told;
     } };
 
     ghost invariant = { λ f. IsProof K.memory (Collect f.element f.number) (Ok (Tells f.entry)) f.history
-        × IsToldOf K.memory f.history f.told };
+        × IsToldOf K.memory f.history f.told × (f.when.lines ≡ length f.history) };
 }
 
 impl<K: Name> Found<K> {
@@ -125,5 +139,38 @@ impl<K: Name> Found<K> {
         ensures { result.now ≡ self.now.history }
     {
         &self.history
+    }
+
+    /// Returns when the line of this collect was left.
+    pub fn when(&self) -> &When<K>
+        ensures lines { result.now.lines ≡ length self.now.history }
+        ensures time { result.now.time ≡ self.now.time }
+    {
+        &self.when
+    }
+}
+
+// Returns an answer with the trace that ends in its line.
+pub(crate) fn receipt_of<K: Name>(
+    history: Prefix<K>,
+    when: When<K>,
+    told: Told<Shown<K>>,
+    command: &Command,
+    answer: Result<Outcome, Refusal>,
+) -> Result<Receipt<K>, Refusal>
+    requires proof { IsProof K.memory (Commands command.now) answer history }
+    requires told { IsToldOf K.memory history told }
+    requires lines { when.lines ≡ length history }
+    ensures { result ≡ receipt_for history when.time told command.now answer }
+{
+    match answer {
+        Ok(outcome) => Ok(Receipt {
+            outcome,
+            command: Snapshot::of(command),
+            history,
+            when,
+            told,
+        }),
+        Err(refusal) => Err(refusal),
     }
 }

@@ -3,16 +3,15 @@ ghost use Rattle.std.specs.Prelude.{◌≡◌, ◌<◌, ◌≤◌, ◌-◌, ◌+
 ghost use Rattle.std.specs.Prelude.{if◌then◌else◌};
 ghost use mathlib.Core.List.{IsPrefix};
 ghost use Rattle.im_trace.specs.Chains.{IsOpened};
-ghost use Rattle.im_trace.specs.Lines.{leaves_line, lines_of};
+ghost use Rattle.im_trace.specs.Lines.{leaves_line, lines_of, time_at, times_of};
 
 use crate::chain::{Chain, NewChain, Prefix};
 use crate::name::Name;
-use crate::rule::{Chained, Link};
 use crate::traced::{Since, Traced, may_begin};
+use crate::when::{When, Written};
+use im_disk::Disk;
 use im_types::{Call, Line, Outcome, Refusal};
-use logbook::{Pen, Seen};
 use std::marker::Model;
-use std::snapshot::Snapshot;
 
 /// The trace, and how many lines it may have. If it isn't recorded, no line of it is kept at run time.
 #[derive(Drop)]
@@ -31,9 +30,10 @@ impl<K: Name> Model for Record<K> {
 
     ghost Value = { RecordState };
 
-    ghost view = { λ r. record { lines = r.chain; limit = r.limit } };
+    ghost view = { λ r. record { lines = r.chain.lines; times = r.chain.times; limit = r.limit } };
 
-    ghost invariant = { λ r. (r.count ≡ length r.chain) × (r.lines.items ≡ (if r.recorded then r.chain else []))
+    ghost invariant = { λ r. (r.count ≡ length r.chain.lines) × (length r.chain.times ≡ length r.chain.lines)
+        × (r.lines.items ≡ (if r.recorded then r.chain.lines else []))
         × (r.recorded ≡ true → r.limit ≤ vec_capacity r.lines) × (r.recorded ≡ K.book.recorded) };
 }
 
@@ -71,7 +71,7 @@ impl<K: Name> Record<K> {
         requires recorded { recorded ≡ K.book.recorded }
         requires book { chain ≡ K.book.lines }
         requires memory { IsOpened K.memory }
-        ensures { result ≡ record { lines = []; limit = limit } }
+        ensures { result ≡ record { lines = []; times = []; limit = limit } }
     {
         Record {
             lines,
@@ -107,24 +107,39 @@ impl<K: Name> Record<K> {
         self.since.checkpoint = true;
     }
 
-    // Puts a call's line at the end, if it leaves one. It may begin a group.
-    pub(crate) fn push(&mut self, call: Call, answer: Result<Outcome, Refusal>, begins: bool)
+    // Puts a call's line at the end, if it leaves one, at the time of the disk. It may begin a group.
+    pub(crate) fn push<D: Disk>(
+        &mut self,
+        call: Call,
+        answer: Result<Outcome, Refusal>,
+        begins: bool,
+        disk: &D,
+    )
         requires room { leaves_line answer ≡ true → length self.old.lines < self.old.limit }
-        ensures { self.new ≡ record { lines = self.old.lines ++ lines_of call answer; limit = self.old.limit } }
+        ensures whole { length self.new.times ≡ length self.new.lines }
+        ensures lines { self.new ≡ record {
+          lines = self.old.lines ++ lines_of call answer;
+          times = self.old.times ++ times_of (length (D.past disk.now)) (lines_of call answer);
+          limit = self.old.limit;
+        } }
     {
         self.since.group = self.since.group || begins;
         if leaves_line(answer) {
-            self.add(Line { call, answer });
+            self.add(Line { call, answer }, disk);
         }
     }
 
     // Puts a line at the end.
-    fn add(&mut self, line: Line)
+    fn add<D: Disk>(&mut self, line: Line, disk: &D)
         requires room { length self.old.lines < self.old.limit }
-        ensures { self.new ≡ record { lines = self.old.lines ++ line ∷ []; limit = self.old.limit } }
+        ensures { self.new ≡ record {
+          lines = self.old.lines ++ line ∷ [];
+          times = self.old.times ++ times_of (length (D.past disk.now)) (line ∷ []);
+          limit = self.old.limit;
+        } }
     {
         let since = self.since;
-        self.chain.add(&line);
+        self.chain.add(&line, disk);
         push_if(
             &mut self.lines,
             self.recorded,
@@ -145,6 +160,14 @@ impl<K: Name> Record<K> {
         Prefix::begun(count, &self.chain)
     }
 
+    // Returns the time of the last of so many first lines.
+    pub(crate) fn when(&self, count: usize) -> When<K>
+        requires few { count ≤ length self.now.lines }
+        ensures { result ≡ record { lines = count; time = time_at self.now.times count } }
+    {
+        self.chain.when(count)
+    }
+
     // A prefix that went out of the lock is a prefix of the trace.
     pub(crate) fn knows(&mut self, seen: &Prefix<K>)
         ensures same { self.new ≡ self.old }
@@ -155,7 +178,12 @@ impl<K: Name> Record<K> {
 
     // Returns the trace, without its name.
     pub(crate) fn end(self) -> Recording
-        ensures { result ≡ record { items = self.lines; recorded = K.book.recorded } }
+        ensures { result ≡ record {
+          items = self.lines;
+          times = self.times;
+          recorded = K.book.recorded;
+          book = K.book.lines;
+        } }
     {
         let Record {
             lines,
@@ -165,36 +193,37 @@ impl<K: Name> Record<K> {
             since: _,
             chain,
         } = self;
-        let (seen, first) = chain.end();
+        let written = chain.end();
         Recording {
             lines,
             recorded,
-            seen,
-            first,
+            written,
         }
     }
 }
 
-/// The trace of a controller at its end. Contracts see its lines, recorded or not.
+/// The trace of a controller at its end. Contracts see its lines, recorded or not, with their times, and its book.
 #[derive(Drop)]
 pub struct Recording {
     lines: Vec<Traced>,
     recorded: bool,
-    seen: Seen<Link, u64, Chained>,
-    first: Snapshot<Pen>,
+    written: Written,
 }
 
 impl Model for Recording {
     ghost use Rattle.std.specs.Prelude.{◌≡◌, [], if◌then◌else◌};
-    ghost use Rattle.im_trace.specs.Chains.{lines_from};
     ghost use Rattle.im_trace.specs.Ends.{RecordingState};
 
     ghost Value = { RecordingState };
 
-    ghost view = { λ r. record { items = lines_from r.first.value.nib.key r.seen.log; recorded = r.recorded } };
+    ghost view = { λ r. record {
+      items = r.written.lines;
+      times = r.written.times;
+      recorded = r.recorded;
+      book = r.written.book;
+    } };
 
-    ghost invariant = { λ r. r.lines.items
-        ≡ (if r.recorded then lines_from r.first.value.nib.key r.seen.log else []) };
+    ghost invariant = { λ r. r.lines.items ≡ (if r.recorded then r.written.lines else []) };
 }
 
 impl Recording {
@@ -219,9 +248,28 @@ impl Recording {
         let Recording {
             lines,
             recorded: _,
-            seen: _,
-            first: _,
+            written: _,
         } = self;
         lines
+    }
+
+    /// What a port or a receipt of this trace's controller has seen is a prefix of the trace. The call does nothing at
+    /// run time. Contracts alone see what it says.
+    pub fn knows<K: Name>(&mut self, history: &Prefix<K>)
+        requires book { self.old.book ≡ K.book.lines }
+        ensures same { self.new ≡ self.old }
+        ensures known { IsPrefix history.now self.old.items }
+    {
+        self.written.knows(history);
+    }
+
+    /// The time of a receipt of this trace's controller is that of its line. The call does nothing at run time.
+    /// Contracts alone see what it says.
+    pub fn times<K: Name>(&mut self, when: &When<K>)
+        requires book { self.old.book ≡ K.book.lines }
+        ensures same { self.new ≡ self.old }
+        ensures time { when.now.time ≡ time_at self.old.times when.now.lines }
+    {
+        self.written.times(when);
     }
 }

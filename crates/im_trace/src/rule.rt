@@ -1,4 +1,5 @@
 //! The rule of the book of the lines, and the steps that keep it.
+use im_disk::Disk;
 use im_types::Line;
 use logbook::{Gain, Pen, Plain, Play, Rule};
 use std::snapshot::Snapshot;
@@ -9,6 +10,8 @@ pub struct Link {
     pub from: u64,
     /// The line.
     pub line: Line,
+    /// Its time: how many calls the disk had made when it was left.
+    pub time: u64,
     /// The key of the pen that writes the next one.
     pub next: u64,
 }
@@ -66,15 +69,21 @@ impl Plain<u64, Link, u64> for KeepPen {
     ghost use Rattle.im_types.specs.declared.commands.Call.TheVariants.{Collect};
     ghost use Rattle.im_types.specs.declared.refusals.Refusal.TheVariants.{NoElement};
 
-    ghost ask = { λ n. record { from = 0; line = record { call = Collect 0 0; answer = Err NoElement }; next = 0 } };
+    ghost ask = { λ n. record {
+      from = 0;
+      line = record { call = Collect 0 0; answer = Err NoElement };
+      time = 0;
+      next = 0;
+    } };
 
     ghost state = { λ n. None };
 }
 
-// What is to be added: a line, and the pen of the next one. It has no bytes.
+// What is to be added: a line, the disk at its time, and the pen of the next one. It has no bytes.
 #[derive(Drop)]
-pub struct Signed {
+pub struct Signed<D: Disk> {
     pub(crate) line: Snapshot<Line>,
+    pub(crate) disk: Snapshot<D>,
     pub(crate) next: Pen,
 }
 
@@ -87,10 +96,15 @@ impl Play<Link, u64> for UsePen {
     ghost then = { UsesPen };
 }
 
-impl Plain<Signed, Link, u64> for UsePen {
-    ghost use Rattle.std.specs.Prelude.{None};
+impl<D: Disk> Plain<Signed<D>, Link, u64> for UsePen {
+    ghost use Rattle.std.specs.Prelude.{None, length};
 
-    ghost ask = { λ s. record { from = 0; line = s.line.value; next = s.next.nib.key } };
+    ghost ask = { λ s. record {
+      from = 0;
+      line = s.line.value;
+      time = length (D.past s.disk.value);
+      next = s.next.nib.key;
+    } };
 
     ghost state = { λ s. None };
 }

@@ -4,8 +4,9 @@ ghost use Rattle.im_trace.specs.Chains.{IsOpened};
 
 use crate::books::{Books, Reserve};
 use crate::chain::NewChain;
-use crate::log::{Log, Unclaimed, free_places};
+use crate::log::{Log, Unclaimed};
 use crate::name::{Lines, Marked, Name};
+use crate::places::free_places;
 use crate::record::Record;
 use crate::traced::Traced;
 use std::alloc::{AllocError, Global};
@@ -104,8 +105,8 @@ impl NewLog {
         requires marked { self.marked_name ≡ K.marked_name }
         requires ports { self.ports ≡ K.ports }
         requires book { (self.book ≡ K.book.lines) × (self.recorded ≡ K.book.recorded) }
-        ensures trace { result.0.trace ≡ [] }
-        ensures limit { result.0.limit ≡ self.limit }
+        ensures trace { (result.0.state.trace ≡ []) × (result.0.times ≡ []) }
+        ensures limit { result.0.state.limit ≡ self.limit }
         ensures reserve { result.1 ≡ K.ports }
     {
         let NewLog {

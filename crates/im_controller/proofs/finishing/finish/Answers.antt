@@ -1,4 +1,4 @@
-use Rattle.std.proofs.Common.{◌-◌, ◌∙◌, ap, sym, subst, arith, List, length}
+use Rattle.std.proofs.Common.{◌-◌, ◌∙◌, ap, sym, subst, arith, List, length, ℕ}
 use Rattle.std.proofs.lemmas.Bool.{eqb-true, eq-eqb}
 use Rattle.std.specs.List.{AllByRecursion}
 use mathlib.Core.List.{IsPrefix}
@@ -8,12 +8,16 @@ use Rattle.im_trace.specs.Ends.{RecordingState}
 use Rattle.im_trace.specs.Lines.{Counts}
 use Rattle.im_controller.specs.Planned.{EndsBy}
 use Rattle.im_controller.specs.State.{PortState}
+use Rattle.im_controller.specs.Kept.{HasKept, KeepsSince, accepted_in}
 use Rattle.im_controller.proofs.PlannedLemmas.{ends-by}
 use Rattle.im_controller.proofs.finishing.finish.Goals as goal
 
 pub returns-clause-came : goal.returns-clause-came
 returns-clause-came g c =
     let m = c.take_all_back.ensures in let l = c.left-left.ensures in let e = c.close-trace.ensures in record {
+      book_is = ap (λ (r : RecordingState). r.book) e.trace;
+      seen = subst (λ (ls : List Line). AllByRecursion (λ (p : PortState). IsPrefix p.history ls) c.args.ports.items)
+          (sym (ap (λ (r : RecordingState). r.items) e.trace ∙ m.trace.0)) m.seen;
       exactly = (
         (λ came.
             let same = eqb-true c.len-came.result (c.ports-all.result - c.left-left.result) came in
@@ -58,16 +62,30 @@ returns-clause-came g c =
           };
     }
 
-pub returns-clause-seen : goal.returns-clause-seen
-returns-clause-seen g c =
-    let m = c.take_all_back.ensures in
-    subst (λ (ls : List Line). AllByRecursion (λ (p : PortState). IsPrefix p.history ls) c.args.ports.items)
-    (sym (ap (λ (r : RecordingState). r.items) c.close-trace.ensures.trace ∙ m.trace)) m.seen
+pub returns-clause-kept : goal.returns-clause-kept
+returns-clause-kept g c = λ honest began.
+    let s = c.engine.inside in
+    let items = ap (λ (r : RecordingState). r.items) c.close-trace.ensures.trace ∙ c.take_all_back.ensures.trace.0
+    ∙ c.of-log.ensures.trace.0 in
+    subst (λ (ls : List Line). HasKept g.D.Disk.now g.D.Disk.past g.D.Disk.failures g.K.Name.begun g.K.Name.memory
+    g.K.Name.plan (accepted_in g.K.Name.memory ls) s.engine) (sym items) (c.engine.invariant.5 honest began).kept
+
+pub returns-clause-keeps : goal.returns-clause-keeps
+returns-clause-keeps g c = λ honest began.
+    let s = c.engine.inside in
+    let items = ap (λ (r : RecordingState). r.items) c.close-trace.ensures.trace ∙ c.take_all_back.ensures.trace.0
+    ∙ c.of-log.ensures.trace.0 in
+    let times = ap (λ (r : RecordingState). r.times) c.close-trace.ensures.trace ∙ c.take_all_back.ensures.trace.1
+    ∙ c.of-log.ensures.trace.1 in
+    subst (λ (ls : List Line). KeepsSince g.D.Disk g.K.Name.begun g.K.Name.memory
+    g.K.Name.plan ls c.close-trace.result.0.times s.engine) (sym items)
+    (subst (λ (ts : List ℕ). KeepsSince g.D.Disk g.K.Name.begun g.K.Name.memory
+    g.K.Name.plan s.log.state.trace ts s.engine) (sym times) (c.engine.invariant.5 honest began))
 
 pub returns-clause-planned : goal.returns-clause-planned
 returns-clause-planned g c =
     let s = c.engine.inside in let i = c.engine.invariant in
-    let same = ap (λ (r : RecordingState). r.items) c.close-trace.ensures.trace ∙ c.take_all_back.ensures.trace
-    ∙ c.of-log.ensures.trace in
+    let same = ap (λ (r : RecordingState). r.items) c.close-trace.ensures.trace ∙ c.take_all_back.ensures.trace.0
+    ∙ c.of-log.ensures.trace.0 in
     subst (λ (ls : List Line). EndsBy g.K.Name.memory g.K.Name.plan ls s.engine.memory) (sym same)
-    (ends-by g.K.Name.memory g.K.Name.plan s.log.trace s.engine.memory i.8 i.0)
+    (ends-by g.K.Name.memory g.K.Name.plan s.log.state.trace s.engine.memory i.8 i.0)

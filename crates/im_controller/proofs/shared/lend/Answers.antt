@@ -6,7 +6,8 @@ use Rattle.im_types.specs.Contents.{Contents}
 use Rattle.im_types.specs.Step.{step}
 use Rattle.im_engine.specs.State.{MeansState, MeansEither}
 use Rattle.im_disk.specs.Since.{LeavesNow, LeavesOnly}
-use Rattle.im_trace.specs.Lines.{memory_after}
+use Rattle.im_trace.specs.Lines.{memory_after, time_at}
+use Rattle.im_trace.proofs.TimeLemmas.{receipt-at}
 use Rattle.im_controller.specs.Lends.{Lends}
 use Rattle.im_trace.specs.Log.{LogState, receipt_for}
 use Rattle.im_controller.specs.State.{SharedState}
@@ -16,7 +17,7 @@ use Rattle.im_controller.proofs.PlannedLemmas.{keeps-line, keeps-starts, on-comm
 use Rattle.im_disk.proofs.SinceLemmas.{leaves_start}
 use Rattle.im_controller.proofs.LendLemmas.{answered-so, answered-memory}
 use Rattle.im_controller.proofs.ShownLemmas.{lend-shown, end-cells, told-all, lends-served, some_room}
-use Rattle.im_controller.proofs.KeptLemmas.{accepted-after, kept_on, kept_lent}
+use Rattle.im_controller.proofs.KeptLemmas.{accepted-after, held_of, kept_on, kept_lent, keeps_at, since_of}
 use Rattle.im_controller.proofs.shared.lend.Goals as goal
 
 pub returns-then-room-eq0-clause-leaves : goal.returns-then-room-eq0-clause-leaves
@@ -35,27 +36,29 @@ returns-then-room-eq0-clause-means g c =
 
 pub leave-requires-clause-is_so : goal.leave-requires-clause-is_so
 leave-requires-clause-is_so g c = λ told.
-    answered-so c.shared.inside.engine c.serve-answer.new.self c.args.command.now c.serve-answer.result c.serve-answer.ensures.answered (sym c.failed.ensures.failed ∙ c.if-failed.false) told
+    answered-so c.shared.inside.engine c.serve-answer.new.self c.args.command.now c.serve-answer.result
+    c.serve-answer.ensures.answered (sym c.failed.ensures.failed ∙ c.if-failed.false) told
     ∙ ap (λ (m : Contents). (step m c.args.command.now).answer) (sym c.shared.invariant.0)
 
 pub put_ahead-requires : goal.put_ahead-requires
 put_ahead-requires g c = record {
-  cells = c.shared.invariant.2 ∙ sym (end-cells g.K.Name.memory c.shared.inside.log.trace)
+  cells = c.shared.invariant.2 ∙ sym (end-cells g.K.Name.memory c.shared.inside.log.state.trace)
       ∙ ap (λ (m : Contents). length m.cells) (c.shared.invariant.0 ∙ sym c.memory.ensures);
 }
 
 pub receipt-requires : goal.receipt-requires
 receipt-requires g c =
-    let shown = lend-shown g.K.Name.memory c.shared.inside.engine c.serve-answer.new.self c.args.command.now c.serve-answer.result c.serve-answer.ensures.answered (sym c.failed.ensures.failed ∙ c.if-failed.false)
+    let shown = lend-shown g.K.Name.memory c.shared.inside.engine c.serve-answer.new.self c.args.command.now
+    c.serve-answer.result c.serve-answer.ensures.answered (sym c.failed.ensures.failed ∙ c.if-failed.false)
     c.memory.result.now.contents c.from-places.result c.memory.ensures (c.from-places.ensures ∙ c.room-2.ensures)
     c.shared.inside.pane c.put_ahead.new.pane c.show_put-told.new.pane
     (c.shared.invariant.3 (sym c.failed.ensures.failed ∙ c.if-failed.false)) c.in-Ok.ensures.ahead
     c.failed-in-Ok.result c.failed-in-Ok.ensures.failed c.show_put-told.ensures.shown c.show_put-told.ensures.hidden
-    c.shared.inside.log.trace c.leave.new.self.trace c.shared.invariant.0 c.shared.invariant.1
+    c.shared.inside.log.state.trace c.leave.new.self.state.trace c.shared.invariant.0 c.shared.invariant.1
     (ap (λ (l : LogState). l.trace) c.leave.ensures.log) in
     record {
-      ends = (c.shared.inside.log.trace, ap (λ (l : LogState). l.trace) c.leave.ensures.log);
-      told = told-all g.K.Name.memory c.leave.new.self.trace c.show_put-told.result
+      ends = (c.shared.inside.log.state.trace, ap (λ (l : LogState). l.trace) c.leave.ensures.log);
+      told = told-all g.K.Name.memory c.leave.new.self.state.trace c.show_put-told.result
           (c.show_put-told.ensures.told ∙ shown.ends);
     }
 
@@ -63,16 +66,18 @@ pub invariant_of-shared : goal.invariant_of-shared
 invariant_of-shared g c =
     let ends = c.leave.ensures.end
     ∙ ap (λ (m : Contents). memory_after m (Commands c.args.command.now) c.serve-answer.result) c.shared.invariant.0
-    ∙ sym (answered-memory c.shared.inside.engine c.serve-answer.new.self c.args.command.now c.serve-answer.result c.serve-answer.ensures.answered (sym c.failed.ensures.failed ∙ c.if-failed.false)) in
-    let shown = lend-shown g.K.Name.memory c.shared.inside.engine c.serve-answer.new.self c.args.command.now c.serve-answer.result c.serve-answer.ensures.answered (sym c.failed.ensures.failed ∙ c.if-failed.false)
+    ∙ sym (answered-memory c.shared.inside.engine c.serve-answer.new.self c.args.command.now c.serve-answer.result
+    c.serve-answer.ensures.answered (sym c.failed.ensures.failed ∙ c.if-failed.false)) in
+    let shown = lend-shown g.K.Name.memory c.shared.inside.engine c.serve-answer.new.self c.args.command.now
+    c.serve-answer.result c.serve-answer.ensures.answered (sym c.failed.ensures.failed ∙ c.if-failed.false)
     c.memory.result.now.contents c.from-places.result c.memory.ensures (c.from-places.ensures ∙ c.room-2.ensures)
     c.shared.inside.pane c.put_ahead.new.pane c.show_put-told.new.pane
     (c.shared.invariant.3 (sym c.failed.ensures.failed ∙ c.if-failed.false)) c.in-Ok.ensures.ahead
     c.failed-in-Ok.result c.failed-in-Ok.ensures.failed c.show_put-told.ensures.shown c.show_put-told.ensures.hidden
-    c.shared.inside.log.trace c.leave.new.self.trace c.shared.invariant.0 c.shared.invariant.1
+    c.shared.inside.log.state.trace c.leave.new.self.state.trace c.shared.invariant.0 c.shared.invariant.1
     (ap (λ (l : LogState). l.trace) c.leave.ensures.log) in
     let alive = sym c.failed.ensures.failed ∙ c.if-failed.false in
-    let e = c.shared.inside.engine in let m = g.K.Name.memory in let trace = c.shared.inside.log.trace in
+    let e = c.shared.inside.engine in let m = g.K.Name.memory in let trace = c.shared.inside.log.state.trace in
     let plan = g.K.Name.plan in
     let on = on-command m plan c.args.command.now (keeps-starts m plan trace c.shared.invariant.8)
     (ap (λ (p : Option (List Request)). has_command p c.args.command.now) (sym c.shared.invariant.7)
@@ -83,14 +88,20 @@ invariant_of-shared g c =
       (λ living. shown.pane.ahead (c.failed-in-Ok.ensures.failed ∙ living)),
       (λ honest. c.shared.invariant.4 (c.serve-answer.ensures.honest honest)),
       (λ honest began.
-          kept_on g.D.Disk.now g.D.Disk.past g.D.Disk.failures g.K.Name.begun m plan e c.serve-answer.new.self trace c.leave.new.self.trace _ (ap (λ (l : LogState). l.trace) c.leave.ensures.log) c.shared.invariant.0
-          (kept_lent g.D.Disk.now g.D.Disk.past g.D.Disk.failures g.K.Name.begun m plan e c.serve-answer.new.self alive
+          let old = c.shared.inside.log in let f = c.serve-answer.new.self in
+          let held = held_of m trace old.times in
+          let before = c.shared.invariant.5 (c.serve-answer.ensures.honest honest) began in
+          keeps_at g.D.Disk g.K.Name.begun m plan (length (g.D.Disk.past c.disk.result.now)) old c.leave.new.self f
+          (ap (λ d. length (g.D.Disk.past d)) c.disk.ensures) before.whole c.leave.ensures.times
+          (kept_on g.D.Disk g.K.Name.begun m plan held e f trace c.leave.new.self.state.trace _
+          (ap (λ (l : LogState). l.trace) c.leave.ensures.log) c.shared.invariant.0
+          (kept_lent g.D.Disk g.K.Name.begun m plan held e f alive
           (accepted_in m trace)
-          (c.shared.invariant.5 (c.serve-answer.ensures.honest honest) began)
+          (since_of g.D.Disk g.K.Name.begun m plan trace old.times e before)
           (sym (accepted-after m trace ∙ c.shared.invariant.0))
           c.args.command.now c.serve-answer.result c.serve-answer.ensures.answered c.serve-answer.ensures.faults
           (c.serve-answer.ensures.leaves honest alive) (c.serve-answer.ensures.doubt honest alive)
-          (c.serve-answer.ensures.means honest) on)),
+          (c.serve-answer.ensures.means honest) on))),
       c.shared.invariant.6,
       c.shared.invariant.7,
       subst (λ (ls : List Line). KeepsTo m plan ls) (sym (ap (λ (l : LogState). l.trace) c.leave.ensures.log))
@@ -99,19 +110,33 @@ invariant_of-shared g c =
 
 pub returns-in-Ok-clause-lends : goal.returns-in-Ok-clause-lends
 returns-in-Ok-clause-lends g c =
+    let at = time_at c.leave.new.self.times (length c.leave.new.self.state.trace) in
+    let time = length (g.D.Disk.past c.serve-answer.new.self.disk) in
     let is = c.receipt.ensures.receipt
-    ∙ ap (λ l. receipt_for c.leave.new.self.trace l c.args.command.now c.serve-answer.result) c.show_put-told.ensures.told in
+    ∙ ap (λ l. receipt_for c.leave.new.self.state.trace at l c.args.command.now c.serve-answer.result)
+    c.show_put-told.ensures.told
+    ∙ receipt-at c.leave.new.self.state.trace at time c.show_put-told.new.pane.shown c.args.command.now
+    c.serve-answer.result
+    (λ left. c.leave.ensures.time left ∙ ap (λ d. length (g.D.Disk.past d)) c.disk.ensures) in
     let room = some_room c.room.result _ _ c.if-room-eq0.false c.room.ensures.room in
-    let shown = lend-shown g.K.Name.memory c.shared.inside.engine c.serve-answer.new.self c.args.command.now c.serve-answer.result c.serve-answer.ensures.answered (sym c.failed.ensures.failed ∙ c.if-failed.false)
+    let shown = lend-shown g.K.Name.memory c.shared.inside.engine c.serve-answer.new.self c.args.command.now
+    c.serve-answer.result c.serve-answer.ensures.answered (sym c.failed.ensures.failed ∙ c.if-failed.false)
     c.memory.result.now.contents c.from-places.result c.memory.ensures (c.from-places.ensures ∙ c.room-2.ensures)
     c.shared.inside.pane c.put_ahead.new.pane c.show_put-told.new.pane
     (c.shared.invariant.3 (sym c.failed.ensures.failed ∙ c.if-failed.false)) c.in-Ok.ensures.ahead
     c.failed-in-Ok.result c.failed-in-Ok.ensures.failed c.show_put-told.ensures.shown c.show_put-told.ensures.hidden
-    c.shared.inside.log.trace c.leave.new.self.trace c.shared.invariant.0 c.shared.invariant.1
+    c.shared.inside.log.state.trace c.leave.new.self.state.trace c.shared.invariant.0 c.shared.invariant.1
     (ap (λ (l : LogState). l.trace) c.leave.ensures.log) in
-    let s' : SharedState g.row.D.Denot = record { engine = c.serve-answer.new.self; log = c.leave.new.self; servers = c.shared.inside.servers; shown = c.show_put-told.new.pane.shown } in
-    subst (λ (s : SharedState g.row.D.Denot). Lends g.K.Name.marks g.K.Name.plan s c.args.tally.now c.args.command.now c.receipt.result s' c.leave.new.tally) c.shared.view_is
-    (lends-served g.K.Name.marks g.K.Name.plan _ s' c.args.tally.now c.leave.new.tally c.args.command.now c.serve-answer.result c.receipt.result is (sym c.failed.ensures.failed ∙ c.if-failed.false) room
+    let s' : SharedState g.row.D.Denot = record {
+      engine = c.serve-answer.new.self;
+      log = c.leave.new.self.state;
+      servers = c.shared.inside.servers;
+      shown = c.show_put-told.new.pane.shown;
+    } in
+    subst (λ (s : SharedState g.row.D.Denot). Lends g.D.Disk g.K.Name.marks g.K.Name.plan s c.args.tally.now
+    c.args.command.now c.receipt.result s' c.leave.new.tally) c.shared.view_is
+    (lends-served g.D.Disk g.K.Name.marks g.K.Name.plan _ s' c.args.tally.now c.leave.new.tally c.args.command.now
+    c.serve-answer.result c.receipt.result is (sym c.failed.ensures.failed ∙ c.if-failed.false) room
     (ap (λ (p : Option (List Request)). has_command p c.args.command.now) (sym c.shared.invariant.7)
     ∙ sym c.has_command.ensures ∙ c.if-not-has_command.false)
     c.serve-answer.ensures.answered c.leave.ensures.log refl c.leave.ensures.tally shown.pane.is)
@@ -136,8 +161,8 @@ returns-in-Err-clause-leaves g c = λ honest. let e = c.shared.inside.engine in
 
 pub returns-in-Ok-clause-planned : goal.returns-in-Ok-clause-planned
 returns-in-Ok-clause-planned g c =
-    let m = g.K.Name.memory in let trace = c.shared.inside.log.trace in
-    tells-of m g.K.Name.plan c.leave.new.self.trace c.receipt.result
+    let m = g.K.Name.memory in let trace = c.shared.inside.log.state.trace in
+    tells-of m g.K.Name.plan c.leave.new.self.state.trace c.receipt.result
     (subst (λ (ls : List Line). KeepsTo m g.K.Name.plan ls) (sym (ap (λ (l : LogState). l.trace) c.leave.ensures.log))
     (keeps-line m trace (Commands c.args.command.now) c.serve-answer.result g.K.Name.plan c.shared.invariant.8
     (on-command m g.K.Name.plan c.args.command.now (keeps-starts m g.K.Name.plan trace c.shared.invariant.8)

@@ -8,7 +8,7 @@ use Rattle.im_types.specs.declared.refusals.Refusal.TheVariants.{JournalFull}
 use Rattle.im_controller.specs.Lends.{IsTurnFault, told_turn}
 use Rattle.im_controller.specs.Kept.{accepted_in}
 use Rattle.im_controller.specs.State.{SharedState}
-use Rattle.im_controller.proofs.KeptLemmas.{accepted-after, turn_quiet, quiet_alive, kept_quiet, turn-only, turn-full}
+use Rattle.im_controller.proofs.KeptLemmas.{accepted-after, turn_quiet, quiet_alive, held_of, kept_quiet, keeps_still, since_of, turn-only, turn-full}
 use Rattle.im_controller.proofs.shared.lend_turn.Goals as goal
 
 pub returns-clause-leaves : goal.returns-clause-leaves
@@ -22,7 +22,7 @@ returns-clause-leaves g c = λ honest. let f = c.turn-done.new.self in
 pub invariant_of-shared : goal.invariant_of-shared
 invariant_of-shared g c =
     let e = c.shared.inside.engine in let f = c.turn-done.new.self in let m = g.K.Name.memory in
-    let trace = c.shared.inside.log.trace in
+    let trace = c.shared.inside.log.state.trace in
     let quiet = turn_quiet g.D.Disk.failures e f c.turn-done.result c.turn-done.ensures.answered c.turn-done.ensures.faults in rw c.note_turn.ensures (
       c.shared.invariant.0 ∙ sym quiet.stays.0,
       c.shared.invariant.1,
@@ -30,10 +30,13 @@ invariant_of-shared g c =
       (λ living. c.shared.invariant.3 (quiet_alive g.D.Disk.failures e f quiet living)),
       (λ honest. c.shared.invariant.4 (c.turn-done.ensures.honest honest)),
       (λ honest began.
-          kept_quiet g.D.Disk.now g.D.Disk.past g.D.Disk.failures g.K.Name.begun m g.K.Name.plan e f (accepted_in m trace)
-          (c.shared.invariant.5 (c.turn-done.ensures.honest honest) began)
+          let times = c.shared.inside.log.times in
+          let before = c.shared.invariant.5 (c.turn-done.ensures.honest honest) began in
+          keeps_still g.D.Disk g.K.Name.begun m g.K.Name.plan trace times f before.whole
+          (kept_quiet g.D.Disk g.K.Name.begun m g.K.Name.plan (held_of m trace times) e f (accepted_in m trace)
+          (since_of g.D.Disk g.K.Name.begun m g.K.Name.plan trace times e before)
           (sym (accepted-after m trace ∙ c.shared.invariant.0)) quiet
-          (c.turn-done.ensures.leaves honest) (c.turn-done.ensures.now honest) (c.turn-done.ensures.means honest)),
+          (c.turn-done.ensures.leaves honest) (c.turn-done.ensures.now honest) (c.turn-done.ensures.means honest))),
       c.shared.invariant.6,
       c.shared.invariant.7,
       c.shared.invariant.8,

@@ -26,5 +26,5 @@ returns-clause-told g c =
     (all_told_by (λ all. all.items) served.result g.K.Name.memory trace (made.result.refused ≡ None)
     (notes.result.refused ≡ None) (map ask_of c.args.orders.items) made.result.parts.items notes.result.did.items
     made.ensures.made served.ensures.ends
-    (if_ok_map _ _ served.result notes.ensures.some (λ all it. (it.0, it.1 trace end.ensures.seen)))
+    (if_ok_map _ _ served.result notes.ensures.some (λ all it. (it.0, it.1 trace end.ensures.came.seen)))
     notes.ensures.none)

@@ -4,5 +4,4 @@ use Rattle.im_controller.proofs.controller.Controller.serve.Given as goal
 abbrev pub invariant-loop : goal.invariant-loop
 invariant-loop g l =
     (goal.iterator-loop g).can_next l.iterator' × (goal.iterator-loop g).is_finite l.iterator'
-    × (l.tally ≡ l.fn.tally)
-    × (l.seen ≡ l.fn.seen)
+    × (l.port ≡ l.fn.port)

@@ -3,11 +3,11 @@ use Rattle.im_types.specs.declared.commands.Line.{Line}
 use Rattle.im_types.specs.declared.commands.Request.{Request}
 use Rattle.im_types.specs.Contents.{Contents}
 use Rattle.im_controller.specs.State.{OpeningState}
-use Rattle.im_controller.specs.Kept.{Begun, begun_in, accepted_in, HasKept}
+use Rattle.im_controller.specs.Kept.{Begun, begun_in}
 use Rattle.im_trace.specs.Chains.{IsOpened}
 use Rattle.im_controller.specs.Planned.{StartsBy, KeepsTo}
 use Rattle.im_controller.proofs.PlannedLemmas.{keeps-start}
-use Rattle.im_controller.proofs.KeptLemmas.{kept_start}
+use Rattle.im_controller.proofs.KeptLemmas.{keeps_first}
 use Rattle.im_controller.proofs.opening.Opening.named.Goals as goal
 
 pub named-log-requires-clause-memory : goal.named-log-requires-clause-memory
@@ -29,13 +29,11 @@ invariant_of-shared g c =
       search rules,
       (λ honest began.
           let alive = ap (λ (b : Begun). b.failed) begun ∙ began in
-          subst (λ (ls : List Line). HasKept g.D.Disk.now g.D.Disk.past g.D.Disk.failures g.K.Name.begun m g.K.Name.plan
-          (accepted_in m ls) e) (sym begins)
-          (kept_start g.D.Disk.now g.D.Disk.past g.D.Disk.failures g.K.Name.begun m g.K.Name.plan e begun memory alive
-          (c.failed-failed.ensures.means honest alive))),
+          keeps_first g.D.Disk g.K.Name.begun m g.K.Name.plan c.named-log.result.0.state.trace c.named-log.result.0.times e begins.0 begins.1 begun memory alive
+          (c.failed-failed.ensures.means honest alive)),
       search rules,
       plan,
-      subst (λ (ls : List Line). KeepsTo m g.K.Name.plan ls) (sym begins)
+      subst (λ (ls : List Line). KeepsTo m g.K.Name.plan ls) (sym begins.0)
           (keeps-start m g.K.Name.plan
           (subst (λ (p : Option (List Request)). StartsBy m p) plan
           (subst (λ (n : Contents). StartsBy n c.self.inside.plan) memory i.3))),

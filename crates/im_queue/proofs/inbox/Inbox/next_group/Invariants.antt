@@ -3,4 +3,4 @@ use Rattle.im_queue.specs.Members.{Gathers}
 use Rattle.im_queue.proofs.inbox.Inbox.next_group.Given as goal
 
 abbrev pub invariant-loop-element : goal.invariant-loop-element
-invariant-loop-element g l = Gathers l.log.places l.memory.contents l.element l.members.items × (length l.members.items ≤ l.most)
+invariant-loop-element g l = Gathers l.log.state.places l.memory.contents l.element l.members.items × (length l.members.items ≤ l.most)

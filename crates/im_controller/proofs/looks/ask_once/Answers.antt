@@ -1,0 +1,23 @@
+use Rattle.std.proofs.Common.{◌≡◌, rules, Ok, Err}
+use Rattle.im_types.specs.declared.refusals.Refusal.TheVariants.{Stalled}
+use Rattle.im_controller.proofs.SeenLemmas.{stays-seen}
+use Rattle.im_queue.specs.declared.servers.Ask.TheVariants.{Go}
+use Rattle.im_controller.proofs.WaitLemmas.{finds-told, go-waits, err-waits, go-stalled, other-stalled}
+use Rattle.im_controller.proofs.looks.ask_once.Goals as goal
+
+pub returns-in-Ok-Go-clause-told : goal.returns-in-Ok-Go-clause-told
+returns-in-Ok-Go-clause-told g c =
+    let begins = rw c.in-Ok-Go.field-0-is at c.in-Ok-Go.ensures.begins in
+    finds-told g.K.Name.marks c.args.shared.now c.begin_wait.new.shared c.find_seen.new.shared c.args.element c.args.number c.args.tally.now c.find_seen.new.tally c.find_seen.result c.find_seen.ensures.looks
+    (Ok Go) begins go-waits go-stalled
+
+pub returns-else-eq-clause-told : goal.returns-else-eq-clause-told
+returns-else-eq-clause-told g c =
+    finds-told g.K.Name.marks c.args.shared.now c.begin_wait.new.shared c.find_seen-in-Err.new.shared c.args.element c.args.number c.args.tally.now c.find_seen-in-Err.new.tally c.find_seen-in-Err.result c.find_seen-in-Err.ensures.looks
+    (Err c.in-Err.refusal) c.in-Err.ensures.begins (err-waits c.in-Err.refusal)
+    (other-stalled c.in-Err.refusal (λ same. let e = c.eq.ensures in let f = c.if-eq.false in search rules))
+
+pub returns-then-eq-clause-order : goal.returns-then-eq-clause-order
+returns-then-eq-clause-order g c =
+    let is : c.in-Err.refusal ≡ Stalled = let e = c.eq.ensures in let f = c.if-eq.true in search rules in
+    stays-seen c.args.seen.now c.args.element c.args.number c.in-Err.refusal is

@@ -1,4 +1,0 @@
-use Rattle.im_glass.proofs.pane.open.Given as goal
-
-abbrev pub ghosts-opened : goal.ghosts-opened
-ghosts-opened g a = record { book = a.book }

@@ -1,9 +1,0 @@
-use Rattle.std.proofs.Common.{◌≡◌, [], take}
-use Rattle.im_glass.proofs.pane.opened.Given as goal
-
-abbrev pub invariant-loop-change : goal.invariant-loop-change
-invariant-loop-change g l =
-    (l.pane.shown ≡ take l.change-index l.fn.changes)
-    × (l.pane.ahead ≡ [])
-    × (l.pane.cells ≡ l.fn.cells)
-    × (l.pane.spare ≡ l.fn.readers)

@@ -1,0 +1,13 @@
+use Rattle.std.proofs.Common.{◌≡◌, length}
+use Rattle.std.specs.List.{AllByRecursion}
+use Rattle.left_right.specs.Sides.{view}
+use Rattle.im_glass.proofs.sides.spare_readers.Given as goal
+
+abbrev pub invariant-loop-reader : goal.invariant-loop-reader
+invariant-loop-reader l =
+    (length l.spare.items ≡ l._reader)
+    × AllByRecursion (λ b. b ≡ l.fn.both.desk.shown.value.seen.book) l.spare.items
+    × (l.both.desk.shown ≡ l.fn.both.desk.shown)
+    × (l.both.log ≡ l.fn.both.log)
+    × (l.both.behind ≡ l.fn.both.behind)
+    × (view l.both.desk.place ≡ view l.fn.both.desk.place)

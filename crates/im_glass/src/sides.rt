@@ -1,0 +1,151 @@
+//! The two copies of a pane: the one that is shown, and the other one.
+ghost use Rattle.std.specs.Prelude.{◌≡◌, ◌<◌, ◌++◌, [], None, Some, drop, length, replicate, IfOk};
+ghost use Rattle.std.specs.List.{AllByRecursion};
+ghost use Rattle.left_right.specs.Sides.{view};
+ghost use Rattle.im_glass.specs.Copies.{IsKept, IsIdle, GoesOn, after_all, changes_ahead};
+ghost use Rattle.im_glass.specs.Rule.{state_of, IsKeptOf};
+
+use crate::book::PaneName;
+use crate::cells::FullCells;
+use crate::copies::{Ahead, Copy, History};
+use crate::glance::Spare;
+use crate::rule::{Known, Sees, Shows};
+use im_types::Change;
+use left_right::writer::Writer;
+use std::alloc::{AllocError, Global};
+use std::sync::Wait;
+
+// How many changes, put ahead or shown last, have room.
+const GROUPS: u32 = 32;
+
+pub(crate) type Both = Writer<Copy, Ahead, Known, Shows>;
+
+// Makes the two copies, with no cell full, after no change, and with room for what is put ahead.
+pub(crate) fn copies<R: Wait>(
+    rt: &R,
+    alloc: Global,
+    seen: History,
+    cells: u32,
+    readers: u16,
+) -> Result<Both, AllocError>
+    requires readers { 0 < readers }
+    requires none { seen.log ≡ [] }
+    ensures state { IfOk result (λ w. state_of w.desk.shown.value ≡ (seen, replicate cells None, 0)) }
+    ensures known { IfOk result (λ w. (view w.desk.place).seen ≡ Some w.desk.shown.value.seen) }
+    ensures none { IfOk result (λ w. drop w.behind w.log.items ≡ []) }
+{
+    let mut both = new_copies(alloc, &seen, cells, readers)?;
+    match make_room(&mut both, &seen) {
+        Ok(()) => {
+            // It is called twice, because the copy that was shown first takes in what was put ahead at the second call.
+            let both = show_nothing(rt, both);
+            Ok(show_nothing(rt, both))
+        }
+        Err(_) => {
+            let _last = both.take(rt);
+            Err(AllocError)
+        }
+    }
+}
+
+// Makes the two copies alone.
+fn new_copies(alloc: Global, seen: &History, cells: u32, readers: u16) -> Result<Both, AllocError>
+    requires readers { 0 < readers }
+    requires none { seen.now.log ≡ [] }
+    ensures state { IfOk result (λ w. state_of w.desk.shown.value ≡ (seen.now, replicate cells None, 0)) }
+    ensures none { IfOk result (λ w. drop w.behind w.log.items ≡ []) }
+{
+    let first = Copy {
+        cells: FullCells::new(alloc, cells)?,
+        count: 0,
+        seen: seen.again(),
+    };
+    let second = Copy {
+        cells: FullCells::new(alloc, cells)?,
+        count: 0,
+        seen: seen.again(),
+    };
+    Writer::new(alloc, first, second, readers as usize)
+}
+
+// Shows changes that change nothing.
+fn show_nothing<R: Wait>(rt: &R, both: Both) -> Both
+    requires kept { IsKept (state_of both.desk.shown.value) }
+    requires idle { IsIdle (state_of both.desk.shown.value) (drop both.behind both.log.items) }
+    ensures state { state_of result.desk.shown.value ≡ state_of both.desk.shown.value }
+    ensures known { (view result.desk.place).seen ≡ Some result.desk.shown.value.seen }
+    ensures none { drop result.behind result.log.items ≡ [] }
+{
+    publish(rt, both).0
+}
+
+// Puts ahead changes that change nothing, so that there is room for that many afterwards.
+fn make_room(both: &mut Both, seen: &History) -> Result<(), AllocError>
+    requires shown { state_of both.old.desk.shown.value ≡ (seen.now, both.old.desk.shown.value.cells, 0) }
+    requires none { drop both.old.behind both.old.log.items ≡ [] }
+    ensures same { both.new.desk ≡ both.old.desk }
+    ensures idle { IsIdle (state_of both.old.desk.shown.value) (drop both.new.behind both.new.log.items) }
+{
+    for _place in 0..GROUPS {
+        let ahead = Ahead {
+            change: Change::Same,
+            count: 0,
+            seen: seen.again(),
+        };
+        match both.append(ahead) {
+            Ok(()) => {}
+            Err(_) => return Err(AllocError),
+        }
+    }
+    Ok(())
+}
+
+// Makes the given number of readers, which have seen what is shown.
+pub(crate) fn spare_readers(
+    alloc: Global,
+    both: &mut Both,
+    readers: u16,
+) -> Result<Vec<Spare>, AllocError>
+    requires kept { IsKept (state_of both.old.desk.shown.value) }
+    requires known { (view both.old.desk.place).seen ≡ Some both.old.desk.shown.value.seen }
+    ensures count { IfOk result (λ spare. length spare.items ≡ readers) }
+    ensures book { IfOk result (λ spare. AllByRecursion (λ b. b ≡ both.old.desk.shown.value.seen.book) spare.items) }
+    ensures same { (both.new.desk.shown ≡ both.old.desk.shown) × (both.new.log ≡ both.old.log)
+        × (both.new.behind ≡ both.old.behind) }
+    ensures known { view both.new.desk.place ≡ view both.old.desk.place }
+{
+    let mut spare = Vec::new(alloc);
+    for _reader in 0..readers {
+        spare.push(Spare::new(both)?)?;
+    }
+    Ok(spare)
+}
+
+// Shows what is put ahead.
+fn publish<R: Wait>(rt: &R, both: Both) -> (Both, ())
+    requires kept { IsKept (after_all (state_of both.desk.shown.value) (drop both.behind both.log.items)) }
+    requires book { (after_all (state_of both.desk.shown.value) (drop both.behind both.log.items)).0.book
+        ≡ both.desk.shown.value.seen.book }
+    ensures state { state_of result.0.desk.shown.value
+        ≡ after_all (state_of both.desk.shown.value) (drop both.behind both.log.items) }
+    ensures known { (view result.0.desk.place).seen ≡ Some result.0.desk.shown.value.seen }
+    ensures none { drop result.0.behind result.0.log.items ≡ [] }
+{
+    let (both, _shown) = both.publish_as::<Sees, R>(rt);
+    (both, ())
+}
+
+// Shows the changes that are put ahead, of this book.
+pub(crate) fn show_all<J: PaneName, R: Wait>(rt: &R, both: Both) -> (Both, ())
+    requires goes_on { GoesOn (length both.desk.shown.value.cells) J.book both.desk.shown.value.seen.log
+        (drop both.behind both.log.items) }
+    requires kept { IsKeptOf J.book both.desk.shown.value }
+    ensures log { result.0.desk.shown.value.seen.log
+        ≡ both.desk.shown.value.seen.log ++ changes_ahead (drop both.behind both.log.items) }
+    ensures kept { IsKeptOf J.book result.0.desk.shown.value }
+    ensures cells { length result.0.desk.shown.value.cells ≡ length both.desk.shown.value.cells }
+    ensures known { (view result.0.desk.place).seen ≡ Some result.0.desk.shown.value.seen }
+    ensures none { drop result.0.behind result.0.log.items ≡ [] }
+{
+    publish(rt, both)
+}

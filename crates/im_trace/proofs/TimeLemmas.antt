@@ -1,0 +1,73 @@
+-- The times of the lines of a trace.
+use Rattle.std.proofs.Common.{◌≡◌, ◌⊎◌, inl, inr, ⊎_elim, ℕ, zero, suc, ◌+◌, ◌<◌, ◌≤◌, Bool, true, false, List, [], ◌∷◌}
+use Rattle.std.proofs.Common.{◌++◌, length, length-append, map, refl, sym, ap, ◌∙◌, subst, arith, Result, Ok, Err}
+use Rattle.std.proofs.Common.{if◌then◌else◌, append_assoc}
+use Rattle.std.proofs.lemmas.List.{map-append}
+use mathlib.Core.List.{IsPrefix}
+use Rattle.im_types.specs.declared.commands.Outcome.{Outcome}
+use Rattle.im_types.specs.declared.commands.Call.{Call}
+use Rattle.im_types.specs.declared.commands.Line.{Line}
+use Rattle.im_types.specs.declared.refusals.Refusal.{Refusal}
+use Rattle.im_trace.specs.Lines.{leaves_line, line_of, lines_of, times_of, time_at}
+use Rattle.im_types.specs.declared.changes.Change.{Change}
+use Rattle.im_types.specs.declared.commands.Command.{Command}
+use Rattle.im_trace.specs.Log.{TimedLog, GoesOnAt, receipt_for}
+
+-- a line's time stays in a longer book
+pub time-later : (xs ys : List ℕ) (n : ℕ) → IsPrefix xs ys → n ≤ length xs → time_at xs n ≡ time_at ys n
+time-later xs ys zero p less = refl
+time-later [] ys (suc n) p less = absurd (omega (arith, less))
+time-later (x ∷ xs) [] (suc n) p less = absurd (cc (p.1))
+time-later (x ∷ xs) (y ∷ ys) (suc zero) p less = cc (p.1)
+time-later (x ∷ xs) (y ∷ ys) (suc (suc n)) p less = time-later xs ys (suc n) (p.0, cc (p.1)) (omega (arith, less))
+
+-- the time of lines more
+pub time-new : (times : List ℕ) (time : ℕ) (more : List Line) (n : ℕ) → length times < n
+    → n ≤ length times + length more → time_at (times ++ times_of time more) n ≡ time
+time-new [] time [] n less few = absurd (omega (arith, less, few))
+time-new [] time (l ∷ more) zero less few = absurd (omega (arith, less))
+time-new [] time (l ∷ more) (suc zero) less few = refl
+time-new [] time (l ∷ more) (suc (suc n)) less few = time-new [] time more (suc n) (omega arith) (omega (arith, few))
+time-new (x ∷ times) time more zero less few = absurd (omega (arith, less))
+time-new (x ∷ times) time more (suc zero) less few = absurd (omega (arith, less))
+time-new (x ∷ times) time more (suc (suc n)) less few =
+    time-new times time more (suc n) (omega (arith, less)) (omega (arith, few))
+
+-- the time of the last line, if one was left
+last-by : (b : Bool) (call : Call) (answer : Result Outcome Refusal) (trace trace' : List Line) (times times' : List ℕ)
+    (time : ℕ) → b ≡ true → trace' ≡ trace ++ (if b then line_of call answer ∷ [] else [])
+    → times' ≡ times ++ times_of time (if b then line_of call answer ∷ [] else []) → length times' ≡ length trace'
+    → time_at times' (length trace') ≡ time
+last-by false call answer trace trace' times times' time is lines timed whole = absurd (cc (is))
+last-by true call answer trace trace' times times' time is lines timed whole =
+    let more = line_of call answer ∷ [] in
+    let long = length-append times (times_of time more) in
+    let count : length trace' ≡ length times + 1 = omega (arith, whole, ap length timed, long) in
+    ap (λ ts. time_at ts (length trace')) timed ∙ ap (λ n. time_at (times ++ times_of time more) n) count
+    ∙ time-new times time more (length times + 1) (omega arith) (omega arith)
+
+pub time-last : (call : Call) (answer : Result Outcome Refusal) (trace trace' : List Line) (times times' : List ℕ)
+    (time : ℕ) → leaves_line answer ≡ true → trace' ≡ trace ++ lines_of call answer
+    → times' ≡ times ++ times_of time (lines_of call answer) → length times' ≡ length trace'
+    → time_at times' (length trace') ≡ time
+time-last call answer trace trace' times times' time is lines timed whole =
+    last-by (leaves_line answer) call answer trace trace' times times' time is lines timed whole
+
+-- lines more, and others behind them
+pub goes-on-at : (time : ℕ) (old mid new : TimedLog) → GoesOnAt time old mid → GoesOnAt time mid new
+    → GoesOnAt time old new
+goes-on-at time old mid new p q = record {
+  more = p.more ++ q.more;
+  lines = q.lines ∙ ap (λ ls. ls ++ q.more) p.lines ∙ append_assoc old.state.trace p.more q.more;
+  times = q.times ∙ ap (λ ts. ts ++ times_of time q.more) p.times
+      ∙ append_assoc old.times (times_of time p.more) (times_of time q.more)
+      ∙ ap (λ ts. old.times ++ ts) (sym (map-append (λ (l : Line). time) p.more q.more));
+}
+
+-- a receipt's time is asked for only if there is an outcome
+pub receipt-at : (history : List Line) (at time : ℕ) (shown : List Change) (command : Command)
+    (a : Result Outcome Refusal) → (leaves_line a ≡ true → at ≡ time)
+    → receipt_for history at shown command a ≡ receipt_for history time shown command a
+receipt-at history at time shown command (Ok outcome) is = ap (λ t. receipt_for history t shown command (Ok outcome))
+    (is refl)
+receipt-at history at time shown command (Err refusal) is = refl
