@@ -60,8 +60,7 @@ impl Scene {
         match self {
             Scene::OneLine => Some(1),
             Scene::Unrecorded => None,
-            Scene::Sixteen => Some(20_000),
-            Scene::Readers => Some(1_000),
+            Scene::Sixteen | Scene::Readers => Some(20_000),
             _ => Some(100),
         }
     }
