@@ -207,7 +207,8 @@ none_served {D} disk begun engine trace none same alive means =
       legal = tt;
       ends = refl;
       plan = None;
-      kept = kept_start _ _ _ here engine.memory None engine refl refl alive means;
+      kept = (kept_start disk here engine.memory None (λ many time. ⊥) engine refl refl alive means
+          (λ many time no. no)).kept;
     } in
     subst (λ (b : EngineState D). ServedOn disk.now disk.past disk.failures
     (begun_in disk.now disk.past disk.failures b) b.memory trace engine) same
