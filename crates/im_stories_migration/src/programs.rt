@@ -3,13 +3,14 @@
 use crate::moves::report;
 use crate::writers::LastReason;
 use crate::{MigrationDesk, files};
-use im_disk::Unknown;
+use im_disk::{FileDisk, Unknown};
 use im_program::{
-    AtHand, Console, Copying, Job, Paths, Terminals, Transfer, Work, act_alone, copy_file,
-    migrate_file, read_words, refuse,
+    AtHand, Console, Job, Terminals, Transfer, Work, act_alone, copy_file, migrate_file,
+    read_words, refuse,
 };
 use im_story::{Call, Paper, Saying};
 use im_story_disk::Place;
+use im_types::Refusal;
 use std::fs;
 use std::io::ErrorKind;
 
@@ -34,45 +35,30 @@ fn act_by_itself(desk: &mut MigrationDesk, job: &Job<'_>) -> u8 {
     status
 }
 
-// Moves an image on. Returns the status, and why it was refused.
-fn migrate(desk: &mut MigrationDesk, paths: &Paths<'_>) -> (u8, LastReason) {
-    let mut told = LastReason { reason: None };
-    let mut nothing = b"".as_slice();
-    let hand = AtHand {
-        rt: desk.rt,
-        held: desk.held,
-        input: &mut nothing,
-        observer: &mut told,
-    };
-    let status = match migrate_file(hand, paths, &mut desk.out, (Unknown, Unknown)) {
-        Ok((status, _, _)) => status,
-        Err(refusal) => refuse(desk.rt.alloc(), refusal, &mut desk.out),
-    };
-    (status, told)
-}
-
-// Copies an image. Returns the status, and why it was refused.
-fn copy(desk: &mut MigrationDesk, copying: &Copying<'_>) -> (u8, LastReason) {
-    let mut told = LastReason { reason: None };
-    let mut nothing = b"".as_slice();
-    let hand = AtHand {
-        rt: desk.rt,
-        held: desk.held,
-        input: &mut nothing,
-        observer: &mut told,
-    };
-    let status = match copy_file(hand, copying, &mut desk.out, (Unknown, Unknown)) {
-        Ok((status, _, _)) => status,
-        Err(refusal) => refuse(desk.rt.alloc(), refusal, &mut desk.out),
-    };
-    (status, told)
+fn transfer_by(
+    hand: AtHand<'_, HostRuntime, &[u8], LastReason>,
+    transfer: &Transfer<'_>,
+    out: &mut Paper,
+) -> Result<(u8, FileDisk<Unknown>, FileDisk<Unknown>), Refusal> {
+    match *transfer {
+        Transfer::Migrate(paths) => migrate_file(hand, &paths, out, (Unknown, Unknown)),
+        Transfer::Copy(copying) => copy_file(hand, &copying, out, (Unknown, Unknown)),
+    }
 }
 
 // Does a transfer, which is told why it is refused. Returns the status.
 fn transfer(desk: &mut MigrationDesk, transfer: &Transfer<'_>) -> u8 {
-    let (status, told) = match *transfer {
-        Transfer::Migrate(paths) => migrate(desk, &paths),
-        Transfer::Copy(copying) => copy(desk, &copying),
+    let mut told = LastReason { reason: None };
+    let mut nothing = b"".as_slice();
+    let hand = AtHand {
+        rt: desk.rt,
+        held: desk.held,
+        input: &mut nothing,
+        observer: &mut told,
+    };
+    let status = match transfer_by(hand, transfer, &mut desk.out) {
+        Ok((status, _, _)) => status,
+        Err(refusal) => refuse(desk.rt.alloc(), refusal, &mut desk.out),
     };
     desk.told = told;
     status

@@ -731,14 +731,14 @@ printed 1 = 0.1 refused 1 Gap
 printed 2 = 0 window 1 1
 printed 3 = room 0
 
-# Lines for whose commands there are no places together are served one by one
--- Two commands are left to the last count that there is. A checkpoint of no page takes six calls, and makes no place; then
--- each of two commands takes four.
+# A line is refused for want of a place once turns have made none
+-- Two commands are left to the last count that there is: a group of five calls. Before the confirmation is refused, a
+-- checkpoint of three pages takes nine calls, and closing the two slots three.
 disk 33792 = 33792 bytes
 format 1 1 16 = formatted
 write 16 fe ff ff ff ff ff ff 3f = 00 00 00 00 00 00 00 00
 script 0.1 fetch 0 / 0.2 store 0 5 / confirm 0 2 / 0.1 fetch 0 / 0.3 fetch 0 / room / = 6 lines
-talk = 0, 14 calls
+talk = 0, 17 calls
 printed = 6 lines
 printed 0 = 0.1 nocell
 printed 1 = 0.2 nocell

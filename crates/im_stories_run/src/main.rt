@@ -26,7 +26,6 @@ fn tell<R: Threads + Wait + Sync>(rt: &R, here: &mut Stage, line: &str) {
         "run" => run_named(rt, here, How::Run, words),
         "plan" => run_named(rt, here, How::Plan, words),
         "trace" => run_named(rt, here, How::Trace, words),
-        "marks" => run_named(rt, here, How::Marks, words),
         "fault" => run_named(rt, here, How::Fault, words),
         "once" => run_named(rt, here, How::Once, words),
         "once-plan" => run_named(rt, here, How::OncePlan, words),

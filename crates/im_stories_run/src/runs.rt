@@ -28,7 +28,7 @@ pub fn serve<G: Gate + Sync, R: Threads + Wait + Sync>(
     let (out, told, watcher) = (&mut here.out, &mut here.told, &Unwatched);
     let mode = RunMode {
         planned: how == How::Plan || how == How::OncePlan,
-        recorded: how == How::Trace || how == How::Marks,
+        recorded: how == How::Trace,
     };
     let (status, disk, trace) = if how == How::Once || how == How::OncePlan {
         run_once_on(rt, alloc, disk, &script, gate, watcher, out, told, mode)

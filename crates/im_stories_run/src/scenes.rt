@@ -7,7 +7,6 @@
 //! held TEXT                      tells the text, and whether the last run held requests back so
 //! report, report windows         the image's cells and entries, or its windows
 //! fault NAME                     a run on an image whose calls fail behind its opening
-//! marks NAME                     as a trace, with its marks
 //! once NAME, once-plan NAME      runs what the image doesn't have of a script, or goes on with its plan
 //! again NAME N, again NAME N by M    the same on new images, stopped behind 0 to N calls of the disk, or each M of
 //!                                them, with each crash, until the script is done. It tells how many ends the plain
@@ -16,7 +15,7 @@
 //! ```
 
 /// The scenes.
-pub const SCENES: [&str; 124] = [
+pub const SCENES: [&str; 121] = [
     // A server that waits for a store that nobody sends is stalled. The store of a later run answers it.
     "# a fetch without its store",
     "new",
@@ -144,9 +143,6 @@ pub const SCENES: [&str; 124] = [
     "# the trace of a fetch behind its store",
     "new",
     "trace both after 2",
-    "# the marks of a fetch that waits",
-    "new",
-    "marks both after 1",
     "# the trace of a setup whose last block is not made",
     "new",
     "trace no block",

@@ -3,20 +3,19 @@
 use crate::writers::Told;
 use im_disk::FuseDisk;
 use im_report::inspect_on;
-use im_run::{Trace, write_marked_trace, write_trace};
+use im_run::{Trace, write_trace};
 use im_story::{Paper, Saying, old_image};
 use im_story_disk::Place;
 use im_types::{Limits, Refusal};
 use std::alloc::Global;
 
-/// How a script is run: as it is, as a plan, for its trace, for that with its marks, on a disk that fails behind the
+/// How a script is run: as it is, as a plan, for its trace, on a disk that fails behind the
 /// opening, once, or once as a plan.
 #[derive(Clone, Copy, PartialEq, Eq)]
 pub enum How {
     Run,
     Plan,
     Trace,
-    Marks,
     Fault,
     Once,
     OncePlan,
@@ -96,14 +95,10 @@ impl Stage {
     /// Keeps the disk behind a run, whose trace is told if that is asked for.
     pub fn lay_down(&mut self, disk: FuseDisk, trace: &Trace, how: How) {
         self.place.lay_down(disk);
-        if how == How::Trace || how == How::Marks {
+        if how == How::Trace {
             self.out = Paper::new(self.alloc);
-            let written = if how == How::Trace {
-                write_trace(self.alloc, trace, &mut self.out)
-            } else {
-                write_marked_trace(self.alloc, trace, &mut self.out)
-            };
-            self.said.so(written.is_ok(), "")
+            let is_written = write_trace(self.alloc, trace, &mut self.out).is_ok();
+            self.said.so(is_written, "")
         }
     }
 
@@ -113,7 +108,7 @@ impl Stage {
             How::Fault => self.tell_fault(),
             _ => self.said.text(self.out.text()),
         }
-        if how != How::Trace && how != How::Marks {
+        if how != How::Trace {
             write!(self.said, "status {status}\n")
         }
     }
