@@ -22,6 +22,7 @@ use Rattle.im_migration.specs.Resizing.{IsResized, sizes_asked}
 use Rattle.im_text.proofs.PrintingLemmas.{appends_kept}
 use Rattle.im_program.specs.Loading.{IsPutInto, IsReadied, LoadedFrom, MeansLoad}
 use Rattle.im_program.specs.Moving.{BeginsNew, counted_line}
+use Rattle.im_program.specs.Sources.{IsTextOf}
 use Rattle.im_program.proofs.MovedLemmas.{was_left}
 
 -- a dump that was written is there as it was written
@@ -71,14 +72,16 @@ module _ (asked : Asked) (l : Loaded) (r : Resized) (whole : IsWhole r) (ready :
   left_or_load c (inr (inr laid)) = inr (inr (means_load c laid))
 
   pub loaded_from : {S : Type 0} (start : Ghosts S) (to : FileDisk S start) → IsPutInto start r to
-      → (text : List ℕ) × IsDumpOf l text → (was is : Option (List ℕ)) (status : ℕ)
+      → (known : Option (List ℕ)) → (text : List ℕ) × IsTextOf known text × IsDumpOf l text
+      → (was is : Option (List ℕ)) (status : ℕ)
       → (status ≡ 0 → Appends was is (counted_line (codes "loaded") l.count)) → IsHonest (account_of start to)
       → LoadedFrom (λ (f : FileDisk S start). (account_of start f).now) (λ (f : FileDisk S start). (account_of start f).past)
-      start.first asked to was is status
-  loaded_from start to put dump was is status told h = record {
+      start.first asked known to was is status
+  loaded_from start to put known dump was is status told h = record {
     text = dump.0;
+    read = dump.1;
     loaded = l;
-    dump = dump.1;
+    dump = dump.2;
     leaves = λ c left. left_or_load c (put.leaves h c left);
     done = λ c left. means_load c (put.laid h c left);
     told = told;

@@ -1,3 +1,4 @@
+pub mod Sources
 pub mod Working
 pub mod Moving
 pub mod Loading

@@ -19,6 +19,7 @@ use Rattle.im_migration.specs.declared.resized.Resized.{Resized}
 use Rattle.im_migration.specs.Migration.{IsBlank, IsLaidDown, MayRefusePlace, moved_header}
 use Rattle.im_migration.specs.Resizing.{IsResized, sizes_asked}
 use Rattle.im_program.specs.Moving.{counted_line}
+use Rattle.im_program.specs.Sources.{IsTextOf}
 
 -- the file is an image of the sizes that are asked for, and means what was loaded, after as many commands
 pub record MeansLoad (asked : Asked) (l : Loaded) (file : List ℕ) : Type 0 where
@@ -26,11 +27,12 @@ pub record MeansLoad (asked : Asked) (l : Loaded) (file : List ℕ) : Type 0 whe
   pub resized : IsResized (sizes_asked asked (sizes_of l.limits)) l.memory.contents contents
   pub is : IsLaidDown (moved_header (sizes_asked asked (sizes_of l.limits)) l.count) contents file
 
--- A text, which is the dump of what was loaded, was put into a file, with this status. The file held the first moment
--- when it was opened; if it was made, it was blank then.
+-- A text of these bytes, where they are known, which is the dump of what was loaded, was put into a file, with this
+-- status. The file held the first moment when it was opened; if it was made, it was blank then.
 pub record LoadedFrom {D : Type 0} (now : D → Moment) (past : D → List Moment) (first : Moment) (asked : Asked)
-    (disk : D) (was is : Option (List ℕ)) (status : ℕ) : Type 0 where
+    (known : Option (List ℕ)) (disk : D) (was is : Option (List ℕ)) (status : ℕ) : Type 0 where
   pub text : List ℕ
+  pub read : IsTextOf known text
   pub loaded : Loaded
   pub dump : IsDumpOf loaded text
   pub leaves : (c : List ℕ) → LeftSince (now disk ∷ past disk) 0 c

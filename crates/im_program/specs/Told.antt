@@ -10,10 +10,10 @@ use Rattle.im_words.specs.Words.{Task}
 use Rattle.im_program.specs.Working.{DoneOn, HasMoved, IsOfTwo}
 
 -- a task was done on this disk, if one was opened and is honest, and told to a writer
-abbrev pub DoneTold : {D : Type 0} → DiskGhosts D → Moment → Task → Telling → Option (List ℕ) → Option (List ℕ) → ℕ
-    → Option D → Type 0
-DoneTold disk first task telling was is status found = IfSome found (λ it. disk.honest it → ToldIn
-    (λ before after came_to. DoneOn disk first task before after came_to it)
+abbrev pub DoneTold : {D : Type 0} → DiskGhosts D → Moment → Option (List ℕ) → Task → Telling → Option (List ℕ)
+    → Option (List ℕ) → ℕ → Option D → Type 0
+DoneTold disk first input task telling was is status found = IfSome found (λ it. disk.honest it → ToldIn
+    (λ before after came_to. DoneOn disk first input task before after came_to it)
     telling was is status)
 
 -- the same of a task that opens two files

@@ -9,8 +9,8 @@ use Rattle.im_disk.specs.Moment.{Moment}
 use Rattle.im_disk.specs.Since.{LeavesNow, ReadsOnly}
 use Rattle.im_image.specs.Fresh.{new_image}
 use Rattle.im_report.specs.Look.{ShowsView}
-use Rattle.im_serial.specs.Once.{ServedOnceFrom}
-use Rattle.im_serial.specs.Serving.{ServedFrom}
+use Rattle.im_serial.specs.Once.{SerialOnceOn}
+use Rattle.im_serial.specs.Serving.{SerialOn}
 use Rattle.im_dialogue.specs.Backups.{Backup}
 use Rattle.im_dialogue.specs.Dialogue.{TalkedFrom}
 use Rattle.im_dialogue.specs.Talk.{Outputs, outputs}
@@ -20,6 +20,7 @@ use Rattle.im_run.specs.Tracing.{TraceState}
 use Rattle.im_dump.specs.Dumping.{Dumps}
 use Rattle.im_program.specs.Loading.{LoadedFrom}
 use Rattle.im_program.specs.Moving.{CopiedFrom, MigratedFrom}
+use Rattle.im_program.specs.Sources.{IsTextOf, bytes_at}
 use Rattle.im_words.specs.Words.{Task, demonstration, format, serial, run, serve, inspect, migrate, copy, dump, load}
 
 -- each file that a crash leaves on this disk is the new image of these sizes, byte for byte
@@ -31,11 +32,28 @@ abbrev pub IsFormatted : {D : Type 0} → DiskGhosts D → (cells elements slots
 IsFormatted d cells elements slots status disk = (status ≡ 0) × AreLimits cells elements slots
     × IsNewImage d (record { cells = cells; elements = elements; slots = slots }) disk
 
--- a script was served on this disk, once or anew
-abbrev pub ScriptServed : {D : Type 0} → DiskGhosts D → Bool → Moment → D → Option (List ℕ) → Option (List ℕ) → ℕ
+-- a script is served on a disk, once or anew
+abbrev pub ScriptServes : {D : Type 0} → DiskGhosts D → Bool → List ℕ → D → D → Option (List ℕ) → Option (List ℕ) → ℕ
     → Type 0
-ScriptServed d true = ServedOnceFrom d.now d.past d.failures
-ScriptServed d false = ServedFrom d.now d.past d.failures
+ScriptServes d true = SerialOnceOn d
+ScriptServes d false = SerialOn d
+
+-- a script of these bytes, where they are known, was served on this disk, once or anew; the disk was at this moment, and
+-- had no moment before it
+pub record ScriptServed {D : Type 0} (d : DiskGhosts D) (once : Bool) (first : Moment) (known : Option (List ℕ))
+    (disk : D) (was is : Option (List ℕ)) (status : ℕ) : Type 0 where
+  pub old : D
+  pub begins : d.now old ≡ first
+  pub none : d.past old ≡ []
+  pub text : List ℕ
+  pub read : IsTextOf known text
+  pub served : ScriptServes d once text old disk was is status
+
+-- this text was served on this disk, once or anew; the disk was at this moment, and had no moment before it
+abbrev pub TextServed : {D : Type 0} → DiskGhosts D → Bool → Moment → List ℕ → Option (List ℕ) → Option (List ℕ) → ℕ → D
+    → Type 0
+TextServed {D} d once first text was is status disk = (old : D) × (d.now old ≡ first) × (d.past old ≡ [])
+    × ScriptServes d once text old disk was is status
 
 -- a script is run on a disk, once or anew
 abbrev pub ScriptRuns : {D : Type 0} → DiskGhosts D → Bool → List ℕ → D → D → Option (List ℕ) → Option (List ℕ)
@@ -49,36 +67,41 @@ abbrev pub PlanRuns : {D : Type 0} → DiskGhosts D → Bool → Bool → List �
 PlanRuns d true planned text old new was is calls status = RunsOnceOnPlan d planned text old new was is calls status
 PlanRuns d false planned text old new was is calls status = RunsOnPlan d planned text old new was is calls status
 
--- a script was run on this disk, once or anew, freely or as a plan; the disk was at this moment, and had no moment
--- before it
-pub record ScriptRan {D : Type 0} (d : DiskGhosts D) (planned once : Bool) (first : Moment) (disk : D)
-    (was is : Option (List ℕ)) (calls : TraceState) (status : ℕ) : Type 0 where
+-- a script of these bytes, where they are known, was run on this disk, once or anew, freely or as a plan; the disk was
+-- at this moment, and had no moment before it
+pub record ScriptRan {D : Type 0} (d : DiskGhosts D) (planned once : Bool) (first : Moment) (known : Option (List ℕ))
+    (disk : D) (was is : Option (List ℕ)) (calls : TraceState) (status : ℕ) : Type 0 where
   pub old : D
   pub begins : d.now old ≡ first
   pub none : d.past old ≡ []
   pub text : List ℕ
+  pub read : IsTextOf known text
   pub run : ScriptRuns d once text old disk was is calls status
   pub plan : PlanRuns d once planned text old disk was is calls status
 
--- A task was done on this disk, with this status. The disk's file held the first moment when it was opened. The writer
--- held the first bytes before, and holds the others now. The demonstration opens no file. The result of a migration or
--- a copy is stated below, because they open two files.
-abbrev pub DoneOn : {D : Type 0} → DiskGhosts D → Moment → Task → Option (List ℕ) → Option (List ℕ) → ℕ → D → Type 0
-DoneOn d first demonstration was is status disk = ⊥
-DoneOn d first (format image cells elements slots is_new) was is status disk =
+-- A task was done on this disk, with this status. The disk's file held the first moment when it was opened. The input
+-- gives these bytes, where they are known: a script or a dump with the path "-" is that text. The writer held the first
+-- bytes before, and holds the others now. The demonstration opens no file. The result of a migration or a copy is stated
+-- below, because they open two files.
+abbrev pub DoneOn : {D : Type 0} → DiskGhosts D → Moment → Option (List ℕ) → Task → Option (List ℕ) → Option (List ℕ)
+    → ℕ → D → Type 0
+DoneOn d first input demonstration was is status disk = ⊥
+DoneOn d first input (format image cells elements slots is_new) was is status disk =
     IsFormatted d cells elements slots status disk
-DoneOn d first (serial image script once) was is status disk = ScriptServed d once first disk was is status
-DoneOn d first (run image script planned once trace) was is status disk =
-    (calls : TraceState) × ScriptRan d planned once first disk was is calls status
-DoneOn d first (serve image watch backups) was is status disk =
+DoneOn d first input (serial image script once) was is status disk =
+    ScriptServed d once first (bytes_at script input) disk was is status
+DoneOn d first input (run image script planned once trace) was is status disk =
+    (calls : TraceState) × ScriptRan d planned once first (bytes_at script input) disk was is calls status
+DoneOn d first input (serve image watch backups) was is status disk =
     (kept : List Backup) × TalkedFrom watch d.now d.past first disk (outputs was []) (outputs is kept) status
-DoneOn d first (inspect image look) was is status disk =
+DoneOn d first input (inspect image look) was is status disk =
     (status ≡ 0 → ShowsView look first.bytes was is) × ReadsOnly first (d.now disk) [] (d.past disk)
-DoneOn d first (migrate old new) was is status disk = Unit {0}
-DoneOn d first (copy old new asked) was is status disk = Unit {0}
-DoneOn d first (dump image) was is status disk =
+DoneOn d first input (migrate old new) was is status disk = Unit {0}
+DoneOn d first input (copy old new asked) was is status disk = Unit {0}
+DoneOn d first input (dump image) was is status disk =
     (status ≡ 0 → Dumps first.bytes was is) × ReadsOnly first (d.now disk) [] (d.past disk)
-DoneOn d first (load text new asked) was is status disk = LoadedFrom d.now d.past first asked disk was is status
+DoneOn d first input (load text new asked) was is status disk =
+    LoadedFrom d.now d.past first asked (bytes_at text input) disk was is status
 
 -- ---- the same, if the disk is honest
 
@@ -91,23 +114,35 @@ abbrev pub WasFormatted : {D : Type 0} → DiskGhosts D → (cells elements slot
 WasFormatted d cells elements slots status disk = d.honest disk → IsFormatted d cells elements slots status disk
 
 -- a script was served on this disk
-abbrev pub WasScriptServed : {D : Type 0} → DiskGhosts D → Moment → Bool → Option (List ℕ) → Option (List ℕ) → ℕ → D
-    → Type 0
-WasScriptServed d first once was is status disk = d.honest disk → ScriptServed d once first disk was is status
+abbrev pub WasScriptServed : {D : Type 0} → DiskGhosts D → Moment → Bool → Option (List ℕ) → Option (List ℕ)
+    → Option (List ℕ) → ℕ → D → Type 0
+WasScriptServed d first once known was is status disk = d.honest disk
+    → ScriptServed d once first known disk was is status
+
+-- this text was served on this disk
+abbrev pub WasTextServed : {D : Type 0} → DiskGhosts D → Moment → Bool → List ℕ → Option (List ℕ) → Option (List ℕ) → ℕ
+    → D → Type 0
+WasTextServed d first once text was is status disk = d.honest disk → TextServed d once first text was is status disk
 
 -- a script was run on this disk, with some trace
-abbrev pub WasRun : {D : Type 0} → DiskGhosts D → Moment → (planned once : Bool) → Option (List ℕ)
+abbrev pub WasRun : {D : Type 0} → DiskGhosts D → Moment → (planned once : Bool) → Option (List ℕ) → Option (List ℕ)
     → Option (List ℕ) → ℕ → D → Type 0
-WasRun d first planned once was is status disk =
-    d.honest disk → (calls : TraceState) × ScriptRan d planned once first disk was is calls status
+WasRun d first planned once known was is status disk =
+    d.honest disk → (calls : TraceState) × ScriptRan d planned once first known disk was is calls status
 
 -- a dialogue was served on this disk
 abbrev pub WasTalked : {D : Type 0} → DiskGhosts D → Moment → Bool → Outputs → Outputs → ℕ → D → Type 0
 WasTalked d first watch was is status disk = d.honest disk → TalkedFrom watch d.now d.past first disk was is status
 
 -- a task was done on this disk
-abbrev pub WasDone : {D : Type 0} → DiskGhosts D → Moment → Task → Option (List ℕ) → Option (List ℕ) → ℕ → D → Type 0
-WasDone d first task was is status disk = d.honest disk → DoneOn d first task was is status disk
+abbrev pub WasDone : {D : Type 0} → DiskGhosts D → Moment → Option (List ℕ) → Task → Option (List ℕ) → Option (List ℕ)
+    → ℕ → D → Type 0
+WasDone d first input task was is status disk = d.honest disk → DoneOn d first input task was is status disk
+
+-- the task makes an image, and a person may be asked before
+abbrev pub MakesImage : Task → Type 0
+MakesImage (format image cells elements slots is_new) = Unit {0}
+MakesImage _ = ⊥
 
 -- ---- two files
 

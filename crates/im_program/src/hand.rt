@@ -1,4 +1,5 @@
 //! What work has at hand beside the writer.
+ghost use Rattle.std.specs.Prelude.{◌≡◌};
 
 use crate::descriptors::Descriptors;
 
@@ -17,7 +18,9 @@ pub struct AtHand<'a, R, I, N> {
 
 impl<'a, R, I, N> AtHand<'a, R, I, N> {
     /// Takes it apart.
-    pub(crate) fn parts(self) -> (&'a R, &'a Descriptors, &'a mut I, &'a mut N) {
+    pub(crate) fn parts(self) -> (&'a R, &'a Descriptors, &'a mut I, &'a mut N)
+        ensures input { result.2.now ≡ self.entry.input.now }
+    {
         let AtHand {
             rt,
             held,

@@ -1,7 +1,7 @@
 //! Does the work of one thread on one file.
-ghost use Rattle.std.specs.Prelude.{◌≡◌, ◌≤◌, IfOk, IfSome, IfNone};
+ghost use Rattle.std.specs.Prelude.{◌≡◌, ◌⊎◌, ◌≤◌, IfOk, IfSome, IfNone};
 ghost use Rattle.im_words.specs.Words.{task_of_job};
-ghost use Rattle.im_program.specs.Working.{WasDone};
+ghost use Rattle.im_program.specs.Working.{MakesImage, WasDone};
 
 use crate::backups::Folder;
 use crate::console::Console;
@@ -34,7 +34,7 @@ fn do_job<
     N: Observer + Follower + LoadObserver,
 >(hand: AtHand<'_, R, I, N>, job: &Job, out: &mut W, start: S) -> Result<(u8, FileDisk<S>), Refusal>
     ensures status { IfOk result (λ r. r.0 ≤ 1) }
-    ensures done { IfOk result (λ r. WasDone ⟦<FileDisk<S> as Disk>⟧ S.first
+    ensures done { IfOk result (λ r. WasDone ⟦<FileDisk<S> as Disk>⟧ S.first (I.remaining hand.entry.input.now)
         (task_of_job job.now) (W.contents out.old) (W.contents out.new) r.0 r.1) }
 {
     match *job {
@@ -50,21 +50,27 @@ fn do_job<
     }
 }
 
-// Whether the job may be done: nobody is asked, or the answer is yes.
+// Whether an image may be made: nobody is asked, or the answer is yes.
+fn may_format<R: Files<File = File> + AllocGlobal + Eprint, I: BufRead>(
+    rt: &R,
+    formatting: &Formatting,
+    input: &mut I,
+    console: &Console<'_, R>,
+) -> bool {
+    formatting.is_new || may_be_made(rt, formatting.image, input, console)
+}
+
+// Whether the job may be done. If that is asked, the job makes an image.
 fn may_do<R: Files<File = File> + AllocGlobal + Eprint, I: BufRead>(
     rt: &R,
     job: &Job,
     input: &mut I,
     console: &Console<'_, R>,
-) -> bool {
+) -> bool
+    ensures { MakesImage (task_of_job job.now) ⊎ (input.new ≡ input.old) }
+{
     match *job {
-        Job::Format(
-            Formatting {
-                image,
-                is_new: false,
-                ..
-            },
-        ) => may_be_made(rt, image, input, console),
+        Job::Format(formatting) => may_format(rt, &formatting, input, console),
         _ => true,
     }
 }
@@ -107,7 +113,7 @@ fn work_alone<
     N: Observer + Follower + LoadObserver,
 >(hand: AtHand<'_, R, I, N>, job: &Job, out: &mut W, start: S) -> (u8, Option<FileDisk<S>>)
     ensures status { result.0 ≤ 1 }
-    ensures done { IfSome result.1 (λ disk. WasDone ⟦<FileDisk<S> as Disk>⟧ S.first
+    ensures done { IfSome result.1 (λ disk. WasDone ⟦<FileDisk<S> as Disk>⟧ S.first (I.remaining hand.entry.input.now)
         (task_of_job job.now) (W.contents out.old) (W.contents out.new) result.0 disk) }
     ensures none { IfNone result.1 (result.0 ≡ 1) }
 {
@@ -150,7 +156,7 @@ pub fn act_alone<
     start: S,
 ) -> (u8, Option<FileDisk<S>>)
     ensures status { result.0 ≤ 1 }
-    ensures done { IfSome result.1 (λ disk. WasDone ⟦<FileDisk<S> as Disk>⟧ S.first
+    ensures done { IfSome result.1 (λ disk. WasDone ⟦<FileDisk<S> as Disk>⟧ S.first (I.remaining hand.entry.input.now)
         (task_of_job job.now) (W.contents out.old) (W.contents out.new) result.0 disk) }
     ensures none { IfNone result.1 (result.0 ≡ 1) }
 {

@@ -46,7 +46,7 @@ pub use looking::inspect_file;
 pub use moving::{migrate_file, migrate_on};
 pub use prompting::Prompter;
 pub use running::run_file;
-pub use serving::serve_file;
+pub use serving::{serve_file, serve_input};
 pub use statuses::status_for;
 pub use talking::talk_file;
 pub use telling::act_told;

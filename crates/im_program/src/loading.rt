@@ -6,6 +6,7 @@ ghost use Rattle.im_dump.specs.Dumping.{IsDumpOf};
 ghost use Rattle.im_migration.specs.Copying.{IsWhole};
 ghost use Rattle.im_migration.specs.Migration.{MayRefusePlace};
 ghost use Rattle.im_program.specs.Loading.{IsReadied, IsPutInto, LoadedFrom, MayRefuseLoad, MayRefuseText};
+ghost use Rattle.im_program.specs.Sources.{IsTextOf, bytes_at};
 
 use crate::descriptors::Descriptors;
 use crate::hand::AtHand;
@@ -87,7 +88,9 @@ fn read_whole<R: Files<File = File> + AllocGlobal, I: Read>(
     held: &Descriptors,
     path: &str,
     input: &mut I,
-) -> Result<Vec<u8>, LoadFault> {
+) -> Result<Vec<u8>, LoadFault>
+    ensures { IfOk result (λ text. IsTextOf (bytes_at path.now (I.remaining input.old)) text.items) }
+{
     if path == "-" && held.stands_for(0) {
         return Err(LoadFault::NoInput);
     }
@@ -106,7 +109,8 @@ fn read_loaded<R: Files<File = File> + AllocGlobal, I: Read>(
     path: &str,
     input: &mut I,
 ) -> Result<Loaded, LoadFault>
-    ensures { IfOk result (λ l. (text : List ℕ) × IsDumpOf l text) }
+    ensures { IfOk result (λ l. (text : List ℕ) × IsTextOf (bytes_at path.now (I.remaining input.old)) text
+        × IsDumpOf l text) }
 {
     let text = read_whole(rt, held, path, input)?;
     match read_dump(rt.alloc(), text.as_slice()) {
@@ -176,7 +180,8 @@ fn put_file<R: Files<File = File> + AllocGlobal, S: Start, V: Observer + Followe
 /// stands for `input`, which is read to its end. A new file that exists is used as it is. Else it is made.
 ///
 /// The clauses hold for whatever the new file held when it was opened (`S`), as long as it was honest. A crash since
-/// then leaves a file that is no image, or that means what the text says; or a file that could be left before.
+/// then leaves a file that is no image, or that means what the text says; or a file that could be left before. The text
+/// is what the input gives, where that is known and the path is `-`.
 ///
 /// Errors, with nothing printed; the observer is told why. A new file that was made is removed again:
 ///
@@ -203,7 +208,9 @@ pub fn load_file<
 ) -> Result<(u8, FileDisk<S>), Refusal>
     ensures status { IfOk result (λ r. r.0 ≤ 1) }
     ensures loaded { IfOk result (λ r. ⟦<FileDisk<S> as Disk>⟧.honest r.1 → LoadedFrom ⟦<FileDisk<S> as Disk>⟧.now
-        ⟦<FileDisk<S> as Disk>⟧.past S.first loading.now.asked r.1 (W.contents out.old) (W.contents out.new) r.0) }
+        ⟦<FileDisk<S> as Disk>⟧.past S.first loading.now.asked
+        (bytes_at loading.now.text.now (I.remaining hand.entry.input.now)) r.1
+        (W.contents out.old) (W.contents out.new) r.0) }
     ensures refused { IfErr result (λ e. MayRefuseLoad e) }
     ensures same { OnErr result (Keeps (W.contents out.old) (W.contents out.new)) }
 {

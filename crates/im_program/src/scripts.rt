@@ -1,6 +1,8 @@
 //! Reads the text of a script.
-ghost use Rattle.std.specs.Prelude.{◌≡◌, ◌⊎◌, IfErr};
+ghost use Rattle.std.specs.Prelude.{◌≡◌, ◌⊎◌, IfErr, IfOk, codes};
+ghost use Rattle.std.specs.Str.{bytes_eq};
 ghost use Rattle.im_types.specs.declared.refusals.Refusal.TheVariants.{BadScript, NoMemory};
+ghost use Rattle.im_program.specs.Sources.{IsTextOf, bytes_at};
 
 use crate::descriptors::Descriptors;
 use im_script::{Script, ScriptFault, TextFault, read_script, read_script_with_glances, read_text};
@@ -11,13 +13,22 @@ use std::fs::File;
 use std::io::{ErrorKind, Read};
 use std::rt::Files;
 
+// Returns whether a path stands for the input.
+fn is_input(path: &str) -> bool
+    ensures { result ≡ bytes_eq path.now (codes "-") }
+{
+    path == "-"
+}
+
 /// Returns the text of a file, or of the input if the path is `-`.
 pub(crate) fn text_of<R: Files<File = File> + AllocGlobal, I: Read>(
     rt: &R,
     script: &str,
     input: &mut I,
-) -> Result<Vec<u8>, TextFault> {
-    if script == "-" {
+) -> Result<Vec<u8>, TextFault>
+    ensures { IfOk result (λ text. IsTextOf (bytes_at script.now (I.remaining input.old)) text.items) }
+{
+    if is_input(script) {
         return read_text(rt.alloc(), input);
     }
     match File::open(rt, script) {
@@ -47,7 +58,8 @@ pub(crate) fn read_file<R: Files<File = File> + AllocGlobal, I: Read, N: Observe
     input: &mut I,
     observer: &mut N,
 ) -> Result<Vec<u8>, Refusal>
-    ensures { IfErr result (λ refusal. (refusal ≡ BadScript) ⊎ (refusal ≡ NoMemory)) }
+    ensures text { IfOk result (λ text. IsTextOf (bytes_at script.now (I.remaining input.old)) text.items) }
+    ensures refused { IfErr result (λ refusal. (refusal ≡ BadScript) ⊎ (refusal ≡ NoMemory)) }
 {
     if script == "-" && held.stands_for(0) {
         return Err(refuse_script(Reason::NoInput, observer));
@@ -59,6 +71,17 @@ pub(crate) fn read_file<R: Files<File = File> + AllocGlobal, I: Read, N: Observe
     }
 }
 
+// Reads the script in a text, with or without glances.
+fn read_either(alloc: Global, text: &[u8], glances: bool) -> Result<Script<'_>, ScriptFault>
+    ensures { IfOk result (λ script. script ≡ text.now) }
+{
+    if glances {
+        read_script_with_glances(alloc, text)
+    } else {
+        read_script(alloc, text)
+    }
+}
+
 /// Returns the script in a text, or `BadScript` if the text isn't in the grammar. `glances` says whether it may have
 /// glances.
 pub(crate) fn script_in<'a, N: Observer>(
@@ -67,14 +90,10 @@ pub(crate) fn script_in<'a, N: Observer>(
     glances: bool,
     observer: &mut N,
 ) -> Result<Script<'a>, Refusal>
-    ensures { IfErr result (λ refusal. (refusal ≡ BadScript) ⊎ (refusal ≡ NoMemory)) }
+    ensures text { IfOk result (λ script. script ≡ text.now) }
+    ensures refused { IfErr result (λ refusal. (refusal ≡ BadScript) ⊎ (refusal ≡ NoMemory)) }
 {
-    let read = if glances {
-        read_script_with_glances(alloc, text)
-    } else {
-        read_script(alloc, text)
-    };
-    match read {
+    match read_either(alloc, text, glances) {
         Ok(script) => Ok(script),
         Err(fault) => Err(refuse_script(Reason::Script(fault), observer)),
     }

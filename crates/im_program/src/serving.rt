@@ -2,7 +2,8 @@
 ghost use Rattle.std.specs.Prelude.{◌≡◌, ◌⊎◌, ◌≤◌, IfOk, IfErr, OnErr};
 ghost use Rattle.std.specs.Io.KnownBytes.{Keeps};
 ghost use Rattle.im_types.specs.declared.refusals.Refusal.TheVariants.{BadScript, Device, NoMemory};
-ghost use Rattle.im_program.specs.Working.{WasScriptServed};
+ghost use Rattle.im_program.specs.Sources.{bytes_at};
+ghost use Rattle.im_program.specs.Working.{WasScriptServed, WasTextServed};
 
 use crate::hand::AtHand;
 use crate::opening::image_at;
@@ -22,7 +23,8 @@ use std::rt::Files;
 /// stands for [`serial_on`] here.
 ///
 /// The clauses hold for whatever the image held when it was opened (`S`), as long as the file was honest. A crash at
-/// any moment since then leaves what [`serial_on`] says.
+/// any moment since then leaves what [`serial_on`] says. It says that of the bytes that the input gives, where these are
+/// known and the path is `-`. What a file holds is known to no contract: of its text it says that there is one.
 ///
 /// Errors, with nothing printed and the image as it was; the observer is told why:
 ///
@@ -41,6 +43,7 @@ pub fn serve_file<R: Files<File = File> + AllocGlobal, S: Start, I: Read, W: Wri
 ) -> Result<(u8, FileDisk<S>), Refusal>
     ensures status { IfOk result (λ r. r.0 ≤ 1) }
     ensures served { IfOk result (λ r. WasScriptServed ⟦<FileDisk<S> as Disk>⟧ S.first serving.now.once
+        (bytes_at serving.now.script.now (I.remaining hand.entry.input.now))
         (W.contents out.old) (W.contents out.new) r.0 r.1) }
     ensures refused { IfErr result (λ refusal. (refusal ≡ BadScript) ⊎ (refusal ≡ NoMemory) ⊎ (refusal ≡ Device)) }
     ensures same { OnErr result (Keeps (W.contents out.old) (W.contents out.new)) }
@@ -55,4 +58,24 @@ pub fn serve_file<R: Files<File = File> + AllocGlobal, S: Start, I: Read, W: Wri
     } else {
         Ok(serial_on(rt.alloc(), disk, &script, out, observer))
     }
+}
+
+/// Serves the script that these bytes are, as [`serve_file`] does with the path `-`. What is served are the bytes
+/// themselves.
+pub fn serve_input<R: Files<File = File> + AllocGlobal, S: Start, W: Write, N: Observer>(
+    hand: AtHand<'_, R, &[u8], N>,
+    image: &str,
+    once: bool,
+    out: &mut W,
+    start: S,
+) -> Result<(u8, FileDisk<S>), Refusal>
+    ensures { IfOk result (λ r. WasTextServed ⟦<FileDisk<S> as Disk>⟧ S.first once hand.entry.input.now.now
+        (W.contents out.old) (W.contents out.new) r.0 r.1) }
+{
+    let serving = Serving {
+        image,
+        script: "-",
+        once,
+    };
+    serve_file(hand, &serving, out, start)
 }

@@ -43,8 +43,8 @@ fn act_sieved<
 ) -> (u8, W, Option<FileDisk<S>>, Option<FileDisk<T>>)
     requires { sieve ≡ [] }
     ensures status { (result.0 ≤ 1) ⊎ (result.0 ≡ STALLED) }
-    ensures done { DoneTold ⟦<FileDisk<S> as Disk>⟧ S.first (task_of_work line.now.work) K.telling
-        K.start (W.contents result.1) result.0 result.2 }
+    ensures done { DoneTold ⟦<FileDisk<S> as Disk>⟧ S.first (I.remaining hand.entry.input.now)
+        (task_of_work line.now.work) K.telling K.start (W.contents result.1) result.0 result.2 }
     ensures moved { MovedTold S.Start T.Start (task_of_work line.now.work) K.telling
         K.start (W.contents result.1) result.0 result.3 result.2 }
     ensures other { IfSome result.3 (λ _. IsOfTwo (task_of_work line.now.work)) }
@@ -72,8 +72,8 @@ fn act_plainly<
 ) -> (u8, W, Option<FileDisk<S>>, Option<FileDisk<T>>)
     requires { W.contents out ≡ K.start }
     ensures status { (result.0 ≤ 1) ⊎ (result.0 ≡ STALLED) }
-    ensures done { DoneTold ⟦<FileDisk<S> as Disk>⟧ S.first (task_of_work line.now.work) Telling.Plain
-        K.start (W.contents result.1) result.0 result.2 }
+    ensures done { DoneTold ⟦<FileDisk<S> as Disk>⟧ S.first (I.remaining hand.entry.input.now)
+        (task_of_work line.now.work) Telling.Plain K.start (W.contents result.1) result.0 result.2 }
     ensures moved { MovedTold S.Start T.Start (task_of_work line.now.work) Telling.Plain
         K.start (W.contents result.1) result.0 result.3 result.2 }
     ensures other { IfSome result.3 (λ _. IsOfTwo (task_of_work line.now.work)) }
@@ -102,8 +102,8 @@ fn act_with<
     requires start { W.contents out ≡ K.start }
     requires telling { line.now.telling ≡ K.telling }
     ensures status { (result.0 ≤ 1) ⊎ (result.0 ≡ STALLED) }
-    ensures done { DoneTold ⟦<FileDisk<S> as Disk>⟧ S.first (task_of_work line.now.work) K.telling
-        K.start (W.contents result.1) result.0 result.2 }
+    ensures done { DoneTold ⟦<FileDisk<S> as Disk>⟧ S.first (I.remaining hand.entry.input.now)
+        (task_of_work line.now.work) K.telling K.start (W.contents result.1) result.0 result.2 }
     ensures moved { MovedTold S.Start T.Start (task_of_work line.now.work) K.telling
         K.start (W.contents result.1) result.0 result.3 result.2 }
     ensures other { IfSome result.3 (λ _. IsOfTwo (task_of_work line.now.work)) }
@@ -142,8 +142,8 @@ pub fn act_told<
     starts: (S, T),
 ) -> (u8, W, Option<FileDisk<S>>, Option<FileDisk<T>>)
     ensures status { (result.0 ≤ 1) ⊎ (result.0 ≡ STALLED) }
-    ensures done { DoneTold ⟦<FileDisk<S> as Disk>⟧ S.first (task_of_work line.now.work) line.now.telling
-        (W.contents out) (W.contents result.1) result.0 result.2 }
+    ensures done { DoneTold ⟦<FileDisk<S> as Disk>⟧ S.first (I.remaining hand.entry.input.now)
+        (task_of_work line.now.work) line.now.telling (W.contents out) (W.contents result.1) result.0 result.2 }
     ensures moved { MovedTold S.Start T.Start (task_of_work line.now.work) line.now.telling
         (W.contents out) (W.contents result.1) result.0 result.3 result.2 }
     ensures other { IfSome result.3 (λ _. IsOfTwo (task_of_work line.now.work)) }

@@ -50,7 +50,7 @@ pub fn act<
     starts: (S, T),
 ) -> (u8, Option<FileDisk<S>>, Option<FileDisk<T>>)
     ensures status { (result.0 ≤ 1) ⊎ (result.0 ≡ STALLED) }
-    ensures done { IfSome result.1 (λ disk. WasDone ⟦<FileDisk<S> as Disk>⟧ S.first
+    ensures done { IfSome result.1 (λ disk. WasDone ⟦<FileDisk<S> as Disk>⟧ S.first (I.remaining hand.entry.input.now)
         (task_of_work line.now.work) (W.contents out.old) (W.contents out.new) result.0 disk) }
     ensures moved { IfSome result.1 (λ disk. IsOfTwo (task_of_work line.now.work) → HasMoved S.Start T.Start
         (task_of_work line.now.work) (W.contents out.old) (W.contents out.new) result.0 result.2 disk) }

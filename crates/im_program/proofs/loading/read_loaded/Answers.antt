@@ -1,4 +1,10 @@
+use Rattle.std.proofs.Common.{subst}
+use Rattle.im_dump.specs.Dumping.{IsDumpOf}
 use Rattle.im_program.proofs.loading.read_loaded.Goals as goal
 
 pub returns-in-Ok : goal.returns-in-Ok
-returns-in-Ok g c = (_, c.in-Ok.ensures.found)
+returns-in-Ok g c = (
+  c.in_ok-text.text.items,
+  c.in_ok-text.ensures,
+  subst (IsDumpOf c.in-Ok.loaded) c.as_slice.ensures.value c.in-Ok.ensures.found,
+)

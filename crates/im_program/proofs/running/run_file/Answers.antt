@@ -1,7 +1,9 @@
 use denote.Param.{param}
 use denote.Param.Send.{sendable}
 use Rattle.std.proofs.Crossing.{crosses}
+use Rattle.std.proofs.Common.{◌∙◌}
 use Rattle.im_program.proofs.Crosses.{FileDisk-row-send}
+use Rattle.im_program.proofs.SourceLemmas.{text_as}
 use Rattle.im_program.proofs.running.run_file.Goals as goal
 
 pub run_once_on-requires-send-D : goal.run_once_on-requires-send-D
@@ -20,6 +22,9 @@ returns-then-running-clause-ran g c = rw c.if-running.true (record {
   begins = c.in_ok-disk.ensures.now;
   none = c.in_ok-disk.ensures.past;
   text = c.in_ok-script.script;
+  read = text_as _ c.in_ok-text.text.items c.in_ok-script.script
+      (c.in_ok-script.ensures.text ∙ c.as_slice.ensures.value)
+      (rw c.parts-rt.ensures at c.in_ok-text.ensures.text);
   run = c.run_once_on.ensures.run;
   plan = rw c.mode_of-mode.ensures at c.run_once_on.ensures.planned;
 })
@@ -30,6 +35,9 @@ returns-clause-ran g c = rw c.if-running.false (record {
   begins = c.in_ok-disk.ensures.now;
   none = c.in_ok-disk.ensures.past;
   text = c.in_ok-script.script;
+  read = text_as _ c.in_ok-text.text.items c.in_ok-script.script
+      (c.in_ok-script.ensures.text ∙ c.as_slice.ensures.value)
+      (rw c.parts-rt.ensures at c.in_ok-text.ensures.text);
   run = c.run_on-ended.ensures.run;
   plan = rw c.mode_of-mode.ensures at c.run_on-ended.ensures.planned;
 })

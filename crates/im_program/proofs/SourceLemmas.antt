@@ -1,0 +1,58 @@
+-- A text, and where it was read.
+use Rattle.std.proofs.Common.{◌≡◌, ◌⊎◌, inl, inr, ℕ, Bool, true, false, List, sym, subst}
+use Rattle.std.specs.Prelude.{Option, None, Some, IfSome, Result, Ok, Err, IfOk, if◌then◌else◌}
+use Rattle.im_disk.specs.declared.disk.Disk.{Ghosts as DiskGhosts}
+use Rattle.im_disk.specs.Moment.{Moment}
+use Rattle.im_words.specs.Words.{Task, demonstration, format, serial, run, serve, inspect, migrate, copy, dump, load}
+use Rattle.im_program.specs.Sources.{IsTextOf}
+use Rattle.im_program.specs.Working.{MakesImage, ScriptServed, ScriptServes, TextServed, WasDone}
+
+-- it was read from the input
+pub from_input : {A E : Type 0} (text : A → List ℕ) (r : Result A E) (known : Option (List ℕ)) (b : Bool) → b ≡ true
+    → IfOk r (λ a. IfSome known (λ bytes. text a ≡ bytes))
+    → IfOk r (λ a. IsTextOf (if b then known else None) (text a))
+from_input text r known b is it =
+    subst (λ (x : Bool). IfOk r (λ a. IsTextOf (if x then known else None) (text a))) (sym is) it
+
+-- it was read from a file
+pub from_file : {A E : Type 0} (text : A → List ℕ) (r : Result A E) (known : Option (List ℕ)) (b : Bool) → b ≡ false
+    → IfOk r (λ a. IsTextOf (if b then known else None) (text a))
+from_file text (Ok a) known b is =
+    subst (λ (x : Bool). IsTextOf (if x then known else None) (text a)) (sym is) tt
+from_file text (Err e) known b is = tt
+
+-- the same text, by another name
+pub text_as : (known : Option (List ℕ)) (text other : List ℕ) → other ≡ text → IsTextOf known text
+    → IsTextOf known other
+text_as known text other same it = subst (IsTextOf known) (sym same) it
+
+-- the text that was served is what was read
+pub text_served : {D : Type 0} (d : DiskGhosts D) (once : Bool) (first : Moment) (bytes : List ℕ) (disk : D)
+    (was is : Option (List ℕ)) (status : ℕ) → ScriptServed d once first (Some bytes) disk was is status
+    → TextServed d once first bytes was is status disk
+text_served d once first bytes disk was is status it = (
+  it.old,
+  it.begins,
+  it.none,
+  subst (λ (t : List ℕ). ScriptServes d once t it.old disk was is status) it.read it.served,
+)
+
+-- What was done with an input that nobody asked, if it was asked about a new image alone.
+pub done_with : {D I : Type 0} (d : DiskGhosts D) (first : Moment) (remaining : I → Option (List ℕ)) (was_input input : I)
+    (task : Task) → MakesImage task ⊎ (input ≡ was_input) → (was is : Option (List ℕ)) (status : ℕ) (disk : D)
+    → WasDone d first (remaining input) task was is status disk
+    → WasDone d first (remaining was_input) task was is status disk
+done_with d first remaining was_input input task (inr same) was is status disk it =
+    subst (λ i. WasDone d first (remaining i) task was is status disk) same it
+done_with d first remaining was_input input (format image cells elements slots is_new) (inl makes) was is status disk it
+    = it
+done_with d first remaining was_input input demonstration (inl makes) was is status disk it = absurd makes
+done_with d first remaining was_input input (serial image script once) (inl makes) was is status disk it = absurd makes
+done_with d first remaining was_input input (run image script planned once trace) (inl makes) was is status disk it =
+    absurd makes
+done_with d first remaining was_input input (serve image watch backups) (inl makes) was is status disk it = absurd makes
+done_with d first remaining was_input input (inspect image look) (inl makes) was is status disk it = absurd makes
+done_with d first remaining was_input input (migrate old new) (inl makes) was is status disk it = absurd makes
+done_with d first remaining was_input input (copy old new asked) (inl makes) was is status disk it = absurd makes
+done_with d first remaining was_input input (dump image) (inl makes) was is status disk it = absurd makes
+done_with d first remaining was_input input (load text new asked) (inl makes) was is status disk it = absurd makes
