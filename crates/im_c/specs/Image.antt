@@ -26,8 +26,8 @@ use Rattle.im_c.specs.declared.plain.LtStep.{LtStep}
 use Rattle.im_c.specs.Plain.{meant, outcome_of, entry_outcome, refused, no_call}
 
 -- a file with the length of an image, each byte of which is in doubt
-abbrev pub blank : Sizes → Moment
-blank s = given (replicate (image_length layout_in_use s) 0)
+abbrev pub blank_image : Sizes → Moment
+blank_image s = given (replicate (image_length layout_in_use s) 0)
 
 -- the effect of a call that is none: no step is left
 abbrev pub idle_after : ImageState → ImageState

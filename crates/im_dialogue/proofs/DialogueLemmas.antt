@@ -13,23 +13,28 @@ use Rattle.im_text.specs.Printing.{Begins, IsLast}
 use Rattle.im_text.proofs.PrintingLemmas.{take-all}
 use Rattle.im_dialogue.specs.Backups.{Backup}
 use Rattle.im_dialogue.specs.Talk.{Outputs, outputs, put_of, texts_of, Talking, TalksOn, TalkEnds}
-use Rattle.im_dialogue.specs.Dialogue.{Closed, Talked}
+use Rattle.im_dialogue.specs.Dialogue.{TalkClosed, Talked}
 use Rattle.im_dialogue.proofs.TalkLemmas.{at_start, ended_at}
 
 -- an image of these limits, by the numbers of cells and elements as the code has them
-pub same_length : (cells elements slots c e bytes : ℕ) → c ≡ cells → e ≡ elements → bytes ≡ image_length layout_in_use (record { cells = cells; elements = elements; slots = slots }) → bytes ≡ image_length layout_in_use (record { cells = c; elements = e; slots = slots })
+pub same_length : (cells elements slots c e bytes : ℕ) → c ≡ cells → e ≡ elements
+    → bytes ≡ image_length layout_in_use (record { cells = cells; elements = elements; slots = slots })
+    → bytes ≡ image_length layout_in_use (record { cells = c; elements = e; slots = slots })
 same_length cells elements slots c e bytes same_c same_e is =
     subst (λ (n : ℕ). bytes ≡ image_length layout_in_use (record { cells = n; elements = e; slots = slots })) (sym same_c)
     (subst (λ (n : ℕ). bytes ≡ image_length layout_in_use (record { cells = cells; elements = n; slots = slots })) (sym same_e) is)
 
 -- what is left since a moment is left since the same moment
-pub same_start : (was is new : Moment) (past_was past_is past_new : List Moment) → is ≡ was → past_is ≡ past_was → Leaves is new past_is past_new (Left is) → Leaves was new past_was past_new (Left was)
+pub same_start : (was is new : Moment) (past_was past_is past_new : List Moment) → is ≡ was → past_is ≡ past_was
+    → Leaves is new past_is past_new (Left is) → Leaves was new past_was past_new (Left was)
 same_start was is new past_was past_is past_new now past it = subst (λ (m : Moment). Leaves m new past_was past_new (Left m)) now (subst (λ (p : List Moment). Leaves is new p past_new (Left is)) past it)
 
 module _ {D : Type 0} (watch : Bool) (now : D → Moment) (past : D → List Moment) where
   -- an opening leaves nothing new, and what it found was there
-  pub talked : (old : D) (start : EngineState D) (new : D) (was is : Outputs) (status : ℕ) → Leaves (now old) (now start.disk) (past old) (past start.disk) (Left (now old)) → LeavesNow (now start.disk) (MeansState start)
-      → Closed watch now past start new was is status → Talked watch now past old new was is status
+  pub talked : (old : D) (start : EngineState D) (new : D) (was is : Outputs) (status : ℕ)
+      → Leaves (now old) (now start.disk) (past old) (past start.disk) (Left (now old))
+      → LeavesNow (now start.disk) (MeansState start)
+      → TalkClosed watch now past start new was is status → Talked watch now past old new was is status
   talked old start new was is status opened means it = record {
     start = start;
     said = it.said;
@@ -51,13 +56,17 @@ module _ {D : Type 0} (watch : Bool) (now : D → Moment) (past : D → List Mom
 
   module _ (honest : D → Type 0) where
     -- nothing is said yet
-    talking : (start : EngineState D) (was : Outputs) → start.failed ≡ false → (honest start.disk → LeavesNow (now start.disk) (MeansState start)) → Talking watch now past honest start was start was
+    talking : (start : EngineState D) (was : Outputs) → start.failed ≡ false
+        → (honest start.disk → LeavesNow (now start.disk) (MeansState start))
+        → Talking watch now past honest start was start was
     talking start was works means = λ h. (h, ([], (at_start now past honest start works (means h), (Appends-nil was.text, refl))))
 
     -- all lines of the input were served
-    pub closed_on : (start engine : EngineState D) (disk : D) (was is : Outputs) (status : ℕ) → disk ≡ engine.disk → start.failed ≡ false → (honest start.disk → LeavesNow (now start.disk) (MeansState start))
-        → TalksOn watch now past honest start was engine is → honest disk → honest start.disk × Closed watch now past start disk was is status
-    closed_on start engine disk was is status same works means on = subst (λ (d : D). honest d → honest start.disk × Closed watch now past start d was is status) (sym same) (λ h.
+    pub closed_on : (start engine : EngineState D) (disk : D) (was is : Outputs) (status : ℕ) → disk ≡ engine.disk
+        → start.failed ≡ false → (honest start.disk → LeavesNow (now start.disk) (MeansState start))
+        → TalksOn watch now past honest start was engine is → honest disk
+        → honest start.disk × TalkClosed watch now past start disk was is status
+    closed_on start engine disk was is status same works means on = subst (λ (d : D). honest d → honest start.disk × TalkClosed watch now past start d was is status) (sym same) (λ h.
         let far = on start was (talking start was works means) h in (
           far.0,
           record {
@@ -73,8 +82,10 @@ module _ {D : Type 0} (watch : Bool) (now : D → Moment) (past : D → List Mom
 
     -- it was ended, and no more than a refusal printed then
     pub closed_by : (start engine : EngineState D) (disk : D) (was : Outputs) (mid is : Option (List ℕ)) (kept : List Backup) (status : ℕ) → disk ≡ engine.disk → start.failed ≡ false → (honest start.disk → LeavesNow (now start.disk) (MeansState start))
-        → TalkEnds watch now past honest start was engine (outputs mid kept) → (last : List ℕ) × (IsLast last × Begins mid is last) → status ≡ 1 → honest disk → honest start.disk × Closed watch now past start disk was (outputs is kept) status
-    closed_by start engine disk was mid is kept status same works means ends last refused = subst (λ (d : D). honest d → honest start.disk × Closed watch now past start d was (outputs is kept) status) (sym same) (λ h.
+        → TalkEnds watch now past honest start was engine (outputs mid kept)
+        → (last : List ℕ) × (IsLast last × Begins mid is last) → status ≡ 1 → honest disk
+        → honest start.disk × TalkClosed watch now past start disk was (outputs is kept) status
+    closed_by start engine disk was mid is kept status same works means ends last refused = subst (λ (d : D). honest d → honest start.disk × TalkClosed watch now past start d was (outputs is kept) status) (sym same) (λ h.
         let far = ends start was (talking start was works means) h in (
           far.0,
           record {

@@ -30,14 +30,14 @@ use Rattle.im_groups.specs.Commands.{places, answer_with, commands_at}
 use Rattle.im_groups.proofs.AheadLemmas.{bounds-moved}
 use Rattle.im_groups.proofs.CommandLemmas.{at-accepted, at-after, few_at}
 use Rattle.im_dialogue.specs.declared.about.About.{About}
-use Rattle.im_dialogue.specs.declared.asking.Asked.{Asked}
-use Rattle.im_dialogue.specs.declared.asking.Asked.TheVariants as asks
-use Rattle.im_dialogue.specs.declared.answers.Answer.TheVariants as answer
+use Rattle.im_dialogue.specs.declared.asking.Question.{Question}
+use Rattle.im_dialogue.specs.declared.asking.Question.TheVariants as asks
+use Rattle.im_dialogue.specs.declared.answers.LineAnswer.TheVariants as answer
 use Rattle.im_dialogue.specs.declared.group_line.GroupLine.{GroupLine}
 use Rattle.im_dialogue.specs.declared.group_line.GroupLine.TheVariants.{Member}
 use Rattle.im_dialogue.specs.Looks.{asks_for, is_first, may_reach}
 use Rattle.im_dialogue.specs.Talk.{about_of, point_behind}
-use Rattle.im_dialogue.specs.Together.{IsAsked, AreAsked, GroupStart, memory_between, places_between, count_between}
+use Rattle.im_dialogue.specs.Together.{LineAsksFor, AreAsked, GroupStart, memory_between, places_between, count_between}
 use Rattle.im_dialogue.specs.Together.{point_between}
 use Rattle.im_dialogue.specs.Together.{disturbs, IsKnownBehind, TellsWatchers, MayStandNext}
 use Rattle.im_dialogue.specs.Watching.{answers_nobody, nows_text, told_with, watch_text}
@@ -209,7 +209,7 @@ module _ (cells elements : ℕ) (b : GroupStart) (is : IsMemory cells elements b
 -- ---- what fits
 
 pub fits_member : (watch : Bool) (b : GroupStart) (members : List Command) (shown : List GroupLine) (c : Command)
-    (text : List ℕ) → IsAsked (asks.Serve c)
+    (text : List ℕ) → LineAsksFor (asks.Serve c)
     → TellsWatchers watch b members c text → list_any (disturbs b.memory members c) shown ≡ false → length members < 16
     → MayStandNext watch b members shown (Member c) text
 fits_member watch b members shown c text asked told calm few = record {
@@ -218,20 +218,20 @@ fits_member watch b members shown c text asked told calm few = record {
   room = omega (arith, length-append members (c ∷ []), few);
 }
 
-pub asked_push : (lines : List Asked) (a : Asked) → AreAsked lines → IsAsked a → AreAsked (lines ++ a ∷ [])
+pub asked_push : (lines : List Question) (a : Question) → AreAsked lines → LineAsksFor a → AreAsked (lines ++ a ∷ [])
 asked_push [] a are is = (is, tt)
 asked_push (x ∷ lines) a are is = (are.0, asked_push lines a are.1 is)
 
-pub asked_at : (lines : List Asked) (i : ℕ) (d : Asked) → i < length lines → AreAsked (drop i lines)
-    → IsAsked (get_or lines i d)
-asked_at lines i d within are = (subst (λ (l : List Asked). AreAsked l) (drop-cons lines i d within) are).0
+pub asked_at : (lines : List Question) (i : ℕ) (d : Question) → i < length lines → AreAsked (drop i lines)
+    → LineAsksFor (get_or lines i d)
+asked_at lines i d within are = (subst (λ (l : List Question). AreAsked l) (drop-cons lines i d within) are).0
 
-pub asked_next : (lines : List Asked) (i : ℕ) → i < length lines → AreAsked (drop i lines)
+pub asked_next : (lines : List Question) (i : ℕ) → i < length lines → AreAsked (drop i lines)
     → AreAsked (drop (i + 1) lines)
 asked_next lines i within are =
     let next : suc i ≡ i + 1 = omega arith in
     subst (λ (n : ℕ). AreAsked (drop n lines)) next
-    (subst (λ (l : List Asked). AreAsked l) (drop-cons lines i asks.Quit within) are).1
+    (subst (λ (l : List Question). AreAsked l) (drop-cons lines i asks.Quit within) are).1
 
 pub some_of : {X : Type 0} (o : Option X) (P : X → Type 0) (x : X) → o ≡ Some x → IfSome o P → P x
 some_of o P x is given = subst (λ k. IfSome k P) is given

@@ -32,10 +32,10 @@ use Rattle.im_engine.specs.Run.{HasRun, MeansAfter, MeansBeginning, put_by_comma
 use Rattle.im_engine.specs.Commands.{commands_put, after_commands, MeansCommands, answers_in_turn, CommandsAnswered}
 use Rattle.im_engine.proofs.Accepting.{accepted_answers}
 use Rattle.im_engine.proofs.Running.{means_all}
-use Rattle.im_dialogue.specs.declared.asking.Asked.{Asked}
-use Rattle.im_dialogue.specs.declared.asking.Asked.TheVariants as asks
-use Rattle.im_dialogue.specs.declared.answers.Answer.{Answer}
-use Rattle.im_dialogue.specs.declared.answers.Answer.TheVariants.{Served as ServedAs}
+use Rattle.im_dialogue.specs.declared.asking.Question.{Question}
+use Rattle.im_dialogue.specs.declared.asking.Question.TheVariants as asks
+use Rattle.im_dialogue.specs.declared.answers.LineAnswer.{LineAnswer}
+use Rattle.im_dialogue.specs.declared.answers.LineAnswer.TheVariants.{Served as ServedAs}
 use Rattle.im_dialogue.specs.Answers.{answer_text}
 use Rattle.im_dialogue.specs.Asking.{asked_of}
 use Rattle.im_dialogue.specs.Watching.{watch_text}
@@ -48,7 +48,7 @@ use Rattle.im_types.specs.declared.TheConstants.{LAST}
 use Rattle.im_types.specs.Header.{Header}
 use Rattle.im_dialogue.specs.Telling.{Reaches, SaidMore, SaysAll}
 use Rattle.im_dialogue.specs.Backups.{Backup}
-use Rattle.im_dialogue.specs.Talk.{Exchange, IsOf, Answers, Stand, exchange_at, point_behind, put_of, stands_behind, texts_of}
+use Rattle.im_dialogue.specs.Talk.{Exchange, IsOutcomeOf, IsAnswerTo, AnswerPoint, exchange_at, point_behind, put_of, stands_behind, texts_of}
 use Rattle.im_dialogue.specs.Talk.{IsAt, MeansSaid}
 use Rattle.im_dialogue.specs.Talk.{Halts, TalksOn, TalkEnds, AreKept, Outputs, backups_of, outputs}
 use Rattle.im_dialogue.proofs.TalkLemmas.{silent}
@@ -79,7 +79,7 @@ put_is m left c = one_put (c ∷ []) (step m c).answer (is_accepted m c) (left =
     (λ accepted. ap (λ (a : Result Outcome Refusal). puts a) (accepted_answers m c accepted).1)
 
 of_one : (m : Contents) (p : Point) (c : Command) (b z : Bool) → z ≡ false
-    → IsOf m p c (if b && z then Err JournalFull else (step m c).answer)
+    → IsOutcomeOf m p c (if b && z then Err JournalFull else (step m c).answer)
 of_one m p c false z some = inl refl
 of_one m p c true true some = absurd (true_false true refl some)
 of_one m p c true false some = inl refl
@@ -204,11 +204,11 @@ module _ {D : Type 0} (watch : Bool) (start : EngineState D) (b : GroupStart) wh
     abbrev here : Contents
     here = after start.memory (put_of start.memory told.said)
 
-    abbrev exchange : Answer → Exchange
+    abbrev exchange : LineAnswer → Exchange
     exchange answer = exchange_at line answer name (record { turns = told.reach.turns; point = point_between b ahead })
 
     -- its text, behind those before
-    texts_on : (answer : Answer) (more : List ℕ)
+    texts_on : (answer : LineAnswer) (more : List ℕ)
         → more ≡ text ++ (answer_text name (memory_between b ahead) answer
         ++ watch_text watch (memory_between b ahead) answer)
         → texts_of watch start.memory (exchange answer ∷ told.said) ≡ texts_of watch start.memory base ++ more
@@ -247,12 +247,12 @@ module _ {D : Type 0} (watch : Bool) (start : EngineState D) (b : GroupStart) wh
         said = exchange (ServedAs c answered_so) ∷ told.said;
         reach = record {
           answered = (
-            subst (λ (o : Option Asked). Answers here (start.count + length (put_of start.memory told.said))
+            subst (λ (o : Option Question). IsAnswerTo here (start.count + length (put_of start.memory told.said))
                 (record { turns = told.reach.turns; point = point_between b ahead }) o
                 (ServedAs c answered_so)) (sym asked) (
                   answered_so,
                   refl,
-                  subst (λ (m : Contents). IsOf m (point_between b ahead) c answered_so) told.reach.memory
+                  subst (λ (m : Contents). IsOutcomeOf m (point_between b ahead) c answered_so) told.reach.memory
                       (of_one (memory_between b ahead) (point_between b ahead) c
                       (is_accepted (memory_between b ahead) c) (places_between b ahead == 0) some),
                 ),
@@ -284,13 +284,13 @@ module _ {D : Type 0} (watch : Bool) (start : EngineState D) (b : GroupStart) wh
         backups = told.backups;
       }
 
-    pub told_shown : (asked : Asked) (answer : Answer) → asked_of line ≡ Some asked
+    pub told_shown : (asked : Question) (answer : LineAnswer) → asked_of line ≡ Some asked
         → IsKnownBehind b ahead asked answer
         → (more : List ℕ) → more ≡ text ++ (answer_text name (memory_between b ahead) answer
         ++ watch_text watch (memory_between b ahead) answer)
         → SaidMore watch start b base ahead more
     told_shown asked answer read shown more is =
-        let stand : Stand = record { turns = told.reach.turns; point = point_between b ahead } in
+        let stand : AnswerPoint = record { turns = told.reach.turns; point = point_between b ahead } in
         let same : put_of start.memory (exchange answer ∷ told.said) ≡ put_of start.memory told.said
         = ap (λ (l : List Command). put_of start.memory told.said ++ l) (shown.puts here)
         ∙ append-nil (put_of start.memory told.said) in
@@ -298,11 +298,11 @@ module _ {D : Type 0} (watch : Bool) (start : EngineState D) (b : GroupStart) wh
           said = exchange answer ∷ told.said;
           reach = record {
             answered = (
-              subst (λ (o : Option Asked). Answers here (start.count + length (put_of start.memory told.said)) stand o
+              subst (λ (o : Option Question). IsAnswerTo here (start.count + length (put_of start.memory told.said)) stand o
                   answer) (sym read)
-                  (subst (λ (m : Contents). Answers m (start.count + length (put_of start.memory told.said)) stand
+                  (subst (λ (m : Contents). IsAnswerTo m (start.count + length (put_of start.memory told.said)) stand
                   (Some asked) answer) told.reach.memory
-                  (subst (λ (n : ℕ). Answers (memory_between b ahead) n stand (Some asked) answer) told.reach.count
+                  (subst (λ (n : ℕ). IsAnswerTo (memory_between b ahead) n stand (Some asked) answer) told.reach.count
                   (shown.answers told.reach.turns))),
               (told.reach.lead, told.reach.answered),
             );

@@ -21,10 +21,10 @@ use Rattle.im_groups.proofs.CommandLemmas.{left_behind}
 use Rattle.im_checkpoint.specs.declared.checkpoint.TurnDone.{TurnDone}
 use Rattle.im_turning.specs.Turning.{Point}
 use Rattle.im_engine.specs.State.{EngineState}
-use Rattle.im_dialogue.specs.declared.asking.Asked.{Asked}
-use Rattle.im_dialogue.specs.declared.asking.Asked.TheVariants as asks
-use Rattle.im_dialogue.specs.declared.answers.Answer.{Answer}
-use Rattle.im_dialogue.specs.declared.answers.Answer.TheVariants as answer
+use Rattle.im_dialogue.specs.declared.asking.Question.{Question}
+use Rattle.im_dialogue.specs.declared.asking.Question.TheVariants as asks
+use Rattle.im_dialogue.specs.declared.answers.LineAnswer.{LineAnswer}
+use Rattle.im_dialogue.specs.declared.answers.LineAnswer.TheVariants as answer
 use Rattle.im_dialogue.specs.declared.group_line.GroupLine.{GroupLine}
 use Rattle.im_dialogue.specs.declared.group_line.GroupLine.TheVariants.{Member, Known}
 use Rattle.im_dialogue.specs.declared.group_line.GroupLine.TheVariants as line
@@ -33,11 +33,11 @@ use Rattle.im_dialogue.specs.declared.look.Look.TheVariants.{Collect, Entry, Cel
 use Rattle.im_dialogue.specs.Answers.{answer_text, kept_line, look_text, recalled_line}
 use Rattle.im_dialogue.specs.Looks.{may_alter, may_change, may_reach}
 use Rattle.im_dialogue.specs.Showing.{block_said, cell_said, recall}
-use Rattle.im_dialogue.specs.Talk.{Answers, KeepsNone, put_by}
-use Rattle.im_dialogue.specs.Together.{IsAsked, GroupStart, group_start, memory_between, places_between}
+use Rattle.im_dialogue.specs.Talk.{IsAnswerTo, KeepsNone, put_by}
+use Rattle.im_dialogue.specs.Together.{LineAsksFor, GroupStart, group_start, memory_between, places_between}
 use Rattle.im_dialogue.specs.Together.{count_between, point_between, with_member, members_in}
 use Rattle.im_dialogue.specs.Together.{disturbs, LeavesShown, IsKnown, IsKnownBehind, IsGroupLine, StandTogether, MayBeServed}
-use Rattle.im_dialogue.specs.Together.{MayStandNext, result_of, line_answer, answers_behind}
+use Rattle.im_dialogue.specs.Together.{MayStandNext, member_result, line_answer, answers_behind}
 use Rattle.im_dialogue.specs.Watching.{told_with, watch_text}
 use Rattle.im_dialogue.specs.Telling.{SaysAll, WasServed}
 use Rattle.im_dialogue.proofs.GroupTalk.{left_and_put, put_few, told_none, told_member, told_shown}
@@ -184,7 +184,7 @@ module _ (watch : Bool) (b : GroupStart) (cells elements : ℕ) (is : IsMemory c
 
 -- ---- the answers are told
 
-pub told_nothing : (given : Answer) → told_with given [] ≡ []
+pub told_nothing : (given : LineAnswer) → told_with given [] ≡ []
 told_nothing (answer.Served c (Ok outcome)) = refl
 told_nothing (answer.Served c (Err refusal)) = refl
 told_nothing (answer.Looked look) = refl
@@ -196,7 +196,7 @@ told_nothing (answer.About about) = refl
 told_nothing (answer.Backup name kept) = refl
 told_nothing (answer.Wrong number fault) = refl
 
-back : (a : Result Outcome Refusal) → result_of (as_served a) ≡ a
+back : (a : Result Outcome Refusal) → member_result (as_served a) ≡ a
 back (Ok outcome) = refl
 back (Err refusal) = refl
 
@@ -252,8 +252,8 @@ module _ {D : Type 0} (watch : Bool) (old : EngineState D) where
       (is ∙ ap (λ (t : List ℕ). text ++ (answer_text name (memory_between b ahead)
       (answer.Served c (answer_with (memory_between b ahead) (places_between b ahead) c)) ++ t)) (is_told _ refl))
 
-  tells_shown : (ahead : List Command) (text more name : List ℕ) (asked : Asked) (given : Answer)
-      → SaysAll watch old ahead text → IsAsked asked
+  tells_shown : (ahead : List Command) (text more name : List ℕ) (asked : Question) (given : LineAnswer)
+      → SaysAll watch old ahead text → LineAsksFor asked
       → IsKnownBehind b ahead asked given
       → more ≡ text ++ (answer_text name (memory_between b ahead) given ++ told_with given [])
       → SaysAll watch old ahead more
@@ -262,8 +262,8 @@ module _ {D : Type 0} (watch : Bool) (old : EngineState D) where
       (is ∙ ap (λ (t : List ℕ). text ++ (answer_text name (memory_between b ahead) given ++ t))
       (told_nothing given ∙ sym (shown.tells watch (memory_between b ahead))))
 
-  looked : (m : Contents) (n : ℕ) (p : Point) (asked : Asked) (given : Answer)
-      → ((turns : List TurnDone) → Answers m n (record { turns = turns; point = p }) (Some asked) given)
+  looked : (m : Contents) (n : ℕ) (p : Point) (asked : Question) (given : LineAnswer)
+      → ((turns : List TurnDone) → IsAnswerTo m n (record { turns = turns; point = p }) (Some asked) given)
       → ((any : Contents) → put_by any given ≡ []) → ((watch : Bool) (any : Contents) → watch_text watch any given ≡ [])
       → KeepsNone given → IsKnown m n p asked given
   looked m n p asked given answers puts tells keeps =
@@ -273,7 +273,7 @@ module _ {D : Type 0} (watch : Bool) (old : EngineState D) where
       (after_all : m ≡ memory_between b cs) where
     -- the next part's answer
     pub telling_next : (p : GroupLine) (parts : List GroupLine) (t : List ℕ) (texts : List (List ℕ))
-        (answers : List Served) (text more name : List ℕ) (given : Answer)
+        (answers : List Served) (text more name : List ℕ) (given : LineAnswer)
         → Telling cs (p ∷ parts) (t ∷ texts) answers text → line_answer answers p ≡ Some given
         → more ≡ text ++ (answer_text name m given ++ told_with given t)
         → Telling cs parts texts (answers_behind p answers) more
@@ -287,7 +287,7 @@ module _ {D : Type 0} (watch : Bool) (old : EngineState D) where
         L : ℕ
         L = places_between b telling.ahead
 
-        given_is : given ≡ answer.Served c (result_of a)
+        given_is : given ≡ answer.Served c (member_result a)
         given_is = cc
 
         on : (rest : List Command) → cs ≡ telling.ahead ++ (c ∷ rest) → (k : ℕ) → rest ≡ take k (members_in parts)
@@ -297,7 +297,7 @@ module _ {D : Type 0} (watch : Bool) (old : EngineState D) where
         on rest all k first are =
             let head : a ≡ as_served (answer_with M L c) = cc in
             let tail : answers ≡ map as_served (answers_with (contents_with M L c) (places_behind M L c) rest) = cc in
-            let result : result_of a ≡ answer_with M L c = ap result_of head ∙ back (answer_with M L c) in
+            let result : member_result a ≡ answer_with M L c = ap member_result head ∙ back (answer_with M L c) in
             record {
               ahead = telling.ahead ++ c ∷ [];
               shown = telling.shown ++ Member c ∷ [];
@@ -319,7 +319,7 @@ module _ {D : Type 0} (watch : Bool) (old : EngineState D) where
                     ap (λ (l : List Command). length l) all,
                     length-append telling.ahead (c ∷ rest),
                   )) telling.parts_are.0
-                  (same ∙ ap (λ (g : Answer). text ++ (answer_text name m g ++ told_with g t))
+                  (same ∙ ap (λ (g : LineAnswer). text ++ (answer_text name m g ++ told_with g t))
                   (given_is ∙ ap (λ r. answer.Served c r) result));
             }
 
@@ -352,7 +352,7 @@ module _ {D : Type 0} (watch : Bool) (old : EngineState D) where
               telling.parts_are.0.0
               (looked (memory_between b telling.ahead) (count_between b telling.ahead) (point_between b telling.ahead)
               (asks.Look look) (answer.Looked look) (λ turns. refl) (λ any. refl) (λ watch any. refl) (λ any. refl))
-              (same ∙ ap (λ (g : Answer). text ++ (answer_text name m g ++ told_with g t)) given_is
+              (same ∙ ap (λ (g : LineAnswer). text ++ (answer_text name m g ++ told_with g t)) given_is
               ∙ ap (λ (l : List ℕ). text ++ (look_text name m look ++ told_with (answer.Looked look) l))
               telling.parts_are.0.1
               ∙ ap (λ (l : List ℕ). text ++ (l ++ told_with (answer.Looked look) []))
@@ -372,7 +372,7 @@ module _ {D : Type 0} (watch : Bool) (old : EngineState D) where
           places = telling.places;
           tells = tells_shown telling.ahead text more name telling.parts_are.0.0.0 known telling.tells
               telling.parts_are.0.0.1 telling.parts_are.0.0.2
-              (same ∙ ap (λ (g : Answer). text ++ (answer_text name m g ++ told_with g t)) given_is
+              (same ∙ ap (λ (g : LineAnswer). text ++ (answer_text name m g ++ told_with g t)) given_is
               ∙ ap (λ (l : List ℕ). text ++ (answer_text name m known ++ told_with known l)) telling.parts_are.0.1.1
               ∙ ap (λ (l : List ℕ). text ++ (l ++ told_with known []))
               (telling.parts_are.0.1.0 name m (memory_between b telling.ahead)));
@@ -457,7 +457,7 @@ module _ {D : Type 0} (watch : Bool) (old : EngineState D) where
       (all_answers : List Served) (m : Contents)
       → WasServed watch old all all_texts members cs all_answers m
       → (p : GroupLine) (parts rest : List GroupLine) (t : List ℕ) (texts others : List (List ℕ))
-      (answers left : List Served) (text more name : List ℕ) (given : Answer)
+      (answers left : List Served) (text more name : List ℕ) (given : LineAnswer)
       → parts ≡ p ∷ rest → texts ≡ t ∷ others → left ≡ answers_behind p answers → line_answer answers p ≡ Some given
       → more ≡ text ++ (answer_text name m given ++ told_with given t) → Telling cs parts texts answers text
       → Telling cs rest others left more

@@ -30,22 +30,22 @@ use Rattle.im_engine.specs.Run.{is_put as puts}
 use Rattle.im_engine.proofs.Accepting.{accepted_answers}
 use Rattle.im_engine.proofs.Running.{AllOrLess, far_on, far_start, far_turned, fails_by_device, leaves_on}
 use Rattle.im_engine.proofs.Running.{leaves_turned, means_all, now_on, went}
-use Rattle.im_dialogue.specs.declared.asking.Asked.{Asked}
-use Rattle.im_dialogue.specs.declared.asking.Asked.TheVariants as asks
-use Rattle.im_dialogue.specs.declared.answers.Answer.{Answer}
-use Rattle.im_dialogue.specs.declared.answers.Answer.TheVariants.{Served, Turned}
+use Rattle.im_dialogue.specs.declared.asking.Question.{Question}
+use Rattle.im_dialogue.specs.declared.asking.Question.TheVariants as asks
+use Rattle.im_dialogue.specs.declared.answers.LineAnswer.{LineAnswer}
+use Rattle.im_dialogue.specs.declared.answers.LineAnswer.TheVariants.{Served, Turned}
 use Rattle.im_dialogue.specs.Asking.{asked_of}
 use Rattle.im_dialogue.specs.Backups.{Backup}
 use Rattle.im_turning.specs.Turning.{IsSpent, Point, point_of, with_one}
 use Rattle.im_turning.proofs.TurningLemmas.{taken_of}
-use Rattle.im_dialogue.specs.Talk.{Exchange, IsOf, Answers, put_by, put_of, is_end, IsAt, MeansSaid, HasEnded, GoesOn}
-use Rattle.im_dialogue.specs.Talk.{Halts, Says, texts_of, Silent, TalksOn, TalkEnds}
-use Rattle.im_dialogue.specs.Talk.{AreKept, Outputs, Stand, backup_by, backups_of, exchange_at, point_behind}
+use Rattle.im_dialogue.specs.Talk.{Exchange, IsOutcomeOf, IsAnswerTo, put_by, put_of, is_end, IsAt, MeansSaid, HasEnded, SaysNothing}
+use Rattle.im_dialogue.specs.Talk.{Halts, SaysLine, texts_of, Silent, TalksOn, TalkEnds}
+use Rattle.im_dialogue.specs.Talk.{AreKept, Outputs, AnswerPoint, backup_by, backups_of, exchange_at, point_behind}
 
 -- what a command is answered, where the engine works still
 is_of : {D : Type 0} (old new : EngineState D) (c : Command) (a : Result Outcome Refusal) → old.failed ≡ false
     → new.failed ≡ false → Answered old c a new
-    → (old.room ≡ 0 → IsSpent (point_of old)) → IsOf old.memory (point_of old) c a
+    → (old.room ≡ 0 → IsSpent (point_of old)) → IsOutcomeOf old.memory (point_of old) c a
 is_of old new c a f g it spent = ⊎_elim
     (λ accepted. ⊎_elim
     (λ none. inr (accepted, ((it.full f accepted none).0, (none, spent none))))
@@ -92,14 +92,16 @@ served_point old new c a f g it = ⊎_elim
     (true_or_false (is_accepted old.memory c))
 
 -- an answer that doesn't end the dialogue leaves the engine working
-works_on : {D : Type 0} (old new : EngineState D) (c : Command) (a : Result Outcome Refusal) → Answered old c a new → old.failed ≡ false → (a ≡ Err Device → ⊥) → new.failed ≡ false
+works_on : {D : Type 0} (old new : EngineState D) (c : Command) (a : Result Outcome Refusal) → Answered old c a new
+    → old.failed ≡ false → (a ≡ Err Device → ⊥) → new.failed ≡ false
 works_on old new c a it f unless = ⊎_elim (λ dead. absurd (unless (fails_by_device old new c a it f dead))) (λ g. g) (true_or_false new.failed)
 
 pub ok_no_device : (outcome : Outcome) → (a : Result Outcome Refusal) → a ≡ Ok outcome → a ≡ Err Device → ⊥
 ok_no_device outcome a is e = absurd (cc)
 
 -- what doesn't end the dialogue is no failed call
-pub no_device : (refusal : Refusal) (b : Bool) → b ≡ is_end refusal → b ≡ false → (a : Result Outcome Refusal) → a ≡ Err refusal → a ≡ Err Device → ⊥
+pub no_device : (refusal : Refusal) (b : Bool) → b ≡ is_end refusal → b ≡ false → (a : Result Outcome Refusal)
+    → a ≡ Err refusal → a ≡ Err Device → ⊥
 no_device refusal b is not a told e = by_refusal refusal (err_same a refusal told e) (sym is ∙ not)
   where
     err_same : (a : Result Outcome Refusal) (r : Refusal) → a ≡ Err r → a ≡ Err Device → r ≡ Device
@@ -187,9 +189,12 @@ module _ {D : Type 0} (now : D → Moment) (past : D → List Moment) (honest : 
         (at.turns, refl),
       )
 
-  pub turn_goes : (old new : EngineState D) (a : Result TurnDone Refusal) (done : TurnDone) → TurnAnswered old a new → (honest new.disk → honest old.disk)
-      → (honest new.disk → old.failed ≡ false → Leaves (now old.disk) (now new.disk) (past old.disk) (past new.disk) (MeansState old))
-      → (honest new.disk → new.failed ≡ false → LeavesNow (now new.disk) (MeansState new)) → a ≡ Ok done → GoesOn now past honest old new
+  pub turn_goes : (old new : EngineState D) (a : Result TurnDone Refusal) (done : TurnDone) → TurnAnswered old a new
+      → (honest new.disk → honest old.disk)
+      → (honest new.disk → old.failed ≡ false
+      → Leaves (now old.disk) (now new.disk) (past old.disk) (past new.disk) (MeansState old))
+      → (honest new.disk → new.failed ≡ false → LeavesNow (now new.disk) (MeansState new)) → a ≡ Ok done
+      → SaysNothing now past honest old new
   turn_goes old new a done it back leaves means is = λ start said so_far h. let far = so_far (back h) in
       (far.0, (turned_at start old new said a done far.1 it (leaves h) (means h) is).0)
 
@@ -204,9 +209,12 @@ module _ {D : Type 0} (now : D → Moment) (past : D → List Moment) (honest : 
     kept = λ file left. said_now start old said file at (means at.works file left);
   }
 
-  pub turn_halts : (old new : EngineState D) (a : Result TurnDone Refusal) → TurnAnswered old a new → (honest new.disk → honest old.disk)
-      → (honest new.disk → old.failed ≡ false → Leaves (now old.disk) (now new.disk) (past old.disk) (past new.disk) (MeansState old))
-      → (honest new.disk → old.failed ≡ false → LeavesNow (now new.disk) (MeansState old)) → Halts now past honest old new
+  pub turn_halts : (old new : EngineState D) (a : Result TurnDone Refusal) → TurnAnswered old a new
+      → (honest new.disk → honest old.disk)
+      → (honest new.disk → old.failed ≡ false
+      → Leaves (now old.disk) (now new.disk) (past old.disk) (past new.disk) (MeansState old))
+      → (honest new.disk → old.failed ≡ false → LeavesNow (now new.disk) (MeansState old))
+      → Halts now past honest old new
   turn_halts old new a it back leaves means = λ start said so_far h. let far = so_far (back h) in (far.0, ([], omega arith, turn_ended start old new said a far.1 it (leaves h) (means h)))
 
   -- ---- commands
@@ -216,20 +224,20 @@ module _ {D : Type 0} (now : D → Moment) (past : D → List Moment) (honest : 
       → (old.failed ≡ false → Leaves (now old.disk) (now new.disk) (past old.disk) (past new.disk) (MeansEither old c))
       → (new.failed ≡ false → LeavesNow (now new.disk) (MeansState new)) → (a ≡ Err Device → ⊥)
       → (old.room ≡ 0 → IsSpent (point_of old))
-      → (here : Stand) × At start new (exchange_at line (Served c a) name here ∷ said)
+      → (here : AnswerPoint) × At start new (exchange_at line (Served c a) name here ∷ said)
   served_at start old new said line name c a asked at it leaves means unless spent =
       let put : List Command = put_of start.memory said in
       let f : new.failed ≡ false = works_on old new c a it at.works unless in
       let m : old.memory ≡ after start.memory (put_of start.memory said) = at.run.memory at.works in
-      let here : Stand = record { turns = at.turns; point = point_of old } in (
+      let here : AnswerPoint = record { turns = at.turns; point = point_of old } in (
         here,
         record {
           answered = (
-            subst (λ (o : Option Asked). Answers (after start.memory (put_of start.memory said))
+            subst (λ (o : Option Question). IsAnswerTo (after start.memory (put_of start.memory said))
                 (start.count + length (put_of start.memory said)) here o (Served c a)) (sym asked) (
                   a,
                   refl,
-                  subst (λ (m : Contents). IsOf m (point_of old) c a) m
+                  subst (λ (m : Contents). IsOutcomeOf m (point_of old) c a) m
                       (is_of old new c a at.works f it spent),
                 ),
             (at.lead, at.answered),
@@ -244,20 +252,24 @@ module _ {D : Type 0} (now : D → Moment) (past : D → List Moment) (honest : 
         },
       )
 
-  pub serve_says : (old new : EngineState D) (c : Command) (a told : Result Outcome Refusal) → Answered old c a new → (honest new.disk → honest old.disk)
-      → (honest new.disk → old.failed ≡ false → Leaves (now old.disk) (now new.disk) (past old.disk) (past new.disk) (MeansEither old c))
-      → (honest new.disk → new.failed ≡ false → LeavesNow (now new.disk) (MeansState new)) → a ≡ told → (a ≡ Err Device → ⊥)
-      → (old.room ≡ 0 → IsSpent (point_of old)) → Says now past honest old new (Some (asks.Serve c)) (Served c told)
+  pub serve_says : (old new : EngineState D) (c : Command) (a told : Result Outcome Refusal) → Answered old c a new
+      → (honest new.disk → honest old.disk)
+      → (honest new.disk → old.failed ≡ false
+      → Leaves (now old.disk) (now new.disk) (past old.disk) (past new.disk) (MeansEither old c))
+      → (honest new.disk → new.failed ≡ false → LeavesNow (now new.disk) (MeansState new)) → a ≡ told
+      → (a ≡ Err Device → ⊥)
+      → (old.room ≡ 0 → IsSpent (point_of old)) → SaysLine now past honest old new (Some (asks.Serve c)) (Served c told)
   serve_says old new c a told it back leaves means is unless spent = λ start said line name asked so_far h.
       let far = so_far (back h) in (
         far.0,
-        subst (λ (a : Result Outcome Refusal). (here : Stand)
+        subst (λ (a : Result Outcome Refusal). (here : AnswerPoint)
             × At start new (exchange_at line (Served c a) name here ∷ said)) is
             (served_at start old new said line name c a asked far.1 it (leaves h) (means h) unless spent),
       )
 
   -- the file has what was said, and the command in doubt or not
-  in_doubt : (start : EngineState D) (said : List Exchange) (c : Command) (more : List Command) (file : List ℕ) → more ≡ c ∷ [] → AllOrLess start (put_of start.memory said ++ more) file → MeansSaid start said more file
+  in_doubt : (start : EngineState D) (said : List Exchange) (c : Command) (more : List Command) (file : List ℕ)
+      → more ≡ c ∷ [] → AllOrLess start (put_of start.memory said ++ more) file → MeansSaid start said more file
   in_doubt start said c more file one (many, inl all, means) = (many, inr all, means)
   in_doubt start said c more file one (many, inr less, means) =
       let len = length-append (put_of start.memory said) more in
@@ -285,20 +297,23 @@ module _ {D : Type 0} (now : D → Moment) (past : D → List Moment) (honest : 
     )
   ]
 
-  pub serve_halts : (old new : EngineState D) (c : Command) (a : Result Outcome Refusal) → Answered old c a new → (honest new.disk → honest old.disk)
-      → (honest new.disk → old.failed ≡ false → Leaves (now old.disk) (now new.disk) (past old.disk) (past new.disk) (MeansEither old c))
-      → (honest new.disk → old.failed ≡ false → LeavesNow (now new.disk) (MeansEither old c)) → Halts now past honest old new
+  pub serve_halts : (old new : EngineState D) (c : Command) (a : Result Outcome Refusal) → Answered old c a new
+      → (honest new.disk → honest old.disk)
+      → (honest new.disk → old.failed ≡ false
+      → Leaves (now old.disk) (now new.disk) (past old.disk) (past new.disk) (MeansEither old c))
+      → (honest new.disk → old.failed ≡ false → LeavesNow (now new.disk) (MeansEither old c))
+      → Halts now past honest old new
   serve_halts old new c a it back leaves doubt = λ start said so_far h. let far = so_far (back h) in (far.0, serve_ended start old new said c a far.1 it (leaves h) (doubt h))
 
   -- ---- answers that leave the engine as it is
 
-  quiet_at : (start engine : EngineState D) (said : List Exchange) (line name : List ℕ) (asked : Option Asked)
-      (answer : Answer) → asked_of line ≡ asked → (at : At start engine said)
-      → ((m : Contents) → put_by m answer ≡ []) → Answers engine.memory engine.count
+  quiet_at : (start engine : EngineState D) (said : List Exchange) (line name : List ℕ) (asked : Option Question)
+      (answer : LineAnswer) → asked_of line ≡ asked → (at : At start engine said)
+      → ((m : Contents) → put_by m answer ≡ []) → IsAnswerTo engine.memory engine.count
       (record { turns = at.turns; point = point_of engine }) asked answer
-      → (here : Stand) × At start engine (exchange_at line answer name here ∷ said)
+      → (here : AnswerPoint) × At start engine (exchange_at line answer name here ∷ said)
   quiet_at start engine said line name asked answer is at none answers =
-      let here : Stand = record { turns = at.turns; point = point_of engine } in
+      let here : AnswerPoint = record { turns = at.turns; point = point_of engine } in
       let m : engine.memory ≡ after start.memory (put_of start.memory said) = at.run.memory at.works in
       let n : engine.count ≡ start.count + length (put_of start.memory said) = at.run.count at.works in
       let nothing = none (after start.memory (put_of start.memory said)) in
@@ -307,11 +322,11 @@ module _ {D : Type 0} (now : D → Moment) (past : D → List Moment) (honest : 
         here,
         record {
           answered = (
-            subst (λ (o : Option Asked). Answers (after start.memory (put_of start.memory said))
+            subst (λ (o : Option Question). IsAnswerTo (after start.memory (put_of start.memory said))
                 (start.count + length (put_of start.memory said)) here o answer) (sym is)
-                (subst (λ (m : Contents). Answers m
+                (subst (λ (m : Contents). IsAnswerTo m
                 (start.count + length (put_of start.memory said)) here asked answer) m
-                (subst (λ (n : ℕ). Answers engine.memory n here asked answer) n answers)),
+                (subst (λ (n : ℕ). IsAnswerTo engine.memory n here asked answer) n answers)),
             (at.lead, at.answered),
           );
           turns = [];
@@ -325,20 +340,21 @@ module _ {D : Type 0} (now : D → Moment) (past : D → List Moment) (honest : 
         },
       )
 
-  pub quiet : (engine : EngineState D) (asked : Option Asked) (answer : Answer)
+  pub quiet : (engine : EngineState D) (asked : Option Question) (answer : LineAnswer)
       → ((m : Contents) → put_by m answer ≡ [])
-      → (engine.failed ≡ false → (turns : List TurnDone) → Answers engine.memory engine.count
+      → (engine.failed ≡ false → (turns : List TurnDone) → IsAnswerTo engine.memory engine.count
       (record { turns = turns; point = point_of engine }) asked answer)
-      → Says now past honest engine engine asked answer
+      → SaysLine now past honest engine engine asked answer
   quiet engine asked answer none answers = λ start said line name is so_far h. let far = so_far h in
       (far.0, quiet_at start engine said line name asked answer is far.1 none (answers far.1.works far.1.turns))
 
   -- a turn that was asked for, and what it did
   pub turn_says : (old new : EngineState D) (a : Result TurnDone Refusal) (done : TurnDone) → TurnAnswered old a new
       → (honest new.disk → honest old.disk)
-      → (honest new.disk → old.failed ≡ false → Leaves (now old.disk) (now new.disk) (past old.disk) (past new.disk) (MeansState old))
+      → (honest new.disk → old.failed ≡ false
+      → Leaves (now old.disk) (now new.disk) (past old.disk) (past new.disk) (MeansState old))
       → (honest new.disk → new.failed ≡ false → LeavesNow (now new.disk) (MeansState new)) → a ≡ Ok done
-      → Says now past honest old new (Some asks.Turn) (Turned done)
+      → SaysLine now past honest old new (Some asks.Turn) (Turned done)
   turn_says old new a done it back leaves means is = λ start said line name asked so_far h.
       let far = so_far (back h) in
       let at = turned_at start old new said a done far.1 it (leaves h) (means h) is in (
@@ -347,25 +363,31 @@ module _ {D : Type 0} (now : D → Moment) (past : D → List Moment) (honest : 
             (done, (refl, at.1)),
       )
 
-  pub goes_after : (old mid new : EngineState D) → GoesOn now past honest old mid → GoesOn now past honest mid new
-      → GoesOn now past honest old new
+  pub goes_after : (old mid new : EngineState D) → SaysNothing now past honest old mid
+      → SaysNothing now past honest mid new
+      → SaysNothing now past honest old new
   goes_after old mid new goes it = λ start said so_far. it start said (goes start said so_far)
 
   -- after a call that said nothing
-  pub says_after : (old mid new : EngineState D) (asked : Option Asked) (answer : Answer) → GoesOn now past honest old mid → Says now past honest mid new asked answer → Says now past honest old new asked answer
+  pub says_after : (old mid new : EngineState D) (asked : Option Question) (answer : LineAnswer)
+      → SaysNothing now past honest old mid → SaysLine now past honest mid new asked answer
+      → SaysLine now past honest old new asked answer
   says_after old mid new asked answer goes says = λ start said line name is so_far. says start said line name is (goes start said so_far)
 
-  pub halts_after : (old mid new : EngineState D) → GoesOn now past honest old mid → Halts now past honest mid new → Halts now past honest old new
+  pub halts_after : (old mid new : EngineState D) → SaysNothing now past honest old mid
+      → Halts now past honest mid new → Halts now past honest old new
   halts_after old mid new goes halts = λ start said so_far. halts start said (goes start said so_far)
 
   -- the answer of the last call, after one that said nothing
-  pub then_says : (old mid new : EngineState D) (asked : Option Asked) (result : Result Answer Refusal) → GoesOn now past honest old mid
-      → MatchResult result (λ answer. Says now past honest mid new asked answer) (λ e. Halts now past honest mid new)
-      → MatchResult result (λ answer. Says now past honest old new asked answer) (λ e. Halts now past honest old new)
+  pub then_says : (old mid new : EngineState D) (asked : Option Question) (result : Result LineAnswer Refusal)
+      → SaysNothing now past honest old mid
+      → MatchResult result (λ answer. SaysLine now past honest mid new asked answer) (λ e. Halts now past honest mid new)
+      → MatchResult result (λ answer. SaysLine now past honest old new asked answer) (λ e. Halts now past honest old new)
   then_says old mid new asked (Ok answer) goes it = says_after old mid new asked answer goes it
   then_says old mid new asked (Err refusal) goes it = halts_after old mid new goes it
 
-  pub says_as : (old new : EngineState D) (asked other : Option Asked) (answer : Answer) → other ≡ asked → Says now past honest old new asked answer → Says now past honest old new other answer
+  pub says_as : (old new : EngineState D) (asked other : Option Question) (answer : LineAnswer) → other ≡ asked
+      → SaysLine now past honest old new asked answer → SaysLine now past honest old new other answer
   says_as old new asked other answer same says = λ start said line name is. says start said line name (is ∙ same)
 
   -- ---- what was printed
@@ -418,38 +440,40 @@ module _ {D : Type 0} (now : D → Moment) (past : D → List Moment) (honest : 
 
     -- what was said without a line of its own goes on
     pub goes_talk : (old new : EngineState D) (was : Outputs) → (honest new.disk → honest old.disk)
-        → GoesOn now past honest old new → TalksOn watch now past honest old was new was
+        → SaysNothing now past honest old new → TalksOn watch now past honest old was new was
     goes_talk old new was back goes = λ start held so_far h.
         let far = so_far (back h) in
         let on = goes start far.1.0 (λ b. (far.0, far.1.1.0)) h in
         (far.0, (far.1.0, (on.1, far.1.1.1)))
 
     -- the line of an answer on this memory, and what is told behind it
-    abbrev line_on : List ℕ → Contents → Answer → List ℕ
+    abbrev line_on : List ℕ → Contents → LineAnswer → List ℕ
     line_on name m answer = answer_text name m answer ++ watch_text watch m answer
 
     -- the same, at the memory where it was answered
-    told_at : (start old new : EngineState D) (said : List Exchange) (asked : Option Asked) (answer : Answer)
-        (line name told : List ℕ) (here : Stand) → asked_of line ≡ asked → At start old said
+    told_at : (start old new : EngineState D) (said : List Exchange) (asked : Option Question) (answer : LineAnswer)
+        (line name told : List ℕ) (here : AnswerPoint) → asked_of line ≡ asked → At start old said
         → At start new (exchange_at line answer name here ∷ said)
-        → ((n : ℕ) (here : Stand) → Answers old.memory n here asked answer → told ≡ line_on name old.memory answer)
+        → ((n : ℕ) (here : AnswerPoint) → IsAnswerTo old.memory n here asked answer
+        → told ≡ line_on name old.memory answer)
         → told ≡ line_on name (after start.memory (put_of start.memory said)) answer
     told_at start old new said asked answer line name told here read at after_it is =
         let m : Contents = after start.memory (put_of start.memory said) in
         let same : old.memory ≡ after start.memory (put_of start.memory said) = at.run.memory at.works in
-        let answers : Answers old.memory (start.count + length (put_of start.memory said)) here asked answer
-        = subst (λ (m : Contents). Answers m (start.count + length (put_of start.memory said)) here asked answer)
+        let answers : IsAnswerTo old.memory (start.count + length (put_of start.memory said)) here asked answer
+        = subst (λ (m : Contents). IsAnswerTo m (start.count + length (put_of start.memory said)) here asked answer)
         (sym same)
-        (subst (λ (o : Option Asked). Answers (after start.memory (put_of start.memory said))
+        (subst (λ (o : Option Question). IsAnswerTo (after start.memory (put_of start.memory said))
         (start.count + length (put_of start.memory said)) here o answer) read after_it.answered.0) in
         subst (λ (m : Contents). told ≡ line_on name m answer) same
         (is (start.count + length (put_of start.memory said)) here answers)
 
     -- the line of an answer was printed, and those behind it
-    pub talks_on : (old new : EngineState D) (was is : Outputs) (asked : Option Asked) (answer : Answer) (line name told : List ℕ)
+    pub talks_on : (old new : EngineState D) (was is : Outputs) (asked : Option Question) (answer : LineAnswer) (line name told : List ℕ)
         → asked_of line ≡ asked → (honest new.disk → honest old.disk)
-        → Says now past honest old new asked answer
-        → ((n : ℕ) (here : Stand) → Answers old.memory n here asked answer → told ≡ line_on name old.memory answer)
+        → SaysLine now past honest old new asked answer
+        → ((n : ℕ) (here : AnswerPoint) → IsAnswerTo old.memory n here asked answer
+        → told ≡ line_on name old.memory answer)
         → Appends was.text is.text told → is.backups ≡ backup_by old.memory answer ++ was.backups
         → TalksOn watch now past honest old was new is
     talks_on old new was is asked answer line name told read back says tells printed kept = λ start held so_far h.
@@ -472,10 +496,11 @@ module _ {D : Type 0} (now : D → Moment) (past : D → List Moment) (honest : 
         )
 
     -- a beginning of them was printed
-    pub talk_ends : (old new : EngineState D) (was is : Outputs) (asked : Option Asked) (answer : Answer) (line name told : List ℕ)
+    pub talk_ends : (old new : EngineState D) (was is : Outputs) (asked : Option Question) (answer : LineAnswer) (line name told : List ℕ)
         → asked_of line ≡ asked → (honest new.disk → honest old.disk)
-        → Says now past honest old new asked answer
-        → ((n : ℕ) (here : Stand) → Answers old.memory n here asked answer → told ≡ line_on name old.memory answer)
+        → SaysLine now past honest old new asked answer
+        → ((n : ℕ) (here : AnswerPoint) → IsAnswerTo old.memory n here asked answer
+        → told ≡ line_on name old.memory answer)
         → Begins was.text is.text told → is.backups ≡ backup_by old.memory answer ++ was.backups
         → TalkEnds watch now past honest old was new is
     talk_ends old new was is asked answer line name told read back says tells printed kept = λ start held so_far h.

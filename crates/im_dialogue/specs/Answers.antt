@@ -14,9 +14,16 @@ use Rattle.im_checkpoint.specs.declared.checkpoint.TurnDone.TheVariants.{Idle, B
 use Rattle.im_text.specs.Texts.{entry_text, line_feed, op_text}
 use Rattle.im_text.specs.Printing.{told_line, refused_line}
 use Rattle.im_dialogue.specs.declared.about.About.{About}
-use Rattle.im_dialogue.specs.declared.answers.Answer.{Answer}
-use Rattle.im_dialogue.specs.declared.answers.Answer.TheVariants.{Served, Looked, Window}
-use Rattle.im_dialogue.specs.declared.answers.Answer.TheVariants.{Room, Turned, Count, About as Facts, Backup, Wrong}
+use Rattle.im_dialogue.specs.declared.answers.LineAnswer.{LineAnswer}
+use Rattle.im_dialogue.specs.declared.answers.LineAnswer.TheVariants.{Served, Looked, Window}
+use Rattle.im_dialogue.specs.declared.answers.LineAnswer.TheVariants.{
+  Room,
+  Turned,
+  Count,
+  About as Facts,
+  Backup,
+  Wrong,
+}
 use Rattle.im_dialogue.specs.declared.backup_name.BackupName.{BackupName}
 use Rattle.im_dialogue.specs.declared.backups.BackupFault.{BackupFault}
 use Rattle.im_dialogue.specs.declared.look.Look.{Look}
@@ -112,7 +119,7 @@ look_text name m Help = help_line
 
 -- the line of an answer on this memory; the words are the name of its refusal, where a line that isn't in the grammar
 -- goes wrong, or why a backup isn't kept
-abbrev pub answer_text : List ℕ → Contents → Answer → List ℕ
+abbrev pub answer_text : List ℕ → Contents → LineAnswer → List ℕ
 answer_text name m (Served command outcome) = served_line name command outcome
 answer_text name m (Looked look) = look_text name m look
 answer_text name m (Window element answer) = window_line element name answer

@@ -9,9 +9,9 @@ use Rattle.im_types.specs.declared.commands.Command.TheVariants.{Request as Asks
 use Rattle.im_script.specs.Grammar.{is_line, number_up_to, words_of}
 use Rattle.im_script.specs.Lines.{action_of}
 use Rattle.im_script.specs.Places.{op_of}
-use Rattle.im_dialogue.specs.declared.asking.Asked.{Asked}
-use Rattle.im_dialogue.specs.declared.asking.Asked.TheVariants.{Serve, Look, Window}
-use Rattle.im_dialogue.specs.declared.asking.Asked.TheVariants.{Room, Turn, Count, About, Backup, Quit}
+use Rattle.im_dialogue.specs.declared.asking.Question.{Question}
+use Rattle.im_dialogue.specs.declared.asking.Question.TheVariants.{Serve, Look, Window}
+use Rattle.im_dialogue.specs.declared.asking.Question.TheVariants.{Room, Turn, Count, About, Backup, Quit}
 use Rattle.im_dialogue.specs.declared.look.Look.TheVariants.{Collect, Entry, Cell, Block, Stat, Help}
 use Rattle.im_dialogue.specs.Backups.{backup_name_of}
 
@@ -20,29 +20,30 @@ abbrev pub element_of : List ℕ → Option ℕ
 element_of word = number_up_to 65535 word
 
 -- a number of a request
-abbrev pub number_of : List ℕ → Option ℕ
-number_of word = number_up_to 18446744073709551615 word
+abbrev pub request_number_of : List ℕ → Option ℕ
+request_number_of word = number_up_to 18446744073709551615 word
 
 -- an element and a number, given their words
-abbrev pub waiter_in : List ℕ → List ℕ → Option Waiter
-waiter_in element number =
-    option_and_then (λ e. option_map (λ n. record { element = e; number = n }) (number_of number)) (element_of element)
+abbrev pub waiter_from : List ℕ → List ℕ → Option Waiter
+waiter_from element number =
+    option_and_then (λ e. option_map (λ n. record { element = e; number = n }) (request_number_of number))
+    (element_of element)
 
 -- an element and a number, given the parts of a word between its dots
 abbrev pub waiter_by : List (List ℕ) → Option Waiter
-waiter_by (element ∷ number ∷ []) = waiter_in element number
+waiter_by (element ∷ number ∷ []) = waiter_from element number
 waiter_by _ = None
 
 -- E.N
-abbrev pub waiter_of : List ℕ → Option Waiter
-waiter_of word = waiter_by (slice_split (λ byte. byte == 46) word)
+abbrev pub waiter_named : List ℕ → Option Waiter
+waiter_named word = waiter_by (slice_split (λ byte. byte == 46) word)
 
 -- a request of a script with addresses alone, as it stands after E.N
 abbrev pub op_in : List (List ℕ) → Option Op
 op_in words = option_and_then (op_of []) (action_of [] words)
 
 -- room, turn, count, about, stat, help or quit
-abbrev pub asked_by_one : List ℕ → Option Asked
+abbrev pub asked_by_one : List ℕ → Option Question
 asked_by_one word = if bytes_eq word (codes "room") then Some Room
     else (if bytes_eq word (codes "turn") then Some Turn
     else (if bytes_eq word (codes "count") then Some Count
@@ -52,39 +53,40 @@ asked_by_one word = if bytes_eq word (codes "room") then Some Room
     else (if bytes_eq word (codes "quit") then Some Quit else None))))))
 
 -- cell A or block A, given the address
-abbrev pub asked_at : List ℕ → ℕ → Option Asked
+abbrev pub asked_at : List ℕ → ℕ → Option Question
 asked_at word a = if bytes_eq word (codes "cell") then Some (Look (Cell a))
     else (if bytes_eq word (codes "block") then Some (Look (Block a)) else None)
 
 -- collect E.N, entry E.N, window E, backup NAME, cell A or block A
-abbrev pub asked_by_two : List ℕ → List ℕ → Option Asked
-asked_by_two word what = if bytes_eq word (codes "collect") then option_map (λ w. Look (Collect w)) (waiter_of what)
-    else (if bytes_eq word (codes "entry") then option_map (λ w. Look (Entry w)) (waiter_of what)
+abbrev pub asked_by_two : List ℕ → List ℕ → Option Question
+asked_by_two word what = if bytes_eq word (codes "collect") then option_map (λ w. Look (Collect w)) (waiter_named what)
+    else (if bytes_eq word (codes "entry") then option_map (λ w. Look (Entry w)) (waiter_named what)
     else (if bytes_eq word (codes "window") then option_map Window (element_of what)
     else (if bytes_eq word (codes "backup") then option_map Backup (backup_name_of what)
     else option_and_then (asked_at word) (number_up_to 4294967295 what))))
 
 -- confirm E UPTO
-abbrev pub asked_by_three : List ℕ → List ℕ → List ℕ → Option Asked
+abbrev pub asked_by_three : List ℕ → List ℕ → List ℕ → Option Question
 asked_by_three word element upto = if bytes_eq word (codes "confirm")
-    then option_and_then (λ e. option_map (λ n. Serve (Confirm e n)) (number_of upto)) (element_of element) else None
+    then option_and_then (λ e. option_map (λ n. Serve (Confirm e n)) (request_number_of upto)) (element_of element)
+    else None
 
 -- E.N and a request
-abbrev pub request_by : List ℕ → List (List ℕ) → Option Asked
-request_by first rest =
+abbrev pub asked_by_request : List ℕ → List (List ℕ) → Option Question
+asked_by_request first rest =
     option_and_then (λ who. option_map
     (λ op. Serve (Asks (record { element = who.element; number = who.number; op = op }))) (op_in rest))
-    (waiter_of first)
+    (waiter_named first)
 
 -- what a line asks for, given its words
-abbrev pub asked_in : List (List ℕ) → Option Asked
+abbrev pub asked_in : List (List ℕ) → Option Question
 asked_in (word ∷ []) = asked_by_one word
 asked_in (word ∷ what ∷ []) = asked_by_two word what
 asked_in (word ∷ first ∷ second ∷ []) =
-    option_or (asked_by_three word first second) (request_by word (first ∷ second ∷ []))
-asked_in (word ∷ first ∷ second ∷ third ∷ []) = request_by word (first ∷ second ∷ third ∷ [])
+    option_or (asked_by_three word first second) (asked_by_request word (first ∷ second ∷ []))
+asked_in (word ∷ first ∷ second ∷ third ∷ []) = asked_by_request word (first ∷ second ∷ third ∷ [])
 asked_in _ = None
 
 -- what a line asks for, which has to be ASCII and not too long; none if it isn't in the grammar
-abbrev pub asked_of : List ℕ → Option Asked
+abbrev pub asked_of : List ℕ → Option Question
 asked_of line = if is_line line then asked_in (words_of line) else None

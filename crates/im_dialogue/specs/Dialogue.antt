@@ -22,7 +22,7 @@ PrintsThenLast was is text =
 
 -- An engine was closed, and this status was given, after this was said on it. If the status is 0, nothing is in doubt,
 -- and all answers were printed, and nothing else. The backups that were answered are kept.
-pub record Closed {D : Type 0} (watch : Bool) (now : D → Moment) (past : D → List Moment) (start : EngineState D)
+pub record TalkClosed {D : Type 0} (watch : Bool) (now : D → Moment) (past : D → List Moment) (start : EngineState D)
     (disk : D) (was is : Outputs) (status : ℕ) : Type 0 where
   pub said : List Exchange
   pub doubt : List Command
@@ -35,7 +35,7 @@ pub record Closed {D : Type 0} (watch : Bool) (now : D → Moment) (past : D →
 -- the same, if the disk is honest at the end
 abbrev pub ClosesTalk : {D : Type 0} → Ghosts D → Bool → EngineState D → D → Outputs → Outputs → ℕ → Type 0
 ClosesTalk disk watch start new was is status =
-    disk.honest new → Closed watch disk.now disk.past start new was is status
+    disk.honest new → TalkClosed watch disk.now disk.past start new was is status
 
 -- a crash leaves nothing that it couldn't leave before
 abbrev pub AddsNothing : {D : Type 0} → Ghosts D → D → D → Type 0
@@ -63,7 +63,7 @@ pub record Talked {D : Type 0} (watch : Bool) (now : D → Moment) (past : D →
 
 -- The image was not opened: a crash leaves nothing that it couldn't leave before, at most a refusal was printed, and no
 -- backup was kept.
-pub record NotOpened {D : Type 0} (now : D → Moment) (past : D → List Moment) (old new : D) (was is : Outputs)
+pub record TalkUnopened {D : Type 0} (now : D → Moment) (past : D → List Moment) (old new : D) (was is : Outputs)
     (status : ℕ) : Type 0 where
   pub status_is : status ≡ 1
   pub printed : (last : List ℕ) × (IsLast last × Begins was.text is.text last)
@@ -74,7 +74,7 @@ pub record NotOpened {D : Type 0} (now : D → Moment) (past : D → List Moment
 -- was said on it
 abbrev pub TalkedOn : {D : Type 0} → Ghosts D → Bool → D → D → Outputs → Outputs → ℕ → Type 0
 TalkedOn disk watch old new was is status = disk.honest new
-    → NotOpened disk.now disk.past old new was is status ⊎ Talked watch disk.now disk.past old new was is status
+    → TalkUnopened disk.now disk.past old new was is status ⊎ Talked watch disk.now disk.past old new was is status
 
 -- The same of a disk that is at this moment, and has no moment before it.
 pub record TalkedFrom {D : Type 0} (watch : Bool) (now : D → Moment) (past : D → List Moment) (first : Moment) (new : D)
@@ -82,7 +82,7 @@ pub record TalkedFrom {D : Type 0} (watch : Bool) (now : D → Moment) (past : D
   pub old : D
   pub was : now old ≡ first
   pub none : past old ≡ []
-  pub talked : NotOpened now past old new before after status ⊎ Talked watch now past old new before after status
+  pub talked : TalkUnopened now past old new before after status ⊎ Talked watch now past old new before after status
 
 -- it is how many slots the journal has of an image with this memory, of this many bytes
 abbrev pub CountsSlots : Contents → ℕ → ℕ → Type 0

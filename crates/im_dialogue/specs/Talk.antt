@@ -20,13 +20,13 @@ use Rattle.im_engine.specs.Run.{HasRun, MeansAfter, MeansBeginning, put_by_comma
 use Rattle.im_turning.specs.Turning.{IsSpent, Point, TurnsLead, point_of, with_one}
 use Rattle.im_text.specs.Printing.{Begins}
 use Rattle.im_checkpoint.specs.declared.checkpoint.TurnDone.{TurnDone}
-use Rattle.im_dialogue.specs.declared.asking.Asked.{Asked}
-use Rattle.im_dialogue.specs.declared.asking.Asked.TheVariants as asks
+use Rattle.im_dialogue.specs.declared.asking.Question.{Question}
+use Rattle.im_dialogue.specs.declared.asking.Question.TheVariants as asks
 use Rattle.im_script.specs.declared.faults.LineFault.{LineFault}
 use Rattle.im_dialogue.specs.declared.about.About.{About}
-use Rattle.im_dialogue.specs.declared.answers.Answer.{Answer}
-use Rattle.im_dialogue.specs.declared.answers.Answer.TheVariants.{Served, Looked, Window, Room, Turned, Count}
-use Rattle.im_dialogue.specs.declared.answers.Answer.TheVariants.{About as Facts, Backup as BackedUp, Wrong}
+use Rattle.im_dialogue.specs.declared.answers.LineAnswer.{LineAnswer}
+use Rattle.im_dialogue.specs.declared.answers.LineAnswer.TheVariants.{Served, Looked, Window, Room, Turned, Count}
+use Rattle.im_dialogue.specs.declared.answers.LineAnswer.TheVariants.{About as Facts, Backup as BackedUp, Wrong}
 use Rattle.im_dialogue.specs.declared.backups.BackupFault.{BackupFault}
 use Rattle.im_dialogue.specs.Asking.{asked_of}
 use Rattle.im_dialogue.specs.Answers.{answer_text}
@@ -36,7 +36,7 @@ use Rattle.im_dialogue.specs.Watching.{watch_text}
 -- ---- what was said
 
 -- where an engine stood as it answered: the turns since the answer before, the last first, and where they led
-pub record Stand : Type 0 where
+pub record AnswerPoint : Type 0 where
   pub turns : List TurnDone
   pub point : Point
 
@@ -44,14 +44,14 @@ pub record Stand : Type 0 where
 -- refusal, or the words for where the line goes wrong or why a backup isn't kept; and where the engine stood
 pub record Exchange : Type 0 where
   pub line : List ℕ
-  pub answer : Answer
+  pub answer : LineAnswer
   pub name : List ℕ
-  pub here : Stand
+  pub here : AnswerPoint
 
 -- what an answer says of a command: its result on this memory, or that there is no room for it in the journal, and that
 -- no turn makes any
-abbrev pub IsOf : Contents → Point → Command → Result Outcome Refusal → Type 0
-IsOf m point command answer = (answer ≡ (step m command).answer)
+abbrev pub IsOutcomeOf : Contents → Point → Command → Result Outcome Refusal → Type 0
+IsOutcomeOf m point command answer = (answer ≡ (step m command).answer)
     ⊎ ((is_accepted m command ≡ true) × ((answer ≡ Err JournalFull) × ((point.room ≡ 0) × IsSpent point)))
 
 -- what `about` says of an image with this memory, this many slots, this many accepted commands and this room
@@ -71,24 +71,24 @@ CountsIf commands (Ok count) = count ≡ commands
 CountsIf commands (Err fault) = Unit {0}
 
 -- the answer to what is asked, on this memory, after this many commands, of an engine that stands here
-abbrev pub Answers : Contents → ℕ → Stand → Option Asked → Answer → Type 0
-Answers m commands here (Some (asks.Serve command)) answer =
-    (outcome : Result Outcome Refusal) × (answer ≡ Served command outcome) × IsOf m here.point command outcome
-Answers m commands here (Some (asks.Look look)) answer = answer ≡ Looked look
-Answers m commands here (Some (asks.Window element)) answer = answer ≡ Window element (bounds m.windows element)
-Answers m commands here (Some asks.Room) answer = answer ≡ Room here.point.room
-Answers m commands here (Some asks.Turn) answer =
+abbrev pub IsAnswerTo : Contents → ℕ → AnswerPoint → Option Question → LineAnswer → Type 0
+IsAnswerTo m commands here (Some (asks.Serve command)) answer =
+    (outcome : Result Outcome Refusal) × (answer ≡ Served command outcome) × IsOutcomeOf m here.point command outcome
+IsAnswerTo m commands here (Some (asks.Look look)) answer = answer ≡ Looked look
+IsAnswerTo m commands here (Some (asks.Window element)) answer = answer ≡ Window element (bounds m.windows element)
+IsAnswerTo m commands here (Some asks.Room) answer = answer ≡ Room here.point.room
+IsAnswerTo m commands here (Some asks.Turn) answer =
     (done : TurnDone) × ((answer ≡ Turned done) × ((before : List TurnDone) × (here.turns ≡ done ∷ before)))
-Answers m commands here (Some asks.Count) answer = answer ≡ Count commands
-Answers m commands here (Some asks.About) answer =
+IsAnswerTo m commands here (Some asks.Count) answer = answer ≡ Count commands
+IsAnswerTo m commands here (Some asks.About) answer =
     (slots : ℕ) × (answer ≡ Facts (about_of m slots commands here.point.room))
-Answers m commands here (Some (asks.Backup name)) answer =
+IsAnswerTo m commands here (Some (asks.Backup name)) answer =
     (kept : Result ℕ BackupFault) × (answer ≡ BackedUp name kept) × CountsIf commands kept
-Answers m commands here (Some asks.Quit) answer = ⊥
-Answers m commands here None answer = (number : ℕ) × ((fault : LineFault) × (answer ≡ Wrong number fault))
+IsAnswerTo m commands here (Some asks.Quit) answer = ⊥
+IsAnswerTo m commands here None answer = (number : ℕ) × ((fault : LineFault) × (answer ≡ Wrong number fault))
 
 -- the command, if this answer says that it was put on the disk
-abbrev pub put_by : Contents → Answer → List Command
+abbrev pub put_by : Contents → LineAnswer → List Command
 put_by m (Served command outcome) = put_by_command m command outcome
 put_by m answer = []
 
@@ -116,7 +116,7 @@ stands_behind m p (x ∷ xs) = behind_answer (after m (put_of m xs)) x
 abbrev pub AreAnswered : Contents → Point → List Exchange → Type 0
 AreAnswered m p [] = Unit {0}
 AreAnswered m p (x ∷ xs) =
-    Answers (after m (put_of m xs)) (p.count + length (put_of m xs)) x.here (asked_of x.line) x.answer
+    IsAnswerTo (after m (put_of m xs)) (p.count + length (put_of m xs)) x.here (asked_of x.line) x.answer
     × (TurnsLead x.here.turns (stands_behind m p xs) x.here.point × AreAnswered m p xs)
 
 -- the lines that were answered on this memory, one below the other; if the dialogue is watched, each is followed by the
@@ -127,12 +127,12 @@ texts_of watch m (x ∷ xs) = texts_of watch m xs
     ++ (answer_text x.name (after m (put_of m xs)) x.answer ++ watch_text watch (after m (put_of m xs)) x.answer)
 
 -- the backup that an answer on this memory says is kept
-abbrev pub backup_by : Contents → Answer → List Backup
+abbrev pub backup_by : Contents → LineAnswer → List Backup
 backup_by m (BackedUp name (Ok count)) = record { name = bytes_of name; memory = m; count = count } ∷ []
 backup_by m answer = []
 
 -- an answer says of no backup that it is kept
-abbrev pub KeepsNone : Answer → Type 0
+abbrev pub KeepsNone : LineAnswer → Type 0
 KeepsNone answer = (m : Contents) → backup_by m answer ≡ []
 
 -- the backups that were kept, given what was said, the last first; each is of the memory after what was put before it
@@ -190,9 +190,9 @@ Ended now past honest start disk said =
     × ((doubt : List Command) × (length doubt ≤ MAX_GROUP) × HasEnded now past start disk said doubt)
 
 -- nothing more was said
-abbrev pub GoesOn : {D : Type 0} → (D → Moment) → (D → List Moment) → (D → Type 0) → EngineState D → EngineState D
+abbrev pub SaysNothing : {D : Type 0} → (D → Moment) → (D → List Moment) → (D → Type 0) → EngineState D → EngineState D
     → Type 0
-GoesOn {D} now past honest old new =
+SaysNothing {D} now past honest old new =
     (start : EngineState D) (said : List Exchange) → Going now past honest start old said
     → Going now past honest start new said
 
@@ -204,43 +204,44 @@ Halts {D} now past honest old new =
     → Ended now past honest start new.disk said
 
 -- a line with this answer and this name of a refusal was said where the engine stood here
-abbrev pub exchange_at : List ℕ → Answer → List ℕ → Stand → Exchange
+abbrev pub exchange_at : List ℕ → LineAnswer → List ℕ → AnswerPoint → Exchange
 exchange_at line answer name here = record { line = line; answer = answer; name = name; here = here }
 
 -- this was asked and answered, if a line asks so
-abbrev pub Says : {D : Type 0} → (D → Moment) → (D → List Moment) → (D → Type 0) → EngineState D → EngineState D
-    → Option Asked → Answer → Type 0
-Says {D} now past honest old new asked answer =
+abbrev pub SaysLine : {D : Type 0} → (D → Moment) → (D → List Moment) → (D → Type 0) → EngineState D → EngineState D
+    → Option Question → LineAnswer → Type 0
+SaysLine {D} now past honest old new asked answer =
     (start : EngineState D) (said : List Exchange) (line name : List ℕ) → asked_of line ≡ asked
     → Going now past honest start old said → honest new.disk → honest start.disk
-    × ((here : Stand) × IsAt now past start new (exchange_at line answer name here ∷ said))
+    × ((here : AnswerPoint) × IsAt now past start new (exchange_at line answer name here ∷ said))
 
 -- this was asked and answered, and the engine is as it was
-abbrev pub SaysNow : {D : Type 0} → Ghosts D → EngineState D → Option Asked → Answer → Type 0
-SaysNow disk engine asked answer = Says disk.now disk.past disk.honest engine engine asked answer
+abbrev pub SaysNow : {D : Type 0} → Ghosts D → EngineState D → Option Question → LineAnswer → Type 0
+SaysNow disk engine asked answer = SaysLine disk.now disk.past disk.honest engine engine asked answer
 
 -- what a call comes to that answers nothing: nothing more was said, or it was ended
 abbrev pub GoesOrHalts : {D T E : Type 0} → Ghosts D → EngineState D → EngineState D → Result T E → Type 0
-GoesOrHalts disk old new result = MatchResult result (λ done. GoesOn disk.now disk.past disk.honest old new)
+GoesOrHalts disk old new result = MatchResult result (λ done. SaysNothing disk.now disk.past disk.honest old new)
     (λ e. Halts disk.now disk.past disk.honest old new)
 
 -- what a call comes to that does what is asked: it was answered, or it was ended
-abbrev pub SaysOrHalts : {D E : Type 0} → Ghosts D → EngineState D → EngineState D → Option Asked → Result Answer E
+abbrev pub SaysOrHalts : {D E : Type 0} → Ghosts D → EngineState D → EngineState D → Option Question
+    → Result LineAnswer E
     → Type 0
 SaysOrHalts disk old new asked result = MatchResult result
-    (λ answer. Says disk.now disk.past disk.honest old new asked answer)
+    (λ answer. SaysLine disk.now disk.past disk.honest old new asked answer)
     (λ e. Halts disk.now disk.past disk.honest old new)
 
 -- the same of a call that may also be asked for the end; that has no answer, and changes nothing
-abbrev pub AnswersOrHalts : {D E : Type 0} → Ghosts D → EngineState D → EngineState D → Asked
-    → Result (Option Answer) E → Type 0
+abbrev pub AnswersOrHalts : {D E : Type 0} → Ghosts D → EngineState D → EngineState D → Question
+    → Result (Option LineAnswer) E → Type 0
 AnswersOrHalts disk old new asked result = MatchResult result
     (λ given. MatchOption given ((asked ≡ asks.Quit) × (new ≡ old))
-    (λ answer. Says disk.now disk.past disk.honest old new (Some asked) answer))
+    (λ answer. SaysLine disk.now disk.past disk.honest old new (Some asked) answer))
     (λ e. Halts disk.now disk.past disk.honest old new)
 
 -- besides the backups that were kept, exactly the one is kept that was answered on this memory
-abbrev pub KeepsAnswered : {E : Type 0} → Contents → List Backup → List Backup → Result (Option Answer) E → Type 0
+abbrev pub KeepsAnswered : {E : Type 0} → Contents → List Backup → List Backup → Result (Option LineAnswer) E → Type 0
 KeepsAnswered m was is result = MatchResult result
     (λ given. MatchOption given (is ≡ was) (λ answer. is ≡ backup_by m answer ++ was)) (λ e. is ≡ was)
 
@@ -248,7 +249,7 @@ KeepsAnswered m was is result = MatchResult result
 
 -- what a call comes to that prints the line of an answer on this memory, and what is told behind it: all of the line
 -- was printed, or a prefix of it
-abbrev pub PrintsAnswer : {T E : Type 0} → Option (List ℕ) → Option (List ℕ) → Contents → Answer → List ℕ
+abbrev pub PrintsAnswer : {T E : Type 0} → Option (List ℕ) → Option (List ℕ) → Contents → LineAnswer → List ℕ
     → Result T E → Type 0
 PrintsAnswer was is m answer nows result = MatchResult result
     (λ done. (name : List ℕ) × Appends was is (answer_text name m answer ++ nows))
@@ -322,7 +323,8 @@ TalksThrough disk watch old was new is result = MatchResult result
     → TalkEnds watch disk.now disk.past disk.honest old (outputs was backups) new (outputs is backups))
 
 -- what a call comes to that does what a line asks, if a line asks so
-abbrev pub TalksAsked : {D T E : Type 0} → Ghosts D → Bool → Asked → EngineState D → Outputs → EngineState D → Outputs
+abbrev pub TalksAsked : {D T E : Type 0} → Ghosts D → Bool → Question → EngineState D → Outputs → EngineState D
+    → Outputs
     → Result T E → Type 0
 TalksAsked disk watch asked old was new is result = (line : List ℕ) → asked_of line ≡ Some asked
     → TalksWith disk watch old was new is result

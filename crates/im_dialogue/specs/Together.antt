@@ -12,10 +12,10 @@ use Rattle.im_types.specs.declared.refusals.Refusal.TheVariants.{NoMemory}
 use Rattle.im_types.specs.Contents.{Contents}
 use Rattle.im_groups.specs.Commands.{places, answer_with, commands_at, contents_after, left_after}
 use Rattle.im_engine.specs.State.{EngineState}
-use Rattle.im_dialogue.specs.declared.asking.Asked.{Asked}
-use Rattle.im_dialogue.specs.declared.asking.Asked.TheVariants as asks
-use Rattle.im_dialogue.specs.declared.answers.Answer.{Answer}
-use Rattle.im_dialogue.specs.declared.answers.Answer.TheVariants as answer
+use Rattle.im_dialogue.specs.declared.asking.Question.{Question}
+use Rattle.im_dialogue.specs.declared.asking.Question.TheVariants as asks
+use Rattle.im_dialogue.specs.declared.answers.LineAnswer.{LineAnswer}
+use Rattle.im_dialogue.specs.declared.answers.LineAnswer.TheVariants as answer
 use Rattle.im_dialogue.specs.declared.group_line.GroupLine.{GroupLine}
 use Rattle.im_dialogue.specs.declared.group_line.GroupLine.TheVariants.{Member, Look, Known}
 use Rattle.im_dialogue.specs.Answers.{answer_text}
@@ -23,25 +23,25 @@ use Rattle.im_dialogue.specs.Asking.{asked_of}
 use Rattle.im_dialogue.specs.Looks.{may_alter}
 use Rattle.im_checkpoint.specs.declared.checkpoint.TurnDone.{TurnDone}
 use Rattle.im_turning.specs.Turning.{Point, point_of}
-use Rattle.im_dialogue.specs.Talk.{Answers, KeepsNone, point_behind, put_by}
+use Rattle.im_dialogue.specs.Talk.{IsAnswerTo, KeepsNone, point_behind, put_by}
 use Rattle.im_dialogue.specs.Watching.{told_with, watch_text}
 
 -- ---- what lines ask for
 
 -- a line asks for this
-abbrev pub IsAsked : Asked → Type 0
-IsAsked asked = (line : List ℕ) × (asked_of line ≡ Some asked)
+abbrev pub LineAsksFor : Question → Type 0
+LineAsksFor asked = (line : List ℕ) × (asked_of line ≡ Some asked)
 
 -- a line asks for each of these
-abbrev pub AreAsked : List Asked → Type 0
+abbrev pub AreAsked : List Question → Type 0
 AreAsked [] = Unit {0}
-AreAsked (first ∷ others) = IsAsked first × AreAsked others
+AreAsked (first ∷ others) = LineAsksFor first × AreAsked others
 
 -- what a member of a group was answered
-abbrev pub result_of : Served → Result Outcome Refusal
-result_of (served.Done outcome) = Ok outcome
-result_of (served.Refused refusal) = Err refusal
-result_of served.Unserved = Err NoMemory
+abbrev pub member_result : Served → Result Outcome Refusal
+member_result (served.Done outcome) = Ok outcome
+member_result (served.Refused refusal) = Err refusal
+member_result served.Unserved = Err NoMemory
 
 -- ---- the memory between two members
 
@@ -103,20 +103,20 @@ LeavesShown m ahead shown (Known answer) = Unit {0}
 
 -- what is asked has this answer on this memory, after this many commands, at this point, and nothing is put on the
 -- disk, told or kept for it
-pub record IsKnown (m : Contents) (commands : ℕ) (point : Point) (asked : Asked) (answer : Answer) : Type 0 where
+pub record IsKnown (m : Contents) (commands : ℕ) (point : Point) (asked : Question) (answer : LineAnswer) : Type 0 where
   pub answers : (turns : List TurnDone)
-      → Answers m commands (record { turns = turns; point = point }) (Some asked) answer
+      → IsAnswerTo m commands (record { turns = turns; point = point }) (Some asked) answer
   pub puts : (any : Contents) → put_by any answer ≡ []
   pub tells : (watch : Bool) (any : Contents) → watch_text watch any answer ≡ []
   pub keeps : KeepsNone answer
 
 -- the same behind these members
-abbrev pub IsKnownBehind : GroupStart → List Command → Asked → Answer → Type 0
+abbrev pub IsKnownBehind : GroupStart → List Command → Question → LineAnswer → Type 0
 IsKnownBehind b ahead asked answer =
     IsKnown (memory_between b ahead) (count_between b ahead) (point_between b ahead) asked answer
 
 -- the line of an answer is the same on each memory
-abbrev pub IsPlain : Answer → Type 0
+abbrev pub IsPlain : LineAnswer → Type 0
 IsPlain answer = (name : List ℕ) (m n : Contents) → answer_text name m answer ≡ answer_text name n answer
 
 -- the text is what those that watch are told behind the answer of a command, which stands behind these members
@@ -128,10 +128,10 @@ TellsWatchers watch b ahead command text = (outcome : Result Outcome Refusal)
 
 -- a line stands as this part behind these members, with this text for those that watch
 abbrev pub IsGroupLine : Bool → GroupStart → List Command → GroupLine → List ℕ → Type 0
-IsGroupLine watch b ahead (Member command) text = IsAsked (asks.Serve command)
+IsGroupLine watch b ahead (Member command) text = LineAsksFor (asks.Serve command)
     × TellsWatchers watch b ahead command text
-IsGroupLine watch b ahead (Look look) text = IsAsked (asks.Look look) × (text ≡ [])
-IsGroupLine watch b ahead (Known given) text = ((asked : Asked) × IsAsked asked
+IsGroupLine watch b ahead (Look look) text = LineAsksFor (asks.Look look) × (text ≡ [])
+IsGroupLine watch b ahead (Known given) text = ((asked : Question) × LineAsksFor asked
     × IsKnownBehind b ahead asked given) × (IsPlain given × (text ≡ []))
 
 -- the parts may stand so behind these members and parts
@@ -160,9 +160,9 @@ pub record MayStandNext (watch : Bool) (b : GroupStart) (members : List Command)
 -- ---- the answers
 
 -- the answer to a part: a member's is the first of those that are left
-abbrev pub line_answer : List Served → GroupLine → Option Answer
+abbrev pub line_answer : List Served → GroupLine → Option LineAnswer
 line_answer [] (Member command) = None
-line_answer (first ∷ others) (Member command) = Some (answer.Served command (result_of first))
+line_answer (first ∷ others) (Member command) = Some (answer.Served command (member_result first))
 line_answer answers (Look look) = Some (answer.Looked look)
 line_answer answers (Known given) = Some given
 

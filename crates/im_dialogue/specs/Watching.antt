@@ -12,10 +12,10 @@ use Rattle.im_types.specs.Contents.{Contents, Held}
 use Rattle.im_types.specs.Act.{act, same_kind}
 use Rattle.im_types.specs.Step.{asker, is_accepted}
 use Rattle.im_text.specs.Printing.{now_line}
-use Rattle.im_dialogue.specs.declared.asking.Asked.{Asked}
-use Rattle.im_dialogue.specs.declared.asking.Asked.TheVariants as asks
-use Rattle.im_dialogue.specs.declared.answers.Answer.{Answer}
-use Rattle.im_dialogue.specs.declared.answers.Answer.TheVariants.{Served}
+use Rattle.im_dialogue.specs.declared.asking.Question.{Question}
+use Rattle.im_dialogue.specs.declared.asking.Question.TheVariants as asks
+use Rattle.im_dialogue.specs.declared.answers.LineAnswer.{LineAnswer}
+use Rattle.im_dialogue.specs.declared.answers.LineAnswer.TheVariants.{Served}
 
 -- E.N now REPLY: the answer to a request that waited
 abbrev pub told_now : Waiter × Reply → List ℕ
@@ -33,7 +33,7 @@ resumed_by m (Asks r) = if is_accepted m (Asks r) then (act m.cells (asker r) r.
 resumed_by m (Confirm element upto) = []
 
 -- what is told after the answer to a line, if the dialogue is watched
-abbrev pub watch_text : Bool → Contents → Answer → List ℕ
+abbrev pub watch_text : Bool → Contents → LineAnswer → List ℕ
 watch_text watch m (Served command (Ok outcome)) = if watch then nows_text (resumed_by m command) else []
 watch_text watch m answer = []
 
@@ -51,12 +51,12 @@ answers_nobody (Confirm element upto) = true
 -- ---- as it is made
 
 -- what a command will tell those that watch, if it is put on the disk
-abbrev pub told_by : Bool → Contents → Option Asked → List ℕ
+abbrev pub told_by : Bool → Contents → Option Question → List ℕ
 told_by watch m (Some (asks.Serve command)) = if watch then nows_text (resumed_by m command) else []
 told_by watch m asked = []
 
 -- how much of it is told, given the line's answer
-abbrev pub told_with : Answer → List ℕ → List ℕ
+abbrev pub told_with : LineAnswer → List ℕ → List ℕ
 told_with (Served command (Ok outcome)) nows = nows
 told_with answer nows = []
 

@@ -21,7 +21,7 @@ use std::alloc::AllocError;
 
 /// The answer to a line of a dialogue.
 #[derive(Clone, Copy, Debug, PartialEq, Eq)]
-pub enum Answer {
+pub enum LineAnswer {
     /// To a command: its outcome or its refusal.
     Served(Command, Result<Outcome, Refusal>),
     /// To a line that only looks: what the memory shows.
@@ -42,13 +42,13 @@ pub enum Answer {
     Wrong(u64, LineFault),
 }
 
-impl Answer {
+impl LineAnswer {
     /// Returns the refusal of the answer on this memory, if it is one.
     pub fn refusal(&self, memory: &Memory) -> Option<Refusal> {
         match *self {
-            Answer::Served(_, Err(refusal)) => Some(refusal),
-            Answer::Looked(look) => look_refused(memory, look),
-            Answer::Window(_, Err(refusal)) => Some(refusal),
+            LineAnswer::Served(_, Err(refusal)) => Some(refusal),
+            LineAnswer::Looked(look) => look_refused(memory, look),
+            LineAnswer::Window(_, Err(refusal)) => Some(refusal),
             _ => None,
         }
     }
@@ -259,24 +259,24 @@ fn add_wrong(out: &mut String, number: u64, words: &str) -> Result<(), AllocErro
 pub fn add_answer(
     out: &mut String,
     memory: &Memory,
-    answer: Answer,
+    answer: LineAnswer,
     name: &str,
 ) -> Result<(), AllocError>
     ensures { OnOk result (string_bytes out.new
         ≡ string_bytes out.old ++ answer_text name.now memory.now.contents answer) }
 {
     match answer {
-        Answer::Served(command, answer) => add_served(out, command, answer, name),
-        Answer::Looked(look) => add_look(out, memory, look, name),
-        Answer::Window(element, answer) => add_window(out, element, answer, name),
-        Answer::Room(room) => write!(out, "room {room}\n"),
-        Answer::Turned(done) => {
+        LineAnswer::Served(command, answer) => add_served(out, command, answer, name),
+        LineAnswer::Looked(look) => add_look(out, memory, look, name),
+        LineAnswer::Window(element, answer) => add_window(out, element, answer, name),
+        LineAnswer::Room(room) => write!(out, "room {room}\n"),
+        LineAnswer::Turned(done) => {
             add_turn(out, done)?;
             out.push_str("\n")
         }
-        Answer::Count(count) => write!(out, "count {count}\n"),
-        Answer::About(about) => add_about(out, about),
-        Answer::Backup(backup, kept) => add_backup(out, backup, kept, name),
-        Answer::Wrong(number, _) => add_wrong(out, number, name),
+        LineAnswer::Count(count) => write!(out, "count {count}\n"),
+        LineAnswer::About(about) => add_about(out, about),
+        LineAnswer::Backup(backup, kept) => add_backup(out, backup, kept, name),
+        LineAnswer::Wrong(number, _) => add_wrong(out, number, name),
     }
 }

@@ -1,13 +1,14 @@
 //! What a line asks for.
 ghost use Rattle.std.specs.Prelude.{◌≡◌, ◌==◌, ◌∷◌, [], IfOk};
 ghost use Rattle.im_types.specs.declared.commands.Command.TheVariants.{Request as Asks};
-ghost use Rattle.im_dialogue.specs.declared.asking.Asked.TheVariants.{Backup, Look as Looks, Serve, Window};
+ghost use Rattle.im_dialogue.specs.declared.asking.Question.TheVariants.{Backup, Look as Looks, Serve, Window};
 ghost use Rattle.im_dialogue.specs.declared.look.Look.TheVariants.{Collect, Entry};
 ghost use Rattle.std.specs.List.{slice_split};
 ghost use Rattle.std.specs.Option.{option_and_then, option_map, option_or};
 ghost use Rattle.im_script.specs.Grammar.{texts, words_of};
 ghost use Rattle.im_dialogue.specs.Asking.{asked_at, asked_by_one, asked_by_three, asked_by_two, asked_in, asked_of};
-ghost use Rattle.im_dialogue.specs.Asking.{element_of, number_of, op_in, request_by, waiter_by, waiter_in, waiter_of};
+ghost use Rattle.im_dialogue.specs.Asking.{asked_by_request, element_of, op_in, request_number_of};
+ghost use Rattle.im_dialogue.specs.Asking.{waiter_by, waiter_from, waiter_named};
 ghost use Rattle.im_dialogue.specs.Backups.{backup_name_of};
 
 use crate::backup_name::BackupName;
@@ -19,7 +20,7 @@ use std::alloc::{AllocError, Global};
 
 /// What a line of a dialogue asks for.
 #[derive(Clone, Copy, Debug, PartialEq, Eq)]
-pub enum Asked {
+pub enum Question {
     /// `E.N` and a request, or `confirm E UPTO`: a command is served.
     Serve(Command),
     /// A line that only looks: what the memory shows.
@@ -52,7 +53,7 @@ pub(crate) fn read_element(word: &[u8]) -> Option<u16>
 
 // Reads an element and a number, given their words.
 fn read_pair(element: &[u8], number: &[u8]) -> Option<Waiter>
-    ensures { result ≡ waiter_in element.now number.now }
+    ensures { result ≡ waiter_from element.now number.now }
 {
     Some(Waiter {
         element: read_element(element)?,
@@ -79,7 +80,7 @@ fn read_parts(parts: &[&[u8]]) -> Option<Waiter>
 
 // Reads E.N.
 pub(crate) fn read_waiter(alloc: Global, word: &[u8]) -> Result<Option<Waiter>, AllocError>
-    ensures { IfOk result (λ who. who ≡ waiter_of word.now) }
+    ensures { IfOk result (λ who. who ≡ waiter_named word.now) }
 {
     let parts = split_dots(alloc, word)?;
     Ok(read_parts(parts.as_slice()))
@@ -94,84 +95,84 @@ fn read_op(alloc: Global, words: &[&[u8]]) -> Option<Op>
 }
 
 // Reads a line of one word.
-pub(crate) fn read_one(word: &[u8]) -> Option<Asked>
+pub(crate) fn read_one(word: &[u8]) -> Option<Question>
     ensures { result ≡ asked_by_one word.now }
 {
     if word == b"room".as_slice() {
-        Some(Asked::Room)
+        Some(Question::Room)
     } else if word == b"turn".as_slice() {
-        Some(Asked::Turn)
+        Some(Question::Turn)
     } else if word == b"count".as_slice() {
-        Some(Asked::Count)
+        Some(Question::Count)
     } else if word == b"about".as_slice() {
-        Some(Asked::About)
+        Some(Question::About)
     } else if word == b"stat".as_slice() {
-        Some(Asked::Look(Look::Stat))
+        Some(Question::Look(Look::Stat))
     } else if word == b"help".as_slice() {
-        Some(Asked::Look(Look::Help))
+        Some(Question::Look(Look::Help))
     } else if word == b"quit".as_slice() {
-        Some(Asked::Quit)
+        Some(Question::Quit)
     } else {
         None
     }
 }
 
 // Asks for the window of an element.
-fn read_window(element: &[u8]) -> Option<Asked>
+fn read_window(element: &[u8]) -> Option<Question>
     ensures { result ≡ option_map Window (element_of element.now) }
 {
     match read_element(element) {
-        Some(element) => Some(Asked::Window(element)),
+        Some(element) => Some(Question::Window(element)),
         None => None,
     }
 }
 
 // Asks for a backup under a name.
-fn read_backup(name: &[u8]) -> Option<Asked>
+fn read_backup(name: &[u8]) -> Option<Question>
     ensures { result ≡ option_map Backup (backup_name_of name.now) }
 {
     match BackupName::read(name) {
-        Some(name) => Some(Asked::Backup(name)),
+        Some(name) => Some(Question::Backup(name)),
         None => None,
     }
 }
 
 // Asks what is kept for a request.
-fn ask_collect(who: Option<Waiter>) -> Option<Asked>
+fn ask_collect(who: Option<Waiter>) -> Option<Question>
     ensures { result ≡ option_map (λ w. Looks (Collect w)) who }
 {
     match who {
-        Some(who) => Some(Asked::Look(Look::Collect(who))),
+        Some(who) => Some(Question::Look(Look::Collect(who))),
         None => None,
     }
 }
 
 // Asks for a request, and what is kept for it.
-fn ask_entry(who: Option<Waiter>) -> Option<Asked>
+fn ask_entry(who: Option<Waiter>) -> Option<Question>
     ensures { result ≡ option_map (λ w. Looks (Entry w)) who }
 {
     match who {
-        Some(who) => Some(Asked::Look(Look::Entry(who))),
+        Some(who) => Some(Question::Look(Look::Entry(who))),
         None => None,
     }
 }
 
 // Asks for what is at an address.
-fn ask_at(word: &[u8], a: Option<u32>) -> Option<Asked>
+fn ask_at(word: &[u8], a: Option<u32>) -> Option<Question>
     ensures { result ≡ option_and_then (asked_at word.now) a }
 {
     let a = a?;
     if word == b"cell".as_slice() {
-        Some(Asked::Look(Look::Cell(a)))
+        Some(Question::Look(Look::Cell(a)))
     } else if word == b"block".as_slice() {
-        Some(Asked::Look(Look::Block(a)))
+        Some(Question::Look(Look::Block(a)))
     } else {
         None
     }
 }
 
 // Reads a line of two words.
-fn read_two(alloc: Global, word: &[u8], what: &[u8]) -> Result<Option<Asked>, AllocError>
+fn read_two(alloc: Global, word: &[u8], what: &[u8]) -> Result<Option<Question>, AllocError>
     ensures { IfOk result (λ asked. asked ≡ asked_by_two word.now what.now) }
 {
     if word == b"collect".as_slice() {
@@ -190,7 +191,7 @@ fn read_two(alloc: Global, word: &[u8], what: &[u8]) -> Result<Option<Asked>, Al
 }
 
 // Reads a confirmation.
-fn read_confirm(word: &[u8], element: &[u8], upto: &[u8]) -> Option<Asked>
+fn read_confirm(word: &[u8], element: &[u8], upto: &[u8]) -> Option<Question>
     ensures { result ≡ asked_by_three word.now element.now upto.now }
 {
     if word != b"confirm".as_slice() {
@@ -198,11 +199,11 @@ fn read_confirm(word: &[u8], element: &[u8], upto: &[u8]) -> Option<Asked>
     }
     let element = read_element(element)?;
     let upto = read_number(upto, u64::MAX)?;
-    Some(Asked::Serve(Command::Confirm { element, upto }))
+    Some(Question::Serve(Command::Confirm { element, upto }))
 }
 
 // Asks for a request, given who asks and the operation.
-fn ask_request(who: Option<Waiter>, op: Option<Op>) -> Option<Asked>
+fn ask_request(who: Option<Waiter>, op: Option<Op>) -> Option<Question>
     ensures { result ≡ option_and_then (λ w. option_map (λ o. Serve (Asks (record {
       element = w.element;
       number = w.number;
@@ -211,7 +212,7 @@ fn ask_request(who: Option<Waiter>, op: Option<Op>) -> Option<Asked>
 {
     let who = who?;
     let op = op?;
-    Some(Asked::Serve(Command::Request(Request {
+    Some(Question::Serve(Command::Request(Request {
         element: who.element,
         number: who.number,
         op,
@@ -219,8 +220,8 @@ fn ask_request(who: Option<Waiter>, op: Option<Op>) -> Option<Asked>
 }
 
 // Reads a request.
-fn read_request(alloc: Global, first: &[u8], rest: &[&[u8]]) -> Result<Option<Asked>, AllocError>
-    ensures { IfOk result (λ asked. asked ≡ request_by first.now (texts rest.now)) }
+fn read_request(alloc: Global, first: &[u8], rest: &[&[u8]]) -> Result<Option<Question>, AllocError>
+    ensures { IfOk result (λ asked. asked ≡ asked_by_request first.now (texts rest.now)) }
 {
     let who = read_waiter(alloc, first)?;
     Ok(ask_request(who, read_op(alloc, rest)))
@@ -232,9 +233,9 @@ fn read_three(
     word: &[u8],
     first: &[u8],
     second: &[u8],
-) -> Result<Option<Asked>, AllocError>
+) -> Result<Option<Question>, AllocError>
     ensures { IfOk result (λ asked. asked ≡ option_or (asked_by_three word.now first.now second.now)
-        (request_by word.now (first.now ∷ second.now ∷ []))) }
+        (asked_by_request word.now (first.now ∷ second.now ∷ []))) }
 {
     match read_confirm(word, first, second) {
         Some(asked) => Ok(Some(asked)),
@@ -243,7 +244,7 @@ fn read_three(
 }
 
 // Reads a line, given its words.
-fn read_words(alloc: Global, words: &[&[u8]]) -> Result<Option<Asked>, AllocError>
+fn read_words(alloc: Global, words: &[&[u8]]) -> Result<Option<Question>, AllocError>
     ensures { IfOk result (λ asked. asked ≡ asked_in (texts words.now)) }
 {
     match words {
@@ -259,7 +260,7 @@ fn read_words(alloc: Global, words: &[&[u8]]) -> Result<Option<Asked>, AllocErro
 
 /// Reads what a line, given without its line feed, asks for. Returns `None` if the line isn't in the grammar or has
 /// more than 4,096 bytes. The only error is a growth that `alloc` refused; nothing is left of it.
-pub fn read_asked(alloc: Global, line: &[u8]) -> Result<Option<Asked>, AllocError>
+pub fn read_asked(alloc: Global, line: &[u8]) -> Result<Option<Question>, AllocError>
     ensures { IfOk result (λ asked. asked ≡ asked_of line.now) }
 {
     if !is_line(line) {

@@ -1,6 +1,6 @@
 //! What a line of a group is.
 
-use crate::answers::Answer;
+use crate::answers::LineAnswer;
 use crate::look::Look;
 use im_types::Command;
 
@@ -12,5 +12,5 @@ pub(crate) enum GroupLine {
     /// A line that only looks, which is answered behind the group.
     Look(Look),
     /// A line whose answer was known before the group acted.
-    Known(Answer),
+    Known(LineAnswer),
 }

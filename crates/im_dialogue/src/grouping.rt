@@ -7,11 +7,11 @@ ghost use Rattle.std.specs.Prelude.{◌≡◌, ◌≤◌, ◌++◌, [], ◌∷�
 ghost use Rattle.std.specs.Prelude.{string_bytes};
 ghost use Rattle.std.specs.List.{list_any};
 ghost use Rattle.im_types.specs.declared.TheConstants.{MAX_GROUP};
-ghost use Rattle.im_dialogue.specs.Together.{AreAsked, GroupStart, IsAsked, MayBeServed, MayStandNext, TellsWatchers};
-ghost use Rattle.im_dialogue.specs.Together.{disturbs, group_start, with_member};
+ghost use Rattle.im_dialogue.specs.Together.{AreAsked, GroupStart, LineAsksFor, MayBeServed, MayStandNext};
+ghost use Rattle.im_dialogue.specs.Together.{TellsWatchers, disturbs, group_start, with_member};
 ghost use Rattle.im_dialogue.specs.Watching.{answers_nobody};
 
-use crate::asking::Asked;
+use crate::asking::Question;
 use crate::group_line::GroupLine;
 use crate::known::known;
 use crate::looks::{is_first, may_alter};
@@ -119,7 +119,7 @@ fn member(
     command: Command,
     now: &mut String,
 ) -> Result<Option<GroupLine>, AllocError>
-    requires asked { IsAsked (Asked.Serve command) }
+    requires asked { LineAsksFor (Question.Serve command) }
     requires empty { string_bytes now.old ≡ [] }
     ensures { IfOk result (λ found. IfSome found (λ part. (b : GroupStart) → b.memory ≡ memory.now.contents
         → MayStandNext watch b group.now.members.items group.now.parts.items part (string_bytes now.new))) }
@@ -147,18 +147,18 @@ fn part_of<D: Disk>(
     engine: &Engine<D>,
     setting: Setting,
     group: &Gathered,
-    asked: Asked,
+    asked: Question,
     now: &mut String,
 ) -> Result<Option<GroupLine>, AllocError>
-    requires asked { IsAsked asked }
+    requires asked { LineAsksFor asked }
     requires empty { string_bytes now.old ≡ [] }
     requires few { length group.now.members.items ≤ MAX_GROUP }
     ensures { IfOk result (λ found. IfSome found (λ part. MayStandNext setting.watch (group_start engine.now)
         group.now.members.items group.now.parts.items part (string_bytes now.new))) }
 {
     match asked {
-        Asked::Serve(command) => member(engine.memory(), setting.watch, group, command, now),
-        Asked::Look(look) => Ok(Some(GroupLine::Look(look))),
+        Question::Serve(command) => member(engine.memory(), setting.watch, group, command, now),
+        Question::Look(look) => Ok(Some(GroupLine::Look(look))),
         _ => Ok(known(engine, setting.slots, group.members.as_slice(), asked)),
     }
 }
@@ -194,10 +194,10 @@ fn take_part<D: Disk>(
     alloc: Global,
     engine: &Engine<D>,
     setting: Setting,
-    asked: Asked,
+    asked: Question,
     group: &mut Gathered,
 ) -> Result<bool, AllocError>
-    requires asked { IsAsked asked }
+    requires asked { LineAsksFor asked }
     requires group { MayBeServed setting.watch (group_start engine.now)
         group.old.parts.items (map string_bytes group.old.nows.items) group.old.members.items }
     ensures { OnOk result (MayBeServed setting.watch (group_start engine.now)
@@ -221,7 +221,7 @@ pub(crate) fn take_parts<D: Disk>(
     alloc: Global,
     engine: &Engine<D>,
     setting: Setting,
-    asked: &[Asked],
+    asked: &[Question],
     group: &mut Gathered,
 ) -> Result<(), AllocError>
     requires asked { AreAsked asked.now }

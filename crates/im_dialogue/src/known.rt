@@ -7,11 +7,11 @@ ghost use Rattle.im_groups.specs.Ahead.{bounds_behind, moved_by};
 ghost use Rattle.im_engine.specs.Commands.{commands_put};
 ghost use Rattle.im_turning.specs.Turning.{point_of};
 ghost use Rattle.im_dialogue.specs.Talk.{about_of, point_behind};
-ghost use Rattle.im_dialogue.specs.Together.{IsAsked, IsKnownBehind, IsPlain, MayStandNext, group_start};
+ghost use Rattle.im_dialogue.specs.Together.{LineAsksFor, IsKnownBehind, IsPlain, MayStandNext, group_start};
 
 use crate::about::About;
-use crate::answers::Answer;
-use crate::asking::Asked;
+use crate::answers::LineAnswer;
+use crate::asking::Question;
 use crate::group_line::GroupLine;
 use arrayvec::ArrayVec;
 use im_disk::Disk;
@@ -132,7 +132,12 @@ fn about_behind<D: Disk>(engine: &Engine<D>, slots: u32, put: u32) -> About
 
 // Returns the answer to a line behind these commands, which are put on the disk before it, if it asks for an element's
 // window or for counts.
-fn shown<D: Disk>(engine: &Engine<D>, slots: u32, put: &[Command], asked: Asked) -> Option<Answer>
+fn shown<D: Disk>(
+    engine: &Engine<D>,
+    slots: u32,
+    put: &[Command],
+    asked: Question,
+) -> Option<LineAnswer>
     requires few { length put.now ≤ MAX_GROUP }
     requires within { length put.now ≤ LAST - engine.now.count }
     ensures answer { IfSome result (λ answer. (ahead : List Command) → put.now ≡ commands_put engine.now ahead
@@ -141,13 +146,13 @@ fn shown<D: Disk>(engine: &Engine<D>, slots: u32, put: &[Command], asked: Asked)
 {
     let many = put.len() as u32;
     match asked {
-        Asked::Window(element) => Some(Answer::Window(
+        Question::Window(element) => Some(LineAnswer::Window(
             element,
             window_behind(engine.memory(), put, element),
         )),
-        Asked::Room => Some(Answer::Room(room_behind(engine, many))),
-        Asked::Count => Some(Answer::Count(count_behind(engine, many))),
-        Asked::About => Some(Answer::About(about_behind(engine, slots, many))),
+        Question::Room => Some(LineAnswer::Room(room_behind(engine, many))),
+        Question::Count => Some(LineAnswer::Count(count_behind(engine, many))),
+        Question::About => Some(LineAnswer::About(about_behind(engine, slots, many))),
         _ => None,
     }
 }
@@ -157,10 +162,10 @@ pub(crate) fn known<D: Disk>(
     engine: &Engine<D>,
     slots: u32,
     ahead: &[Command],
-    asked: Asked,
+    asked: Question,
 ) -> Option<GroupLine>
     requires fits { length ahead.now ≤ MAX_GROUP }
-    requires asked { IsAsked asked }
+    requires asked { LineAsksFor asked }
     ensures { IfSome result (λ part. (watch : Bool) (shown : List GroupLine)
         → MayStandNext watch (group_start engine.now) ahead.now shown part []) }
 {

@@ -27,8 +27,8 @@ mod together;
 mod watching;
 
 pub use about::About;
-pub use answers::{Answer, add_answer};
-pub use asking::{Asked, read_asked};
+pub use answers::{LineAnswer, add_answer};
+pub use asking::{Question, read_asked};
 pub use backup_name::BackupName;
 pub use backups::{BackupFault, Backups, NoBackups};
 pub use dialogue::dialogue_on;

@@ -12,7 +12,7 @@ pub(crate) const KEPT: usize = MAX_LINE + 1;
 
 // What was read of a line.
 #[derive(Clone, Copy, PartialEq, Eq)]
-enum Part {
+enum LinePart {
     // Bytes of it, and more may come.
     More,
     // The rest of it, with its line feed.
@@ -52,7 +52,7 @@ pub(crate) fn unread(kind: ErrorKind) -> Reason {
 }
 
 // Reads what is there of a line, up to its line feed.
-fn read_part<R: BufRead>(input: &mut R, line: &mut Vec<u8>) -> Result<Part, Reason>
+fn read_part<R: BufRead>(input: &mut R, line: &mut Vec<u8>) -> Result<LinePart, Reason>
     requires few { length line.old.items ≤ KEPT }
     ensures few { length line.new.items ≤ KEPT }
 {
@@ -60,7 +60,7 @@ fn read_part<R: BufRead>(input: &mut R, line: &mut Vec<u8>) -> Result<Part, Reas
         Ok(text) => text,
         Err(error) => {
             return match error.kind() {
-                ErrorKind::Interrupted => Ok(Part::More),
+                ErrorKind::Interrupted => Ok(LinePart::More),
                 kind => Err(unread(kind)),
             };
         }
@@ -73,11 +73,11 @@ fn read_part<R: BufRead>(input: &mut R, line: &mut Vec<u8>) -> Result<Part, Reas
     let is_none = text.is_empty();
     input.consume(if is_last { len + 1 } else { len });
     Ok(if is_last {
-        Part::Last
+        LinePart::Last
     } else if is_none {
-        Part::None
+        LinePart::None
     } else {
-        Part::More
+        LinePart::More
     })
 }
 
@@ -90,9 +90,9 @@ pub(crate) fn next_line<R: BufRead>(input: &mut R, line: &mut Vec<u8>) -> Result
     line.clear();
     for _part in 0..u64::MAX {
         match read_part(input, line) {
-            Ok(Part::More) => {}
-            Ok(Part::Last) => return Ok(true),
-            Ok(Part::None) => return Ok(false),
+            Ok(LinePart::More) => {}
+            Ok(LinePart::Last) => return Ok(true),
+            Ok(LinePart::None) => return Ok(false),
             Err(reason) => return Err(reason),
         }
     }

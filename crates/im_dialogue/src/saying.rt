@@ -4,7 +4,7 @@ ghost use Rattle.im_dialogue.specs.Answers.{answer_text};
 ghost use Rattle.im_dialogue.specs.Asking.{asked_of};
 ghost use Rattle.im_dialogue.specs.Talk.{PrintsAnswer, TalksThrough};
 
-use crate::answers::{Answer, add_answer};
+use crate::answers::{LineAnswer, add_answer};
 use crate::explaining::explain;
 use crate::talk::wrong;
 use im_disk::Disk;
@@ -19,13 +19,13 @@ use std::io::Write;
 pub(crate) fn name_of(
     alloc: Global,
     memory: &Memory,
-    answer: Answer,
+    answer: LineAnswer,
 ) -> Result<String, AllocError> {
     let mut name = String::new(alloc);
-    if let Answer::Wrong(_, fault) = answer {
+    if let LineAnswer::Wrong(_, fault) = answer {
         write!(name, "{fault}")?;
     }
-    if let Answer::Backup(_, Err(fault)) = answer {
+    if let LineAnswer::Backup(_, Err(fault)) = answer {
         write!(name, "{fault}")?;
     }
     if let Some(refusal) = answer.refusal(memory) {
@@ -45,7 +45,7 @@ pub(crate) struct Draft {
 
 impl Draft {
     // Makes the line of an answer on this memory, followed by the lines for those that watch.
-    fn make(&mut self, memory: &Memory, answer: Answer, nows: &str) -> Result<(), AllocError>
+    fn make(&mut self, memory: &Memory, answer: LineAnswer, nows: &str) -> Result<(), AllocError>
         ensures { OnOk result ((name : List ℕ)
             × (string_bytes self.new.text ≡ answer_text name memory.now.contents answer ++ nows.now)) }
     {
@@ -60,7 +60,7 @@ impl Draft {
     pub(crate) fn say<W: Write>(
         &mut self,
         memory: &Memory,
-        answer: Answer,
+        answer: LineAnswer,
         nows: &str,
         out: &mut W,
     ) -> Result<(), Reason>
@@ -73,7 +73,7 @@ impl Draft {
     }
 }
 
-/// Answers a line that isn't in the grammar by where it goes wrong. Nothing changes.
+/// IsAnswerTo a line that isn't in the grammar by where it goes wrong. Nothing changes.
 pub(crate) fn explain_line<D: Disk, W: Write>(
     engine: &Engine<D>,
     number: u64,

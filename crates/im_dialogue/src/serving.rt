@@ -3,7 +3,7 @@ ghost use Rattle.std.specs.Prelude.{◌≡◌};
 ghost use Rattle.im_dialogue.specs.Talk.{TalksAsked, TalksThrough, TalksWith, outputs};
 ghost use Rattle.im_dialogue.specs.Together.{AreAsked};
 
-use crate::asking::{Asked, read_asked};
+use crate::asking::{Question, read_asked};
 use crate::backups::Backups;
 use crate::drafts::Drafts;
 use crate::grouping::take_parts;
@@ -77,7 +77,7 @@ impl<D: Disk> Dialogue<D> {
     fn serve_asked<B: Backups, W: Write>(
         &mut self,
         backups: &mut B,
-        asked: Asked,
+        asked: Question,
         out: &mut W,
     ) -> Result<bool, Reason>
         ensures talks { TalksAsked D.Disk self.old.setting.watch asked

@@ -1,16 +1,16 @@
 //! Does on an engine what is asked. The dialogue does so for each line that it serves by itself.
 ghost use Rattle.std.specs.Prelude.{◌≡◌, ◌≤◌, ◌++◌, true, Some, None, IfOk, OnOk};
-ghost use Rattle.im_dialogue.specs.declared.asking.Asked.TheVariants.{Backup, Count, Room};
-ghost use Rattle.im_dialogue.specs.declared.asking.Asked.TheVariants.{Serve, Turn, Window};
-ghost use Rattle.im_dialogue.specs.declared.answers.Answer.TheVariants as answer;
+ghost use Rattle.im_dialogue.specs.declared.asking.Question.TheVariants.{Backup, Count, Room};
+ghost use Rattle.im_dialogue.specs.declared.asking.Question.TheVariants.{Serve, Turn, Window};
+ghost use Rattle.im_dialogue.specs.declared.answers.LineAnswer.TheVariants as answer;
 ghost use Rattle.im_dialogue.specs.declared.look.Look.{Look};
 ghost use Rattle.im_turning.specs.Turning.{HasMadeRoom, IsSpent, Leads, point_of};
 ghost use Rattle.im_dialogue.specs.Talk.{AnswersOrHalts, GoesOrHalts, KeepsAnswered, KeepsNone, SaysNow, SaysOrHalts};
 ghost use Rattle.im_dialogue.specs.Talk.{about_of, backup_by, is_end};
 
 use crate::about::About;
-use crate::answers::Answer;
-use crate::asking::Asked;
+use crate::answers::LineAnswer;
+use crate::asking::Question;
 use crate::backup_name::BackupName;
 use crate::backups::Backups;
 use im_checkpoint::TurnDone;
@@ -97,7 +97,7 @@ fn ends(refusal: Refusal) -> bool
 }
 
 // Serves a command. If there is no room for it, no turn makes any.
-fn serve<D: Disk>(engine: &mut Engine<D>, command: Command) -> Result<Answer, Refusal>
+fn serve<D: Disk>(engine: &mut Engine<D>, command: Command) -> Result<LineAnswer, Refusal>
     requires spent { engine.old.room ≡ 0 → IsSpent (point_of engine.old) }
     ensures answered { SaysOrHalts D.Disk engine.old engine.new (Some (Serve command)) result }
     ensures honest { D.honest engine.new.disk → D.honest engine.old.disk }
@@ -105,19 +105,19 @@ fn serve<D: Disk>(engine: &mut Engine<D>, command: Command) -> Result<Answer, Re
 {
     // A crash in this call leaves the memory with the command, or without it. It isn't answered yet.
     match engine.serve(&command) {
-        Ok(outcome) => Ok(Answer::Served(command, Ok(outcome))),
+        Ok(outcome) => Ok(LineAnswer::Served(command, Ok(outcome))),
         Err(refusal) => {
             if ends(refusal) {
                 Err(refusal)
             } else {
-                Ok(Answer::Served(command, Err(refusal)))
+                Ok(LineAnswer::Served(command, Err(refusal)))
             }
         }
     }
 }
 
 // Makes room for a command, and serves it.
-fn serve_with_room<D: Disk>(engine: &mut Engine<D>, command: Command) -> Result<Answer, Refusal>
+fn serve_with_room<D: Disk>(engine: &mut Engine<D>, command: Command) -> Result<LineAnswer, Refusal>
     ensures answered { SaysOrHalts D.Disk engine.old engine.new (Some (Serve command)) result }
     ensures honest { D.honest engine.new.disk → D.honest engine.old.disk }
     ensures same { IfOk result (λ answer. KeepsNone answer) }
@@ -129,48 +129,48 @@ fn serve_with_room<D: Disk>(engine: &mut Engine<D>, command: Command) -> Result<
 }
 
 // Takes a turn, and returns what it did as an answer.
-fn turn<D: Disk>(engine: &mut Engine<D>) -> Result<Answer, Refusal>
+fn turn<D: Disk>(engine: &mut Engine<D>) -> Result<LineAnswer, Refusal>
     ensures answered { SaysOrHalts D.Disk engine.old engine.new (Some Turn) result }
     ensures honest { D.honest engine.new.disk → D.honest engine.old.disk }
     ensures same { IfOk result (λ answer. KeepsNone answer) }
 {
     // A crash in this call leaves the memory as it is.
     match engine.turn() {
-        Ok(done) => Ok(Answer::Turned(done)),
+        Ok(done) => Ok(LineAnswer::Turned(done)),
         Err(refusal) => Err(refusal),
     }
 }
 
 // Returns an element's window, as an answer.
-fn window<D: Disk>(engine: &Engine<D>, element: u16) -> Answer
+fn window<D: Disk>(engine: &Engine<D>, element: u16) -> LineAnswer
     ensures answered { SaysNow D.Disk engine.now (Some (Window element)) result }
     ensures same { KeepsNone result }
 {
-    Answer::Window(element, engine.window(element))
+    LineAnswer::Window(element, engine.window(element))
 }
 
 // Returns how many commands were accepted, as an answer.
-fn count<D: Disk>(engine: &Engine<D>) -> Answer
+fn count<D: Disk>(engine: &Engine<D>) -> LineAnswer
     ensures answered { SaysNow D.Disk engine.now (Some Count) result }
     ensures same { KeepsNone result }
 {
-    Answer::Count(engine.count())
+    LineAnswer::Count(engine.count())
 }
 
 // Returns how many more commands there is room for, as an answer.
-fn room<D: Disk>(engine: &Engine<D>) -> Answer
+fn room<D: Disk>(engine: &Engine<D>) -> LineAnswer
     ensures answered { SaysNow D.Disk engine.now (Some Room) result }
     ensures room { result ≡ answer.Room engine.now.room }
 {
-    Answer::Room(engine.room())
+    LineAnswer::Room(engine.room())
 }
 
 // Returns what the image is and how far it has come, as an answer. `slots` is how many slots its journal has.
-fn about<D: Disk>(engine: &Engine<D>, slots: u32) -> Answer
+fn about<D: Disk>(engine: &Engine<D>, slots: u32) -> LineAnswer
     ensures { result ≡ answer.About (about_of engine.now.memory slots engine.now.count engine.now.room) }
 {
     let memory = engine.memory();
-    Answer::About(About {
+    LineAnswer::About(About {
         version: Version::Two.number(),
         cells: memory.cells(),
         elements: memory.elements(),
@@ -186,23 +186,23 @@ fn keep<D: Disk, B: Backups>(
     backups: &mut B,
     slots: u32,
     name: BackupName,
-) -> Answer
+) -> LineAnswer
     ensures answered { SaysNow D.Disk engine.now (Some (Backup name)) result }
     ensures kept { B.kept backups.new ≡ backup_by engine.now.memory result ++ B.kept backups.old }
 {
     let count = engine.count();
     match backups.keep(engine.memory(), slots, count, name) {
-        Ok(()) => Answer::Backup(name, Ok(count)),
-        Err(fault) => Answer::Backup(name, Err(fault)),
+        Ok(()) => LineAnswer::Backup(name, Ok(count)),
+        Err(fault) => LineAnswer::Backup(name, Err(fault)),
     }
 }
 
 /// Returns the answer to a line that isn't in the grammar: its number, and where it goes wrong.
-pub fn wrong<D: Disk>(engine: &Engine<D>, number: u64, fault: LineFault) -> Answer
+pub fn wrong<D: Disk>(engine: &Engine<D>, number: u64, fault: LineFault) -> LineAnswer
     ensures answered { SaysNow D.Disk engine.now None result }
     ensures answer { result ≡ answer.Wrong number fault }
 {
-    Answer::Wrong(number, fault)
+    LineAnswer::Wrong(number, fault)
 }
 
 /// Does on an engine what is asked, and returns the answer. Returns `None` if that ends the dialogue. The answer to a
@@ -219,28 +219,28 @@ pub fn answer<D: Disk, B: Backups>(
     engine: &mut Engine<D>,
     backups: &mut B,
     slots: u32,
-    asked: Asked,
-) -> Result<Option<Answer>, Refusal>
+    asked: Question,
+) -> Result<Option<LineAnswer>, Refusal>
     ensures answered { AnswersOrHalts D.Disk engine.old engine.new asked result }
     ensures honest { D.honest engine.new.disk → D.honest engine.old.disk }
-    ensures same { (look : Look) → asked ≡ Asked.Look look → engine.new ≡ engine.old }
+    ensures same { (look : Look) → asked ≡ Question.Look look → engine.new ≡ engine.old }
     ensures kept { KeepsAnswered engine.old.memory (B.kept backups.old) (B.kept backups.new) result }
 {
     match asked {
-        Asked::Serve(command) => match serve_with_room(engine, command) {
+        Question::Serve(command) => match serve_with_room(engine, command) {
             Ok(answer) => Ok(Some(answer)),
             Err(refusal) => Err(refusal),
         },
-        Asked::Turn => match turn(engine) {
+        Question::Turn => match turn(engine) {
             Ok(answer) => Ok(Some(answer)),
             Err(refusal) => Err(refusal),
         },
-        Asked::Look(look) => Ok(Some(Answer::Looked(look))),
-        Asked::Window(element) => Ok(Some(window(engine, element))),
-        Asked::Room => Ok(Some(room(engine))),
-        Asked::Count => Ok(Some(count(engine))),
-        Asked::About => Ok(Some(about(engine, slots))),
-        Asked::Backup(name) => Ok(Some(keep(engine, backups, slots, name))),
-        Asked::Quit => Ok(None),
+        Question::Look(look) => Ok(Some(LineAnswer::Looked(look))),
+        Question::Window(element) => Ok(Some(window(engine, element))),
+        Question::Room => Ok(Some(room(engine))),
+        Question::Count => Ok(Some(count(engine))),
+        Question::About => Ok(Some(about(engine, slots))),
+        Question::Backup(name) => Ok(Some(keep(engine, backups, slots, name))),
+        Question::Quit => Ok(None),
     }
 }

@@ -2,12 +2,13 @@
 ghost use Rattle.std.specs.Prelude.{◌≡◌, ◌≤◌, ◌+◌, ◌∷◌, ◌++◌, [], false, length, map};
 ghost use Rattle.std.specs.Prelude.{IfSome, OnOk, Some, List, ℕ, string_bytes};
 ghost use Rattle.im_dialogue.specs.Answers.{answer_text};
-ghost use Rattle.im_dialogue.specs.Together.{AreAsked, IsAsked, answers_behind, group_start, line_answer, result_of};
+ghost use Rattle.im_dialogue.specs.Together.{AreAsked, LineAsksFor, answers_behind, group_start, line_answer};
+ghost use Rattle.im_dialogue.specs.Together.{member_result};
 ghost use Rattle.im_dialogue.specs.Telling.{TalksAsGroup, TellsGroup};
 ghost use Rattle.im_dialogue.specs.Watching.{told_with};
 
-use crate::answers::{Answer, add_answer};
-use crate::asking::{Asked, read_asked};
+use crate::answers::{LineAnswer, add_answer};
+use crate::asking::{Question, read_asked};
 use crate::group_line::GroupLine;
 use crate::grouping::Gathered;
 use crate::known::places_of;
@@ -31,7 +32,7 @@ const MOST_LINES: usize = 64;
 #[derive(Drop)]
 pub(crate) struct InBuffer {
     /// What each line asks for.
-    pub(crate) asked: Vec<Asked>,
+    pub(crate) asked: Vec<Question>,
     /// How many bytes the lines have up to each one, with its line feed.
     pub(crate) ends: Vec<usize>,
 }
@@ -52,19 +53,19 @@ fn split_line(text: &[u8]) -> Option<(&[u8], &[u8])>
 }
 
 // Returns what a line asks for, if it may stand in a group: a command, or what changes nothing.
-fn groups(asked: Option<Asked>) -> Option<Asked>
+fn groups(asked: Option<Question>) -> Option<Question>
     ensures { IfSome result (λ found. asked ≡ Some found) }
 {
     match asked {
-        Some(Asked::Turn) => None,
-        Some(Asked::Backup(_)) => None,
-        Some(Asked::Quit) => None,
+        Some(Question::Turn) => None,
+        Some(Question::Backup(_)) => None,
+        Some(Question::Quit) => None,
         other => other,
     }
 }
 
 // Adds what a line asks for.
-fn add_asked(asked: &mut Vec<Asked>, found: Asked) -> Result<(), AllocError>
+fn add_asked(asked: &mut Vec<Question>, found: Question) -> Result<(), AllocError>
     ensures { OnOk result (asked.new.items ≡ asked.old.items ++ found ∷ []) }
 {
     asked.push(found)?;
@@ -72,7 +73,7 @@ fn add_asked(asked: &mut Vec<Asked>, found: Asked) -> Result<(), AllocError>
 }
 
 // Takes what a line asks for, if it may stand in a group. Returns whether it did.
-fn take_line(alloc: Global, line: &[u8], asked: &mut Vec<Asked>) -> Result<bool, AllocError>
+fn take_line(alloc: Global, line: &[u8], asked: &mut Vec<Question>) -> Result<bool, AllocError>
     requires asked { AreAsked asked.old.items }
     ensures { OnOk result (AreAsked asked.new.items) }
 {
@@ -128,10 +129,10 @@ pub(crate) fn gather<R: BufRead>(
 }
 
 /// Returns how many of the lines are commands, at most 16.
-pub(crate) fn commands_among(asked: &[Asked]) -> u32 {
+pub(crate) fn commands_among(asked: &[Question]) -> u32 {
     let mut many: u32 = 0;
     for line in asked {
-        if let Asked::Serve(_) = line {
+        if let Question::Serve(_) = line {
             many = many.saturating_add(1);
         }
     }
@@ -150,8 +151,8 @@ pub(crate) fn end_of(ends: &[usize], many: usize) -> usize {
 // ---- their answers
 
 // Returns what a member was answered.
-fn result_of(served: Served) -> Result<Outcome, Refusal>
-    ensures { result ≡ result_of served }
+fn member_result(served: Served) -> Result<Outcome, Refusal>
+    ensures { result ≡ member_result served }
 {
     match served {
         Served::Done(outcome) => Ok(outcome),
@@ -162,15 +163,15 @@ fn result_of(served: Served) -> Result<Outcome, Refusal>
 
 // Returns the answer to a part of a group that was served, given the answers to the members that aren't told yet.
 // Returns `None` if no answer is left for the part.
-fn line_answer(answers: &[Served], part: GroupLine) -> Option<Answer>
+fn line_answer(answers: &[Served], part: GroupLine) -> Option<LineAnswer>
     ensures { result ≡ line_answer answers.now part }
 {
     match part {
         GroupLine::Member(command) => match answers.first() {
-            Some(first) => Some(Answer::Served(command, result_of(*first))),
+            Some(first) => Some(LineAnswer::Served(command, member_result(*first))),
             None => None,
         },
-        GroupLine::Look(look) => Some(Answer::Looked(look)),
+        GroupLine::Look(look) => Some(LineAnswer::Looked(look)),
         GroupLine::Known(answer) => Some(answer),
     }
 }
@@ -194,7 +195,7 @@ fn add_line(
     alloc: Global,
     text: &mut String,
     memory: &Memory,
-    answer: Answer,
+    answer: LineAnswer,
     now: &str,
 ) -> Result<(), AllocError>
     ensures { OnOk result ((name : List ℕ) × (string_bytes text.new ≡ string_bytes text.old

@@ -8,8 +8,8 @@ ghost use Rattle.im_types.specs.Step.{asker, is_accepted};
 ghost use Rattle.im_dialogue.specs.Watching.{answers_nobody, is_of_kind, is_quiet, nows_text, resumed_by, told_by};
 ghost use Rattle.im_dialogue.specs.Watching.{told_now, told_with};
 
-use crate::answers::Answer;
-use crate::asking::Asked;
+use crate::answers::LineAnswer;
+use crate::asking::Question;
 use im_memory::Memory;
 use im_text::add_entry;
 use im_types::{Command, Entry, Kind, Op, Reply, Request, Waiter};
@@ -129,14 +129,14 @@ fn add_by_command(out: &mut String, memory: &Memory, command: &Command) -> Resul
 pub(crate) fn make_nows(
     nows: &mut String,
     memory: &Memory,
-    asked: Asked,
+    asked: Question,
     watch: bool,
 ) -> Result<(), AllocError>
     ensures { OnOk result (string_bytes nows.new ≡ told_by watch memory.now.contents (Some asked)) }
 {
     nows.clear();
     match asked {
-        Asked::Serve(command) => {
+        Question::Serve(command) => {
             if watch {
                 add_by_command(nows, memory, &command)
             } else {
@@ -149,11 +149,11 @@ pub(crate) fn make_nows(
 
 /// Returns how much of these lines is told, given the line's answer: all of them if a command was done, and else
 /// nothing.
-pub(crate) fn told_with<'a>(answer: Answer, nows: &'a str) -> &'a str
+pub(crate) fn told_with<'a>(answer: LineAnswer, nows: &'a str) -> &'a str
     ensures { result.now ≡ told_with answer nows.entry.now }
 {
     match answer {
-        Answer::Served(_, Ok(_)) => nows,
+        LineAnswer::Served(_, Ok(_)) => nows,
         _ => "",
     }
 }

@@ -15,7 +15,7 @@ const PATIENCE: usize = 4_096;
 
 // What the reader gave and no read has taken yet. The end is kept, since it is read only once.
 #[derive(Clone, Copy)]
-enum Heard {
+enum Delivery {
     Nothing,
     Byte(u8),
     End,
@@ -26,7 +26,7 @@ enum Heard {
 #[derive(Drop)]
 struct Loan<I> {
     input: I,
-    heard: Heard,
+    heard: Delivery,
 }
 
 // Waits for one byte. It reads no more, so a reader that has given nothing still has all that it had.
@@ -37,9 +37,9 @@ fn hear<R: Wait, I: Read>(rt: &R, loan: Loan<I>) -> Loan<I> {
     } = loan;
     let mut byte = [0u8; 1];
     let heard = match read_waiting(rt, &mut input, &mut byte) {
-        Ok(0) => Heard::End,
-        Ok(_) => Heard::Byte(byte[0]),
-        Err(error) => Heard::Error(error.kind()),
+        Ok(0) => Delivery::End,
+        Ok(_) => Delivery::Byte(byte[0]),
+        Err(error) => Delivery::Error(error.kind()),
     };
     Loan { input, heard }
 }
@@ -65,13 +65,13 @@ struct Helper<I: Drop> {
 
 // Returns what a read of `count` bytes leaves to be heard, given the room that it had. It is the end if the read gave
 // nothing.
-fn heard_by(count: usize, room: usize) -> Heard
-    ensures end { count ≡ 0 → 0 < room → result ≡ Heard.End }
+fn heard_by(count: usize, room: usize) -> Delivery
+    ensures end { count ≡ 0 → 0 < room → result ≡ Delivery.End }
 {
     if count == 0 && room > 0 {
-        Heard::End
+        Delivery::End
     } else {
-        Heard::Nothing
+        Delivery::Nothing
     }
 }
 
@@ -99,7 +99,7 @@ fn put_first<I: Read>(byte: u8, loan: &mut Loan<I>, buf: &mut [u8]) -> io::Resul
 // Reads on, and waits if nothing is there.
 fn read_on<R: Wait, I: Read>(rt: &R, loan: &mut Loan<I>, buf: &mut [u8]) -> io::Result<usize>
     ensures bound { ReadsAtMost result buf.new }
-    ensures ended { result ≡ Ok 0 → 0 < length buf.old → loan.new.heard ≡ Heard.End }
+    ensures ended { result ≡ Ok 0 → 0 < length buf.old → loan.new.heard ≡ Delivery.End }
 {
     match read_waiting(rt, &mut loan.input, buf) {
         Ok(count) => {
@@ -113,21 +113,21 @@ fn read_on<R: Wait, I: Read>(rt: &R, loan: &mut Loan<I>, buf: &mut [u8]) -> io::
 // Gives what was heard, or reads on. The end is given again without a read.
 fn read_heard<R: Wait, I: Read>(rt: &R, loan: &mut Loan<I>, buf: &mut [u8]) -> io::Result<usize>
     ensures bound { ReadsAtMost result buf.new }
-    ensures end { loan.old.heard ≡ Heard.End → (result ≡ Ok 0) × (loan.new ≡ loan.old) }
-    ensures ended { result ≡ Ok 0 → 0 < length buf.old → loan.new.heard ≡ Heard.End }
+    ensures end { loan.old.heard ≡ Delivery.End → (result ≡ Ok 0) × (loan.new ≡ loan.old) }
+    ensures ended { result ≡ Ok 0 → 0 < length buf.old → loan.new.heard ≡ Delivery.End }
 {
     if buf.is_empty() {
         return Ok(0);
     }
     match loan.heard {
-        Heard::Nothing => read_on(rt, loan, buf),
-        Heard::Byte(byte) => {
-            loan.heard = Heard::Nothing;
+        Delivery::Nothing => read_on(rt, loan, buf),
+        Delivery::Byte(byte) => {
+            loan.heard = Delivery::Nothing;
             put_first(byte, loan, buf)
         }
-        Heard::End => Ok(0),
-        Heard::Error(kind) => {
-            loan.heard = Heard::Nothing;
+        Delivery::End => Ok(0),
+        Delivery::Error(kind) => {
+            loan.heard = Delivery::Nothing;
             Err(Error::from(kind))
         }
     }
@@ -152,7 +152,7 @@ impl<R: Threads + Wait + Copy + Drop + Send + 'static, I: Read + Drop + Send + '
 > {
     /// Makes a reader of these bytes. It can't tell whether a read would wait before [`Listener::begin`].
     pub fn new(rt: R, input: I) -> Listener<R, I> {
-        let heard = Heard::Nothing;
+        let heard = Delivery::Nothing;
         Listener {
             rt,
             here: Some(Loan { input, heard }),
@@ -237,7 +237,7 @@ impl<R: Wait, I: Read + Drop> Ear for Listener<R, I> {
         match self.here.take() {
             None => !self.is_back(),
             Some(loan) => {
-                if let Heard::Nothing = loan.heard {
+                if let Delivery::Nothing = loan.heard {
                     self.lend(loan) && self.waits()
                 } else {
                     self.here = Some(loan);

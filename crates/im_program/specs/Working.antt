@@ -21,16 +21,19 @@ use Rattle.im_dump.specs.Dumping.{Dumps}
 use Rattle.im_program.specs.Loading.{LoadedFrom}
 use Rattle.im_program.specs.Moving.{CopiedFrom, MigratedFrom}
 use Rattle.im_program.specs.Sources.{IsTextOf, bytes_at}
+use Rattle.im_words.specs.declared.words.Loading.{Loading}
+use Rattle.im_words.specs.declared.words.ScriptRun.{ScriptRun}
+use Rattle.im_words.specs.declared.words.Serving.{Serving}
 use Rattle.im_words.specs.Words.{Task, demonstration, format, serial, run, serve, inspect, migrate, copy, dump, load}
 
 -- each file that a crash leaves on this disk is the new image of these sizes, byte for byte
-abbrev pub IsNewImage : {D : Type 0} → DiskGhosts D → Sizes → D → Type 0
-IsNewImage d sizes disk = LeavesNow (d.now disk) (λ file. file ≡ new_image 0xA5 sizes)
+abbrev pub HoldsNewImage : {D : Type 0} → DiskGhosts D → Sizes → D → Type 0
+HoldsNewImage d sizes disk = LeavesNow (d.now disk) (λ file. file ≡ new_image 0xA5 sizes)
 
 -- the image that was asked for was made on this disk, with status 0
 abbrev pub IsFormatted : {D : Type 0} → DiskGhosts D → (cells elements slots : ℕ) → ℕ → D → Type 0
 IsFormatted d cells elements slots status disk = (status ≡ 0) × AreLimits cells elements slots
-    × IsNewImage d (record { cells = cells; elements = elements; slots = slots }) disk
+    × HoldsNewImage d (record { cells = cells; elements = elements; slots = slots }) disk
 
 -- a script is served on a disk, once or anew
 abbrev pub ScriptServes : {D : Type 0} → DiskGhosts D → Bool → List ℕ → D → D → Option (List ℕ) → Option (List ℕ) → ℕ
@@ -38,8 +41,8 @@ abbrev pub ScriptServes : {D : Type 0} → DiskGhosts D → Bool → List ℕ �
 ScriptServes d true = SerialOnceOn d
 ScriptServes d false = SerialOn d
 
--- a script of these bytes, where they are known, was served on this disk, once or anew; the disk was at this moment, and
--- had no moment before it
+-- a script of these bytes, where they are known, was served on this disk, once or anew; the disk was at this moment,
+-- and had no moment before it
 pub record ScriptServed {D : Type 0} (d : DiskGhosts D) (once : Bool) (first : Moment) (known : Option (List ℕ))
     (disk : D) (was is : Option (List ℕ)) (status : ℕ) : Type 0 where
   pub old : D
@@ -81,8 +84,8 @@ pub record ScriptRan {D : Type 0} (d : DiskGhosts D) (planned once : Bool) (firs
 
 -- A task was done on this disk, with this status. The disk's file held the first moment when it was opened. The input
 -- gives these bytes, where they are known: a script or a dump with the path "-" is that text. The writer held the first
--- bytes before, and holds the others now. The demonstration opens no file. The result of a migration or a copy is stated
--- below, because they open two files.
+-- bytes before, and holds the others now. The demonstration opens no file. The result of a migration or a copy is
+-- stated below, because they open two files.
 abbrev pub DoneOn : {D : Type 0} → DiskGhosts D → Moment → Option (List ℕ) → Task → Option (List ℕ) → Option (List ℕ)
     → ℕ → D → Type 0
 DoneOn d first input demonstration was is status disk = ⊥
@@ -107,28 +110,40 @@ DoneOn d first input (load text new asked) was is status disk =
 
 -- the new image of these sizes was made on this disk
 abbrev pub WasMade : {D : Type 0} → DiskGhosts D → Sizes → D → Type 0
-WasMade d sizes disk = d.honest disk → IsNewImage d sizes disk
+WasMade d sizes disk = d.honest disk → HoldsNewImage d sizes disk
 
 -- the image that was asked for was made on this disk, with status 0
 abbrev pub WasFormatted : {D : Type 0} → DiskGhosts D → (cells elements slots : ℕ) → ℕ → D → Type 0
 WasFormatted d cells elements slots status disk = d.honest disk → IsFormatted d cells elements slots status disk
 
 -- a script was served on this disk
-abbrev pub WasScriptServed : {D : Type 0} → DiskGhosts D → Moment → Bool → Option (List ℕ) → Option (List ℕ)
+abbrev pub WasScriptServed : {D : Type 0} → DiskGhosts D → Moment → Serving → Option (List ℕ) → Option (List ℕ)
     → Option (List ℕ) → ℕ → D → Type 0
-WasScriptServed d first once known was is status disk = d.honest disk
-    → ScriptServed d once first known disk was is status
+WasScriptServed d first serving input was is status disk = d.honest disk
+    → ScriptServed d serving.once first (bytes_at serving.script.now input) disk was is status
 
 -- this text was served on this disk
 abbrev pub WasTextServed : {D : Type 0} → DiskGhosts D → Moment → Bool → List ℕ → Option (List ℕ) → Option (List ℕ) → ℕ
     → D → Type 0
 WasTextServed d first once text was is status disk = d.honest disk → TextServed d once first text was is status disk
 
--- a script was run on this disk, with some trace
-abbrev pub WasRun : {D : Type 0} → DiskGhosts D → Moment → (planned once : Bool) → Option (List ℕ) → Option (List ℕ)
+-- a script was run on this disk, with this trace
+abbrev pub RanAs : {D : Type 0} → DiskGhosts D → Moment → ScriptRun → Option (List ℕ) → Option (List ℕ)
+    → Option (List ℕ) → TraceState → ℕ → D → Type 0
+RanAs d first running input was is calls status disk =
+    ScriptRan d running.planned running.once first (bytes_at running.script.now input) disk was is calls status
+
+-- the same, with some trace
+abbrev pub WasRun : {D : Type 0} → DiskGhosts D → Moment → ScriptRun → Option (List ℕ) → Option (List ℕ)
     → Option (List ℕ) → ℕ → D → Type 0
-WasRun d first planned once known was is status disk =
-    d.honest disk → (calls : TraceState) × ScriptRan d planned once first known disk was is calls status
+WasRun d first running input was is status disk =
+    d.honest disk → (calls : TraceState) × RanAs d first running input was is calls status disk
+
+-- the text of a dump was put into this disk's file
+abbrev pub WasLoaded : {D : Type 0} → DiskGhosts D → Moment → Loading → Option (List ℕ) → Option (List ℕ)
+    → Option (List ℕ) → ℕ → D → Type 0
+WasLoaded d first loading input was is status disk = d.honest disk
+    → LoadedFrom d.now d.past first loading.asked (bytes_at loading.text.now input) disk was is status
 
 -- a dialogue was served on this disk
 abbrev pub WasTalked : {D : Type 0} → DiskGhosts D → Moment → Bool → Outputs → Outputs → ℕ → D → Type 0

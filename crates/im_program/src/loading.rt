@@ -5,8 +5,9 @@ ghost use Rattle.im_types.specs.declared.refusals.Refusal.TheVariants.{BadLimits
 ghost use Rattle.im_dump.specs.Dumping.{IsDumpOf};
 ghost use Rattle.im_migration.specs.Copying.{IsWhole};
 ghost use Rattle.im_migration.specs.Migration.{MayRefusePlace};
-ghost use Rattle.im_program.specs.Loading.{IsReadied, IsPutInto, LoadedFrom, MayRefuseLoad, MayRefuseText};
+ghost use Rattle.im_program.specs.Loading.{IsReadied, IsPutInto, MayRefuseLoad, MayRefuseText};
 ghost use Rattle.im_program.specs.Sources.{IsTextOf, bytes_at};
+ghost use Rattle.im_program.specs.Working.{WasLoaded};
 
 use crate::descriptors::Descriptors;
 use crate::hand::AtHand;
@@ -207,10 +208,8 @@ pub fn load_file<
     start: S,
 ) -> Result<(u8, FileDisk<S>), Refusal>
     ensures status { IfOk result (λ r. r.0 ≤ 1) }
-    ensures loaded { IfOk result (λ r. ⟦<FileDisk<S> as Disk>⟧.honest r.1 → LoadedFrom ⟦<FileDisk<S> as Disk>⟧.now
-        ⟦<FileDisk<S> as Disk>⟧.past S.first loading.now.asked
-        (bytes_at loading.now.text.now (I.remaining hand.entry.input.now)) r.1
-        (W.contents out.old) (W.contents out.new) r.0) }
+    ensures loaded { IfOk result (λ r. WasLoaded ⟦<FileDisk<S> as Disk>⟧ S.first loading.now
+        (I.remaining hand.entry.input.now) (W.contents out.old) (W.contents out.new) r.0 r.1) }
     ensures refused { IfErr result (λ e. MayRefuseLoad e) }
     ensures same { OnErr result (Keeps (W.contents out.old) (W.contents out.new)) }
 {

@@ -2,8 +2,7 @@
 ghost use Rattle.std.specs.Prelude.{◌≡◌, ◌⊎◌, ◌≤◌, IfOk, IfErr, OnErr, IfSome, IfNone, IsSome};
 ghost use Rattle.std.specs.Io.KnownBytes.{Keeps};
 ghost use Rattle.im_types.specs.declared.refusals.Refusal.TheVariants.{BadScript, Device, NoMemory};
-ghost use Rattle.im_program.specs.Sources.{bytes_at};
-ghost use Rattle.im_program.specs.Working.{ScriptRan, WasRun};
+ghost use Rattle.im_program.specs.Working.{RanAs, WasRun};
 
 use crate::console::Console;
 use crate::hand::AtHand;
@@ -68,9 +67,8 @@ pub fn run_file<
     start: S,
 ) -> Result<(u8, FileDisk<S>, Trace), Refusal>
     ensures status { IfOk result (λ r. (r.0 ≤ 1) ⊎ (r.0 ≡ STALLED)) }
-    ensures ran { IfOk result (λ r. ScriptRan ⟦<FileDisk<S> as Disk>⟧ running.now.planned running.now.once S.first
-        (bytes_at running.now.script.now (I.remaining hand.entry.input.now)) r.1
-        (W.contents out.old) (W.contents out.new) r.2 r.0) }
+    ensures ran { IfOk result (λ r. RanAs ⟦<FileDisk<S> as Disk>⟧ S.first running.now
+        (I.remaining hand.entry.input.now) (W.contents out.old) (W.contents out.new) r.2 r.0 r.1) }
     ensures refused { IfErr result (λ refusal. (refusal ≡ BadScript) ⊎ (refusal ≡ NoMemory) ⊎ (refusal ≡ Device)) }
     ensures same { OnErr result (Keeps (W.contents out.old) (W.contents out.new)) }
 {
@@ -108,10 +106,8 @@ fn run_at_once<
     start: S,
 ) -> (u8, Option<FileDisk<S>>, Option<Trace>)
     ensures status { (result.0 ≤ 1) ⊎ (result.0 ≡ STALLED) }
-    ensures ran { IfSome result.1 (λ disk. IfSome result.2 (λ trace. ScriptRan ⟦<FileDisk<S> as Disk>⟧
-        running.now.planned running.now.once S.first
-        (bytes_at running.now.script.now (I.remaining hand.entry.input.now)) disk
-        (W.contents out.old) (W.contents out.new) trace result.0)) }
+    ensures ran { IfSome result.1 (λ disk. IfSome result.2 (λ trace. RanAs ⟦<FileDisk<S> as Disk>⟧ S.first running.now
+        (I.remaining hand.entry.input.now) (W.contents out.old) (W.contents out.new) trace result.0 disk)) }
     ensures none { IfNone result.1 (result.0 ≡ 1) }
     ensures both { IfSome result.1 (λ _. IsSome result.2) }
 {
@@ -137,9 +133,8 @@ pub(crate) fn act_at_once<
     start: S,
 ) -> (u8, Option<FileDisk<S>>)
     ensures status { (result.0 ≤ 1) ⊎ (result.0 ≡ STALLED) }
-    ensures ran { IfSome result.1 (λ disk. WasRun ⟦<FileDisk<S> as Disk>⟧ S.first running.now.planned
-        running.now.once (bytes_at running.now.script.now (I.remaining hand.entry.input.now))
-        (W.contents out.old) (W.contents out.new) result.0 disk) }
+    ensures ran { IfSome result.1 (λ disk. WasRun ⟦<FileDisk<S> as Disk>⟧ S.first running.now
+        (I.remaining hand.entry.input.now) (W.contents out.old) (W.contents out.new) result.0 disk) }
     ensures none { IfNone result.1 (result.0 ≡ 1) }
 {
     let (rt, held, input, console) = hand.parts();

@@ -2,7 +2,6 @@
 ghost use Rattle.std.specs.Prelude.{◌≡◌, ◌⊎◌, ◌≤◌, IfOk, IfErr, OnErr};
 ghost use Rattle.std.specs.Io.KnownBytes.{Keeps};
 ghost use Rattle.im_types.specs.declared.refusals.Refusal.TheVariants.{BadScript, Device, NoMemory};
-ghost use Rattle.im_program.specs.Sources.{bytes_at};
 ghost use Rattle.im_program.specs.Working.{WasScriptServed, WasTextServed};
 
 use crate::hand::AtHand;
@@ -23,8 +22,8 @@ use std::rt::Files;
 /// stands for [`serial_on`] here.
 ///
 /// The clauses hold for whatever the image held when it was opened (`S`), as long as the file was honest. A crash at
-/// any moment since then leaves what [`serial_on`] says. It says that of the bytes that the input gives, where these are
-/// known and the path is `-`. What a file holds is known to no contract: of its text it says that there is one.
+/// any moment since then leaves what [`serial_on`] says. It says that of the bytes that the input gives, where these
+/// are known and the path is `-`. What a file holds is known to no contract: of its text it says that there is one.
 ///
 /// Errors, with nothing printed and the image as it was; the observer is told why:
 ///
@@ -42,9 +41,8 @@ pub fn serve_file<R: Files<File = File> + AllocGlobal, S: Start, I: Read, W: Wri
     start: S,
 ) -> Result<(u8, FileDisk<S>), Refusal>
     ensures status { IfOk result (λ r. r.0 ≤ 1) }
-    ensures served { IfOk result (λ r. WasScriptServed ⟦<FileDisk<S> as Disk>⟧ S.first serving.now.once
-        (bytes_at serving.now.script.now (I.remaining hand.entry.input.now))
-        (W.contents out.old) (W.contents out.new) r.0 r.1) }
+    ensures served { IfOk result (λ r. WasScriptServed ⟦<FileDisk<S> as Disk>⟧ S.first serving.now
+        (I.remaining hand.entry.input.now) (W.contents out.old) (W.contents out.new) r.0 r.1) }
     ensures refused { IfErr result (λ refusal. (refusal ≡ BadScript) ⊎ (refusal ≡ NoMemory) ⊎ (refusal ≡ Device)) }
     ensures same { OnErr result (Keeps (W.contents out.old) (W.contents out.new)) }
 {

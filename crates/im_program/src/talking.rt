@@ -2,7 +2,7 @@
 ghost use Rattle.std.specs.Prelude.{◌≡◌, ◌≤◌, IfOk, IfErr, OnErr};
 ghost use Rattle.std.specs.Io.KnownBytes.{Keeps};
 ghost use Rattle.im_types.specs.declared.refusals.Refusal.TheVariants.{Device};
-ghost use Rattle.im_dialogue.specs.Dialogue.{NotOpened, Talked, TalkedFrom};
+ghost use Rattle.im_dialogue.specs.Dialogue.{TalkUnopened, Talked, TalkedFrom};
 ghost use Rattle.im_dialogue.specs.Talk.{outputs};
 ghost use Rattle.im_program.specs.Working.{WasTalked};
 

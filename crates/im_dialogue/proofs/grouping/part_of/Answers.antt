@@ -1,12 +1,12 @@
 use Rattle.std.proofs.Common.{subst, string_bytes}
-use Rattle.im_dialogue.specs.declared.asking.Asked.{Asked}
-use Rattle.im_dialogue.specs.Together.{IsAsked, group_start}
+use Rattle.im_dialogue.specs.declared.asking.Question.{Question}
+use Rattle.im_dialogue.specs.Together.{LineAsksFor, group_start}
 use Rattle.im_dialogue.proofs.FitLemmas.{known_fits}
 use Rattle.im_dialogue.proofs.grouping.part_of.Goals as goal
 
 pub returns-in-Look : goal.returns-in-Look
 returns-in-Look g c = record {
-  is = (subst (λ (a : Asked). IsAsked a) c.in-Look.is c.requires.asked, c.requires.empty);
+  is = (subst (λ (a : Question). LineAsksFor a) c.in-Look.is c.requires.asked, c.requires.empty);
   leaves = tt;
   room = c.requires.few;
 }

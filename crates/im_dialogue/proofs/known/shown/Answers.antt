@@ -2,8 +2,8 @@ use Rattle.std.proofs.Common.{◌∙◌, refl, sym, subst, ap}
 use Rattle.im_types.specs.Contents.{Contents}
 use Rattle.im_types.specs.Window.{bounds}
 use Rattle.im_groups.specs.Ahead.{moved_by}
-use Rattle.im_dialogue.specs.declared.asking.Asked.{Asked}
-use Rattle.im_dialogue.specs.declared.answers.Answer.TheVariants as answer
+use Rattle.im_dialogue.specs.declared.asking.Question.{Question}
+use Rattle.im_dialogue.specs.declared.answers.LineAnswer.TheVariants as answer
 use Rattle.im_dialogue.specs.Together.{IsKnownBehind, group_start}
 use Rattle.im_dialogue.proofs.FitLemmas.{about_shown, count_shown, room_shown, window_shown}
 use Rattle.im_dialogue.proofs.known.shown.Goals as goal
@@ -14,7 +14,7 @@ returns-in-Window-clause-answer g c = λ ahead is.
     let e = c.in-Window.element in
     let given = answer.Window e c.window_behind.result in
     let moved = λ (m : Contents). moved_by e c.args.put.now (bounds m.windows e) in
-    subst (λ (a : Asked). IsKnownBehind b ahead a given) (sym c.in-Window.is)
+    subst (λ (a : Question). IsKnownBehind b ahead a given) (sym c.in-Window.is)
     (window_shown b ahead c.args.put.now is e c.window_behind.result
     (c.window_behind.ensures ∙ ap moved c.memory.ensures))
 
@@ -22,14 +22,14 @@ pub returns-in-Room-clause-answer : goal.returns-in-Room-clause-answer
 returns-in-Room-clause-answer g c = λ ahead is.
     let b = group_start c.args.engine.now in
     let given = answer.Room c.room_behind.result in
-    subst (λ (a : Asked). IsKnownBehind b ahead a given) (sym c.in-Room.is)
+    subst (λ (a : Question). IsKnownBehind b ahead a given) (sym c.in-Room.is)
     (room_shown b ahead c.args.put.now is c.room_behind.result c.room_behind.ensures)
 
 pub returns-in-Count-clause-answer : goal.returns-in-Count-clause-answer
 returns-in-Count-clause-answer g c = λ ahead is.
     let b = group_start c.args.engine.now in
     let given = answer.Count c.count_behind.result in
-    subst (λ (a : Asked). IsKnownBehind b ahead a given) (sym c.in-Count.is)
+    subst (λ (a : Question). IsKnownBehind b ahead a given) (sym c.in-Count.is)
     (count_shown b ahead c.args.put.now is c.count_behind.result c.count_behind.ensures)
 
 pub returns-in-About-clause-answer : goal.returns-in-About-clause-answer
@@ -37,7 +37,7 @@ returns-in-About-clause-answer g c = λ ahead is.
     let b = group_start c.args.engine.now in
     let about = c.about_behind.ensures.about in
     let given = answer.About c.about_behind.result in
-    subst (λ (a : Asked). IsKnownBehind b ahead a given) (sym c.in-About.is)
+    subst (λ (a : Question). IsKnownBehind b ahead a given) (sym c.in-About.is)
     (about_shown b ahead c.args.put.now is c.about_behind.ensures.memory c.args.slots _ c.about_behind.result refl
     about)
 

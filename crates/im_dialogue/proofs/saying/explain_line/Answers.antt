@@ -1,6 +1,6 @@
 use Rattle.std.proofs.Common.{◌++◌, ap, sym}
 use Rattle.std.specs.Prelude.{None}
-use Rattle.im_dialogue.specs.declared.answers.Answer.{Answer}
+use Rattle.im_dialogue.specs.declared.answers.LineAnswer.{LineAnswer}
 use Rattle.im_dialogue.specs.Talk.{backup_by, outputs}
 use Rattle.im_dialogue.proofs.TalkLemmas.{talk_ends, talk_ends_here, talks_on}
 use Rattle.im_dialogue.proofs.WatchLemmas.{wrong_line_is}
@@ -15,7 +15,7 @@ returns-in-Ok-say g c = λ watch kept.
     c.wrong-answer.result c.args.line.now
     said.0 _ c.requires.wrong (λ h. h) c.wrong-answer.ensures.answered
     (λ n here a. wrong_line_is watch said.0 engine.memory _ n here c.wrong-answer.result c.memory.ensures a) said.1
-    (ap (λ (a : Answer). backup_by engine.memory a ++ kept) (sym c.wrong-answer.ensures.answer))
+    (ap (λ (a : LineAnswer). backup_by engine.memory a ++ kept) (sym c.wrong-answer.ensures.answer))
 
 pub returns-in-Err-say : goal.returns-in-Err-say
 returns-in-Err-say g c = λ watch kept.
@@ -26,7 +26,7 @@ returns-in-Err-say g c = λ watch kept.
     c.wrong-answer.result c.args.line.now
     said.0 _ c.requires.wrong (λ h. h) c.wrong-answer.ensures.answered
     (λ n here a. wrong_line_is watch said.0 engine.memory _ n here c.wrong-answer.result c.memory.ensures a) said.1
-    (ap (λ (a : Answer). backup_by engine.memory a ++ kept) (sym c.wrong-answer.ensures.answer))
+    (ap (λ (a : LineAnswer). backup_by engine.memory a ++ kept) (sym c.wrong-answer.ensures.answer))
 
 pub returns-in-Err : goal.returns-in-Err
 returns-in-Err g c = λ watch kept.

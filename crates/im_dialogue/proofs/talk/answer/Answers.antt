@@ -1,8 +1,8 @@
 use Rattle.std.proofs.Common.{◌++◌, List, ap, refl, sym}
 use Rattle.std.specs.Prelude.{Some}
-use Rattle.im_dialogue.specs.declared.asking.Asked.TheVariants.{About, Look}
-use Rattle.im_dialogue.specs.declared.answers.Answer.{Answer}
-use Rattle.im_dialogue.specs.declared.answers.Answer.TheVariants.{Looked}
+use Rattle.im_dialogue.specs.declared.asking.Question.TheVariants.{About, Look}
+use Rattle.im_dialogue.specs.declared.answers.LineAnswer.{LineAnswer}
+use Rattle.im_dialogue.specs.declared.answers.LineAnswer.TheVariants.{Looked}
 use Rattle.im_dialogue.specs.Backups.{Backup}
 use Rattle.im_dialogue.specs.Talk.{backup_by, put_by}
 use Rattle.im_dialogue.proofs.TalkLemmas.{quiet, says_as}
@@ -40,7 +40,7 @@ returns-in-About-clause-answered g c =
     let engine = c.args.engine.now in
     says_as g.D.Disk.now g.D.Disk.past g.D.Disk.honest engine engine _ (Some c.args.asked) _ (ap Some c.in-About.is)
     (quiet g.D.Disk.now g.D.Disk.past g.D.Disk.honest engine (Some About) c.about.result
-    (λ m. ap (λ (a : Answer). put_by m a) c.about.ensures)
+    (λ m. ap (λ (a : LineAnswer). put_by m a) c.about.ensures)
     (λ f turns. (c.args.slots, c.about.ensures)))
 
 pub returns-in-Backup-clause-answered : goal.returns-in-Backup-clause-answered
@@ -64,7 +64,7 @@ returns-in-Window-clause-kept g c = let before = g.B.Backups.kept c.args.backups
 
 pub returns-in-Room-clause-kept : goal.returns-in-Room-clause-kept
 returns-in-Room-clause-kept g c = let before = g.B.Backups.kept c.args.backups.now in
-    ap (λ (a : Answer). backup_by c.args.engine.now.memory a ++ before) (sym c.room.ensures.room)
+    ap (λ (a : LineAnswer). backup_by c.args.engine.now.memory a ++ before) (sym c.room.ensures.room)
 
 pub returns-in-Count-clause-kept : goal.returns-in-Count-clause-kept
 returns-in-Count-clause-kept g c = let before = g.B.Backups.kept c.args.backups.now in
@@ -72,4 +72,4 @@ returns-in-Count-clause-kept g c = let before = g.B.Backups.kept c.args.backups.
 
 pub returns-in-About-clause-kept : goal.returns-in-About-clause-kept
 returns-in-About-clause-kept g c = let before = g.B.Backups.kept c.args.backups.now in
-    ap (λ (a : Answer). backup_by c.args.engine.now.memory a ++ before) (sym c.about.ensures)
+    ap (λ (a : LineAnswer). backup_by c.args.engine.now.memory a ++ before) (sym c.about.ensures)

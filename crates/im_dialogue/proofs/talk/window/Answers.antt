@@ -1,7 +1,7 @@
 use Rattle.std.proofs.Common.{ap, refl}
 use Rattle.std.specs.Prelude.{Some}
-use Rattle.im_dialogue.specs.declared.asking.Asked.TheVariants as asks
-use Rattle.im_dialogue.specs.declared.answers.Answer.TheVariants as answer
+use Rattle.im_dialogue.specs.declared.asking.Question.TheVariants as asks
+use Rattle.im_dialogue.specs.declared.answers.LineAnswer.TheVariants as answer
 use Rattle.im_dialogue.proofs.TalkLemmas.{quiet}
 use Rattle.im_dialogue.proofs.talk.window.Goals as goal
 

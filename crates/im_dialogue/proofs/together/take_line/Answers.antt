@@ -1,6 +1,6 @@
 use Rattle.std.proofs.Common.{◌≡◌, List, rules, subst, sym}
 use Rattle.std.specs.Prelude.{Some}
-use Rattle.im_dialogue.specs.declared.asking.Asked.{Asked}
+use Rattle.im_dialogue.specs.declared.asking.Question.{Question}
 use Rattle.im_dialogue.specs.Asking.{asked_of}
 use Rattle.im_dialogue.specs.Together.{AreAsked}
 use Rattle.im_dialogue.proofs.FitLemmas.{asked_push}
@@ -9,5 +9,5 @@ use Rattle.im_dialogue.proofs.together.take_line.Goals as goal
 pub returns-in_ok-add_asked-in-Some : goal.returns-in_ok-add_asked-in-Some
 returns-in_ok-add_asked-in-Some c =
     let asks : asked_of c.args.line.now ≡ Some c.in-Some.found = search rules in
-    subst (λ (l : List Asked). AreAsked l) (sym c.in_ok-add_asked-in-Some.ensures)
+    subst (λ (l : List Question). AreAsked l) (sym c.in_ok-add_asked-in-Some.ensures)
     (asked_push c.args.asked.now.items c.in-Some.found c.requires.asked (c.args.line.now, asks))
