@@ -73,7 +73,7 @@ impl Draft {
     }
 }
 
-/// IsAnswerTo a line that isn't in the grammar by where it goes wrong. Nothing changes.
+/// Answers a line that isn't in the grammar by where it goes wrong. Nothing changes.
 pub(crate) fn explain_line<D: Disk, W: Write>(
     engine: &Engine<D>,
     number: u64,
