@@ -12,8 +12,11 @@ use Rattle.im_engine.specs.Run.{MeansBeginning}
 use Rattle.im_text.specs.Printing.{Begins, IsLast}
 use Rattle.im_text.proofs.PrintingLemmas.{take-all}
 use Rattle.im_dialogue.specs.Backups.{Backup}
-use Rattle.im_dialogue.specs.Talk.{Outputs, outputs, put_of, texts_of, Talking, TalksOn, TalkEnds}
+use Rattle.im_dialogue.specs.Hearing.{left_after}
+use Rattle.im_dialogue.specs.Talk.{Outputs, outputs, put_of, questions_of, texts_of, Talking, TalksOn, TalkEnds}
+use Rattle.im_dialogue.specs.Talk.{with_left}
 use Rattle.im_dialogue.specs.Dialogue.{TalkClosed, Talked}
+use Rattle.im_dialogue.proofs.HearingLemmas.{hears_none, heard_all, heard_not_all}
 use Rattle.im_dialogue.proofs.TalkLemmas.{at_start, ended_at}
 
 -- an image of these limits, by the numbers of cells and elements as the code has them
@@ -52,6 +55,7 @@ module _ {D : Type 0} (watch : Bool) (now : D → Moment) (past : D → List Mom
     printed = it.printed;
     whole = it.whole;
     backups = it.backups;
+    heard = it.heard;
   }
 
   module _ (honest : D → Type 0) where
@@ -59,34 +63,57 @@ module _ {D : Type 0} (watch : Bool) (now : D → Moment) (past : D → List Mom
     talking : (start : EngineState D) (was : Outputs) → start.failed ≡ false
         → (honest start.disk → LeavesNow (now start.disk) (MeansState start))
         → Talking watch now past honest start was start was
-    talking start was works means = λ h. (h, ([], (at_start now past honest start works (means h), (Appends-nil was.text, refl))))
+    talking start was works means = λ h. (
+      h,
+      (
+        [],
+        (at_start now past honest start works (means h), (Appends-nil was.text, (refl, hears_none was.left))),
+      ),
+    )
 
     -- all lines of the input were served
-    pub closed_on : (start engine : EngineState D) (disk : D) (was is : Outputs) (status : ℕ) → disk ≡ engine.disk
-        → start.failed ≡ false → (honest start.disk → LeavesNow (now start.disk) (MeansState start))
-        → TalksOn watch now past honest start was engine is → honest disk
+    pub closed_on : (start engine : EngineState D) (disk : D) (was is : Outputs) (input : Option (List ℕ)) (status : ℕ)
+        → disk ≡ engine.disk → start.failed ≡ false
+        → (honest start.disk → LeavesNow (now start.disk) (MeansState start))
+        → TalksOn watch now past honest start was engine (with_left (left_after 0 input) is) → honest disk
         → honest start.disk × TalkClosed watch now past start disk was is status
-    closed_on start engine disk was is status same works means on = subst (λ (d : D). honest d → honest start.disk × TalkClosed watch now past start d was is status) (sym same) (λ h.
-        let far = on start was (talking start was works means) h in (
+    closed_on start engine disk was is input status same works means on =
+        subst (λ (d : D). honest d → honest start.disk × TalkClosed watch now past start d was is status) (sym same) (λ h.
+        let far = on start was (talking start was works means) h in
+        let said = far.1.0 in
+        let out = far.1.1.1.1 in (
           far.0,
           record {
-            said = far.1.0;
+            said = said;
             doubt = [];
             few = omega arith;
-            ended = ended_at now past honest start engine far.1.0 far.1.1.0;
-            printed = (is.text, (length (texts_of watch start.memory far.1.0), subst (Appends was.text is.text) (sym (take-all (texts_of watch start.memory far.1.0))) far.1.1.1.0), ([], (inl refl, (0, Appends-nil is.text))));
+            ended = ended_at now past honest start engine said far.1.1.0;
+            printed = (
+              is.text,
+              (
+                length (texts_of watch start.memory said),
+                subst (Appends was.text is.text) (sym (take-all (texts_of watch start.memory said))) far.1.1.1.0,
+              ),
+              ([], (inl refl, (0, Appends-nil is.text))),
+            );
             whole = λ zero. (refl, far.1.1.1.0);
-            backups = far.1.1.1.1;
+            backups = out.0;
+            heard = heard_all was.left input (questions_of said) status out.1;
           },
         ))
 
     -- it was ended, and no more than a refusal printed then
-    pub closed_by : (start engine : EngineState D) (disk : D) (was : Outputs) (mid is : Option (List ℕ)) (kept : List Backup) (status : ℕ) → disk ≡ engine.disk → start.failed ≡ false → (honest start.disk → LeavesNow (now start.disk) (MeansState start))
+    pub closed_by : (start engine : EngineState D) (disk : D) (was : Outputs) (mid is : Option (List ℕ))
+        (kept : List Backup) (status : ℕ) → disk ≡ engine.disk → start.failed ≡ false
+        → (honest start.disk → LeavesNow (now start.disk) (MeansState start))
         → TalkEnds watch now past honest start was engine (outputs mid kept)
         → (last : List ℕ) × (IsLast last × Begins mid is last) → status ≡ 1 → honest disk
         → honest start.disk × TalkClosed watch now past start disk was (outputs is kept) status
-    closed_by start engine disk was mid is kept status same works means ends last refused = subst (λ (d : D). honest d → honest start.disk × TalkClosed watch now past start d was (outputs is kept) status) (sym same) (λ h.
-        let far = ends start was (talking start was works means) h in (
+    closed_by start engine disk was mid is kept status same works means ends last refused =
+        subst (λ (d : D). honest d → honest start.disk × TalkClosed watch now past start d was (outputs is kept) status)
+        (sym same) (λ h.
+        let far = ends start was (talking start was works means) h in
+        let failed : status ≡ 0 → ⊥ = λ zero. omega (arith, zero, refused) in (
           far.0,
           record {
             said = far.1.said;
@@ -94,7 +121,8 @@ module _ {D : Type 0} (watch : Bool) (now : D → Moment) (past : D → List Mom
             few = far.1.few;
             ended = far.1.ended;
             printed = (mid, far.1.printed, last);
-            whole = λ zero. absurd (omega arith);
+            whole = λ zero. absurd (failed zero);
             backups = far.1.backups;
+            heard = heard_not_all was.left (questions_of far.1.said) status failed far.1.heard;
           },
         ))

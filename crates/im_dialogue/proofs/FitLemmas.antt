@@ -65,6 +65,7 @@ module _ (b : GroupStart) (ahead ones : List Command) (is : ones ≡ commands_at
     puts = λ any. refl;
     tells = λ watch any. refl;
     keeps = λ any. refl;
+    asks = refl;
   }
 
   -- the room behind the members
@@ -78,6 +79,7 @@ module _ (b : GroupStart) (ahead ones : List Command) (is : ones ≡ commands_at
     puts = λ any. refl;
     tells = λ watch any. refl;
     keeps = λ any. refl;
+    asks = refl;
   }
 
   pub count_shown : (n : ℕ) → n ≡ b.count + length ones
@@ -87,6 +89,7 @@ module _ (b : GroupStart) (ahead ones : List Command) (is : ones ≡ commands_at
     puts = λ any. refl;
     tells = λ watch any. refl;
     keeps = λ any. refl;
+    asks = refl;
   }
 
   pub about_shown : IsMemory (length b.memory.cells) (length b.memory.windows) b.memory
@@ -116,6 +119,7 @@ module _ (b : GroupStart) (ahead ones : List Command) (is : ones ≡ commands_at
         puts = λ any. refl;
         tells = λ watch any. refl;
         keeps = λ any. refl;
+        asks = refl;
       }
 
 -- no more is put than can be counted

@@ -50,8 +50,11 @@ use Rattle.im_dialogue.specs.Telling.{Reaches, SaidMore, SaysAll}
 use Rattle.im_dialogue.specs.Backups.{Backup}
 use Rattle.im_dialogue.specs.Talk.{Exchange, IsOutcomeOf, IsAnswerTo, AnswerPoint, exchange_at, point_behind, put_of, stands_behind, texts_of}
 use Rattle.im_dialogue.specs.Talk.{IsAt, MeansSaid}
-use Rattle.im_dialogue.specs.Talk.{Halts, TalksOn, TalkEnds, AreKept, Outputs, backups_of, outputs}
-use Rattle.im_dialogue.proofs.TalkLemmas.{silent}
+use Rattle.im_dialogue.specs.Hearing.{Hears, HearsSome}
+use Rattle.im_dialogue.specs.Talk.{Halts, TalksOn, TalkEnds, AreKept, Outputs, backups_of, outputs, questions_of}
+use Rattle.im_dialogue.specs.Talk.{with_left}
+use Rattle.im_dialogue.proofs.HearingLemmas.{hears_on, hears_some_on}
+use Rattle.im_dialogue.proofs.TalkLemmas.{Left, silent}
 use Rattle.im_dialogue.proofs.ReachLemmas.{contents_behind}
 
 second : (a b : Bool) → (a && b) ≡ true → b ≡ true
@@ -189,23 +192,32 @@ room_below_last (suc k) p some low below = sym (room_of k p low
 -- ---- all that was said, by the memory that it comes to
 
 module _ {D : Type 0} (watch : Bool) (start : EngineState D) (b : GroupStart) where
-  pub told_none : (base : List Exchange) → Reaches start b base [] → SaidMore watch start b base [] []
+  pub told_none : (base : List Exchange) → Reaches start b base [] → SaidMore watch start b base [] [] []
   told_none base at = record {
     said = base;
     reach = at;
     put = sym (append-nil (put_of start.memory base));
     texts = sym (append-nil (texts_of watch start.memory base));
     backups = refl;
+    asks = sym (append-nil (questions_of base));
   }
 
   -- one more line was answered
-  module _ (base : List Exchange) (ahead : List Command) (text : List ℕ) (told : SaidMore watch start b base ahead text)
-      (line name : List ℕ) where
+  module _ (base : List Exchange) (ahead : List Command) (text : List ℕ) (qs : List (Option Question))
+      (told : SaidMore watch start b base ahead text qs) (line name : List ℕ) where
     abbrev here : Contents
     here = after start.memory (put_of start.memory told.said)
 
     abbrev exchange : LineAnswer → Exchange
     exchange answer = exchange_at line answer name (record { turns = told.reach.turns; point = point_between b ahead })
+
+    -- what it asks for, behind what was asked before
+    asks_on : (answer : LineAnswer) (asked : Option Question) → asked_of line ≡ asked
+        → questions_of (exchange answer ∷ told.said) ≡ questions_of base ++ (qs ++ asked ∷ [])
+    asks_on answer asked read =
+        ap (λ (o : Option Question). questions_of told.said ++ o ∷ []) read
+        ∙ ap (λ (l : List (Option Question)). l ++ asked ∷ []) told.asks
+        ∙ append_assoc (questions_of base) qs (asked ∷ [])
 
     -- its text, behind those before
     texts_on : (answer : LineAnswer) (more : List ℕ)
@@ -242,7 +254,7 @@ module _ {D : Type 0} (watch : Bool) (start : EngineState D) (b : GroupStart) wh
       pub told_member : (more : List ℕ)
           → more ≡ text ++ (answer_text name (memory_between b ahead) (ServedAs c answered_so)
           ++ watch_text watch (memory_between b ahead) (ServedAs c answered_so))
-          → SaidMore watch start b base (ahead ++ c ∷ []) more
+          → SaidMore watch start b base (ahead ++ c ∷ []) more (qs ++ Some (asks.Serve c) ∷ [])
       told_member more is = record {
         said = exchange (ServedAs c answered_so) ∷ told.said;
         reach = record {
@@ -282,13 +294,14 @@ module _ {D : Type 0} (watch : Bool) (start : EngineState D) (b : GroupStart) wh
             ∙ ap (λ (l : List Command). put_of start.memory base ++ l) (sym all_put);
         texts = texts_on (ServedAs c answered_so) more is;
         backups = told.backups;
+        asks = asks_on (ServedAs c answered_so) (Some (asks.Serve c)) asked;
       }
 
     pub told_shown : (asked : Question) (answer : LineAnswer) → asked_of line ≡ Some asked
         → IsKnownBehind b ahead asked answer
         → (more : List ℕ) → more ≡ text ++ (answer_text name (memory_between b ahead) answer
         ++ watch_text watch (memory_between b ahead) answer)
-        → SaidMore watch start b base ahead more
+        → SaidMore watch start b base ahead more (qs ++ Some asked ∷ [])
     told_shown asked answer read shown more is =
         let stand : AnswerPoint = record { turns = told.reach.turns; point = point_between b ahead } in
         let same : put_of start.memory (exchange answer ∷ told.said) ≡ put_of start.memory told.said
@@ -314,13 +327,14 @@ module _ {D : Type 0} (watch : Bool) (start : EngineState D) (b : GroupStart) wh
           put = same ∙ told.put;
           texts = texts_on answer more is;
           backups = ap (λ (l : List Backup). l ++ backups_of start.memory told.said) (shown.keeps here) ∙ told.backups;
+          asks = asks_on answer (Some asked) read;
         }
 
 -- no backup is among the lines of a group
 kept_still : {D : Type 0} (watch : Bool) (start : EngineState D) (b : GroupStart) (base : List Exchange)
-    (ahead : List Command) (text : List ℕ) (told : SaidMore watch start b base ahead text) (held was is : Outputs)
-    → is.backups ≡ was.backups → AreKept start.memory held was base → AreKept start.memory held is told.said
-kept_still watch start b base ahead text told held was is same kept = same ∙ kept
+    (ahead : List Command) (text : List ℕ) (qs : List (Option Question))
+    (told : SaidMore watch start b base ahead text qs) (held was is : Outputs) → is.backups ≡ was.backups → AreKept start.memory held was base → AreKept start.memory held is told.said
+kept_still watch start b base ahead text qs told held was is same kept = same ∙ kept
     ∙ ap (λ (l : List Backup). l ++ held.backups) (sym told.backups)
 
 -- ---- on the disk
@@ -452,14 +466,15 @@ module _ {D : Type 0} (now : D → Moment) (past : D → List Moment) (honest : 
           (λ fault. absurd (true_false new.failed (ap (λ (e : EngineState D). e.failed) fault.1) g))
           (it.put f (omega (arith, ap (λ (l : List Command). length l) some)))
 
-  module _ (watch : Bool) (ss : List Served) (text : List ℕ) (tells : SaysAll watch old cs text)
+  module _ (watch : Bool) (ss : List Served) (text : List ℕ) (qs : List (Option Question))
+      (tells : SaysAll watch old cs text qs)
       (it : CommandsAnswered old cs ss new) (back : honest new.disk → honest old.disk)
       (leaves : honest new.disk → old.failed ≡ false
       → Leaves (now old.disk) (now new.disk) (past old.disk) (past new.disk) (MeansCommands old cs))
       (means : honest new.disk → new.failed ≡ false → LeavesNow (now new.disk) (MeansState new))
       (alive : new.failed ≡ false) where
     said_all : (start : EngineState D) (said : List Exchange) → IsAt now past start old said
-        → SaidMore watch start (group_start old) said cs text
+        → SaidMore watch start (group_start old) said cs text qs
     said_all start said at = tells start said
         (record {
           answered = at.answered;
@@ -491,10 +506,12 @@ module _ {D : Type 0} (now : D → Moment) (past : D → List Moment) (honest : 
         }
 
     -- all their lines were printed
-    pub group_on : (was is : Option (List ℕ)) → Appends was is text → (kept : List Backup)
-        → TalksOn watch now past honest old (outputs was kept) new (outputs is kept)
-    group_on was is printed kept = λ start held so_far h.
+    pub group_on : (was is : Option (List ℕ)) (before later : Left) → Appends was is text → Hears before later qs
+        → (kept : List Backup)
+        → TalksOn watch now past honest old (with_left before (outputs was kept)) new (with_left later (outputs is kept))
+    group_on was is before later printed hears kept = λ start held so_far h.
         let far = so_far (back h) in
+        let out = far.1.1.1.1 in
         let told = said_all start far.1.0 far.1.1.0 in (
           far.0,
           (
@@ -504,24 +521,32 @@ module _ {D : Type 0} (now : D → Moment) (past : D → List Moment) (honest : 
               (
                 subst (λ (t : List ℕ). Appends held.text is t) (sym told.texts)
                     (Appends-trans held.text was is (texts_of watch start.memory far.1.0) text far.1.1.1.0 printed),
-                kept_still watch start (group_start old) far.1.0 cs text told held (outputs was kept)
-                    (outputs is kept) refl far.1.1.1.1,
+                (
+                  kept_still watch start (group_start old) far.1.0 cs text qs told held (outputs was kept)
+                      (outputs is kept) refl out.0,
+                  subst (λ (l : List (Option Question)). Hears held.left later l) (sym told.asks)
+                      (hears_on held.left before later (questions_of far.1.0) qs out.1 hears),
+                ),
               ),
             ),
           ),
         )
 
     -- a beginning of them was printed
-    pub group_cut : (was is : Option (List ℕ)) → Begins was is text → (kept : List Backup)
-        → TalkEnds watch now past honest old (outputs was kept) new (outputs is kept)
-    group_cut was is printed kept = λ start held so_far h.
+    pub group_cut : (was is : Option (List ℕ)) (before : Left) → Begins was is text → HearsSome before qs
+        → (kept : List Backup)
+        → TalkEnds watch now past honest old (with_left before (outputs was kept)) new (outputs is kept)
+    group_cut was is before printed hears kept = λ start held so_far h.
         let far = so_far (back h) in
+        let out = far.1.1.1.1 in
         let told = said_all start far.1.0 far.1.1.0 in (
           far.0,
           silent now past honest watch start new held (outputs was kept) (outputs is kept) far.1.0 told.said text
               (said_at start far.1.0 far.1.1.0 h) told.texts far.1.1.1.0 printed
-              (kept_still watch start (group_start old) far.1.0 cs text told held (outputs was kept)
-              (outputs is kept) refl far.1.1.1.1),
+              (kept_still watch start (group_start old) far.1.0 cs text qs told held (outputs was kept)
+              (outputs is kept) refl out.0)
+              (subst (λ (l : List (Option Question)). HearsSome held.left l) (sym told.asks)
+              (hears_some_on held.left before (questions_of far.1.0) qs out.1 hears)),
         )
 
 -- nothing of a text

@@ -1,4 +1,5 @@
 pub mod BackupLemmas
+pub mod HearingLemmas
 pub mod TalkLemmas
 pub mod WatchLemmas
 pub mod LookLemmas

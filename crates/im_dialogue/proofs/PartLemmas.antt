@@ -1,10 +1,11 @@
 -- The parts of a group: how it grows, and how its answers are told.
-use Rattle.std.proofs.Common.{◌≡◌, ◌∙◌, ℕ, zero, suc, ◌+◌, ◌<◌, ◌≤◌, Bool, false, List, [], ◌∷◌}
+use Rattle.std.proofs.Common.{◌≡◌, ◌∙◌, ℕ, zero, suc, ◌+◌, ◌-◌, ◌<◌, ◌≤◌, Bool, false, List, [], ◌∷◌}
 use Rattle.std.proofs.Common.{◌++◌, length, map, take, refl, sym, ap, subst, append_assoc, length-append, arith}
 use Rattle.std.proofs.lemmas.Bool.Decides.{nat_tests}
-use Rattle.std.specs.Prelude.{◌==◌, ◌||◌, option_map, MatchOption, Option, Some, None, Result, Ok, Err}
+use Rattle.std.specs.Prelude.{◌==◌, ◌||◌, nat_le, true, option_map, MatchOption, Option, Some, None, Result, Ok, Err}
 use Rattle.std.specs.List.{list_any}
-use Rattle.std.proofs.lemmas.List.{append-nil}
+use Rattle.std.proofs.lemmas.List.{append-nil, take_all}
+use Rattle.im_dialogue.specs.Hearing.{Hears, HearsSome}
 use Rattle.im_types.specs.declared.TheConstants.{MAX_GROUP}
 use Rattle.im_types.specs.declared.operations.Waiter.{Waiter}
 use Rattle.im_types.specs.declared.commands.Command.{Command}
@@ -18,8 +19,6 @@ use Rattle.im_laws.proofs.Tests.{or_left, or_right, true_false}
 use Rattle.im_groups.specs.Commands.{answer_with, answers_with, contents_with}
 use Rattle.im_groups.specs.Commands.{places_behind}
 use Rattle.im_groups.proofs.CommandLemmas.{left_behind}
-use Rattle.im_checkpoint.specs.declared.checkpoint.TurnDone.{TurnDone}
-use Rattle.im_turning.specs.Turning.{Point}
 use Rattle.im_engine.specs.State.{EngineState}
 use Rattle.im_dialogue.specs.declared.asking.Question.{Question}
 use Rattle.im_dialogue.specs.declared.asking.Question.TheVariants as asks
@@ -33,14 +32,15 @@ use Rattle.im_dialogue.specs.declared.look.Look.TheVariants.{Collect, Entry, Cel
 use Rattle.im_dialogue.specs.Answers.{answer_text, kept_line, look_text, recalled_line}
 use Rattle.im_dialogue.specs.Looks.{may_alter, may_change, may_reach}
 use Rattle.im_dialogue.specs.Showing.{block_said, cell_said, recall}
-use Rattle.im_dialogue.specs.Talk.{IsAnswerTo, KeepsNone, put_by}
 use Rattle.im_dialogue.specs.Together.{LineAsksFor, GroupStart, group_start, memory_between, places_between}
-use Rattle.im_dialogue.specs.Together.{count_between, point_between, with_member, members_in}
+use Rattle.im_dialogue.specs.Together.{with_member, members_in}
 use Rattle.im_dialogue.specs.Together.{disturbs, LeavesShown, IsKnown, IsKnownBehind, IsGroupLine, StandTogether, MayBeServed}
-use Rattle.im_dialogue.specs.Together.{MayStandNext, member_result, line_answer, answers_behind}
+use Rattle.im_dialogue.specs.Together.{MayStandNext, member_result, line_answer, answers_behind, part_question, question_of}
 use Rattle.im_dialogue.specs.Watching.{told_with, watch_text}
 use Rattle.im_dialogue.specs.Telling.{SaysAll, WasServed}
 use Rattle.im_dialogue.proofs.GroupTalk.{left_and_put, put_few, told_none, told_member, told_shown}
+use Rattle.im_dialogue.proofs.HearingLemmas.{heard_some}
+use Rattle.im_dialogue.proofs.TalkLemmas.{Left}
 use Rattle.im_dialogue.proofs.LookLemmas.{ask_recalls, entry_of, may_change_there, recall_with}
 use Rattle.im_dialogue.proofs.ReachLemmas.{after_memory, cell_after, contents_behind}
 
@@ -218,9 +218,10 @@ module _ {D : Type 0} (watch : Bool) (old : EngineState D) where
   abbrev b : GroupStart
   b = group_start old
 
-  -- these members were served; the answers to some parts were told, and these parts and answers are left
+  -- These members were served; the answers to some parts, which asked for these, were told; these parts and answers are
+  -- left.
   pub record Telling (cs : List Command) (parts : List GroupLine) (texts : List (List ℕ)) (answers : List Served)
-      (text : List ℕ) : Type 0 where
+      (text : List ℕ) (qs : List (Option Question)) : Type 0 where
     pub ahead : List Command
     pub shown : List GroupLine
     pub more : List Command
@@ -229,7 +230,7 @@ module _ {D : Type 0} (watch : Bool) (old : EngineState D) where
     pub first : more ≡ take many (members_in parts)
     pub parts_are : StandTogether watch b ahead shown parts texts
     pub answers_are : answers ≡ map as_served (answers_with (memory_between b ahead) (places_between b ahead) more)
-    pub tells : SaysAll watch old ahead text
+    pub tells : SaysAll watch old ahead text qs
     pub places : length cs ≤ b.places
 
   -- a place is left for one more member than those ahead
@@ -241,44 +242,58 @@ module _ {D : Type 0} (watch : Bool) (old : EngineState D) where
       grind (arith, nat_tests, some)
 
   -- a member's answer
-  tells_member : (ahead : List Command) (text told more name : List ℕ) (c : Command) → SaysAll watch old ahead text
+  tells_member : (ahead : List Command) (text told more name : List ℕ) (qs : List (Option Question)) (c : Command)
+      → SaysAll watch old ahead text qs
       → length ahead < b.places → IsGroupLine watch b ahead (Member c) told
       → let a = answer_with (memory_between b ahead) (places_between b ahead) c in
       more ≡ text ++ (answer_text name (memory_between b ahead) (answer.Served c a)
       ++ told_with (answer.Served c a) told)
-      → SaysAll watch old (ahead ++ c ∷ []) more
-  tells_member ahead text told more name c tells few (asked, is_told) is = λ start base at.
-      told_member watch start b base ahead text (tells start base at) asked.0 name c asked.1 (some_left ahead few) more
+      → SaysAll watch old (ahead ++ c ∷ []) more (qs ++ Some (asks.Serve c) ∷ [])
+  tells_member ahead text told more name qs c tells few (asked, is_told) is = λ start base at.
+      told_member watch start b base ahead text qs (tells start base at) asked.0 name c asked.1 (some_left ahead few) more
       (is ∙ ap (λ (t : List ℕ). text ++ (answer_text name (memory_between b ahead)
       (answer.Served c (answer_with (memory_between b ahead) (places_between b ahead) c)) ++ t)) (is_told _ refl))
 
-  tells_shown : (ahead : List Command) (text more name : List ℕ) (asked : Question) (given : LineAnswer)
-      → SaysAll watch old ahead text → LineAsksFor asked
+  tells_shown : (ahead : List Command) (text more name : List ℕ) (qs : List (Option Question)) (asked : Question)
+      (given : LineAnswer) → SaysAll watch old ahead text qs → LineAsksFor asked
       → IsKnownBehind b ahead asked given
       → more ≡ text ++ (answer_text name (memory_between b ahead) given ++ told_with given [])
-      → SaysAll watch old ahead more
-  tells_shown ahead text more name asked given tells read shown is = λ start base at.
-      told_shown watch start b base ahead text (tells start base at) read.0 name asked given read.1 shown more
+      → SaysAll watch old ahead more (qs ++ Some asked ∷ [])
+  tells_shown ahead text more name qs asked given tells read shown is = λ start base at.
+      told_shown watch start b base ahead text qs (tells start base at) read.0 name asked given read.1 shown more
       (is ∙ ap (λ (t : List ℕ). text ++ (answer_text name (memory_between b ahead) given ++ t))
       (told_nothing given ∙ sym (shown.tells watch (memory_between b ahead))))
 
-  looked : (m : Contents) (n : ℕ) (p : Point) (asked : Question) (given : LineAnswer)
-      → ((turns : List TurnDone) → IsAnswerTo m n (record { turns = turns; point = p }) (Some asked) given)
-      → ((any : Contents) → put_by any given ≡ []) → ((watch : Bool) (any : Contents) → watch_text watch any given ≡ [])
-      → KeepsNone given → IsKnown m n p asked given
-  looked m n p asked given answers puts tells keeps =
-      record { answers = answers; puts = puts; tells = tells; keeps = keeps }
+  -- a look is known behind any members
+  looked : (ahead : List Command) (look : Look)
+      → IsKnownBehind b ahead (asks.Look look) (answer.Looked look)
+  looked ahead look = record {
+    answers = λ turns. refl;
+    puts = λ any. refl;
+    tells = λ watch any. refl;
+    keeps = λ any. refl;
+    asks = refl;
+  }
+
+  -- a part with a known answer
+  tells_known : (ahead : List Command) (text more name told : List ℕ) (qs : List (Option Question)) (known : LineAnswer)
+      → SaysAll watch old ahead text qs → IsGroupLine watch b ahead (Known known) told
+      → more ≡ text ++ (answer_text name (memory_between b ahead) known ++ told_with known [])
+      → SaysAll watch old ahead more (qs ++ question_of known ∷ [])
+  tells_known ahead text more name told qs known tells part is =
+      subst (λ (o : Option Question). SaysAll watch old ahead more (qs ++ o ∷ [])) (sym part.0.2.asks)
+      (tells_shown ahead text more name qs part.0.0 known tells part.0.1 part.0.2 is)
 
   module _ (cells elements : ℕ) (is : IsMemory cells elements old.memory) (m : Contents) (cs : List Command)
       (after_all : m ≡ memory_between b cs) where
     -- the next part's answer
     pub telling_next : (p : GroupLine) (parts : List GroupLine) (t : List ℕ) (texts : List (List ℕ))
-        (answers : List Served) (text more name : List ℕ) (given : LineAnswer)
-        → Telling cs (p ∷ parts) (t ∷ texts) answers text → line_answer answers p ≡ Some given
+        (answers : List Served) (text more name : List ℕ) (qs : List (Option Question)) (given : LineAnswer)
+        → Telling cs (p ∷ parts) (t ∷ texts) answers text qs → line_answer answers p ≡ Some given
         → more ≡ text ++ (answer_text name m given ++ told_with given t)
-        → Telling cs parts texts (answers_behind p answers) more
-    telling_next (Member c) parts t texts [] text more name given telling is_given same = absurd (cc)
-    telling_next (Member c) parts t texts (a ∷ answers) text more name given telling is_given same =
+        → Telling cs parts texts (answers_behind p answers) more (qs ++ part_question p ∷ [])
+    telling_next (Member c) parts t texts [] text more name qs given telling is_given same = absurd (cc)
+    telling_next (Member c) parts t texts (a ∷ answers) text more name qs given telling is_given same =
         by_many telling.many telling.more telling.first telling.all telling.answers_are
       where
         M : Contents
@@ -293,7 +308,7 @@ module _ {D : Type 0} (watch : Bool) (old : EngineState D) where
         on : (rest : List Command) → cs ≡ telling.ahead ++ (c ∷ rest) → (k : ℕ) → rest ≡ take k (members_in parts)
             → a ∷ answers ≡ as_served (answer_with M L c) ∷ map as_served
             (answers_with (contents_with M L c) (places_behind M L c) rest)
-            → Telling cs parts texts answers more
+            → Telling cs parts texts answers more (qs ++ Some (asks.Serve c) ∷ [])
         on rest all k first are =
             let head : a ≡ as_served (answer_with M L c) = cc in
             let tail : answers ≡ map as_served (answers_with (contents_with M L c) (places_behind M L c) rest) = cc in
@@ -312,7 +327,7 @@ module _ {D : Type 0} (watch : Bool) (old : EngineState D) where
                   ∙ ap (λ (k : ℕ). map as_served (answers_with (memory_between b (telling.ahead ++ c ∷ [])) k rest))
                   (sym (left_behind b.memory b.places telling.ahead c));
               places = telling.places;
-              tells = tells_member telling.ahead text t more name c telling.tells
+              tells = tells_member telling.ahead text t more name qs c telling.tells
                   (omega (
                     arith,
                     telling.places,
@@ -324,14 +339,15 @@ module _ {D : Type 0} (watch : Bool) (old : EngineState D) where
             }
 
         by_many : (k : ℕ) (rest : List Command) → rest ≡ take k (c ∷ members_in parts) → cs ≡ telling.ahead ++ rest
-            → a ∷ answers ≡ map as_served (answers_with M L rest) → Telling cs parts texts answers more
+            → a ∷ answers ≡ map as_served (answers_with M L rest)
+            → Telling cs parts texts answers more (qs ++ Some (asks.Serve c) ∷ [])
         by_many zero rest first all are =
             let none : a ∷ answers ≡ [] = are ∙ ap (λ (l : List Command). map as_served (answers_with M L l)) first in
             absurd (cc)
         by_many (suc k) rest first all are = on (take k (members_in parts))
             (all ∙ ap (λ (l : List Command). telling.ahead ++ l) first) k refl
             (are ∙ ap (λ (l : List Command). map as_served (answers_with M L l)) first)
-    telling_next (line.Look look) parts t texts answers text more name given telling is_given same =
+    telling_next (line.Look look) parts t texts answers text more name qs given telling is_given same =
         let given_is : given ≡ answer.Looked look = cc in
         let still = shown_still watch b cells elements is name look telling.many telling.ahead
         (telling.shown ++ line.Look look ∷ []) telling.shown [] parts texts refl telling.parts_are.1.1 in
@@ -348,17 +364,15 @@ module _ {D : Type 0} (watch : Bool) (old : EngineState D) where
           parts_are = telling.parts_are.1.1;
           answers_are = telling.answers_are;
           places = telling.places;
-          tells = tells_shown telling.ahead text more name (asks.Look look) (answer.Looked look) telling.tells
-              telling.parts_are.0.0
-              (looked (memory_between b telling.ahead) (count_between b telling.ahead) (point_between b telling.ahead)
-              (asks.Look look) (answer.Looked look) (λ turns. refl) (λ any. refl) (λ watch any. refl) (λ any. refl))
+          tells = tells_shown telling.ahead text more name qs (asks.Look look) (answer.Looked look) telling.tells
+              telling.parts_are.0.0 (looked telling.ahead look)
               (same ∙ ap (λ (g : LineAnswer). text ++ (answer_text name m g ++ told_with g t)) given_is
               ∙ ap (λ (l : List ℕ). text ++ (look_text name m look ++ told_with (answer.Looked look) l))
               telling.parts_are.0.1
               ∙ ap (λ (l : List ℕ). text ++ (l ++ told_with (answer.Looked look) []))
               (ap (λ (n : Contents). look_text name n look) there ∙ still));
         }
-    telling_next (Known known) parts t texts answers text more name given telling is_given same =
+    telling_next (Known known) parts t texts answers text more name qs given telling is_given same =
         let given_is : given ≡ known = cc in
         record {
           ahead = telling.ahead;
@@ -370,8 +384,7 @@ module _ {D : Type 0} (watch : Bool) (old : EngineState D) where
           parts_are = telling.parts_are.1.1;
           answers_are = telling.answers_are;
           places = telling.places;
-          tells = tells_shown telling.ahead text more name telling.parts_are.0.0.0 known telling.tells
-              telling.parts_are.0.0.1 telling.parts_are.0.0.2
+          tells = tells_known telling.ahead text more name t qs known telling.tells telling.parts_are.0
               (same ∙ ap (λ (g : LineAnswer). text ++ (answer_text name m g ++ told_with g t)) given_is
               ∙ ap (λ (l : List ℕ). text ++ (answer_text name m known ++ told_with known l)) telling.parts_are.0.1.1
               ∙ ap (λ (l : List ℕ). text ++ (l ++ told_with known []))
@@ -380,15 +393,15 @@ module _ {D : Type 0} (watch : Bool) (old : EngineState D) where
 
   -- ---- all of them
 
-  no_more : (ahead more cs : List Command) (text : List ℕ) → cs ≡ ahead ++ more → more ≡ []
-      → SaysAll watch old ahead text → SaysAll watch old cs text
-  no_more ahead more cs text all none tells = subst (λ (l : List Command). SaysAll watch old l text)
+  no_more : (ahead more cs : List Command) (text : List ℕ) (qs : List (Option Question)) → cs ≡ ahead ++ more → more ≡ []
+      → SaysAll watch old ahead text qs → SaysAll watch old cs text qs
+  no_more ahead more cs text qs all none tells = subst (λ (l : List Command). SaysAll watch old l text qs)
       (sym (all ∙ ap (λ (l : List Command). ahead ++ l) none ∙ append-nil ahead)) tells
 
   -- no part is left
   pub telling_done : (cs : List Command) (texts : List (List ℕ)) (answers : List Served) (text : List ℕ)
-      → Telling cs [] texts answers text → SaysAll watch old cs text
-  telling_done cs texts answers text telling = no_more telling.ahead telling.more cs text telling.all
+      (qs : List (Option Question)) → Telling cs [] texts answers text qs → SaysAll watch old cs text qs
+  telling_done cs texts answers text qs telling = no_more telling.ahead telling.more cs text qs telling.all
       (telling.first ∙ nothing telling.many) telling.tells
     where
       nothing : (k : ℕ) → take k (members_in []) ≡ []
@@ -397,13 +410,13 @@ module _ {D : Type 0} (watch : Bool) (old : EngineState D) where
 
   -- no answer is left
   pub telling_cut : (cs : List Command) (p : GroupLine) (parts : List GroupLine) (texts : List (List ℕ))
-      (answers : List Served) (text : List ℕ)
-      → Telling cs (p ∷ parts) texts answers text → line_answer answers p ≡ None → SaysAll watch old cs text
-  telling_cut cs (Member c) parts texts (a ∷ answers) text telling none = absurd (cc)
-  telling_cut cs (line.Look look) parts texts answers text telling none = absurd (cc)
-  telling_cut cs (Known given) parts texts answers text telling none = absurd (cc)
-  telling_cut cs (Member c) parts texts [] text telling none = no_more telling.ahead telling.more cs text telling.all
-      (nobody telling.more telling.answers_are) telling.tells
+      (answers : List Served) (text : List ℕ) (qs : List (Option Question))
+      → Telling cs (p ∷ parts) texts answers text qs → line_answer answers p ≡ None → SaysAll watch old cs text qs
+  telling_cut cs (Member c) parts texts (a ∷ answers) text qs telling none = absurd (cc)
+  telling_cut cs (line.Look look) parts texts answers text qs telling none = absurd (cc)
+  telling_cut cs (Known given) parts texts answers text qs telling none = absurd (cc)
+  telling_cut cs (Member c) parts texts [] text qs telling none = no_more telling.ahead telling.more cs text qs
+      telling.all (nobody telling.more telling.answers_are) telling.tells
     where
       nobody : (more : List Command)
           → [] ≡ map as_served (answers_with (memory_between b telling.ahead) (places_between b telling.ahead) more)
@@ -411,82 +424,197 @@ module _ {D : Type 0} (watch : Bool) (old : EngineState D) where
       nobody [] are = refl
       nobody (d ∷ more) are = absurd (cc)
 
-  -- there is such a text, for the members alone
-  some_member : (ahead : List Command) (text told : List ℕ) (c : Command) → SaysAll watch old ahead text
-      → length ahead < b.places → IsGroupLine watch b ahead (Member c) told
-      → SaysAll watch old (ahead ++ c ∷ [])
-      (text ++ (answer_text [] (memory_between b ahead)
-      (answer.Served c (answer_with (memory_between b ahead) (places_between b ahead) c))
-      ++ told_with (answer.Served c (answer_with (memory_between b ahead) (places_between b ahead) c)) told))
-  some_member ahead text told c tells few part = tells_member ahead text told _ [] c tells few part refl
-
+  -- there is such a text for the first parts, up to the last member that was served
   some_from : (k : ℕ) (ahead : List Command) (shown parts : List GroupLine) (texts : List (List ℕ)) (text : List ℕ)
-      → SaysAll watch old ahead text → length ahead + length (members_in parts) ≤ b.places
-      → StandTogether watch b ahead shown parts texts → (all : List ℕ)
-      × SaysAll watch old (ahead ++ take k (members_in parts)) all
-  some_from zero ahead shown parts texts text tells few are =
-      (text, subst (λ (l : List Command). SaysAll watch old l text) (sym (append-nil ahead)) tells)
-  some_from (suc k) ahead shown [] texts text tells few are =
-      (text, subst (λ (l : List Command). SaysAll watch old l text) (sym (append-nil ahead)) tells)
-  some_from (suc k) ahead shown (p ∷ parts) [] text tells few are = absurd are
-  some_from (suc k) ahead shown (Member c ∷ parts) (t ∷ texts) text tells few are =
-      let rest = some_from k (ahead ++ c ∷ []) (shown ++ Member c ∷ []) parts texts _
-      (some_member ahead text t c tells (omega (arith, few)) are.0)
+      (qs : List (Option Question))
+      → SaysAll watch old ahead text qs → length ahead + length (members_in parts) ≤ b.places
+      → StandTogether watch b ahead shown parts texts → (all : List ℕ) × (j : ℕ)
+      × SaysAll watch old (ahead ++ take k (members_in parts)) all (qs ++ take j (map part_question parts))
+  some_from zero ahead shown parts texts text qs tells few are = (
+    text,
+    0,
+    subst (λ (l : List Command). SaysAll watch old l text (qs ++ [])) (sym (append-nil ahead))
+        (subst (λ (l : List (Option Question)). SaysAll watch old ahead text l) (sym (append-nil qs)) tells),
+  )
+  some_from (suc k) ahead shown [] texts text qs tells few are = (
+    text,
+    0,
+    subst (λ (l : List Command). SaysAll watch old l text (qs ++ [])) (sym (append-nil ahead))
+        (subst (λ (l : List (Option Question)). SaysAll watch old ahead text l) (sym (append-nil qs)) tells),
+  )
+  some_from (suc k) ahead shown (p ∷ parts) [] text qs tells few are = absurd are
+  some_from (suc k) ahead shown (Member c ∷ parts) (t ∷ texts) text qs tells few are =
+      let rest = some_from k (ahead ++ c ∷ []) (shown ++ Member c ∷ []) parts texts _ (qs ++ Some (asks.Serve c) ∷ [])
+      (tells_member ahead text t _ [] qs c tells (omega (arith, few)) are.0 refl)
       (omega (arith, few, length-append ahead (c ∷ []))) are.1.1 in (
         rest.0,
-        subst (λ (l : List Command). SaysAll watch old l rest.0)
-            (append_assoc ahead (c ∷ []) (take k (members_in parts))) rest.1,
+        suc rest.1,
+        subst (λ (l : List Command). SaysAll watch old l rest.0
+            (qs ++ Some (asks.Serve c) ∷ take rest.1 (map part_question parts)))
+            (append_assoc ahead (c ∷ []) (take k (members_in parts)))
+            (subst (λ (l : List (Option Question)). SaysAll watch old ((ahead ++ c ∷ []) ++ take k (members_in parts))
+            rest.0 l)
+            (append_assoc qs (Some (asks.Serve c) ∷ []) (take rest.1 (map part_question parts))) rest.2),
       )
-  some_from (suc k) ahead shown (line.Look look ∷ parts) (t ∷ texts) text tells few are = some_from (suc k) ahead
-      (shown ++ line.Look look ∷ []) parts texts text tells few are.1.1
-  some_from (suc k) ahead shown (Known given ∷ parts) (t ∷ texts) text tells few are = some_from (suc k) ahead
-      (shown ++ Known given ∷ []) parts texts text tells few are.1.1
+  some_from (suc k) ahead shown (line.Look look ∷ parts) (t ∷ texts) text qs tells few are =
+      let rest = some_from (suc k) ahead (shown ++ line.Look look ∷ []) parts texts _ (qs ++ Some (asks.Look look) ∷ [])
+      (tells_shown ahead text _ [] qs (asks.Look look) (answer.Looked look) tells are.0.0 (looked ahead look) refl) few
+      are.1.1 in (
+        rest.0,
+        suc rest.1,
+        subst (λ (l : List (Option Question)). SaysAll watch old (ahead ++ take (suc k) (members_in parts)) rest.0 l)
+            (append_assoc qs (Some (asks.Look look) ∷ []) (take rest.1 (map part_question parts))) rest.2,
+      )
+  some_from (suc k) ahead shown (Known given ∷ parts) (t ∷ texts) text qs tells few are =
+      let rest = some_from (suc k) ahead (shown ++ Known given ∷ []) parts texts _ (qs ++ question_of given ∷ [])
+      (tells_known ahead text _ [] t qs given tells are.0 refl) few are.1.1 in (
+        rest.0,
+        suc rest.1,
+        subst (λ (l : List (Option Question)). SaysAll watch old (ahead ++ take (suc k) (members_in parts)) rest.0 l)
+            (append_assoc qs (question_of given ∷ []) (take rest.1 (map part_question parts))) rest.2,
+      )
 
   pub some_text : (many : ℕ) (parts : List GroupLine) (texts : List (List ℕ)) (members : List Command)
       → MayBeServed watch b parts texts members → length members ≤ b.places
-      → (all : List ℕ) × SaysAll watch old (take many members) all
+      → (all : List ℕ) × (j : ℕ) × SaysAll watch old (take many members) all (take j (map part_question parts))
   some_text many parts texts members group few =
       let room : length (members_in parts) ≤ b.places
       = subst (λ (l : List Command). length l ≤ b.places) group.members_are few in
-      let all = some_from many [] [] parts texts [] (λ start base at. told_none watch start b base at)
-      (omega (arith, room)) group.parts_are in
-      (all.0, subst (λ (l : List Command). SaysAll watch old (take many l) all.0) (sym group.members_are) all.1)
+      let all = some_from many [] [] parts texts [] [] (λ start base at. told_none watch start b base at)
+      (omega (arith, room)) group.parts_are in (
+        all.0,
+        all.1,
+        subst (λ (l : List Command). SaysAll watch old (take many l) all.0 (take all.1 (map part_question parts)))
+            (sym group.members_are) all.2,
+      )
 
   -- the next part, as the lists stand
   pub telling_step : (all : List GroupLine) (all_texts : List (List ℕ)) (members cs : List Command)
       (all_answers : List Served) (m : Contents)
       → WasServed watch old all all_texts members cs all_answers m
       → (p : GroupLine) (parts rest : List GroupLine) (t : List ℕ) (texts others : List (List ℕ))
-      (answers left : List Served) (text more name : List ℕ) (given : LineAnswer)
+      (answers left : List Served) (text more name : List ℕ) (qs : List (Option Question)) (given : LineAnswer)
       → parts ≡ p ∷ rest → texts ≡ t ∷ others → left ≡ answers_behind p answers → line_answer answers p ≡ Some given
-      → more ≡ text ++ (answer_text name m given ++ told_with given t) → Telling cs parts texts answers text
-      → Telling cs rest others left more
+      → more ≡ text ++ (answer_text name m given ++ told_with given t) → Telling cs parts texts answers text qs
+      → Telling cs rest others left more (qs ++ part_question p ∷ [])
   telling_step all all_texts members cs all_answers m served p parts rest t texts others answers left text more name
-      given parts_are texts_are left_is given_is same telling =
-      subst (λ (l : List Served). Telling cs rest others l more) (sym left_is)
+      qs given parts_are texts_are left_is given_is same telling =
+      subst (λ (l : List Served). Telling cs rest others l more (qs ++ part_question p ∷ [])) (sym left_is)
       (telling_next (length old.memory.cells) (length old.memory.windows) served.is_memory m cs served.memory_is p rest
-      t others answers text more name given
-      (subst (λ (l : List GroupLine). Telling cs l (t ∷ others) answers text) parts_are
-      (subst (λ (l : List (List ℕ)). Telling cs parts l answers text) texts_are telling)) given_is same)
+      t others answers text more name qs given
+      (subst (λ (l : List GroupLine). Telling cs l (t ∷ others) answers text qs) parts_are
+      (subst (λ (l : List (List ℕ)). Telling cs parts l answers text qs) texts_are telling)) given_is same)
 
   pub telling_ends : (cs : List Command) (p : GroupLine) (parts rest : List GroupLine)
-      (texts : List (List ℕ)) (answers : List Served) (text : List ℕ)
-      → parts ≡ p ∷ rest → line_answer answers p ≡ None → Telling cs parts texts answers text
-      → SaysAll watch old cs text
-  telling_ends cs p parts rest texts answers text parts_are none telling =
-      telling_cut cs p rest texts answers text
-      (subst (λ (l : List GroupLine). Telling cs l texts answers text) parts_are telling) none
+      (texts : List (List ℕ)) (answers : List Served) (text : List ℕ) (qs : List (Option Question))
+      → parts ≡ p ∷ rest → line_answer answers p ≡ None → Telling cs parts texts answers text qs
+      → SaysAll watch old cs text qs
+  telling_ends cs p parts rest texts answers text qs parts_are none telling =
+      telling_cut cs p rest texts answers text qs
+      (subst (λ (l : List GroupLine). Telling cs l texts answers text qs) parts_are telling) none
 
   pub telling_over : (cs : List Command) (parts : List GroupLine) (texts : List (List ℕ)) (answers : List Served)
-      (text : List ℕ) → length parts ≡ 0
-      → Telling cs parts texts answers text → SaysAll watch old cs text
-  telling_over cs [] texts answers text none telling = telling_done cs texts answers text telling
-  telling_over cs (p ∷ parts) texts answers text none telling = absurd (omega (arith, none))
+      (text : List ℕ) (qs : List (Option Question)) → length parts ≡ 0
+      → Telling cs parts texts answers text qs → SaysAll watch old cs text qs
+  telling_over cs [] texts answers text qs none telling = telling_done cs texts answers text qs telling
+  telling_over cs (p ∷ parts) texts answers text qs none telling = absurd (omega (arith, none))
 
   -- there is a text for each part
   pub telling_lost : (cs : List Command) (p : GroupLine) (parts rest : List GroupLine) (texts : List (List ℕ))
-      (answers : List Served) (text : List ℕ)
-      → parts ≡ p ∷ rest → length texts ≡ 0 → Telling cs parts texts answers text → SaysAll watch old cs text
-  telling_lost cs p parts rest (t ∷ texts) answers text parts_are none telling = absurd (omega (arith, none))
-  telling_lost cs p parts rest [] answers text parts_are none telling =
-      absurd ((subst (λ (l : List GroupLine). Telling cs l [] answers text) parts_are telling).parts_are)
+      (answers : List Served) (text : List ℕ) (qs : List (Option Question))
+      → parts ≡ p ∷ rest → length texts ≡ 0 → Telling cs parts texts answers text qs → SaysAll watch old cs text qs
+  telling_lost cs p parts rest (t ∷ texts) answers text qs parts_are none telling = absurd (omega (arith, none))
+  telling_lost cs p parts rest [] answers text qs parts_are none telling =
+      absurd ((subst (λ (l : List GroupLine). Telling cs l [] answers text qs) parts_are telling).parts_are)
+
+-- the text tells these, by another list of what they asked for
+pub told_as : {D : Type 0} (watch : Bool) (old : EngineState D) (cs : List Command) (text : List ℕ)
+    (qs others : List (Option Question)) → qs ≡ others → SaysAll watch old cs text qs → SaysAll watch old cs text others
+told_as watch old cs text qs others same tells =
+    subst (λ (l : List (Option Question)). SaysAll watch old cs text l) same tells
+
+-- nothing is told yet
+pub telling_first : {D : Type 0} (watch : Bool) (old : EngineState D) (cs : List Command) (all : List GroupLine)
+    (all_texts : List (List ℕ)) (members : List Command) (all_answers : List Served) (m : Contents)
+    (parts : List GroupLine) (texts : List (List ℕ)) (answers : List Served) (text : List ℕ)
+    → WasServed watch old all all_texts members cs all_answers m → parts ≡ all → texts ≡ all_texts
+    → answers ≡ all_answers → text ≡ [] → Telling watch old cs parts texts answers text []
+telling_first watch old cs all all_texts members all_answers m parts texts answers text served parts_are texts_are
+    answers_are none =
+    let members_are = served.group.members_are in
+    let few : length (take served.many members) ≤ length members = few_of served.many members in
+    record {
+      ahead = [];
+      shown = [];
+      more = cs;
+      many = served.many;
+      all = refl;
+      first = served.first ∙ ap (λ (l : List Command). take served.many l) members_are
+          ∙ ap (λ (l : List GroupLine). take served.many (members_in l)) (sym parts_are);
+      parts_are = subst (λ (l : List GroupLine). StandTogether watch (group_start old) [] [] l texts) (sym parts_are)
+          (subst (λ (l : List (List ℕ)). StandTogether watch (group_start old) [] [] all l) (sym texts_are)
+          served.group.parts_are);
+      answers_are = answers_are ∙ served.answers_are;
+      tells = subst (λ (t : List ℕ). SaysAll watch old [] t []) (sym none)
+          (λ start base at. told_none watch start (group_start old) base at);
+      places = subst (λ (l : List Command). length l ≤ (group_start old).places) (sym served.first)
+          (omega (arith, few, served.room));
+    }
+  where
+    few_of : (k : ℕ) (xs : List Command) → length (take k xs) ≤ length xs
+    few_of zero xs = omega arith
+    few_of (suc k) [] = omega arith
+    few_of (suc k) (x ∷ xs) = let rest = few_of k xs in omega (arith, rest)
+
+-- ---- how many were told
+
+-- the parts before those that are left
+pub told_before : (all before left : List GroupLine) (many : ℕ) → all ≡ before ++ left
+    → many ≡ length all - length left → map part_question before ≡ take many (map part_question all)
+told_before all before left many is count =
+    let whole = ap (λ (l : List GroupLine). length l) is ∙ length-append before left in
+    let same : length before ≡ many = omega (arith, whole, count) in
+    sym (ap (λ (n : ℕ). take n (map part_question all)) (sym same)
+    ∙ ap (λ (l : List GroupLine). take (length before) (map part_question l)) is ∙ front before)
+  where
+    front : (xs : List GroupLine) → take (length xs) (map part_question (xs ++ left)) ≡ map part_question xs
+    front [] = refl
+    front (x ∷ xs) = ap (λ (l : List (Option Question)). part_question x ∷ l) (front xs)
+
+-- one part more
+pub before_more : (all before parts rest : List GroupLine) (p : GroupLine) → all ≡ before ++ parts → parts ≡ p ∷ rest
+    → all ≡ (before ++ p ∷ []) ++ rest
+before_more all before parts rest p is parts_are = is ∙ ap (λ (l : List GroupLine). before ++ l) parts_are
+    ∙ sym (append_assoc before (p ∷ []) rest)
+
+pub asked_more : (before : List GroupLine) (p : GroupLine)
+    → map part_question before ++ part_question p ∷ [] ≡ map part_question (before ++ p ∷ [])
+asked_more [] p = refl
+asked_more (x ∷ before) p = ap (λ (l : List (Option Question)). part_question x ∷ l) (asked_more before p)
+
+-- ---- what a group asks for
+
+pub within_parts : (parts : List GroupLine) (many : ℕ) → many ≤ length parts → many ≤ length (map part_question parts)
+within_parts parts many few = subst (λ (n : ℕ). many ≤ n) (sym (same parts)) few
+  where
+    same : (xs : List GroupLine) → length (map part_question xs) ≡ length xs
+    same [] = refl
+    same (x ∷ xs) = ap (λ (n : ℕ). suc n) (same xs)
+
+-- some of its parts are the first of what was asked
+pub hears_parts : (before : Left) (later : ℕ → Left) (parts : List GroupLine) (many : ℕ)
+    → ((k : ℕ) → k ≤ length (map part_question parts) → Hears before (later k) (take k (map part_question parts)))
+    → HearsSome before (take many (map part_question parts))
+hears_parts before later parts many hears = by_test (nat_le many (length all)) refl
+  where
+    all : List (Option Question)
+    all = map part_question parts
+
+    by_test : (b : Bool) → nat_le many (length all) ≡ b → HearsSome before (take many all)
+    by_test true is = heard_some before (later many) (take many all) (hears many (grind (arith, nat_tests, is)))
+    by_test false is =
+        let past : length all ≤ many = grind (arith, nat_tests, is) in
+        let same : take (length all) all ≡ take many all
+        = take_all (length all) all (omega arith) ∙ sym (take_all many all past) in
+        subst (λ (l : List (Option Question)). HearsSome before l) same
+        (heard_some before (later (length all)) (take (length all) all) (hears (length all) (omega arith)))

@@ -2,7 +2,7 @@
 use Rattle.std.proofs.Common.{◌≡◌, ◌∙◌, inl, inr, ⊎_elim, ℕ, suc, ◌+◌, ◌≤◌, Bool, false, List, [], ◌∷◌, ◌++◌, length}
 use Rattle.std.proofs.Common.{take, refl, sym, ap, subst, append_assoc, length-append, arith, ◌&&◌, true}
 use Rattle.std.proofs.Common.{if◌then◌else◌}
-use Rattle.std.specs.Prelude.{Option, Some, Result, Ok, Err, MatchResult}
+use Rattle.std.specs.Prelude.{IfSome, Option, Some, Result, Ok, Err, MatchResult}
 use Rattle.std.specs.Io.KnownBytes.{Appends}
 use Rattle.std.proofs.KnownBytes.{Appends-trans}
 use Rattle.std.proofs.lemmas.List.{append-nil}
@@ -39,8 +39,28 @@ use Rattle.im_dialogue.specs.Backups.{Backup}
 use Rattle.im_turning.specs.Turning.{IsSpent, Point, point_of, with_one}
 use Rattle.im_turning.proofs.TurningLemmas.{taken_of}
 use Rattle.im_dialogue.specs.Talk.{Exchange, IsOutcomeOf, IsAnswerTo, put_by, put_of, is_end, IsAt, MeansSaid, HasEnded, SaysNothing}
+use Rattle.im_dialogue.specs.Hearing.{Hears, HearsSome, is_quit, questions_left}
 use Rattle.im_dialogue.specs.Talk.{Halts, SaysLine, texts_of, Silent, TalksOn, TalkEnds}
+use Rattle.im_dialogue.specs.Talk.{outputs, questions_of, with_left}
+use Rattle.im_dialogue.proofs.HearingLemmas.{hears_as, hears_on, hears_some_on, heard_some, none_heard}
 use Rattle.im_dialogue.specs.Talk.{AreKept, Outputs, AnswerPoint, backup_by, backups_of, exchange_at, point_behind}
+
+-- what an input still asks for, where that is known
+abbrev pub Left : Type 0
+Left = Option (List (Option Question))
+
+-- what was answered doesn't end the dialogue
+pub not_quit : (m : Contents) (n : ℕ) (here : AnswerPoint) (asked : Question) (answer : LineAnswer)
+    → IsAnswerTo m n here (Some asked) answer → is_quit (Some asked) ≡ false
+not_quit m n here (asks.Serve command) answer it = refl
+not_quit m n here (asks.Look look) answer it = refl
+not_quit m n here (asks.Window element) answer it = refl
+not_quit m n here asks.Room answer it = refl
+not_quit m n here asks.Turn answer it = refl
+not_quit m n here asks.Count answer it = refl
+not_quit m n here asks.About answer it = refl
+not_quit m n here (asks.Backup name) answer it = refl
+not_quit m n here asks.Quit answer it = absurd it
 
 -- what a command is answered, where the engine works still
 is_of : {D : Type 0} (old new : EngineState D) (c : Command) (a : Result Outcome Refusal) → old.failed ≡ false
@@ -397,8 +417,9 @@ module _ {D : Type 0} (now : D → Moment) (past : D → List Moment) (honest : 
         → At start engine after_all
         → texts_of watch start.memory after_all ≡ texts_of watch start.memory said ++ text
         → Appends held.text was.text (texts_of watch start.memory said) → Begins was.text is.text text
-        → AreKept start.memory held is after_all → Silent watch now past start held engine.disk is
-    silent start engine held was is said after_all text at same before (many, more) kept =
+        → AreKept start.memory held is after_all → HearsSome held.left (questions_of after_all)
+        → Silent watch now past start held engine.disk is
+    silent start engine held was is said after_all text at same before (many, more) kept heard =
         let here : List ℕ = texts_of watch start.memory said in
         record {
           said = after_all;
@@ -408,35 +429,46 @@ module _ {D : Type 0} (now : D → Moment) (past : D → List Moment) (honest : 
           printed = (
             length here + many,
             subst (λ (l : List ℕ). Appends held.text is.text (take (length here + many) l)) (sym same)
-                (subst (Appends held.text is.text) (sym (take-past here text many)) (Appends-trans held.text was.text is.text here (take many text) before more)),
+                (subst (Appends held.text is.text) (sym (take-past here text many))
+                (Appends-trans held.text was.text is.text here (take many text) before more)),
           );
           backups = kept;
+          heard = heard;
         }
 
     -- nothing more was printed of what was said and is ended
     silent_here : (start engine : EngineState D) (held is : Outputs) (said : List Exchange) (doubt : List Command)
         → length doubt ≤ MAX_GROUP → HasEnded now past start engine.disk said doubt
         → Appends held.text is.text (texts_of watch start.memory said) → AreKept start.memory held is said
-        → Silent watch now past start held engine.disk is
-    silent_here start engine held is said doubt few ended printed kept = record {
+        → HearsSome held.left (questions_of said) → Silent watch now past start held engine.disk is
+    silent_here start engine held is said doubt few ended printed kept heard = record {
       said = said;
       doubt = doubt;
       few = few;
       ended = ended;
-      printed = (length (texts_of watch start.memory said), subst (Appends held.text is.text) (sym (take-all (texts_of watch start.memory said))) printed);
+      printed = (
+        length (texts_of watch start.memory said),
+        subst (Appends held.text is.text) (sym (take-all (texts_of watch start.memory said))) printed,
+      );
       backups = kept;
+      heard = heard;
     }
 
     -- it is ended with nothing more said
-    pub halts_talk : (old new : EngineState D) (was : Outputs) → (honest new.disk → honest old.disk)
-        → Halts now past honest old new → TalkEnds watch now past honest old was new was
-    halts_talk old new was back halts = λ start held so_far h.
+    pub halts_talk : (old new : EngineState D) (was : Outputs) (left : Left) → (honest new.disk → honest old.disk)
+        → Halts now past honest old new → TalkEnds watch now past honest old was new (with_left left was)
+    halts_talk old new was left back halts = λ start held so_far h.
         let far = so_far (back h) in
-        let ended = halts start far.1.0 (λ b. (far.0, far.1.1.0)) h in
-        (far.0, silent_here start new held was far.1.0 ended.1.0 ended.1.1 ended.1.2 far.1.1.1.0 far.1.1.1.1)
+        let out = far.1.1.1.1 in
+        let ended = halts start far.1.0 (λ b. (far.0, far.1.1.0)) h in (
+          far.0,
+          silent_here start new held (with_left left was) far.1.0 ended.1.0 ended.1.1 ended.1.2 far.1.1.1.0 out.0
+              (heard_some held.left was.left (questions_of far.1.0) out.1),
+        )
 
-    pub talk_ends_here : (engine : EngineState D) (was : Outputs) → TalkEnds watch now past honest engine was engine was
-    talk_ends_here engine was = halts_talk engine engine was (λ h. h) (ends_here engine)
+    pub talk_ends_here : (engine : EngineState D) (was : Outputs) (left : Left)
+        → TalkEnds watch now past honest engine was engine (with_left left was)
+    talk_ends_here engine was left = halts_talk engine engine was left (λ h. h) (ends_here engine)
 
     -- what was said without a line of its own goes on
     pub goes_talk : (old new : EngineState D) (was : Outputs) → (honest new.disk → honest old.disk)
@@ -450,7 +482,19 @@ module _ {D : Type 0} (now : D → Moment) (past : D → List Moment) (honest : 
     abbrev line_on : List ℕ → Contents → LineAnswer → List ℕ
     line_on name m answer = answer_text name m answer ++ watch_text watch m answer
 
-    -- the same, at the memory where it was answered
+    -- what was answered, at the memory where it was
+    answers_at : (start old new : EngineState D) (said : List Exchange) (asked : Option Question) (answer : LineAnswer)
+        (line name : List ℕ) (here : AnswerPoint) → asked_of line ≡ asked → At start old said
+        → At start new (exchange_at line answer name here ∷ said)
+        → IsAnswerTo old.memory (start.count + length (put_of start.memory said)) here asked answer
+    answers_at start old new said asked answer line name here read at after_it =
+        let same : old.memory ≡ after start.memory (put_of start.memory said) = at.run.memory at.works in
+        subst (λ (m : Contents). IsAnswerTo m (start.count + length (put_of start.memory said)) here asked answer)
+        (sym same)
+        (subst (λ (o : Option Question). IsAnswerTo (after start.memory (put_of start.memory said))
+        (start.count + length (put_of start.memory said)) here o answer) read after_it.answered.0)
+
+    -- the same line, at the memory after what was put before it
     told_at : (start old new : EngineState D) (said : List Exchange) (asked : Option Question) (answer : LineAnswer)
         (line name told : List ℕ) (here : AnswerPoint) → asked_of line ≡ asked → At start old said
         → At start new (exchange_at line answer name here ∷ said)
@@ -458,28 +502,27 @@ module _ {D : Type 0} (now : D → Moment) (past : D → List Moment) (honest : 
         → told ≡ line_on name old.memory answer)
         → told ≡ line_on name (after start.memory (put_of start.memory said)) answer
     told_at start old new said asked answer line name told here read at after_it is =
-        let m : Contents = after start.memory (put_of start.memory said) in
-        let same : old.memory ≡ after start.memory (put_of start.memory said) = at.run.memory at.works in
-        let answers : IsAnswerTo old.memory (start.count + length (put_of start.memory said)) here asked answer
-        = subst (λ (m : Contents). IsAnswerTo m (start.count + length (put_of start.memory said)) here asked answer)
-        (sym same)
-        (subst (λ (o : Option Question). IsAnswerTo (after start.memory (put_of start.memory said))
-        (start.count + length (put_of start.memory said)) here o answer) read after_it.answered.0) in
-        subst (λ (m : Contents). told ≡ line_on name m answer) same
-        (is (start.count + length (put_of start.memory said)) here answers)
+        subst (λ (m : Contents). told ≡ line_on name m answer) (at.run.memory at.works)
+        (is (start.count + length (put_of start.memory said)) here
+        (answers_at start old new said asked answer line name here read at after_it))
 
     -- the line of an answer was printed, and those behind it
-    pub talks_on : (old new : EngineState D) (was is : Outputs) (asked : Option Question) (answer : LineAnswer) (line name told : List ℕ)
+    pub talks_on : (old new : EngineState D) (was is : Outputs) (asked : Option Question) (answer : LineAnswer)
+        (line name told : List ℕ)
         → asked_of line ≡ asked → (honest new.disk → honest old.disk)
         → SaysLine now past honest old new asked answer
         → ((n : ℕ) (here : AnswerPoint) → IsAnswerTo old.memory n here asked answer
         → told ≡ line_on name old.memory answer)
         → Appends was.text is.text told → is.backups ≡ backup_by old.memory answer ++ was.backups
+        → ((n : ℕ) (here : AnswerPoint) → IsAnswerTo old.memory n here asked answer
+        → Hears was.left is.left (asked ∷ []))
         → TalksOn watch now past honest old was new is
-    talks_on old new was is asked answer line name told read back says tells printed kept = λ start held so_far h.
+    talks_on old new was is asked answer line name told read back says tells printed kept hears = λ start held so_far h.
         let far = so_far (back h) in
+        let out = far.1.1.1.1 in
         let said = says start far.1.0 line name read (λ b. (far.0, far.1.1.0)) h in
-        let same = told_at start old new far.1.0 asked answer line name told said.1.0 read far.1.1.0 said.1.1 tells in (
+        let same = told_at start old new far.1.0 asked answer line name told said.1.0 read far.1.1.0 said.1.1 tells in
+        let answers = answers_at start old new far.1.0 asked answer line name said.1.0 read far.1.1.0 said.1.1 in (
           far.0,
           (
             exchange_at line answer name said.1.0 ∷ far.1.0,
@@ -487,31 +530,46 @@ module _ {D : Type 0} (now : D → Moment) (past : D → List Moment) (honest : 
               said.1.1,
               (
                 subst (λ (t : List ℕ). Appends held.text is.text (texts_of watch start.memory far.1.0 ++ t)) same
-                    (Appends-trans held.text was.text is.text (texts_of watch start.memory far.1.0) told far.1.1.1.0 printed),
-                kept_on start.memory old.memory far.1.0 (exchange_at line answer name said.1.0)
-                    held.backups was.backups is.backups (far.1.1.0.run.memory far.1.1.0.works) far.1.1.1.1 kept,
+                    (Appends-trans held.text was.text is.text (texts_of watch start.memory far.1.0) told far.1.1.1.0
+                    printed),
+                (
+                  kept_on start.memory old.memory far.1.0 (exchange_at line answer name said.1.0)
+                      held.backups was.backups is.backups (far.1.1.0.run.memory far.1.1.0.works) out.0 kept,
+                  hears_on held.left was.left is.left (questions_of far.1.0) (asked_of line ∷ []) out.1
+                      (subst (λ (o : Option Question). Hears was.left is.left (o ∷ [])) (sym read)
+                      (hears _ said.1.0 answers)),
+                ),
               ),
             ),
           ),
         )
 
     -- a beginning of them was printed
-    pub talk_ends : (old new : EngineState D) (was is : Outputs) (asked : Option Question) (answer : LineAnswer) (line name told : List ℕ)
+    pub talk_ends : (old new : EngineState D) (was is : Outputs) (asked : Option Question) (answer : LineAnswer)
+        (line name told : List ℕ) (left : Left)
         → asked_of line ≡ asked → (honest new.disk → honest old.disk)
         → SaysLine now past honest old new asked answer
         → ((n : ℕ) (here : AnswerPoint) → IsAnswerTo old.memory n here asked answer
         → told ≡ line_on name old.memory answer)
         → Begins was.text is.text told → is.backups ≡ backup_by old.memory answer ++ was.backups
+        → ((n : ℕ) (here : AnswerPoint) → IsAnswerTo old.memory n here asked answer
+        → Hears was.left left (asked ∷ []))
         → TalkEnds watch now past honest old was new is
-    talk_ends old new was is asked answer line name told read back says tells printed kept = λ start held so_far h.
+    talk_ends old new was is asked answer line name told left read back says tells printed kept hears =
+        λ start held so_far h.
         let far = so_far (back h) in
+        let out = far.1.1.1.1 in
         let said = says start far.1.0 line name read (λ b. (far.0, far.1.1.0)) h in
-        let same = told_at start old new far.1.0 asked answer line name told said.1.0 read far.1.1.0 said.1.1 tells in (
+        let same = told_at start old new far.1.0 asked answer line name told said.1.0 read far.1.1.0 said.1.1 tells in
+        let answers = answers_at start old new far.1.0 asked answer line name said.1.0 read far.1.1.0 said.1.1 in (
           far.0,
           silent start new held was is far.1.0 (exchange_at line answer name said.1.0 ∷ far.1.0) told said.1.1
               (ap (λ (t : List ℕ). texts_of watch start.memory far.1.0 ++ t) (sym same)) far.1.1.1.0 printed
               (kept_on start.memory old.memory far.1.0 (exchange_at line answer name said.1.0)
-              held.backups was.backups is.backups (far.1.1.0.run.memory far.1.1.0.works) far.1.1.1.1 kept),
+              held.backups was.backups is.backups (far.1.1.0.run.memory far.1.1.0.works) out.0 kept)
+              (hears_some_on held.left was.left (questions_of far.1.0) (asked_of line ∷ []) out.1
+              (heard_some was.left left (asked_of line ∷ [])
+              (subst (λ (o : Option Question). Hears was.left left (o ∷ [])) (sym read) (hears _ said.1.0 answers)))),
         )
 
     pub ends_after : (old mid new : EngineState D) (was been is : Outputs)
@@ -520,19 +578,90 @@ module _ {D : Type 0} (now : D → Moment) (past : D → List Moment) (honest : 
     ends_after old mid new was been is on ends = λ start held so_far. ends start held (on start held so_far)
 
     -- what was said is ended where it stands
-    pub end_here : (old new : EngineState D) (was is : Outputs) → TalksOn watch now past honest old was new is
-        → TalkEnds watch now past honest old was new is
-    end_here old new was is on = ends_after old new new was is is on (talk_ends_here new is)
+    pub end_here : (old new : EngineState D) (was is : Outputs) (left : Left)
+        → TalksOn watch now past honest old was new is → TalkEnds watch now past honest old was new (with_left left is)
+    end_here old new was is left on = ends_after old new new was is (with_left left is) on (talk_ends_here new is left)
 
     -- what was said, and then what the last call comes to
-    pub then_talks : {T E : Type 0} (old mid new : EngineState D) (was been is : Outputs) (result : Result T E)
-        → TalksOn watch now past honest old was mid been
-        → MatchResult result (λ n. TalksOn watch now past honest mid been new is) (λ e. TalkEnds watch now past honest mid been new is)
-        → MatchResult result (λ n. TalksOn watch now past honest old was new is) (λ e. TalkEnds watch now past honest old was new is)
-    then_talks old mid new was been is (Ok n) on it = λ start held so_far. it start held (on start held so_far)
-    then_talks old mid new was been is (Err e) on it = ends_after old mid new was been is on it
+    pub then_talks : {T E : Type 0} (old mid new : EngineState D) (was been : Outputs) (is : T → Outputs) (end : Outputs)
+        (result : Result T E) → TalksOn watch now past honest old was mid been
+        → MatchResult result (λ n. TalksOn watch now past honest mid been new (is n))
+        (λ e. TalkEnds watch now past honest mid been new end)
+        → MatchResult result (λ n. TalksOn watch now past honest old was new (is n))
+        (λ e. TalkEnds watch now past honest old was new end)
+    then_talks old mid new was been is end (Ok n) on it = λ start held so_far. it start held (on start held so_far)
+    then_talks old mid new was been is end (Err e) on it = ends_after old mid new was been end on it
 
     pub on_after : (old mid new : EngineState D) (was been is : Outputs)
         → TalksOn watch now past honest old was mid been → TalksOn watch now past honest mid been new is
         → TalksOn watch now past honest old was new is
     on_after old mid new was been is on it = λ start held so_far. it start held (on start held so_far)
+
+    -- ---- what is left, by another name
+
+    -- nothing was said, and what is left is known as well by that
+    pub left_as : (engine : EngineState D) (was : Outputs) (before later : Left)
+        → IfSome before (λ l. later ≡ Some l)
+        → TalksOn watch now past honest engine (with_left before was) engine (with_left later was)
+    left_as engine was before later same = λ start held so_far h.
+        let far = so_far h in
+        let out = far.1.1.1.1 in (
+          far.0,
+          (
+            far.1.0,
+            (
+              far.1.1.0,
+              (
+                far.1.1.1.0,
+                (out.0, hears_as held.left before later (questions_of far.1.0) out.1 same),
+              ),
+            ),
+          ),
+        )
+
+    -- the same before a call, and behind it
+    pub from_left : (old new : EngineState D) (was is : Outputs) (before mid : Left)
+        → IfSome before (λ l. mid ≡ Some l) → TalksOn watch now past honest old (with_left mid was) new is
+        → TalksOn watch now past honest old (with_left before was) new is
+    from_left old new was is before mid same on =
+        on_after old old new (with_left before was) (with_left mid was) is (left_as old was before mid same) on
+
+    pub ends_left : (old new : EngineState D) (was is : Outputs) (before mid : Left)
+        → IfSome before (λ l. mid ≡ Some l) → TalkEnds watch now past honest old (with_left mid was) new is
+        → TalkEnds watch now past honest old (with_left before was) new is
+    ends_left old new was is before mid same ends =
+        ends_after old old new (with_left before was) (with_left mid was) is (left_as old was before mid same) ends
+
+    pub to_left : (old new : EngineState D) (was is : Outputs) (mid later : Left)
+        → IfSome mid (λ l. later ≡ Some l) → TalksOn watch now past honest old was new (with_left mid is)
+        → TalksOn watch now past honest old was new (with_left later is)
+    to_left old new was is mid later same on =
+        on_after old new new was (with_left mid is) (with_left later is) on (left_as new is mid later same)
+
+    -- nothing was said of what is left
+    pub nothing_heard : (engine : EngineState D) (was : Outputs) (before : Left) (later : ℕ → Left)
+        (asked : List (Option Question))
+        → ((k : ℕ) → k ≤ length asked → Hears before (later k) (take k asked))
+        → TalksOn watch now past honest engine (with_left before was) engine (with_left (later 0) was)
+    nothing_heard engine was before later asked hears =
+        left_as engine was before (later 0) (none_heard before (later 0) (hears 0 (omega arith)))
+
+    -- the end was asked for, and nothing was said
+    pub quit_talk : (old new : EngineState D) (text : Option (List ℕ)) (was is : List Backup) (before later : Left)
+        → new ≡ old → is ≡ was → IfSome before (λ l. later ≡ Some l)
+        → TalksOn watch now past honest old (with_left before (outputs text was)) new (with_left later (outputs text is))
+    quit_talk old new text was is before later same kept left =
+        subst (λ (e : EngineState D). TalksOn watch now past honest old (with_left before (outputs text was)) e
+        (with_left later (outputs text is))) (sym same)
+        (subst (λ (l : List Backup). TalksOn watch now past honest old (with_left before (outputs text was)) old
+        (with_left later (outputs text l))) (sym kept) (left_as old (outputs text was) before later left))
+
+    -- turns were taken while nobody asked, and the reader still has what it had
+    pub goes_quiet : (old new : EngineState D) (was : Outputs) (before later : Option (List ℕ))
+        → (honest new.disk → honest old.disk) → SaysNothing now past honest old new → later ≡ before
+        → TalksOn watch now past honest old (with_left (questions_left before) was) new
+        (with_left (questions_left later) was)
+    goes_quiet old new was before later back goes same =
+        subst (λ (o : Option (List ℕ)). TalksOn watch now past honest old (with_left (questions_left before) was) new
+        (with_left (questions_left o) was)) (sym same)
+        (goes_talk old new (with_left (questions_left before) was) back goes)

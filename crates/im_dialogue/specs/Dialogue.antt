@@ -13,7 +13,9 @@ use Rattle.im_engine.specs.State.{EngineState, MeansState}
 use Rattle.im_engine.specs.Run.{MeansBeginning}
 use Rattle.im_turning.specs.Turning.{point_of}
 use Rattle.im_text.specs.Printing.{Begins, IsLast}
-use Rattle.im_dialogue.specs.Talk.{AreAnswered, AreKept, Exchange, HasEnded, MeansSaid, Outputs, put_of, texts_of}
+use Rattle.im_dialogue.specs.Hearing.{HearsAll}
+use Rattle.im_dialogue.specs.Talk.{AreAnswered, AreKept, Exchange, HasEnded, MeansSaid, Outputs, put_of, questions_of}
+use Rattle.im_dialogue.specs.Talk.{texts_of}
 
 -- a prefix of the text was written, and then at most a refusal
 abbrev pub PrintsThenLast : Option (List ℕ) → Option (List ℕ) → List ℕ → Type 0
@@ -21,7 +23,8 @@ PrintsThenLast was is text =
     (mid : Option (List ℕ)) × Begins was mid text × ((last : List ℕ) × (IsLast last × Begins mid is last))
 
 -- An engine was closed, and this status was given, after this was said on it. If the status is 0, nothing is in doubt,
--- and all answers were printed, and nothing else. The backups that were answered are kept.
+-- and all answers were printed, and nothing else. The backups that were answered are kept. What was said is what the
+-- input asked for.
 pub record TalkClosed {D : Type 0} (watch : Bool) (now : D → Moment) (past : D → List Moment) (start : EngineState D)
     (disk : D) (was is : Outputs) (status : ℕ) : Type 0 where
   pub said : List Exchange
@@ -31,6 +34,7 @@ pub record TalkClosed {D : Type 0} (watch : Bool) (now : D → Moment) (past : D
   pub printed : PrintsThenLast was.text is.text (texts_of watch start.memory said)
   pub whole : status ≡ 0 → (doubt ≡ []) × Appends was.text is.text (texts_of watch start.memory said)
   pub backups : AreKept start.memory was is said
+  pub heard : HearsAll was.left (questions_of said) status
 
 -- the same, if the disk is honest at the end
 abbrev pub ClosesTalk : {D : Type 0} → Ghosts D → Bool → EngineState D → D → Outputs → Outputs → ℕ → Type 0
@@ -45,7 +49,8 @@ AddsNothing disk old new = disk.honest new → LeavesWithin disk.now disk.past o
 -- first. Each line was answered on the memory after those before it. From then on a crash leaves the memory after a
 -- prefix of the commands that were put. At the end it leaves the memory after all of them, with those in doubt all
 -- together or not at all. If the status is 0, none is in doubt, and all answers were printed, and nothing else. The
--- backups that were answered are kept, each with the memory and the count after the commands before it.
+-- backups that were answered are kept, each with the memory and the count after the commands before it. What was said
+-- is what the input asked for, line by line; if the status is 0, up to its end or to `quit`.
 pub record Talked {D : Type 0} (watch : Bool) (now : D → Moment) (past : D → List Moment) (old new : D)
     (was is : Outputs) (status : ℕ) : Type 0 where
   pub start : EngineState D
@@ -60,6 +65,7 @@ pub record Talked {D : Type 0} (watch : Bool) (now : D → Moment) (past : D →
   pub printed : PrintsThenLast was.text is.text (texts_of watch start.memory said)
   pub whole : status ≡ 0 → (doubt ≡ []) × Appends was.text is.text (texts_of watch start.memory said)
   pub backups : AreKept start.memory was is said
+  pub heard : HearsAll was.left (questions_of said) status
 
 -- The image was not opened: a crash leaves nothing that it couldn't leave before, at most a refusal was printed, and no
 -- backup was kept.

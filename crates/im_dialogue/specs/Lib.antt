@@ -4,6 +4,7 @@ pub mod Counting
 pub mod Showing
 pub mod Answers
 pub mod Watching
+pub mod Hearing
 pub mod Talk
 pub mod Looks
 pub mod Together

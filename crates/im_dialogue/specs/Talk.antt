@@ -1,5 +1,5 @@
 -- A dialogue over an engine: what was asked, what it was answered, and what a crash leaves of it. (Own.)
-use Rattle.std.specs.Prelude.{◌≡◌, ◌⊎◌, ℕ, zero, suc, ◌+◌, ◌≤◌, Bool, true, false, List, [], ◌∷◌, ◌++◌, length}
+use Rattle.std.specs.Prelude.{◌≡◌, ◌⊎◌, ℕ, zero, suc, ◌+◌, ◌≤◌, Bool, true, false, List, [], ◌∷◌, ◌++◌, length, take}
 use Rattle.std.specs.Prelude.{Option, None, Some, MatchOption, MatchResult, Result, Ok, Err}
 use Rattle.im_types.specs.declared.TheConstants.{MAX_GROUP}
 use Rattle.std.specs.Io.KnownBytes.{Appends}
@@ -31,6 +31,7 @@ use Rattle.im_dialogue.specs.declared.backups.BackupFault.{BackupFault}
 use Rattle.im_dialogue.specs.Asking.{asked_of}
 use Rattle.im_dialogue.specs.Answers.{answer_text}
 use Rattle.im_dialogue.specs.Backups.{Backup, bytes_of}
+use Rattle.im_dialogue.specs.Hearing.{Hears, HearsSome, asking, left_after, left_behind, questions_left}
 use Rattle.im_dialogue.specs.Watching.{watch_text}
 
 -- ---- what was said
@@ -125,6 +126,11 @@ abbrev pub texts_of : Bool → Contents → List Exchange → List ℕ
 texts_of watch m [] = []
 texts_of watch m (x ∷ xs) = texts_of watch m xs
     ++ (answer_text x.name (after m (put_of m xs)) x.answer ++ watch_text watch (after m (put_of m xs)) x.answer)
+
+-- what the lines that were said ask for, in order
+abbrev pub questions_of : List Exchange → List (Option Question)
+questions_of [] = []
+questions_of (x ∷ xs) = questions_of xs ++ asked_of x.line ∷ []
 
 -- the backup that an answer on this memory says is kept
 abbrev pub backup_by : Contents → LineAnswer → List Backup
@@ -255,28 +261,42 @@ PrintsAnswer was is m answer nows result = MatchResult result
     (λ done. (name : List ℕ) × Appends was is (answer_text name m answer ++ nows))
     (λ e. (name : List ℕ) × Begins was is (answer_text name m answer ++ nows))
 
--- what a dialogue puts out: what the writer holds, and the backups that are kept, the last first
+-- what a dialogue puts out: what the writer holds, and the backups that are kept, the last first; and what its input
+-- still asks for, where that is known
 pub record Outputs : Type 0 where
   pub text : Option (List ℕ)
   pub backups : List Backup
+  pub left : Option (List (Option Question))
 
--- what a writer holds, and what is kept, as one
+-- what a writer holds, and what is kept, as one; nothing is known of the input
 abbrev pub outputs : Option (List ℕ) → List Backup → Outputs
-outputs text backups = record { text = text; backups = backups }
+outputs text backups = record { text = text; backups = backups; left = None }
 
--- exactly the backups that were answered are kept besides those that were
+-- the same, where the input still asks for this
+abbrev pub with_left : Option (List (Option Question)) → Outputs → Outputs
+with_left left o = record o { left = left }
+
+-- the same, where the input has these bytes
+abbrev pub with_input : Option (List ℕ) → Outputs → Outputs
+with_input known o = with_left (questions_left known) o
+
+-- Exactly the backups that were answered are kept besides those that were.
 abbrev pub AreKept : Contents → Outputs → Outputs → List Exchange → Type 0
 AreKept m was is said = is.backups ≡ backups_of m said ++ was.backups
 
--- since then what was said was printed, line by line, and its backups are kept
+-- the same, and what was said is what the input asked for since
+abbrev pub AreOut : Contents → Outputs → Outputs → List Exchange → Type 0
+AreOut m was is said = AreKept m was is said × Hears was.left is.left (questions_of said)
+
+-- since then what was said was printed, line by line, its backups are kept, and it is what the input asked for
 abbrev pub Talking : {D : Type 0} → Bool → (D → Moment) → (D → List Moment) → (D → Type 0) → EngineState D → Outputs
     → EngineState D → Outputs → Type 0
 Talking watch now past honest start was engine is =
     honest engine.disk → honest start.disk × ((said : List Exchange) × (IsAt now past start engine said
-    × (Appends was.text is.text (texts_of watch start.memory said) × AreKept start.memory was is said)))
+    × (Appends was.text is.text (texts_of watch start.memory said) × AreOut start.memory was is said)))
 
 -- what was said, a prefix of which was printed, and the commands in doubt, if there are some; the backups that were
--- answered are kept
+-- answered are kept, and the input asked for what was said before all else
 pub record Silent {D : Type 0} (watch : Bool) (now : D → Moment) (past : D → List Moment) (start : EngineState D)
     (was : Outputs) (disk : D) (is : Outputs) : Type 0 where
   pub said : List Exchange
@@ -285,6 +305,7 @@ pub record Silent {D : Type 0} (watch : Bool) (now : D → Moment) (past : D →
   pub ended : HasEnded now past start disk said doubt
   pub printed : Begins was.text is.text (texts_of watch start.memory said)
   pub backups : AreKept start.memory was is said
+  pub heard : HearsSome was.left (questions_of said)
 
 -- the same, and it was ended
 abbrev pub Silenced : {D : Type 0} → Bool → (D → Moment) → (D → List Moment) → (D → Type 0) → EngineState D → Outputs
@@ -313,18 +334,49 @@ TalksWith disk watch old was new is result = MatchResult result
     (λ done. TalksOn watch disk.now disk.past disk.honest old was new is)
     (λ e. TalkEnds watch disk.now disk.past disk.honest old was new is)
 
--- the same of lines that ask for no backup: whatever is kept stays as it is
-abbrev pub TalksThrough : {D T E : Type 0} → Ghosts D → Bool → EngineState D → Option (List ℕ) → EngineState D
-    → Option (List ℕ) → Result T E → Type 0
-TalksThrough disk watch old was new is result = MatchResult result
-    (λ done. (backups : List Backup)
-    → TalksOn watch disk.now disk.past disk.honest old (outputs was backups) new (outputs is backups))
-    (λ e. (backups : List Backup)
-    → TalkEnds watch disk.now disk.past disk.honest old (outputs was backups) new (outputs is backups))
-
--- what a call comes to that does what a line asks, if a line asks so
-abbrev pub TalksAsked : {D T E : Type 0} → Ghosts D → Bool → Question → EngineState D → Outputs → EngineState D
-    → Outputs
+-- the same of lines that ask for no backup, and of an input that asks for something else: whatever is kept and left
+-- stays as it is
+abbrev pub TalksThrough : {D T E : Type 0} → Ghosts D → Bool → EngineState D → Option (List ℕ)
+    → Option (List (Option Question)) → EngineState D → Option (List ℕ) → (T → Option (List (Option Question)))
     → Result T E → Type 0
+TalksThrough disk watch old was before new is later result = MatchResult result
+    (λ done. (backups : List Backup) → TalksOn watch disk.now disk.past disk.honest old
+    (with_left before (outputs was backups)) new (with_left (later done) (outputs is backups)))
+    (λ e. (backups : List Backup) → TalkEnds watch disk.now disk.past disk.honest old
+    (with_left before (outputs was backups)) new (outputs is backups))
+
+-- What a call comes to that serves the first of these questions, and returns how many, whatever is left behind them.
+abbrev pub TalksQueue : {D E : Type 0} → Ghosts D → Bool → List (Option Question) → EngineState D → Option (List ℕ)
+    → EngineState D → Option (List ℕ) → Result ℕ E → Type 0
+TalksQueue disk watch asked old was new is result =
+    (before : Option (List (Option Question))) (later : ℕ → Option (List (Option Question)))
+    → ((k : ℕ) → k ≤ length asked → Hears before (later k) (take k asked))
+    → TalksThrough disk watch old was before new is later result
+
+-- What a call comes to that serves lines of an input, given the bytes that the input had and has.
+abbrev pub TalksFrom : {D T E : Type 0} → Ghosts D → Bool → EngineState D → Outputs → Option (List ℕ) → EngineState D
+    → Outputs → Option (List (Option Question)) → Result T E → Type 0
+TalksFrom disk watch old was known new is left result =
+    TalksWith disk watch old (with_input known was) new (with_left left is) result
+
+-- the same of a call that returns how many lines it served, or 0 at the end of the dialogue
+abbrev pub TalksMany : {D E : Type 0} → Ghosts D → Bool → EngineState D → Outputs → Option (List ℕ) → EngineState D
+    → Outputs → Option (List ℕ) → Result ℕ E → Type 0
+TalksMany disk watch old was known new is now result = MatchResult result
+    (λ many. TalksOn watch disk.now disk.past disk.honest old (with_input known was) new
+    (with_left (left_after many now) is))
+    (λ e. TalkEnds watch disk.now disk.past disk.honest old (with_input known was) new is)
+
+-- What a call comes to that serves this line, whatever is left behind it. It returns whether the dialogue continues.
+abbrev pub TalksLine : {D E : Type 0} → Ghosts D → Bool → Option Question → EngineState D → Outputs → EngineState D
+    → Outputs → Result Bool E → Type 0
+TalksLine disk watch asked old was new is result = (rest : Option (List (Option Question))) → MatchResult result
+    (λ goes_on. TalksOn watch disk.now disk.past disk.honest old (with_left (asking asked rest) was) new
+    (with_left (left_behind goes_on rest) is))
+    (λ e. TalkEnds watch disk.now disk.past disk.honest old (with_left (asking asked rest) was) new is)
+
+-- the same of a call that does what a line asks, if a line asks so
+abbrev pub TalksAsked : {D E : Type 0} → Ghosts D → Bool → Question → EngineState D → Outputs → EngineState D → Outputs
+    → Result Bool E → Type 0
 TalksAsked disk watch asked old was new is result = (line : List ℕ) → asked_of line ≡ Some asked
-    → TalksWith disk watch old was new is result
+    → TalksLine disk watch (Some asked) old was new is result

@@ -28,6 +28,24 @@ use Rattle.im_dialogue.specs.Watching.{told_with, watch_text}
 
 -- ---- what lines ask for
 
+-- what an answer is an answer to; none to a line that isn't in the grammar
+abbrev pub question_of : LineAnswer → Option Question
+question_of (answer.Served command outcome) = Some (asks.Serve command)
+question_of (answer.Looked look) = Some (asks.Look look)
+question_of (answer.Window element result) = Some (asks.Window element)
+question_of (answer.Room room) = Some asks.Room
+question_of (answer.Turned done) = Some asks.Turn
+question_of (answer.Count count) = Some asks.Count
+question_of (answer.About about) = Some asks.About
+question_of (answer.Backup name kept) = Some (asks.Backup name)
+question_of (answer.Wrong number fault) = None
+
+-- what a part of a group was asked
+abbrev pub part_question : GroupLine → Option Question
+part_question (Member command) = Some (asks.Serve command)
+part_question (Look look) = Some (asks.Look look)
+part_question (Known given) = question_of given
+
 -- a line asks for this
 abbrev pub LineAsksFor : Question → Type 0
 LineAsksFor asked = (line : List ℕ) × (asked_of line ≡ Some asked)
@@ -109,6 +127,7 @@ pub record IsKnown (m : Contents) (commands : ℕ) (point : Point) (asked : Ques
   pub puts : (any : Contents) → put_by any answer ≡ []
   pub tells : (watch : Bool) (any : Contents) → watch_text watch any answer ≡ []
   pub keeps : KeepsNone answer
+  pub asks : question_of answer ≡ Some asked
 
 -- the same behind these members
 abbrev pub IsKnownBehind : GroupStart → List Command → Question → LineAnswer → Type 0

@@ -3,7 +3,7 @@ ghost use Rattle.std.specs.Prelude.{◌≡◌, ◌≤◌, false};
 ghost use Rattle.im_disk.specs.Since.{LeavesNow};
 ghost use Rattle.im_engine.specs.State.{MeansState};
 ghost use Rattle.im_dialogue.specs.Dialogue.{ClosesTalk, TalkedOn};
-ghost use Rattle.im_dialogue.specs.Talk.{outputs};
+ghost use Rattle.im_dialogue.specs.Talk.{outputs, with_input};
 
 use crate::backups::Backups;
 use crate::resting::open_with_slots;
@@ -27,8 +27,9 @@ use std::io::{BufRead, Write};
 /// commands that were answered. If a call of the disk failed, the commands of the line or group that it was for may be
 /// there too.
 ///
-/// What was printed is a prefix of the answers, followed by the refusal. If the status is 0, it is all answers and
-/// nothing else.
+/// What was said is what the lines of the input ask for, where its bytes are known: with status 0 all of them, or up to
+/// `quit`, else the first of them. What was printed is a prefix of the answers, followed by the refusal. If the status
+/// is 0, it is all answers and nothing else.
 ///
 /// Each backup that was answered is kept, with the memory and the count of commands after the lines before it, and no
 /// other is.
@@ -42,7 +43,8 @@ pub fn dialogue_on<D: Disk, B: Backups, R: BufRead + Ear, W: Write, N: Observer>
     observer: &mut N,
 ) -> (u8, D)
     ensures status { result.0 ≤ 1 }
-    ensures talked { TalkedOn D.Disk watch disk result.1 (outputs (W.contents out.old) (B.kept backups.old))
+    ensures talked { TalkedOn D.Disk watch disk result.1
+        (with_input (R.remaining input.old) (outputs (W.contents out.old) (B.kept backups.old)))
         (outputs (W.contents out.new) (B.kept backups.new)) result.0 }
     ensures honest { D.honest result.1 → D.honest disk }
 {
@@ -72,8 +74,8 @@ fn talk_on<D: Disk, B: Backups, R: BufRead + Ear, W: Write, N: Observer>(
         → LeavesNow (D.now dialogue.engine.disk) (MeansState dialogue.engine) }
     ensures status { result.0 ≤ 1 }
     ensures closed { ClosesTalk D.Disk dialogue.setting.watch dialogue.engine result.1
-        (outputs (W.contents out.old) (B.kept backups.old)) (outputs (W.contents out.new) (B.kept backups.new))
-        result.0 }
+        (with_input (R.remaining input.old) (outputs (W.contents out.old) (B.kept backups.old)))
+        (outputs (W.contents out.new) (B.kept backups.new)) result.0 }
     ensures honest { D.honest result.1 → D.honest dialogue.engine.disk }
 {
     let alloc = dialogue.alloc;

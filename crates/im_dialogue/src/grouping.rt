@@ -4,11 +4,12 @@
 //! is known all the same: from the memory before the group and the members ahead of the line, or from the memory behind
 //! the group, as long as no member behind the line may change that answer.
 ghost use Rattle.std.specs.Prelude.{◌≡◌, ◌≤◌, ◌++◌, [], ◌∷◌, length, map, not, true, ◌||◌, IfOk, IfSome, OnOk};
-ghost use Rattle.std.specs.Prelude.{string_bytes};
+ghost use Rattle.std.specs.Prelude.{ℕ, Some, if◌then◌else◌, string_bytes, take};
 ghost use Rattle.std.specs.List.{list_any};
 ghost use Rattle.im_types.specs.declared.TheConstants.{MAX_GROUP};
+ghost use Rattle.im_dialogue.specs.Hearing.{as_asked};
 ghost use Rattle.im_dialogue.specs.Together.{AreAsked, GroupStart, LineAsksFor, MayBeServed, MayStandNext};
-ghost use Rattle.im_dialogue.specs.Together.{TellsWatchers, disturbs, group_start, with_member};
+ghost use Rattle.im_dialogue.specs.Together.{TellsWatchers, disturbs, group_start, part_question, with_member};
 ghost use Rattle.im_dialogue.specs.Watching.{answers_nobody};
 
 use crate::asking::Question;
@@ -121,8 +122,9 @@ fn member(
 ) -> Result<Option<GroupLine>, AllocError>
     requires asked { LineAsksFor (Question.Serve command) }
     requires empty { string_bytes now.old ≡ [] }
-    ensures { IfOk result (λ found. IfSome found (λ part. (b : GroupStart) → b.memory ≡ memory.now.contents
+    ensures stands { IfOk result (λ found. IfSome found (λ part. (b : GroupStart) → b.memory ≡ memory.now.contents
         → MayStandNext watch b group.now.members.items group.now.parts.items part (string_bytes now.new))) }
+    ensures asks { IfOk result (λ found. IfSome found (λ part. part_question part ≡ Some (Question.Serve command))) }
 {
     let ahead = group.members.as_slice();
     if ahead.len() >= 16 {
@@ -153,8 +155,9 @@ fn part_of<D: Disk>(
     requires asked { LineAsksFor asked }
     requires empty { string_bytes now.old ≡ [] }
     requires few { length group.now.members.items ≤ MAX_GROUP }
-    ensures { IfOk result (λ found. IfSome found (λ part. MayStandNext setting.watch (group_start engine.now)
+    ensures stands { IfOk result (λ found. IfSome found (λ part. MayStandNext setting.watch (group_start engine.now)
         group.now.members.items group.now.parts.items part (string_bytes now.new))) }
+    ensures asks { IfOk result (λ found. IfSome found (λ part. part_question part ≡ Some asked)) }
 {
     match asked {
         Question::Serve(command) => member(engine.memory(), setting.watch, group, command, now),
@@ -200,8 +203,10 @@ fn take_part<D: Disk>(
     requires asked { LineAsksFor asked }
     requires group { MayBeServed setting.watch (group_start engine.now)
         group.old.parts.items (map string_bytes group.old.nows.items) group.old.members.items }
-    ensures { OnOk result (MayBeServed setting.watch (group_start engine.now)
+    ensures group { OnOk result (MayBeServed setting.watch (group_start engine.now)
         group.new.parts.items (map string_bytes group.new.nows.items) group.new.members.items) }
+    ensures asks { IfOk result (λ taken. map part_question group.new.parts.items
+        ≡ map part_question group.old.parts.items ++ (if taken then Some asked ∷ [] else [])) }
 {
     let mut now = String::new(alloc);
     let found = part_of(engine, setting, group, asked, &mut now)?;
@@ -225,8 +230,10 @@ pub(crate) fn take_parts<D: Disk>(
     group: &mut Gathered,
 ) -> Result<(), AllocError>
     requires asked { AreAsked asked.now }
-    ensures { OnOk result (MayBeServed setting.watch (group_start engine.now)
+    ensures group { OnOk result (MayBeServed setting.watch (group_start engine.now)
         group.new.parts.items (map string_bytes group.new.nows.items) group.new.members.items) }
+    ensures asks { OnOk result ((many : ℕ)
+        × (map part_question group.new.parts.items ≡ take many (as_asked asked.now))) }
 {
     group.parts.clear();
     group.nows.clear();
@@ -234,7 +241,7 @@ pub(crate) fn take_parts<D: Disk>(
     for line in asked {
         let is_taken = take_part(alloc, engine, setting, *line, group)?;
         if !is_taken {
-            break;
+            return Ok(());
         }
     }
     Ok(())

@@ -1,5 +1,6 @@
 //! The answers to lines of a group that are known before its members act: an element's window, and counts.
 ghost use Rattle.std.specs.Prelude.{◌≡◌, ◌≤◌, ◌+◌, ◌-◌, [], Bool, List, ℕ, length, true, if◌then◌else◌, IfOk, IfSome};
+ghost use Rattle.std.specs.Prelude.{Some};
 ghost use Rattle.im_types.specs.declared.TheConstants.{LAST, MAX_GROUP};
 ghost use Rattle.im_types.specs.Window.{bounds};
 ghost use Rattle.im_types.specs.Memory.{IsMemory};
@@ -8,6 +9,7 @@ ghost use Rattle.im_engine.specs.Commands.{commands_put};
 ghost use Rattle.im_turning.specs.Turning.{point_of};
 ghost use Rattle.im_dialogue.specs.Talk.{about_of, point_behind};
 ghost use Rattle.im_dialogue.specs.Together.{LineAsksFor, IsKnownBehind, IsPlain, MayStandNext, group_start};
+ghost use Rattle.im_dialogue.specs.Together.{part_question, question_of};
 
 use crate::about::About;
 use crate::answers::LineAnswer;
@@ -143,6 +145,7 @@ fn shown<D: Disk>(
     ensures answer { IfSome result (λ answer. (ahead : List Command) → put.now ≡ commands_put engine.now ahead
         → IsKnownBehind (group_start engine.now) ahead asked answer) }
     ensures plain { IfSome result (λ answer. IsPlain answer) }
+    ensures asks { IfSome result (λ answer. question_of answer ≡ Some asked) }
 {
     let many = put.len() as u32;
     match asked {
@@ -166,8 +169,9 @@ pub(crate) fn known<D: Disk>(
 ) -> Option<GroupLine>
     requires fits { length ahead.now ≤ MAX_GROUP }
     requires asked { LineAsksFor asked }
-    ensures { IfSome result (λ part. (watch : Bool) (shown : List GroupLine)
+    ensures stands { IfSome result (λ part. (watch : Bool) (shown : List GroupLine)
         → MayStandNext watch (group_start engine.now) ahead.now shown part []) }
+    ensures asks { IfSome result (λ part. part_question part ≡ Some asked) }
 {
     let mut put = ArrayVec::new();
     if judge_all(engine, ahead, &mut put) {

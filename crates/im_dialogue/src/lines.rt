@@ -1,5 +1,6 @@
 //! Reads lines, and keeps at most a bound of each.
-ghost use Rattle.std.specs.Prelude.{◌≡◌, ◌≤◌, ◌++◌, length, take, OnOk};
+ghost use Rattle.std.specs.Prelude.{◌≡◌, ◌≤◌, ◌<◌, ◌+◌, ◌∷◌, ◌++◌, [], length, take, IfOk, OnOk};
+ghost use Rattle.im_dialogue.specs.Hearing.{IsLinePart, ReadsLine, ReadsMore};
 
 use im_script::MAX_LINE;
 use im_text::Reason;
@@ -10,14 +11,14 @@ use std::io::{BufRead, ErrorKind};
 /// one.
 pub(crate) const KEPT: usize = MAX_LINE + 1;
 
-// What was read of a line.
+/// What was read of a line.
 #[derive(Clone, Copy, PartialEq, Eq)]
-enum LinePart {
-    // Bytes of it, and more may come.
+pub(crate) enum LinePart {
+    /// Bytes of it, and more may come.
     More,
-    // The rest of it, with its line feed.
+    /// The rest of it, with its line feed.
     Last,
-    // Nothing: the input is at its end.
+    /// Nothing: the input is at its end.
     None,
 }
 
@@ -38,12 +39,41 @@ fn keep(line: &mut Vec<u8>, part: &[u8]) -> Result<(), AllocError>
 
 // Returns how many bytes of a text stand before its first line feed, or all if it has none.
 fn line_len(text: &[u8]) -> usize
-    ensures { result ≤ length text.now }
+    ensures bound { result ≤ length text.now }
+    ensures part { IsLinePart (take result text.now) }
+    ensures feed { result < length text.now → take (result + 1) text.now ≡ take result text.now ++ 10 ∷ [] }
 {
-    match text.iter().position(|byte| *byte == b'\n') {
-        Some(at) => at,
-        None => text.len(),
+    for (at, byte) in text.iter().enumerate() {
+        if *byte == b'\n' {
+            return at;
+        }
     }
+    text.len()
+}
+
+// Returns what was read of a line, given how many bytes stand before the first line feed, and how many there are.
+fn part_read(before: usize, all: usize) -> LinePart
+    ensures last { before < all → result ≡ LinePart.Last }
+    ensures none { before ≡ all → all ≡ 0 → result ≡ LinePart.None }
+    ensures more { before ≡ all → 0 < all → result ≡ LinePart.More }
+{
+    if before < all {
+        LinePart::Last
+    } else if all == 0 {
+        LinePart::None
+    } else {
+        LinePart::More
+    }
+}
+
+// Returns how many bytes are taken then: the line feed too.
+fn taken_to(before: usize, all: usize) -> usize
+    requires within { before ≤ all }
+    ensures last { before < all → result ≡ before + 1 }
+    ensures rest { before ≡ all → result ≡ before }
+    ensures within { result ≤ all }
+{
+    if before < all { before + 1 } else { before }
 }
 
 /// Returns the reason for an input that can't be read.
@@ -55,6 +85,8 @@ pub(crate) fn unread(kind: ErrorKind) -> Reason {
 fn read_part<R: BufRead>(input: &mut R, line: &mut Vec<u8>) -> Result<LinePart, Reason>
     requires few { length line.old.items ≤ KEPT }
     ensures few { length line.new.items ≤ KEPT }
+    ensures read { IfOk result (λ part. ReadsMore part (R.remaining input.old) (R.remaining input.new)
+        line.old.items line.new.items) }
 {
     let text = match input.fill_buf() {
         Ok(text) => text,
@@ -65,20 +97,14 @@ fn read_part<R: BufRead>(input: &mut R, line: &mut Vec<u8>) -> Result<LinePart, 
             };
         }
     };
-    let len = line_len(text);
-    if keep(line, &text[..len]).is_err() {
+    let before = line_len(text);
+    if keep(line, &text[..before]).is_err() {
         return Err(Reason::Memory);
     }
-    let is_last = len < text.len();
-    let is_none = text.is_empty();
-    input.consume(if is_last { len + 1 } else { len });
-    Ok(if is_last {
-        LinePart::Last
-    } else if is_none {
-        LinePart::None
-    } else {
-        LinePart::More
-    })
+    let part = part_read(before, text.len());
+    let taken = taken_to(before, text.len());
+    input.consume(taken);
+    Ok(part)
 }
 
 /// Reads the next line, without its line feed. If the line is longer than [`MAX_LINE`], it keeps only the first
@@ -86,6 +112,8 @@ fn read_part<R: BufRead>(input: &mut R, line: &mut Vec<u8>) -> Result<LinePart, 
 /// line feed is no line: what was cut off isn't asked.
 pub(crate) fn next_line<R: BufRead>(input: &mut R, line: &mut Vec<u8>) -> Result<bool, Reason>
     ensures few { length line.new.items ≤ KEPT }
+    ensures read { IfOk result (λ is_line. ReadsLine is_line (R.remaining input.old) (R.remaining input.new)
+        line.new.items) }
 {
     line.clear();
     for _part in 0..u64::MAX {
@@ -96,5 +124,5 @@ pub(crate) fn next_line<R: BufRead>(input: &mut R, line: &mut Vec<u8>) -> Result
             Err(reason) => return Err(reason),
         }
     }
-    Ok(false)
+    Err(unread(ErrorKind::Interrupted)) // Each read so far gave a part or nothing.
 }

@@ -1,13 +1,16 @@
 //! Serves a dialogue, line by line.
-ghost use Rattle.std.specs.Prelude.{◌≡◌};
-ghost use Rattle.im_dialogue.specs.Talk.{TalksAsked, TalksThrough, TalksWith, outputs};
+ghost use Rattle.std.specs.Prelude.{◌≡◌, ◌≤◌, IfOk, length};
+ghost use Rattle.im_dialogue.specs.Asking.{asked_of};
+ghost use Rattle.im_dialogue.specs.Hearing.{as_asked, left_after, questions_left};
+ghost use Rattle.im_dialogue.specs.Talk.{TalksAsked, TalksFrom, TalksLine, TalksMany, TalksQueue, TalksThrough};
+ghost use Rattle.im_dialogue.specs.Talk.{outputs};
 ghost use Rattle.im_dialogue.specs.Together.{AreAsked};
 
 use crate::asking::{Question, read_asked};
 use crate::backups::Backups;
 use crate::drafts::Drafts;
 use crate::grouping::take_parts;
-use crate::lines::next_line;
+use crate::lines::{next_line, unread};
 use crate::resting::half_of;
 use crate::saying::explain_line;
 use crate::talk::{answer, make_room, turn_while_quiet};
@@ -19,7 +22,7 @@ use im_engine::Engine;
 use im_listening::Ear;
 use im_text::Reason;
 use std::alloc::Global;
-use std::io::{BufRead, Write};
+use std::io::{BufRead, ErrorKind, Write};
 
 /// The setting of a dialogue.
 #[derive(Clone, Copy, Debug, PartialEq, Eq)]
@@ -120,7 +123,7 @@ impl<D: Disk> Dialogue<D> {
         backups: &mut B,
         out: &mut W,
     ) -> Result<bool, Reason>
-        ensures talks { TalksWith D.Disk self.old.setting.watch
+        ensures talks { TalksLine D.Disk self.old.setting.watch (asked_of self.old.drafts.line.items)
             self.old.engine (outputs (W.contents out.old) (B.kept backups.old))
             self.new.engine (outputs (W.contents out.new) (B.kept backups.new)) result }
         ensures same { self.new.setting ≡ self.old.setting }
@@ -142,9 +145,11 @@ impl<D: Disk> Dialogue<D> {
     // Takes lines into a group, and serves it. Returns how many lines it answered, or 0.
     fn serve_group<W: Write>(&mut self, out: &mut W) -> Result<usize, Reason>
         requires asked { AreAsked self.old.drafts.standing.asked.items }
-        ensures talks { TalksThrough D.Disk self.old.setting.watch
+        ensures few { IfOk result (λ many. many ≤ length self.old.drafts.standing.asked.items) }
+        ensures talks { TalksQueue D.Disk self.old.setting.watch (as_asked self.old.drafts.standing.asked.items)
             self.old.engine (W.contents out.old) self.new.engine (W.contents out.new) result }
         ensures same { self.new.setting ≡ self.old.setting }
+        ensures standing { self.new.drafts.standing ≡ self.old.drafts.standing }
     {
         let asked = self.drafts.standing.asked.as_slice();
         match take_parts(
@@ -170,7 +175,8 @@ impl<D: Disk> Dialogue<D> {
         out: &mut W,
     ) -> Result<u64, Reason>
         ensures talks { TalksThrough D.Disk self.old.setting.watch
-            self.old.engine (W.contents out.old) self.new.engine (W.contents out.new) result }
+            self.old.engine (W.contents out.old) (questions_left (R.remaining input.old))
+            self.new.engine (W.contents out.new) (λ _. questions_left (R.remaining input.new)) result }
         ensures same { self.new.setting ≡ self.old.setting }
     {
         if let Err(reason) = gather(self.alloc, input, &mut self.drafts.standing) {
@@ -199,9 +205,9 @@ impl<D: Disk> Dialogue<D> {
         input: &mut R,
         out: &mut W,
     ) -> Result<u64, Reason>
-        ensures talks { TalksWith D.Disk self.old.setting.watch
-            self.old.engine (outputs (W.contents out.old) (B.kept backups.old))
-            self.new.engine (outputs (W.contents out.new) (B.kept backups.new)) result }
+        ensures talks { TalksMany D.Disk self.old.setting.watch
+            self.old.engine (outputs (W.contents out.old) (B.kept backups.old)) (R.remaining input.old)
+            self.new.engine (outputs (W.contents out.new) (B.kept backups.new)) (R.remaining input.new) result }
         ensures same { self.new.setting ≡ self.old.setting }
     {
         match next_line(input, &mut self.drafts.line) {
@@ -225,9 +231,9 @@ impl<D: Disk> Dialogue<D> {
         input: &mut R,
         out: &mut W,
     ) -> Result<u64, Reason>
-        ensures talks { TalksWith D.Disk self.old.setting.watch
-            self.old.engine (outputs (W.contents out.old) (B.kept backups.old))
-            self.new.engine (outputs (W.contents out.new) (B.kept backups.new)) result }
+        ensures talks { TalksMany D.Disk self.old.setting.watch
+            self.old.engine (outputs (W.contents out.old) (B.kept backups.old)) (R.remaining input.old)
+            self.new.engine (outputs (W.contents out.new) (B.kept backups.new)) (R.remaining input.new) result }
         ensures same { self.new.setting ≡ self.old.setting }
     {
         let half = half_of(self.setting.slots);
@@ -236,8 +242,12 @@ impl<D: Disk> Dialogue<D> {
             return Err(Reason::Image(refusal, Damage::Unknown));
         }
         match self.serve_together(input, out) {
-            Ok(0) => self.serve_alone(backups, input, out),
-            Ok(many) => Ok(many),
+            Ok(many) => {
+                if many == 0 {
+                    return self.serve_alone(backups, input, out);
+                }
+                Ok(many)
+            }
             Err(reason) => Err(reason),
         }
     }
@@ -247,7 +257,8 @@ impl<D: Disk> Dialogue<D> {
     ///
     /// A line that isn't in the grammar is answered by where it goes wrong, and changes nothing. A line of more than
     /// 4,096 bytes is such a line, and no more of it is kept. An end of the input without a line feed before it is no
-    /// line.
+    /// line. What is answered is what the lines of the input ask for, where its bytes are known: all of them, or up to
+    /// `quit`. After an error it is what the first of them ask for.
     ///
     /// Up to 16 requests and confirmations are served as one group, if their lines follow each other in the reader's
     /// buffer, with lines between them that change nothing. Their answers are written together, and are those that the
@@ -275,18 +286,23 @@ impl<D: Disk> Dialogue<D> {
         input: &mut R,
         out: &mut W,
     ) -> Result<(), Reason>
-        ensures talks { TalksWith D.Disk self.old.setting.watch
-            self.old.engine (outputs (W.contents out.old) (B.kept backups.old))
-            self.new.engine (outputs (W.contents out.new) (B.kept backups.new)) result }
+        ensures talks { TalksFrom D.Disk self.old.setting.watch
+            self.old.engine (outputs (W.contents out.old) (B.kept backups.old)) (R.remaining input.old)
+            self.new.engine (outputs (W.contents out.new) (B.kept backups.new)) (left_after 0 (R.remaining input.new))
+            result }
         ensures same { self.new.setting ≡ self.old.setting }
     {
         for _served in 0..u64::MAX {
             match self.serve_rested(backups, input, out) {
-                Ok(0) => return Ok(()),
-                Ok(many) => self.number = self.number.saturating_add(many),
+                Ok(many) => {
+                    if many == 0 {
+                        return Ok(());
+                    }
+                    self.number = self.number.saturating_add(many);
+                }
                 Err(reason) => return Err(reason),
             }
         }
-        Ok(())
+        Err(unread(ErrorKind::FileTooLarge)) // No input has so many lines.
     }
 }

@@ -47,6 +47,7 @@ pub(crate) fn turn_while_quiet<D: Disk, E: Ear>(
     ensures honest { D.honest engine.new.disk → D.honest engine.old.disk }
     ensures enough { least ≤ engine.old.room → engine.new ≡ engine.old }
     ensures ready { E.is_ready ear.old ≡ true → engine.new ≡ engine.old }
+    ensures kept { E.remaining ear.new ≡ E.remaining ear.old }
 {
     for _turn in 0..MOST_TURNS {
         if engine.room() >= least || !ear.is_quiet() {

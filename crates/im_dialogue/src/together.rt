@@ -1,9 +1,9 @@
 //! Lines that stand together in the reader's buffer are served as one group.
-ghost use Rattle.std.specs.Prelude.{◌≡◌, ◌≤◌, ◌+◌, ◌∷◌, ◌++◌, [], false, length, map};
-ghost use Rattle.std.specs.Prelude.{IfSome, OnOk, Some, List, ℕ, string_bytes};
+ghost use Rattle.std.specs.Prelude.{◌≡◌, ◌≤◌, ◌-◌, ◌∷◌, ◌++◌, [], false, length, map};
+ghost use Rattle.std.specs.Prelude.{IfOk, IfSome, OnOk, Some, List, ℕ, string_bytes};
 ghost use Rattle.im_dialogue.specs.Answers.{answer_text};
-ghost use Rattle.im_dialogue.specs.Together.{AreAsked, LineAsksFor, answers_behind, group_start, line_answer};
-ghost use Rattle.im_dialogue.specs.Together.{member_result};
+ghost use Rattle.im_dialogue.specs.Hearing.{IsLinePart, ShowsText, StandsIn, TakesLine, end_at, is_quit};
+ghost use Rattle.im_dialogue.specs.Together.{AreAsked, answers_behind, group_start, line_answer, member_result};
 ghost use Rattle.im_dialogue.specs.Telling.{TalksAsGroup, TellsGroup};
 ghost use Rattle.im_dialogue.specs.Watching.{told_with};
 
@@ -42,7 +42,7 @@ pub(crate) struct InBuffer {
 // Returns the first line of a text without its line feed, and the text after it. Returns none if the text has no line
 // feed.
 fn split_line(text: &[u8]) -> Option<(&[u8], &[u8])>
-    ensures { IfSome result (λ parts. length parts.0.now + 1 + length parts.1.now ≡ length text.now) }
+    ensures { IfSome result (λ parts. (text.now ≡ parts.0.now ++ 10 ∷ parts.1.now) × IsLinePart parts.0.now) }
 {
     for (at, byte) in text.iter().enumerate() {
         if *byte == b'\n' {
@@ -54,13 +54,14 @@ fn split_line(text: &[u8]) -> Option<(&[u8], &[u8])>
 
 // Returns what a line asks for, if it may stand in a group: a command, or what changes nothing.
 fn groups(asked: Option<Question>) -> Option<Question>
-    ensures { IfSome result (λ found. asked ≡ Some found) }
+    ensures { IfSome result (λ found. (asked ≡ Some found) × (is_quit (Some found) ≡ false)) }
 {
     match asked {
         Some(Question::Turn) => None,
         Some(Question::Backup(_)) => None,
         Some(Question::Quit) => None,
-        other => other,
+        Some(found) => Some(found),
+        None => None,
     }
 }
 
@@ -75,7 +76,8 @@ fn add_asked(asked: &mut Vec<Question>, found: Question) -> Result<(), AllocErro
 // Takes what a line asks for, if it may stand in a group. Returns whether it did.
 fn take_line(alloc: Global, line: &[u8], asked: &mut Vec<Question>) -> Result<bool, AllocError>
     requires asked { AreAsked asked.old.items }
-    ensures { OnOk result (AreAsked asked.new.items) }
+    ensures asked { OnOk result (AreAsked asked.new.items) }
+    ensures takes { IfOk result (λ taken. TakesLine line.now asked.old.items asked.new.items taken) }
 {
     match groups(read_asked(alloc, line)?) {
         Some(found) => {
@@ -88,16 +90,18 @@ fn take_line(alloc: Global, line: &[u8], asked: &mut Vec<Question>) -> Result<bo
 
 // Takes what the first whole lines of a text ask for. Adds for each where it ends, behind its line feed.
 fn take_lines(alloc: Global, text: &[u8], standing: &mut InBuffer) -> Result<(), AllocError>
-    requires asked { AreAsked standing.old.asked.items }
-    ensures { OnOk result (AreAsked standing.new.asked.items) }
+    requires asked { standing.old.asked.items ≡ [] }
+    requires ends { standing.old.ends.items ≡ [] }
+    ensures asked { OnOk result (AreAsked standing.new.asked.items) }
+    ensures stands { OnOk result (StandsIn text.now standing.new.asked.items standing.new.ends.items) }
 {
     let mut rest = text;
     for _line in 0..MOST_LINES {
         let Some((line, later)) = split_line(rest) else {
-            break;
+            return Ok(());
         };
         if !take_line(alloc, line, &mut standing.asked)? {
-            break;
+            return Ok(());
         }
         rest = later;
         standing.ends.push(text.len() - rest.len())?;
@@ -112,7 +116,9 @@ pub(crate) fn gather<R: BufRead>(
     input: &mut R,
     standing: &mut InBuffer,
 ) -> Result<(), Reason>
-    ensures { OnOk result (AreAsked standing.new.asked.items) }
+    ensures asked { OnOk result (AreAsked standing.new.asked.items) }
+    ensures stands { OnOk result ((text : List ℕ) × StandsIn text standing.new.asked.items standing.new.ends.items
+        × ShowsText (R.remaining input.old) (R.remaining input.new) (R.consumable_len input.new) text) }
 {
     standing.asked.clear();
     standing.ends.clear();
@@ -140,12 +146,13 @@ pub(crate) fn commands_among(asked: &[Question]) -> u32 {
 }
 
 /// Returns how many bytes the first `many` lines have, by where each line ends.
-pub(crate) fn end_of(ends: &[usize], many: usize) -> usize {
-    let mut end = 0;
-    for line_end in ends.iter().take(many) {
-        end = *line_end;
+pub(crate) fn end_of(ends: &[usize], many: usize) -> usize
+    ensures { many ≤ length ends.now → result ≡ end_at ends.now many }
+{
+    if many == 0 || many > ends.len() {
+        return 0;
     }
-    end
+    ends[many - 1]
 }
 
 // ---- their answers
@@ -207,6 +214,13 @@ fn add_line(
     text.push_str(told)
 }
 
+// Returns how many parts were told, given all of them and those that are left.
+fn told_of(all: &[GroupLine], left: &[GroupLine]) -> usize
+    ensures { result ≡ length all.now - length left.now }
+{
+    all.len().saturating_sub(left.len())
+}
+
 // Makes the lines of the answers to a group that was served, in the order of its lines. Returns how many lines it has:
 // those up to the first member that wasn't served.
 fn make_lines<D: Disk>(
@@ -215,20 +229,20 @@ fn make_lines<D: Disk>(
     served: &[Served],
     draft: &mut Draft,
 ) -> Result<usize, AllocError>
-    ensures { OnOk result (TellsGroup D group.now.parts.items (map string_bytes group.now.nows.items)
-        group.now.members.items served.now engine.now.memory (string_bytes draft.new.text)) }
+    ensures few { IfOk result (λ told. told ≤ length group.now.parts.items) }
+    ensures tells { IfOk result (λ told. TellsGroup D group.now.parts.items (map string_bytes group.now.nows.items)
+        group.now.members.items served.now engine.now.memory (string_bytes draft.new.text) told) }
 {
     draft.text.clear();
-    let mut told: usize = 0;
     let mut parts = group.parts.as_slice();
     let mut nows = group.nows.as_slice();
     let mut answers = served;
     while let Some((part, later)) = parts.split_first() {
         let Some((now, others)) = nows.split_first() else {
-            return Ok(told); // There is one for each part.
+            return Ok(told_of(group.parts.as_slice(), parts)); // There is one for each part.
         };
         let Some(answer) = line_answer(answers, *part) else {
-            return Ok(told);
+            return Ok(told_of(group.parts.as_slice(), parts));
         };
         add_line(
             draft.alloc,
@@ -240,9 +254,8 @@ fn make_lines<D: Disk>(
         answers = answers_behind(*part, answers);
         parts = later;
         nows = others;
-        told = told.saturating_add(1);
     }
-    Ok(told)
+    Ok(told_of(group.parts.as_slice(), parts))
 }
 
 // Returns whether there is a member for which there is no room.
@@ -264,7 +277,8 @@ pub(crate) fn serve_parts<D: Disk, W: Write>(
     draft: &mut Draft,
     out: &mut W,
 ) -> Result<usize, Reason>
-    ensures { TalksAsGroup D.Disk group.now.parts.items (map string_bytes group.now.nows.items)
+    ensures few { IfOk result (λ many. many ≤ length group.now.parts.items) }
+    ensures talks { TalksAsGroup D.Disk group.now.parts.items (map string_bytes group.now.nows.items)
         group.now.members.items engine.old (W.contents out.old) engine.new (W.contents out.new) result }
 {
     if lacks_places(engine, group) {

@@ -3,17 +3,19 @@ ghost use Rattle.std.specs.Prelude.{◌≡◌, true, false};
 
 use std::io::{BufReader, Read};
 
-/// An ear hears whether somebody asks.
-pub trait Ear {
+/// A reader that hears whether somebody asks.
+pub trait Ear: Read {
     ghost use Rattle.std.specs.Prelude.{Bool, false};
 
     /// Whether a read never waits. An impl may say so.
     ghost is_ready: { Self → Bool } = { λ _. false };
 
-    /// Returns whether nothing is there to be read, so that a read would wait. Returns `false` if that can't be told.
+    /// Returns whether nothing is there to be read, so that a read would wait. Returns `false` if that can't be told. No
+    /// read misses anything for it.
     fn is_quiet(&mut self) -> bool
         ensures ready { is_ready self.old ≡ true → result ≡ false }
-        ensures same { is_ready self.new ≡ is_ready self.old };
+        ensures same { is_ready self.new ≡ is_ready self.old }
+        ensures kept { Self.remaining self.new ≡ Self.remaining self.old };
 }
 
 /// The bytes of a slice are all there.
@@ -28,7 +30,7 @@ impl<'a> Ear for &'a [u8] {
 }
 
 /// What stands in the buffer is there; after it, the reader below tells.
-impl<R: Read + Ear> Ear for BufReader<R> {
+impl<R: Ear> Ear for BufReader<R> {
     ghost use Rattle.std.specs.Io.Buffered.{reader_inner};
 
     ghost is_ready = { λ r. R.is_ready (reader_inner r) };

@@ -13,7 +13,7 @@ use Rattle.im_serial.specs.Once.{SerialOnceOn}
 use Rattle.im_serial.specs.Serving.{SerialOn}
 use Rattle.im_dialogue.specs.Backups.{Backup}
 use Rattle.im_dialogue.specs.Dialogue.{TalkedFrom}
-use Rattle.im_dialogue.specs.Talk.{Outputs, outputs}
+use Rattle.im_dialogue.specs.Talk.{Outputs, outputs, with_input}
 use Rattle.im_run.specs.Once.{RunsOnceOn, RunsOnceOnPlan}
 use Rattle.im_run.specs.Running.{RunsOn, RunsOnPlan}
 use Rattle.im_run.specs.Tracing.{TraceState}
@@ -83,9 +83,9 @@ pub record ScriptRan {D : Type 0} (d : DiskGhosts D) (planned once : Bool) (firs
   pub plan : PlanRuns d once planned text old disk was is calls status
 
 -- A task was done on this disk, with this status. The disk's file held the first moment when it was opened. The input
--- gives these bytes, where they are known: a script or a dump with the path "-" is that text. The writer held the first
--- bytes before, and holds the others now. The demonstration opens no file. The result of a migration or a copy is
--- stated below, because they open two files.
+-- gives these bytes, where they are known: a script or a dump with the path "-" is that text, and a dialogue its lines.
+-- The writer held the first bytes before, and holds the others now. The demonstration opens no file. The result of a
+-- migration or a copy is stated below, because they open two files.
 abbrev pub DoneOn : {D : Type 0} → DiskGhosts D → Moment → Option (List ℕ) → Task → Option (List ℕ) → Option (List ℕ)
     → ℕ → D → Type 0
 DoneOn d first input demonstration was is status disk = ⊥
@@ -96,7 +96,8 @@ DoneOn d first input (serial image script once) was is status disk =
 DoneOn d first input (run image script planned once trace) was is status disk =
     (calls : TraceState) × ScriptRan d planned once first (bytes_at script input) disk was is calls status
 DoneOn d first input (serve image watch backups) was is status disk =
-    (kept : List Backup) × TalkedFrom watch d.now d.past first disk (outputs was []) (outputs is kept) status
+    (kept : List Backup)
+    × TalkedFrom watch d.now d.past first disk (with_input input (outputs was [])) (outputs is kept) status
 DoneOn d first input (inspect image look) was is status disk =
     (status ≡ 0 → ShowsView look first.bytes was is) × ReadsOnly first (d.now disk) [] (d.past disk)
 DoneOn d first input (migrate old new) was is status disk = Unit {0}

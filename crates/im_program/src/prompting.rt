@@ -74,7 +74,7 @@ impl<R: Eprint + AllocGlobal, I: Read + Drop> Read for Prompter<'_, R, I> {
     }
 }
 
-impl<R, I: Ear + Drop> Ear for Prompter<'_, R, I> {
+impl<R: Eprint + AllocGlobal, I: Ear + Drop> Ear for Prompter<'_, R, I> {
     fn is_quiet(&mut self) -> bool {
         self.input.is_quiet()
     }

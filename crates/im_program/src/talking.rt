@@ -3,7 +3,7 @@ ghost use Rattle.std.specs.Prelude.{◌≡◌, ◌≤◌, IfOk, IfErr, OnErr};
 ghost use Rattle.std.specs.Io.KnownBytes.{Keeps};
 ghost use Rattle.im_types.specs.declared.refusals.Refusal.TheVariants.{Device};
 ghost use Rattle.im_dialogue.specs.Dialogue.{TalkUnopened, Talked, TalkedFrom};
-ghost use Rattle.im_dialogue.specs.Talk.{outputs};
+ghost use Rattle.im_dialogue.specs.Talk.{outputs, with_input};
 ghost use Rattle.im_program.specs.Working.{WasTalked};
 
 use crate::hand::AtHand;
@@ -22,7 +22,7 @@ use std::rt::Files;
 /// [`dialogue_on`] also says which lines are printed.
 ///
 /// The clauses hold for whatever the image held when it was opened (`S`), as long as the file was honest. A crash at
-/// any moment since then leaves what [`dialogue_on`] says.
+/// any moment since then leaves what [`dialogue_on`] says, of the bytes that the input gives.
 ///
 /// Returns `Device`, with nothing printed, no line read and the image as it was, if the image can't be opened: it isn't
 /// a regular file, another opening has its lock, or a call of the system fails. The observer is told why. If
@@ -45,8 +45,8 @@ pub fn talk_file<
 ) -> Result<(u8, FileDisk<S>), Refusal>
     ensures status { IfOk result (λ r. r.0 ≤ 1) }
     ensures talked { IfOk result (λ r. WasTalked ⟦<FileDisk<S> as Disk>⟧ S.first talking.now.watch
-        (outputs (W.contents out.old) (B.kept backups.old)) (outputs (W.contents out.new) (B.kept backups.new))
-        r.0 r.1) }
+        (with_input (I.remaining hand.entry.input.now) (outputs (W.contents out.old) (B.kept backups.old)))
+        (outputs (W.contents out.new) (B.kept backups.new)) r.0 r.1) }
     ensures refused { IfErr result (λ refusal. refusal ≡ Device) }
     ensures same { OnErr result (Keeps (W.contents out.old) (W.contents out.new)) }
     ensures kept { OnErr result (B.kept backups.new ≡ B.kept backups.old) }

@@ -4,7 +4,7 @@ use Rattle.im_disk.specs.Since.{LeavesNow, LeavesWithin}
 use Rattle.im_engine.specs.State.{EngineState, MeansState}
 use Rattle.im_dialogue.specs.declared.serving.Setting.{Setting}
 use Rattle.im_dialogue.specs.Dialogue.{TalkUnopened, Talked}
-use Rattle.im_dialogue.specs.Talk.{outputs}
+use Rattle.im_dialogue.specs.Talk.{outputs, with_input}
 use Rattle.im_dialogue.proofs.DialogueLemmas.{talked}
 use Rattle.im_dialogue.proofs.dialogue.dialogue_on.Goals as goal
 
@@ -14,7 +14,8 @@ returns-in-Ok-clause-talked g c = λ honest.
     let dialogue = c.new-dialogue.result in
     let same = c.new-dialogue.ensures.engine in
     let opened = c.in-Ok.ensures in
-    let before = outputs (g.W.Write.contents c.args.out.now) (g.B.Backups.kept c.args.backups.now) in
+    let before = with_input (g.R.Read.remaining c.args.input.now)
+    (outputs (g.W.Write.contents c.args.out.now) (g.B.Backups.kept c.args.backups.now)) in
     let after = outputs (g.W.Write.contents c.talk_on.new.out) (g.B.Backups.kept c.talk_on.new.backups) in
     subst (λ (s : Setting). TalkUnopened g.D.Disk.now g.D.Disk.past c.args.disk c.talk_on.result.1 before after
     c.talk_on.result.0

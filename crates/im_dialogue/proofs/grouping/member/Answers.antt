@@ -7,8 +7,8 @@ use Rattle.im_dialogue.specs.Together.{TellsWatchers, disturbs}
 use Rattle.im_dialogue.proofs.FitLemmas.{fits_member}
 use Rattle.im_dialogue.proofs.grouping.member.Goals as goal
 
-pub returns-then-is_known : goal.returns-then-is_known
-returns-then-is_known c = λ b same.
+pub returns-then-is_known-clause-stands : goal.returns-then-is_known-clause-stands
+returns-then-is_known-clause-stands c = λ b same.
     let m = c.args.memory.now.contents in
     let members = c.args.group.now.members.items in
     let parts = c.args.group.now.parts.items in

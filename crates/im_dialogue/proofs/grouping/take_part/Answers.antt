@@ -1,19 +1,22 @@
-use Rattle.std.proofs.Common.{◌∷◌, ◌++◌, [], List, ℕ, map, sym, subst, string_bytes}
+use Rattle.std.proofs.Common.{◌∙◌, ◌∷◌, ◌++◌, [], List, ℕ, ap, map, sym, subst, string_bytes}
+use Rattle.std.specs.Prelude.{Option}
+use Rattle.std.proofs.lemmas.List.{append-nil}
+use Rattle.im_dialogue.specs.declared.asking.Question.{Question}
 use Rattle.im_dialogue.specs.declared.group_line.GroupLine.{GroupLine}
-use Rattle.im_dialogue.specs.Together.{MayBeServed, group_start}
+use Rattle.im_dialogue.specs.Together.{MayBeServed, group_start, part_question}
 use Rattle.im_dialogue.proofs.FitLemmas.{some_of}
-use Rattle.im_dialogue.proofs.PartLemmas.{group_push}
+use Rattle.im_dialogue.proofs.PartLemmas.{asked_more, group_push}
 use Rattle.im_dialogue.proofs.grouping.take_part.Goals as goal
 
-pub returns-in_ok-add_part-in-Some : goal.returns-in_ok-add_part-in-Some
-returns-in_ok-add_part-in-Some g c =
+pub returns-in_ok-add_part-in-Some-clause-group : goal.returns-in_ok-add_part-in-Some-clause-group
+returns-in_ok-add_part-in-Some-clause-group g c =
     let watch = c.args.setting.watch in
     let b = group_start c.args.engine.now in
     let was = c.args.group.now in
     let now = c.add_part.new.group in
     let e = c.in_ok-add_part-in-Some.ensures in
     let text = string_bytes c.part_of.new.now in
-    let fits = some_of _ _ c.in-Some.part c.in-Some.is c.in_ok-found.ensures in
+    let fits = some_of _ _ c.in-Some.part c.in-Some.is c.in_ok-found.ensures.stands in
     let more = map string_bytes was.nows.items ++ text ∷ [] in
     subst (λ (l : List GroupLine). MayBeServed watch b l (map string_bytes now.nows.items) now.members.items)
     (sym e.parts)
@@ -22,3 +25,13 @@ returns-in_ok-add_part-in-Some g c =
     (group_push watch b was.parts.items (map string_bytes was.nows.items) was.members.items now.members.items
     c.in-Some.part
     text c.requires.group fits e.members))
+
+pub returns-in_ok-add_part-in-Some-clause-asks : goal.returns-in_ok-add_part-in-Some-clause-asks
+returns-in_ok-add_part-in-Some-clause-asks g c =
+    let was = c.args.group.now.parts.items in
+    let asks = some_of _ _ c.in-Some.part c.in-Some.is c.in_ok-found.ensures.asks in
+    ap (map part_question) c.in_ok-add_part-in-Some.ensures.parts ∙ sym (asked_more was c.in-Some.part)
+    ∙ ap (λ (o : Option Question). map part_question was ++ o ∷ []) asks
+
+pub returns-in-None-clause-asks : goal.returns-in-None-clause-asks
+returns-in-None-clause-asks g c = sym (append-nil (map part_question c.args.group.now.parts.items))

@@ -1,5 +1,6 @@
-use Rattle.std.proofs.Common.{map, string_bytes, drop}
-use Rattle.im_dialogue.specs.Together.{AreAsked, MayBeServed, group_start}
+use Rattle.std.proofs.Common.{◌≡◌, map, string_bytes, take, drop}
+use Rattle.im_dialogue.specs.Hearing.{as_asked}
+use Rattle.im_dialogue.specs.Together.{AreAsked, MayBeServed, group_start, part_question}
 use Rattle.im_dialogue.proofs.grouping.take_parts.Given as goal
 
 abbrev pub invariant-loop-line : goal.invariant-loop-line
@@ -7,4 +8,5 @@ invariant-loop-line g l = record {
   asked : AreAsked (drop l.line-index l.asked);
   group : MayBeServed l.setting.watch (group_start l.engine) l.group.parts.items (map string_bytes l.group.nows.items)
       l.group.members.items;
+  asks : map part_question l.group.parts.items ≡ take l.line-index (as_asked l.asked);
 }

@@ -13,8 +13,8 @@ shown-requires-clause-within g c =
     subst (λ (l : List Command). length l ≤ LAST - e.count) (sym put)
     (put_within e.count e.room e.memory c.args.ahead.now)
 
-pub returns-in-Some : goal.returns-in-Some
-returns-in-Some g c = λ watch shown.
+pub returns-in-Some-clause-stands : goal.returns-in-Some-clause-stands
+returns-in-Some-clause-stands g c = λ watch shown.
     let put : c.as_slice.result.now ≡ commands_put c.args.engine.now c.args.ahead.now = c.as_slice.ensures.value
     ∙ c.judge_all.ensures c.if-judge_all.true in
     record {

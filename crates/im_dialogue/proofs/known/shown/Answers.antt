@@ -52,3 +52,15 @@ returns-in-Count-clause-plain g c = λ name m n. refl
 
 pub returns-in-About-clause-plain : goal.returns-in-About-clause-plain
 returns-in-About-clause-plain g c = λ name m n. refl
+
+pub returns-in-Window-clause-asks : goal.returns-in-Window-clause-asks
+returns-in-Window-clause-asks g c = rw c.in-Window.is refl
+
+pub returns-in-Room-clause-asks : goal.returns-in-Room-clause-asks
+returns-in-Room-clause-asks g c = rw c.in-Room.is refl
+
+pub returns-in-Count-clause-asks : goal.returns-in-Count-clause-asks
+returns-in-Count-clause-asks g c = rw c.in-Count.is refl
+
+pub returns-in-About-clause-asks : goal.returns-in-About-clause-asks
+returns-in-About-clause-asks g c = rw c.in-About.is refl

@@ -1,34 +1,40 @@
-use Rattle.std.proofs.Common.{◌++◌, ap, sym}
+use Rattle.std.proofs.Common.{◌++◌, true, ap, refl, sym}
 use Rattle.std.specs.Prelude.{None}
 use Rattle.im_dialogue.specs.declared.answers.LineAnswer.{LineAnswer}
-use Rattle.im_dialogue.specs.Talk.{backup_by, outputs}
+use Rattle.im_dialogue.specs.Hearing.{asking, left_behind}
+use Rattle.im_dialogue.specs.Talk.{backup_by, outputs, with_left}
+use Rattle.im_dialogue.proofs.HearingLemmas.{hears_line}
 use Rattle.im_dialogue.proofs.TalkLemmas.{talk_ends, talk_ends_here, talks_on}
 use Rattle.im_dialogue.proofs.WatchLemmas.{wrong_line_is}
 use Rattle.im_dialogue.proofs.saying.explain_line.Goals as goal
 
 pub returns-in-Ok-say : goal.returns-in-Ok-say
-returns-in-Ok-say g c = λ watch kept.
+returns-in-Ok-say g c = λ watch rest kept.
     let engine = c.args.engine.now in
     let said = c.in-Ok-say.ensures in
     talks_on g.D.Disk.now g.D.Disk.past g.D.Disk.honest watch engine engine
-    (outputs (g.W.Write.contents c.args.out.now) kept) (outputs (g.W.Write.contents c.say.new.out) kept) None
+    (with_left (asking None rest) (outputs (g.W.Write.contents c.args.out.now) kept))
+    (with_left (left_behind true rest) (outputs (g.W.Write.contents c.say.new.out) kept)) None
     c.wrong-answer.result c.args.line.now
     said.0 _ c.requires.wrong (λ h. h) c.wrong-answer.ensures.answered
     (λ n here a. wrong_line_is watch said.0 engine.memory _ n here c.wrong-answer.result c.memory.ensures a) said.1
     (ap (λ (a : LineAnswer). backup_by engine.memory a ++ kept) (sym c.wrong-answer.ensures.answer))
+    (λ n here a. hears_line None rest refl)
 
 pub returns-in-Err-say : goal.returns-in-Err-say
-returns-in-Err-say g c = λ watch kept.
+returns-in-Err-say g c = λ watch rest kept.
     let engine = c.args.engine.now in
     let said = c.in-Err-say.ensures in
     talk_ends g.D.Disk.now g.D.Disk.past g.D.Disk.honest watch engine engine
-    (outputs (g.W.Write.contents c.args.out.now) kept) (outputs (g.W.Write.contents c.say.new.out) kept) None
+    (with_left (asking None rest) (outputs (g.W.Write.contents c.args.out.now) kept))
+    (outputs (g.W.Write.contents c.say.new.out) kept) None
     c.wrong-answer.result c.args.line.now
-    said.0 _ c.requires.wrong (λ h. h) c.wrong-answer.ensures.answered
+    said.0 _ (left_behind true rest) c.requires.wrong (λ h. h) c.wrong-answer.ensures.answered
     (λ n here a. wrong_line_is watch said.0 engine.memory _ n here c.wrong-answer.result c.memory.ensures a) said.1
     (ap (λ (a : LineAnswer). backup_by engine.memory a ++ kept) (sym c.wrong-answer.ensures.answer))
+    (λ n here a. hears_line None rest refl)
 
 pub returns-in-Err : goal.returns-in-Err
-returns-in-Err g c = λ watch kept.
+returns-in-Err g c = λ watch rest kept.
     talk_ends_here g.D.Disk.now g.D.Disk.past g.D.Disk.honest watch c.args.engine.now
-    (outputs (g.W.Write.contents c.args.out.now) kept)
+    (with_left (asking None rest) (outputs (g.W.Write.contents c.args.out.now) kept)) None

@@ -11,5 +11,5 @@ loop-turn-preserved g c = (
   goes_after g.D.Disk.now g.D.Disk.past g.D.Disk.honest c.args.engine.now c.loop-turn.engine c.take_turn.new.engine
       c.loop-turn.invariant.0 c.in-Ok.ensures.goes,
   (λ h. c.loop-turn.invariant.1 (c.take_turn.ensures.honest h)),
-  (search rules, (search rules, search rules)),
+  (search rules, (search rules, (search rules, search rules))),
 )

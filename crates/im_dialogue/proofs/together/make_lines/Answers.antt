@@ -1,31 +1,56 @@
-use Rattle.std.proofs.Common.{◌≡◌, ◌∙◌, ◌∷◌, ◌++◌, List, ℕ, ap, length, map, sym, rules, string_bytes}
+use Rattle.std.proofs.Common.{◌≡◌, ◌∙◌, ◌-◌, [], ◌∷◌, ◌++◌, List, ℕ, ap, length, map, subst, sym, rules, string_bytes}
+use Rattle.std.specs.Prelude.{Option}
 use Rattle.im_types.specs.Contents.{Contents}
+use Rattle.im_dialogue.specs.declared.asking.Question.{Question}
+use Rattle.im_dialogue.specs.declared.group_line.GroupLine.{GroupLine}
 use Rattle.im_dialogue.specs.Answers.{answer_text}
 use Rattle.im_dialogue.specs.Together.{line_answer}
 use Rattle.im_dialogue.specs.Watching.{told_with}
-use Rattle.im_dialogue.proofs.PartLemmas.{mapped_none, match_none, none_by, telling_ends, telling_lost, telling_over}
-use Rattle.im_dialogue.proofs.PartLemmas.{telling_step}
+use Rattle.im_dialogue.proofs.PartLemmas.{Telling, asked_more, before_more, mapped_none, match_none, none_by}
+use Rattle.im_dialogue.proofs.PartLemmas.{telling_ends, telling_first, telling_lost, telling_over, telling_step, told_as}
+use Rattle.im_dialogue.proofs.PartLemmas.{told_before}
 use Rattle.im_dialogue.proofs.together.make_lines.Goals as goal
 
-pub returns-in_default-split_first : goal.returns-in_default-split_first
-returns-in_default-split_first g c = λ watch old cs served.
+-- nothing is told yet
+pub loop-part-init : goal.loop-part-init
+loop-part-init g c = (
+  [],
+  (
+    search rules,
+    λ watch old cs served. telling_first watch old cs c.args.group.now.parts.items
+        (map string_bytes c.args.group.now.nows.items) c.args.group.now.members.items c.args.served.now _ _ _ _ _ served
+        (search rules) (search rules) (search rules),
+  ),
+)
+
+pub returns-in_default-split_first-clause-tells : goal.returns-in_default-split_first-clause-tells
+returns-in_default-split_first-clause-tells g c = λ watch old cs served.
+    let inv = c.loop-part.invariant in
     let parts_are : c.loop-part.parts.now ≡ c.in-Some.part.now ∷ c.in-Some.later.now = search rules in
     let none : length c.loop-part.nows.now ≡ 0 = match_none _ _ _ c.split_first-in-Some.ensures.cases
     c.in_default-split_first.not-Some in
-    telling_lost watch old cs c.in-Some.part.now c.loop-part.parts.now c.in-Some.later.now
-    (map string_bytes c.loop-part.nows.now) c.loop-part.answers.now (string_bytes c.loop-part.draft.text) parts_are
-    (mapped_none string_bytes c.loop-part.nows.now none) (c.loop-part.invariant watch old cs served)
+    told_as watch old cs _ _ _ (told_before c.args.group.now.parts.items inv.0 c.loop-part.parts.now _ inv.1.0
+    (c.told_of-in_default-split_first.ensures ∙ ap (λ (l : List GroupLine). length l - length c.loop-part.parts.now)
+    c.as_slice-in_default-split_first.ensures.value))
+    (telling_lost watch old cs c.in-Some.part.now c.loop-part.parts.now c.in-Some.later.now
+    (map string_bytes c.loop-part.nows.now) c.loop-part.answers.now (string_bytes c.loop-part.draft.text) _ parts_are
+    (mapped_none string_bytes c.loop-part.nows.now none) (inv.1.1 watch old cs served))
 
-pub returns-in_default-line_answer : goal.returns-in_default-line_answer
-returns-in_default-line_answer g c = λ watch old cs served.
+pub returns-in_default-line_answer-clause-tells : goal.returns-in_default-line_answer-clause-tells
+returns-in_default-line_answer-clause-tells g c = λ watch old cs served.
+    let inv = c.loop-part.invariant in
     let parts_are : c.loop-part.parts.now ≡ c.in-Some.part.now ∷ c.in-Some.later.now = search rules in
     let answer_is : c.line_answer.result ≡ line_answer c.loop-part.answers.now c.in-Some.part.now = search rules in
-    telling_ends watch old cs c.in-Some.part.now c.loop-part.parts.now c.in-Some.later.now
-    (map string_bytes c.loop-part.nows.now) c.loop-part.answers.now (string_bytes c.loop-part.draft.text) parts_are
-    (sym answer_is ∙ none_by _ c.in_default-line_answer.not-Some) (c.loop-part.invariant watch old cs served)
+    told_as watch old cs _ _ _ (told_before c.args.group.now.parts.items inv.0 c.loop-part.parts.now _ inv.1.0
+    (c.told_of-in_default-line_answer.ensures ∙ ap (λ (l : List GroupLine). length l - length c.loop-part.parts.now)
+    c.as_slice-in_default-line_answer.ensures.value))
+    (telling_ends watch old cs c.in-Some.part.now c.loop-part.parts.now c.in-Some.later.now
+    (map string_bytes c.loop-part.nows.now) c.loop-part.answers.now (string_bytes c.loop-part.draft.text) _ parts_are
+    (sym answer_is ∙ none_by _ c.in_default-line_answer.not-Some) (inv.1.1 watch old cs served))
 
 pub loop-part-preserved : goal.loop-part-preserved
-loop-part-preserved g c = λ watch old cs served.
+loop-part-preserved g c =
+    let inv = c.loop-part.invariant in
     let group = c.args.group.now in
     let m = c.args.engine.now.memory in
     let given = c.in-Some-line_answer.answer in
@@ -34,23 +59,38 @@ loop-part-preserved g c = λ watch old cs served.
     rules in
     let answer_is : c.line_answer.result ≡ line_answer c.loop-part.answers.now c.in-Some.part.now = search rules in
     let same : c.as_str.result.now ≡ string_bytes c.in-Some-split_first.now.now = search rules in
-    let line = c.in_ok-add_line.ensures in
-    telling_step watch old group.parts.items (map string_bytes group.nows.items) group.members.items cs
-    c.args.served.now
-    m served c.in-Some.part.now c.loop-part.parts.now c.in-Some.later.now
-    (string_bytes c.in-Some-split_first.now.now) (map string_bytes c.loop-part.nows.now)
-    (map string_bytes c.in-Some-split_first.others.now) c.loop-part.answers.now c.answers_behind-answers.result.now
-    (string_bytes c.loop-part.draft.text) (string_bytes c.add_line.new.text) line.0 given
-    parts_are (ap (map string_bytes) nows_are) c.answers_behind-answers.ensures
-    (sym answer_is ∙ c.in-Some-line_answer.is)
-    (line.1 ∙ ap (λ (x : Contents). string_bytes c.loop-part.draft.text
-    ++ (answer_text line.0 x given ++ told_with given c.as_str.result.now)) c.memory.ensures
-    ∙ ap (λ (t : List ℕ). string_bytes c.loop-part.draft.text ++ (answer_text line.0 m given ++ told_with given t))
-    same)
-    (c.loop-part.invariant watch old cs served)
+    let line = c.in_ok-add_line.ensures in (
+      inv.0 ++ c.in-Some.part.now ∷ [],
+      (
+        before_more group.parts.items inv.0 c.loop-part.parts.now c.in-Some.later.now c.in-Some.part.now inv.1.0
+            parts_are,
+        λ watch old cs served.
+            subst (λ (l : List (Option Question)). Telling watch old cs c.in-Some.later.now
+            (map string_bytes c.in-Some-split_first.others.now) c.answers_behind-answers.result.now
+            (string_bytes c.add_line.new.text) l) (asked_more inv.0 c.in-Some.part.now)
+            (telling_step watch old group.parts.items (map string_bytes group.nows.items) group.members.items cs
+            c.args.served.now
+            m served c.in-Some.part.now c.loop-part.parts.now c.in-Some.later.now
+            (string_bytes c.in-Some-split_first.now.now) (map string_bytes c.loop-part.nows.now)
+            (map string_bytes c.in-Some-split_first.others.now) c.loop-part.answers.now
+            c.answers_behind-answers.result.now
+            (string_bytes c.loop-part.draft.text) (string_bytes c.add_line.new.text) line.0 _ given
+            parts_are (ap (map string_bytes) nows_are) c.answers_behind-answers.ensures
+            (sym answer_is ∙ c.in-Some-line_answer.is)
+            (line.1 ∙ ap (λ (x : Contents). string_bytes c.loop-part.draft.text
+            ++ (answer_text line.0 x given ++ told_with given c.as_str.result.now)) c.memory.ensures
+            ∙ ap (λ (t : List ℕ). string_bytes c.loop-part.draft.text
+            ++ (answer_text line.0 m given ++ told_with given t)) same)
+            (inv.1.1 watch old cs served)),
+      ),
+    )
 
-pub returns : goal.returns
-returns g c = λ watch old cs served.
+pub returns-clause-tells : goal.returns-clause-tells
+returns-clause-tells g c = λ watch old cs served.
+    let inv = c.loop-part.invariant in
     let none : length c.loop-part.parts.now ≡ 0 = search rules in
-    telling_over watch old cs c.loop-part.parts.now (map string_bytes c.loop-part.nows.now) c.loop-part.answers.now
-    (string_bytes c.loop-part.draft.text) none (c.loop-part.invariant watch old cs served)
+    told_as watch old cs _ _ _ (told_before c.args.group.now.parts.items inv.0 c.loop-part.parts.now _ inv.1.0
+    (c.told_of.ensures ∙ ap (λ (l : List GroupLine). length l - length c.loop-part.parts.now)
+    c.as_slice.ensures.value))
+    (telling_over watch old cs c.loop-part.parts.now (map string_bytes c.loop-part.nows.now) c.loop-part.answers.now
+    (string_bytes c.loop-part.draft.text) _ none (inv.1.1 watch old cs served))

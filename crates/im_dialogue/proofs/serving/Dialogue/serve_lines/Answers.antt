@@ -1,49 +1,72 @@
-use Rattle.std.proofs.Common.{◌∙◌, subst}
+use Rattle.std.proofs.Common.{◌≡◌, ◌∙◌, subst, ap}
+use Rattle.std.specs.Prelude.{None}
 use Rattle.im_dialogue.specs.declared.serving.Setting.{Setting}
-use Rattle.im_dialogue.specs.Talk.{TalkEnds, TalksOn, outputs}
-use Rattle.im_dialogue.proofs.TalkLemmas.{ends_after, on_after}
+use Rattle.im_dialogue.specs.Hearing.{left_after, questions_left}
+use Rattle.im_dialogue.specs.Talk.{TalkEnds, TalksOn, outputs, with_input, with_left}
+use Rattle.im_dialogue.proofs.HearingLemmas.{left_some, same_left}
+use Rattle.im_dialogue.proofs.TalkLemmas.{end_here, ends_after, on_after, to_left}
 use Rattle.im_dialogue.proofs.serving.Dialogue.serve_lines.Goals as goal
 
 pub returns-in-Err-clause-talks : goal.returns-in-Err-clause-talks
 returns-in-Err-clause-talks g c =
     let kept = g.B.Backups.kept in
+    let was = with_input (g.R.Read.remaining c.args.input.now)
+    (outputs (g.W.Write.contents c.args.out.now) (kept c.args.backups.now)) in
+    let been = with_input (g.R.Read.remaining c.loop-served.input)
+    (outputs (g.W.Write.contents c.loop-served.out) (kept c.loop-served.backups)) in
+    let is = outputs (g.W.Write.contents c.serve_rested.new.out) (kept c.serve_rested.new.backups) in
     ends_after g.D.Disk.now g.D.Disk.past g.D.Disk.honest c.args.self.now.setting.watch c.args.self.now.engine
     c.loop-served.self.engine
-    c.serve_rested.new.self.engine (outputs (g.W.Write.contents c.args.out.now) (kept c.args.backups.now))
-    (outputs (g.W.Write.contents c.loop-served.out) (kept c.loop-served.backups))
-    (outputs (g.W.Write.contents c.serve_rested.new.out) (kept c.serve_rested.new.backups))
+    c.serve_rested.new.self.engine was been is
     c.loop-served.invariant.0 (subst (λ (s : Setting). TalkEnds s.watch g.D.Disk.now g.D.Disk.past g.D.Disk.honest
-    c.loop-served.self.engine (outputs (g.W.Write.contents c.loop-served.out) (kept c.loop-served.backups))
-    c.serve_rested.new.self.engine
-    (outputs (g.W.Write.contents c.serve_rested.new.out) (kept c.serve_rested.new.backups)))
+    c.loop-served.self.engine been c.serve_rested.new.self.engine is)
     c.loop-served.invariant.1 c.in-Err.ensures.talks)
 
 pub loop-served-preserved : goal.loop-served-preserved
 loop-served-preserved g c =
-    let kept = g.B.Backups.kept in (
-      on_after g.D.Disk.now g.D.Disk.past g.D.Disk.honest c.args.self.now.setting.watch c.args.self.now.engine
-          c.loop-served.self.engine c.serve_rested.new.self.engine
-          (outputs (g.W.Write.contents c.args.out.now) (kept c.args.backups.now))
-          (outputs (g.W.Write.contents c.loop-served.out) (kept c.loop-served.backups))
-          (outputs (g.W.Write.contents c.serve_rested.new.out) (kept c.serve_rested.new.backups))
+    let kept = g.B.Backups.kept in
+    let was = with_input (g.R.Read.remaining c.args.input.now)
+    (outputs (g.W.Write.contents c.args.out.now) (kept c.args.backups.now)) in
+    let been = with_input (g.R.Read.remaining c.loop-served.input)
+    (outputs (g.W.Write.contents c.loop-served.out) (kept c.loop-served.backups)) in
+    let is = outputs (g.W.Write.contents c.serve_rested.new.out) (kept c.serve_rested.new.backups) in
+    let later = g.R.Read.remaining c.serve_rested.new.input in (
+      to_left g.D.Disk.now g.D.Disk.past g.D.Disk.honest c.args.self.now.setting.watch c.args.self.now.engine
+          c.serve_rested.new.self.engine was is (left_after c.in-Ok.many later) (questions_left later)
+          (same_left _ _ (left_some c.in-Ok.many later c.if-many-eq0.false))
+          (on_after g.D.Disk.now g.D.Disk.past g.D.Disk.honest c.args.self.now.setting.watch c.args.self.now.engine
+          c.loop-served.self.engine c.serve_rested.new.self.engine was been (with_left (left_after c.in-Ok.many later) is)
           c.loop-served.invariant.0 (subst (λ (s : Setting). TalksOn s.watch g.D.Disk.now g.D.Disk.past g.D.Disk.honest
-          c.loop-served.self.engine (outputs (g.W.Write.contents c.loop-served.out) (kept c.loop-served.backups))
-          c.serve_rested.new.self.engine
-          (outputs (g.W.Write.contents c.serve_rested.new.out) (kept c.serve_rested.new.backups)))
-          c.loop-served.invariant.1 c.in-Ok.ensures.talks),
+          c.loop-served.self.engine been c.serve_rested.new.self.engine (with_left (left_after c.in-Ok.many later) is))
+          c.loop-served.invariant.1 c.in-Ok.ensures.talks)),
       c.serve_rested.ensures.same ∙ c.loop-served.invariant.1,
     )
 
-pub returns-in-Ok-eq0-clause-talks : goal.returns-in-Ok-eq0-clause-talks
-returns-in-Ok-eq0-clause-talks g c =
+pub returns-then-many-eq0-clause-talks : goal.returns-then-many-eq0-clause-talks
+returns-then-many-eq0-clause-talks g c =
     let kept = g.B.Backups.kept in
-    on_after g.D.Disk.now g.D.Disk.past g.D.Disk.honest c.args.self.now.setting.watch c.args.self.now.engine
-    c.loop-served.self.engine c.serve_rested.new.self.engine
-    (outputs (g.W.Write.contents c.args.out.now) (kept c.args.backups.now))
-    (outputs (g.W.Write.contents c.loop-served.out) (kept c.loop-served.backups))
-    (outputs (g.W.Write.contents c.serve_rested.new.out) (kept c.serve_rested.new.backups))
+    let was = with_input (g.R.Read.remaining c.args.input.now)
+    (outputs (g.W.Write.contents c.args.out.now) (kept c.args.backups.now)) in
+    let been = with_input (g.R.Read.remaining c.loop-served.input)
+    (outputs (g.W.Write.contents c.loop-served.out) (kept c.loop-served.backups)) in
+    let is = outputs (g.W.Write.contents c.serve_rested.new.out) (kept c.serve_rested.new.backups) in
+    let later = g.R.Read.remaining c.serve_rested.new.input in
+    to_left g.D.Disk.now g.D.Disk.past g.D.Disk.honest c.args.self.now.setting.watch c.args.self.now.engine
+    c.serve_rested.new.self.engine was is (left_after c.in-Ok.many later) (left_after 0 later)
+    (same_left _ _ (ap (λ n. left_after n later) c.if-many-eq0.true))
+    (on_after g.D.Disk.now g.D.Disk.past g.D.Disk.honest c.args.self.now.setting.watch c.args.self.now.engine
+    c.loop-served.self.engine c.serve_rested.new.self.engine was been (with_left (left_after c.in-Ok.many later) is)
     c.loop-served.invariant.0 (subst (λ (s : Setting). TalksOn s.watch g.D.Disk.now g.D.Disk.past g.D.Disk.honest
-    c.loop-served.self.engine (outputs (g.W.Write.contents c.loop-served.out) (kept c.loop-served.backups))
-    c.serve_rested.new.self.engine
-    (outputs (g.W.Write.contents c.serve_rested.new.out) (kept c.serve_rested.new.backups)))
-    c.loop-served.invariant.1 c.in-Ok-eq0.ensures.talks)
+    c.loop-served.self.engine been c.serve_rested.new.self.engine (with_left (left_after c.in-Ok.many later) is))
+    c.loop-served.invariant.1 c.in-Ok.ensures.talks))
+
+-- no input has so many lines
+pub returns-clause-talks : goal.returns-clause-talks
+returns-clause-talks g c =
+    let kept = g.B.Backups.kept in
+    end_here g.D.Disk.now g.D.Disk.past g.D.Disk.honest c.args.self.now.setting.watch c.args.self.now.engine
+    c.loop-served.self.engine
+    (with_input (g.R.Read.remaining c.args.input.now)
+    (outputs (g.W.Write.contents c.args.out.now) (kept c.args.backups.now)))
+    (with_input (g.R.Read.remaining c.loop-served.input)
+    (outputs (g.W.Write.contents c.loop-served.out) (kept c.loop-served.backups))) None c.loop-served.invariant.0

@@ -1,51 +1,75 @@
-use Rattle.std.proofs.Common.{rules, subst}
+use Rattle.std.proofs.Common.{rules, subst, sym}
+use Rattle.std.specs.Prelude.{None}
 use Rattle.im_dialogue.specs.declared.serving.Setting.{Setting}
-use Rattle.im_dialogue.specs.Talk.{TalksWith, outputs}
-use Rattle.im_dialogue.proofs.TalkLemmas.{ends_after, goes_talk, halts_talk, on_after, then_talks}
+use Rattle.im_dialogue.specs.Hearing.{left_after, questions_left}
+use Rattle.im_dialogue.specs.Talk.{TalksMany, outputs, with_left}
+use Rattle.im_dialogue.proofs.HearingLemmas.{left_some, same_left}
+use Rattle.im_dialogue.proofs.TalkLemmas.{ends_after, goes_quiet, halts_talk, on_after, then_talks, to_left}
 use Rattle.im_dialogue.proofs.serving.Dialogue.serve_rested.Goals as goal
 
 pub returns-in-Err-clause-talks : goal.returns-in-Err-clause-talks
 returns-in-Err-clause-talks g c =
     halts_talk g.D.Disk.now g.D.Disk.past g.D.Disk.honest c.args.self.now.setting.watch c.args.self.now.engine
     c.turn_while_quiet.new.engine
-    (outputs (g.W.Write.contents c.args.out.now) (g.B.Backups.kept c.args.backups.now))
+    (with_left (questions_left (g.R.Read.remaining c.args.input.now))
+    (outputs (g.W.Write.contents c.args.out.now) (g.B.Backups.kept c.args.backups.now))) None
     c.turn_while_quiet.ensures.honest (search rules)
 
-pub returns-in-Ok-eq0-clause-talks : goal.returns-in-Ok-eq0-clause-talks
-returns-in-Ok-eq0-clause-talks g c =
+pub returns-then-many-eq0-clause-talks : goal.returns-then-many-eq0-clause-talks
+returns-then-many-eq0-clause-talks g c =
     let kept = g.B.Backups.kept c.args.backups.now in
-    let was = outputs (g.W.Write.contents c.args.out.now) kept in
-    let been = outputs (g.W.Write.contents c.serve_together.new.out) kept in
+    let known = questions_left (g.R.Read.remaining c.args.input.now) in
+    let later = g.R.Read.remaining c.serve_together.new.input in
+    let was = with_left known (outputs (g.W.Write.contents c.args.out.now) kept) in
+    let been = with_left (questions_left later) (outputs (g.W.Write.contents c.serve_together.new.out) kept) in
     let is = outputs (g.W.Write.contents c.serve_alone.new.out) (g.B.Backups.kept c.serve_alone.new.backups) in
+    let now = g.R.Read.remaining c.serve_alone.new.input in
     then_talks g.D.Disk.now g.D.Disk.past g.D.Disk.honest c.args.self.now.setting.watch c.args.self.now.engine
-    c.serve_together.new.self.engine c.serve_alone.new.self.engine was been is c.serve_alone.result
+    c.serve_together.new.self.engine c.serve_alone.new.self.engine was been (λ many. with_left (left_after many now) is)
+    is c.serve_alone.result
     (on_after g.D.Disk.now g.D.Disk.past g.D.Disk.honest c.args.self.now.setting.watch c.args.self.now.engine
-    c.turn_while_quiet.new.engine c.serve_together.new.self.engine was was been
-    (goes_talk g.D.Disk.now g.D.Disk.past g.D.Disk.honest c.args.self.now.setting.watch c.args.self.now.engine
-    c.turn_while_quiet.new.engine was c.turn_while_quiet.ensures.honest (search rules))
-    (c.in-Ok-eq0.ensures.talks kept))
-    (subst (λ (s : Setting). TalksWith g.D.Disk s.watch c.serve_together.new.self.engine been
-    c.serve_alone.new.self.engine is
-    c.serve_alone.result) c.serve_together.ensures.same c.serve_alone.ensures.talks)
+    c.turn_while_quiet.new.engine c.serve_together.new.self.engine was
+    (with_left (questions_left (g.R.Read.remaining c.turn_while_quiet.new.ear))
+    (outputs (g.W.Write.contents c.args.out.now) kept)) been
+    (goes_quiet g.D.Disk.now g.D.Disk.past g.D.Disk.honest c.args.self.now.setting.watch c.args.self.now.engine
+    c.turn_while_quiet.new.engine (outputs (g.W.Write.contents c.args.out.now) kept) _ _
+    c.turn_while_quiet.ensures.honest (search rules) c.turn_while_quiet.ensures.kept)
+    (c.in-Ok.ensures.talks kept))
+    (subst (λ (s : Setting). TalksMany g.D.Disk s.watch c.serve_together.new.self.engine
+    (outputs (g.W.Write.contents c.serve_together.new.out) kept) later
+    c.serve_alone.new.self.engine is now c.serve_alone.result) c.serve_together.ensures.same
+    c.serve_alone.ensures.talks)
 
 pub returns-in-Ok-clause-talks : goal.returns-in-Ok-clause-talks
 returns-in-Ok-clause-talks g c =
     let kept = g.B.Backups.kept c.args.backups.now in
-    let was = outputs (g.W.Write.contents c.args.out.now) kept in
+    let known = questions_left (g.R.Read.remaining c.args.input.now) in
+    let later = g.R.Read.remaining c.serve_together.new.input in
+    let was = with_left known (outputs (g.W.Write.contents c.args.out.now) kept) in
     let is = outputs (g.W.Write.contents c.serve_together.new.out) kept in
-    on_after g.D.Disk.now g.D.Disk.past g.D.Disk.honest c.args.self.now.setting.watch c.args.self.now.engine
-    c.turn_while_quiet.new.engine c.serve_together.new.self.engine was was is
-    (goes_talk g.D.Disk.now g.D.Disk.past g.D.Disk.honest c.args.self.now.setting.watch c.args.self.now.engine
-    c.turn_while_quiet.new.engine was c.turn_while_quiet.ensures.honest (search rules))
-    (c.in-Ok.ensures.talks kept)
+    to_left g.D.Disk.now g.D.Disk.past g.D.Disk.honest c.args.self.now.setting.watch c.args.self.now.engine
+    c.serve_together.new.self.engine was is (questions_left later) (left_after c.in-Ok.many later)
+    (same_left _ _ (sym (left_some c.in-Ok.many later c.if-many-eq0.false)))
+    (on_after g.D.Disk.now g.D.Disk.past g.D.Disk.honest c.args.self.now.setting.watch c.args.self.now.engine
+    c.turn_while_quiet.new.engine c.serve_together.new.self.engine was
+    (with_left (questions_left (g.R.Read.remaining c.turn_while_quiet.new.ear))
+    (outputs (g.W.Write.contents c.args.out.now) kept)) (with_left (questions_left later) is)
+    (goes_quiet g.D.Disk.now g.D.Disk.past g.D.Disk.honest c.args.self.now.setting.watch c.args.self.now.engine
+    c.turn_while_quiet.new.engine (outputs (g.W.Write.contents c.args.out.now) kept) _ _
+    c.turn_while_quiet.ensures.honest (search rules) c.turn_while_quiet.ensures.kept)
+    (c.in-Ok.ensures.talks kept))
 
 pub returns-in-Err-serve_together-clause-talks : goal.returns-in-Err-serve_together-clause-talks
 returns-in-Err-serve_together-clause-talks g c =
     let kept = g.B.Backups.kept c.args.backups.now in
-    let was = outputs (g.W.Write.contents c.args.out.now) kept in
+    let known = questions_left (g.R.Read.remaining c.args.input.now) in
+    let was = with_left known (outputs (g.W.Write.contents c.args.out.now) kept) in
     let is = outputs (g.W.Write.contents c.serve_together.new.out) kept in
     ends_after g.D.Disk.now g.D.Disk.past g.D.Disk.honest c.args.self.now.setting.watch c.args.self.now.engine
-    c.turn_while_quiet.new.engine c.serve_together.new.self.engine was was is
-    (goes_talk g.D.Disk.now g.D.Disk.past g.D.Disk.honest c.args.self.now.setting.watch c.args.self.now.engine
-    c.turn_while_quiet.new.engine was c.turn_while_quiet.ensures.honest (search rules))
+    c.turn_while_quiet.new.engine c.serve_together.new.self.engine was
+    (with_left (questions_left (g.R.Read.remaining c.turn_while_quiet.new.ear))
+    (outputs (g.W.Write.contents c.args.out.now) kept)) is
+    (goes_quiet g.D.Disk.now g.D.Disk.past g.D.Disk.honest c.args.self.now.setting.watch c.args.self.now.engine
+    c.turn_while_quiet.new.engine (outputs (g.W.Write.contents c.args.out.now) kept) _ _
+    c.turn_while_quiet.ensures.honest (search rules) c.turn_while_quiet.ensures.kept)
     (c.in-Err-serve_together.ensures.talks kept)

@@ -1,0 +1,7 @@
+use Rattle.std.proofs.Common.{take}
+use Rattle.im_dialogue.specs.Hearing.{IsLinePart}
+use Rattle.im_dialogue.proofs.together.split_line.Given as goal
+
+-- no line feed stands before this byte
+abbrev pub invariant-loop-at : goal.invariant-loop-at
+invariant-loop-at l = IsLinePart (take l.at l.text)
