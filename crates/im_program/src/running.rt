@@ -1,5 +1,5 @@
 //! Runs a script, the requests of each element by threads of its own.
-ghost use Rattle.std.specs.Prelude.{◌≡◌, ◌⊎◌, ◌≤◌, IfOk, IfErr, OnErr, IfSome, IfNone, IsSome};
+ghost use Rattle.std.specs.Prelude.{◌≡◌, ◌⊎◌, ◌≤◌, IfOk, IfErr, OnErr, IfSome, IfNone, IsSome, is_some, true};
 ghost use Rattle.std.specs.Io.KnownBytes.{Keeps};
 ghost use Rattle.im_types.specs.declared.refusals.Refusal.TheVariants.{BadScript, Device, NoMemory};
 ghost use Rattle.im_program.specs.Working.{RanAs, WasRun};
@@ -26,7 +26,8 @@ use std::thread::Threads;
 
 // How a script is run by threads.
 fn mode_of(running: &ScriptRun) -> RunMode
-    ensures { result.planned ≡ running.now.planned }
+    ensures planned { result.planned ≡ running.now.planned }
+    ensures recorded { result.recorded ≡ is_some running.now.trace }
 {
     RunMode {
         planned: running.planned,
@@ -42,6 +43,8 @@ fn mode_of(running: &ScriptRun) -> RunMode
 /// The clauses hold for whatever the image held when it was opened (`S`), as long as the file was honest. A crash at
 /// any moment since then leaves what [`run_on`] says. It says that of the bytes that the input gives, where these are
 /// known and the path is `-`, as [`serve_file`](crate::serve_file) does.
+///
+/// The trace has the servers' calls if one is asked for.
 ///
 /// Errors, with nothing printed and the image as it was; the observer is told why:
 ///
@@ -69,6 +72,7 @@ pub fn run_file<
     ensures status { IfOk result (λ r. (r.0 ≤ 1) ⊎ (r.0 ≡ STALLED)) }
     ensures ran { IfOk result (λ r. RanAs ⟦<FileDisk<S> as Disk>⟧ S.first running.now
         (I.remaining hand.entry.input.now) (W.contents out.old) (W.contents out.new) r.2 r.0 r.1) }
+    ensures recorded { IfOk result (λ r. is_some running.now.trace ≡ true → r.2.recorded ≡ true) }
     ensures refused { IfErr result (λ refusal. (refusal ≡ BadScript) ⊎ (refusal ≡ NoMemory) ⊎ (refusal ≡ Device)) }
     ensures same { OnErr result (Keeps (W.contents out.old) (W.contents out.new)) }
 {
@@ -108,6 +112,7 @@ fn run_at_once<
     ensures status { (result.0 ≤ 1) ⊎ (result.0 ≡ STALLED) }
     ensures ran { IfSome result.1 (λ disk. IfSome result.2 (λ trace. RanAs ⟦<FileDisk<S> as Disk>⟧ S.first running.now
         (I.remaining hand.entry.input.now) (W.contents out.old) (W.contents out.new) trace result.0 disk)) }
+    ensures recorded { IfSome result.2 (λ trace. is_some running.now.trace ≡ true → trace.recorded ≡ true) }
     ensures none { IfNone result.1 (result.0 ≡ 1) }
     ensures both { IfSome result.1 (λ _. IsSome result.2) }
 {

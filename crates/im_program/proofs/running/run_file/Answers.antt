@@ -26,7 +26,7 @@ returns-then-running-clause-ran g c = rw c.if-running.true (record {
       (c.in_ok-script.ensures.text ∙ c.as_slice.ensures.value)
       (rw c.parts-rt.ensures at c.in_ok-text.ensures.text);
   run = c.run_once_on.ensures.run;
-  plan = rw c.mode_of-mode.ensures at c.run_once_on.ensures.planned;
+  plan = rw c.mode_of-mode.ensures.planned at c.run_once_on.ensures.planned;
 })
 
 pub returns-clause-ran : goal.returns-clause-ran
@@ -39,5 +39,12 @@ returns-clause-ran g c = rw c.if-running.false (record {
       (c.in_ok-script.ensures.text ∙ c.as_slice.ensures.value)
       (rw c.parts-rt.ensures at c.in_ok-text.ensures.text);
   run = c.run_on-ended.ensures.run;
-  plan = rw c.mode_of-mode.ensures at c.run_on-ended.ensures.planned;
+  plan = rw c.mode_of-mode.ensures.planned at c.run_on-ended.ensures.planned;
 })
+
+pub returns-then-running-clause-recorded : goal.returns-then-running-clause-recorded
+returns-then-running-clause-recorded g c = λ asked.
+    c.run_once_on.ensures.recorded (c.mode_of-mode.ensures.recorded ∙ asked)
+
+pub returns-clause-recorded : goal.returns-clause-recorded
+returns-clause-recorded g c = λ asked. c.run_on-ended.ensures.recorded (c.mode_of-mode.ensures.recorded ∙ asked)
