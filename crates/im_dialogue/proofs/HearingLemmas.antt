@@ -452,9 +452,6 @@ module _ (text : List ℕ) (asked : List Question) (ends : List ℕ) (rest line 
   front : List ℕ
   front = take start text
 
-  rest_length : length rest ≡ length line + suc (length later)
-  rest_length = ap (λ (l : List ℕ). length l) is ∙ length-append line (10 ∷ later)
-
   text_is : text ≡ (front ++ (line ++ 10 ∷ [])) ++ later
   text_is = here.1 ∙ ap (λ (l : List ℕ). front ++ l) (is ∙ sym (append_assoc line (10 ∷ []) later))
       ∙ sym (append_assoc front (line ++ 10 ∷ []) later)

@@ -413,6 +413,12 @@ module _ {D : Type 0} (now : D → Moment) (past : D → List Moment) (honest : 
   -- ---- what was printed
 
   module _ (watch : Bool) where
+    abbrev On : EngineState D → Outputs → EngineState D → Outputs → Type 0
+    On = TalksOn watch now past honest
+
+    abbrev Ends : EngineState D → Outputs → EngineState D → Outputs → Type 0
+    Ends = TalkEnds watch now past honest
+
     pub silent : (start engine : EngineState D) (held was is : Outputs) (said after_all : List Exchange) (text : List ℕ)
         → At start engine after_all
         → texts_of watch start.memory after_all ≡ texts_of watch start.memory said ++ text
@@ -456,7 +462,7 @@ module _ {D : Type 0} (now : D → Moment) (past : D → List Moment) (honest : 
 
     -- it is ended with nothing more said
     pub halts_talk : (old new : EngineState D) (was : Outputs) (left : Left) → (honest new.disk → honest old.disk)
-        → Halts now past honest old new → TalkEnds watch now past honest old was new (with_left left was)
+        → Halts now past honest old new → Ends old was new (with_left left was)
     halts_talk old new was left back halts = λ start held so_far h.
         let far = so_far (back h) in
         let out = far.1.1.1.1 in
@@ -467,12 +473,12 @@ module _ {D : Type 0} (now : D → Moment) (past : D → List Moment) (honest : 
         )
 
     pub talk_ends_here : (engine : EngineState D) (was : Outputs) (left : Left)
-        → TalkEnds watch now past honest engine was engine (with_left left was)
+        → Ends engine was engine (with_left left was)
     talk_ends_here engine was left = halts_talk engine engine was left (λ h. h) (ends_here engine)
 
     -- what was said without a line of its own goes on
     pub goes_talk : (old new : EngineState D) (was : Outputs) → (honest new.disk → honest old.disk)
-        → SaysNothing now past honest old new → TalksOn watch now past honest old was new was
+        → SaysNothing now past honest old new → On old was new was
     goes_talk old new was back goes = λ start held so_far h.
         let far = so_far (back h) in
         let on = goes start far.1.0 (λ b. (far.0, far.1.1.0)) h in
@@ -516,7 +522,7 @@ module _ {D : Type 0} (now : D → Moment) (past : D → List Moment) (honest : 
         → Appends was.text is.text told → is.backups ≡ backup_by old.memory answer ++ was.backups
         → ((n : ℕ) (here : AnswerPoint) → IsAnswerTo old.memory n here asked answer
         → Hears was.left is.left (asked ∷ []))
-        → TalksOn watch now past honest old was new is
+        → On old was new is
     talks_on old new was is asked answer line name told read back says tells printed kept hears = λ start held so_far h.
         let far = so_far (back h) in
         let out = far.1.1.1.1 in
@@ -554,7 +560,7 @@ module _ {D : Type 0} (now : D → Moment) (past : D → List Moment) (honest : 
         → Begins was.text is.text told → is.backups ≡ backup_by old.memory answer ++ was.backups
         → ((n : ℕ) (here : AnswerPoint) → IsAnswerTo old.memory n here asked answer
         → Hears was.left left (asked ∷ []))
-        → TalkEnds watch now past honest old was new is
+        → Ends old was new is
     talk_ends old new was is asked answer line name told left read back says tells printed kept hears =
         λ start held so_far h.
         let far = so_far (back h) in
@@ -573,28 +579,28 @@ module _ {D : Type 0} (now : D → Moment) (past : D → List Moment) (honest : 
         )
 
     pub ends_after : (old mid new : EngineState D) (was been is : Outputs)
-        → TalksOn watch now past honest old was mid been → TalkEnds watch now past honest mid been new is
-        → TalkEnds watch now past honest old was new is
+        → On old was mid been → Ends mid been new is
+        → Ends old was new is
     ends_after old mid new was been is on ends = λ start held so_far. ends start held (on start held so_far)
 
     -- what was said is ended where it stands
     pub end_here : (old new : EngineState D) (was is : Outputs) (left : Left)
-        → TalksOn watch now past honest old was new is → TalkEnds watch now past honest old was new (with_left left is)
+        → On old was new is → Ends old was new (with_left left is)
     end_here old new was is left on = ends_after old new new was is (with_left left is) on (talk_ends_here new is left)
 
     -- what was said, and then what the last call comes to
     pub then_talks : {T E : Type 0} (old mid new : EngineState D) (was been : Outputs) (is : T → Outputs) (end : Outputs)
-        (result : Result T E) → TalksOn watch now past honest old was mid been
-        → MatchResult result (λ n. TalksOn watch now past honest mid been new (is n))
-        (λ e. TalkEnds watch now past honest mid been new end)
-        → MatchResult result (λ n. TalksOn watch now past honest old was new (is n))
-        (λ e. TalkEnds watch now past honest old was new end)
+        (result : Result T E) → On old was mid been
+        → MatchResult result (λ n. On mid been new (is n))
+        (λ e. Ends mid been new end)
+        → MatchResult result (λ n. On old was new (is n))
+        (λ e. Ends old was new end)
     then_talks old mid new was been is end (Ok n) on it = λ start held so_far. it start held (on start held so_far)
     then_talks old mid new was been is end (Err e) on it = ends_after old mid new was been end on it
 
     pub on_after : (old mid new : EngineState D) (was been is : Outputs)
-        → TalksOn watch now past honest old was mid been → TalksOn watch now past honest mid been new is
-        → TalksOn watch now past honest old was new is
+        → On old was mid been → On mid been new is
+        → On old was new is
     on_after old mid new was been is on it = λ start held so_far. it start held (on start held so_far)
 
     -- ---- what is left, by another name
@@ -602,7 +608,7 @@ module _ {D : Type 0} (now : D → Moment) (past : D → List Moment) (honest : 
     -- nothing was said, and what is left is known as well by that
     pub left_as : (engine : EngineState D) (was : Outputs) (before later : Left)
         → IfSome before (λ l. later ≡ Some l)
-        → TalksOn watch now past honest engine (with_left before was) engine (with_left later was)
+        → On engine (with_left before was) engine (with_left later was)
     left_as engine was before later same = λ start held so_far h.
         let far = so_far h in
         let out = far.1.1.1.1 in (
@@ -621,20 +627,20 @@ module _ {D : Type 0} (now : D → Moment) (past : D → List Moment) (honest : 
 
     -- the same before a call, and behind it
     pub from_left : (old new : EngineState D) (was is : Outputs) (before mid : Left)
-        → IfSome before (λ l. mid ≡ Some l) → TalksOn watch now past honest old (with_left mid was) new is
-        → TalksOn watch now past honest old (with_left before was) new is
+        → IfSome before (λ l. mid ≡ Some l) → On old (with_left mid was) new is
+        → On old (with_left before was) new is
     from_left old new was is before mid same on =
         on_after old old new (with_left before was) (with_left mid was) is (left_as old was before mid same) on
 
     pub ends_left : (old new : EngineState D) (was is : Outputs) (before mid : Left)
-        → IfSome before (λ l. mid ≡ Some l) → TalkEnds watch now past honest old (with_left mid was) new is
-        → TalkEnds watch now past honest old (with_left before was) new is
+        → IfSome before (λ l. mid ≡ Some l) → Ends old (with_left mid was) new is
+        → Ends old (with_left before was) new is
     ends_left old new was is before mid same ends =
         ends_after old old new (with_left before was) (with_left mid was) is (left_as old was before mid same) ends
 
     pub to_left : (old new : EngineState D) (was is : Outputs) (mid later : Left)
-        → IfSome mid (λ l. later ≡ Some l) → TalksOn watch now past honest old was new (with_left mid is)
-        → TalksOn watch now past honest old was new (with_left later is)
+        → IfSome mid (λ l. later ≡ Some l) → On old was new (with_left mid is)
+        → On old was new (with_left later is)
     to_left old new was is mid later same on =
         on_after old new new was (with_left mid is) (with_left later is) on (left_as new is mid later same)
 
@@ -642,26 +648,26 @@ module _ {D : Type 0} (now : D → Moment) (past : D → List Moment) (honest : 
     pub nothing_heard : (engine : EngineState D) (was : Outputs) (before : Left) (later : ℕ → Left)
         (asked : List (Option Question))
         → ((k : ℕ) → k ≤ length asked → Hears before (later k) (take k asked))
-        → TalksOn watch now past honest engine (with_left before was) engine (with_left (later 0) was)
+        → On engine (with_left before was) engine (with_left (later 0) was)
     nothing_heard engine was before later asked hears =
         left_as engine was before (later 0) (none_heard before (later 0) (hears 0 (omega arith)))
 
     -- the end was asked for, and nothing was said
     pub quit_talk : (old new : EngineState D) (text : Option (List ℕ)) (was is : List Backup) (before later : Left)
         → new ≡ old → is ≡ was → IfSome before (λ l. later ≡ Some l)
-        → TalksOn watch now past honest old (with_left before (outputs text was)) new (with_left later (outputs text is))
+        → On old (with_left before (outputs text was)) new (with_left later (outputs text is))
     quit_talk old new text was is before later same kept left =
-        subst (λ (e : EngineState D). TalksOn watch now past honest old (with_left before (outputs text was)) e
+        subst (λ (e : EngineState D). On old (with_left before (outputs text was)) e
         (with_left later (outputs text is))) (sym same)
-        (subst (λ (l : List Backup). TalksOn watch now past honest old (with_left before (outputs text was)) old
+        (subst (λ (l : List Backup). On old (with_left before (outputs text was)) old
         (with_left later (outputs text l))) (sym kept) (left_as old (outputs text was) before later left))
 
     -- turns were taken while nobody asked, and the reader still has what it had
     pub goes_quiet : (old new : EngineState D) (was : Outputs) (before later : Option (List ℕ))
         → (honest new.disk → honest old.disk) → SaysNothing now past honest old new → later ≡ before
-        → TalksOn watch now past honest old (with_left (questions_left before) was) new
+        → On old (with_left (questions_left before) was) new
         (with_left (questions_left later) was)
     goes_quiet old new was before later back goes same =
-        subst (λ (o : Option (List ℕ)). TalksOn watch now past honest old (with_left (questions_left before) was) new
+        subst (λ (o : Option (List ℕ)). On old (with_left (questions_left before) was) new
         (with_left (questions_left o) was)) (sym same)
         (goes_talk old new (with_left (questions_left before) was) back goes)

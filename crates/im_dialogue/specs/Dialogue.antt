@@ -15,7 +15,7 @@ use Rattle.im_turning.specs.Turning.{point_of}
 use Rattle.im_text.specs.Printing.{Begins, IsLast}
 use Rattle.im_dialogue.specs.Hearing.{HearsAll}
 use Rattle.im_dialogue.specs.Talk.{AreAnswered, AreKept, Exchange, HasEnded, MeansSaid, Outputs, put_of, questions_of}
-use Rattle.im_dialogue.specs.Talk.{texts_of}
+use Rattle.im_dialogue.specs.Talk.{texts_of, with_input}
 
 -- a prefix of the text was written, and then at most a refusal
 abbrev pub PrintsThenLast : Option (List ℕ) → Option (List ℕ) → List ℕ → Type 0
@@ -36,10 +36,11 @@ pub record TalkClosed {D : Type 0} (watch : Bool) (now : D → Moment) (past : D
   pub backups : AreKept start.memory was is said
   pub heard : HearsAll was.left (questions_of said) status
 
--- the same, if the disk is honest at the end
-abbrev pub ClosesTalk : {D : Type 0} → Ghosts D → Bool → EngineState D → D → Outputs → Outputs → ℕ → Type 0
-ClosesTalk disk watch start new was is status =
-    disk.honest new → TalkClosed watch disk.now disk.past start new was is status
+-- the same, of an input with these bytes, if the disk is honest at the end
+abbrev pub ClosesTalk : {D : Type 0} → Ghosts D → Bool → EngineState D → Option (List ℕ) → D → Outputs → Outputs → ℕ
+    → Type 0
+ClosesTalk disk watch start input new was is status =
+    disk.honest new → TalkClosed watch disk.now disk.past start new (with_input input was) is status
 
 -- a crash leaves nothing that it couldn't leave before
 abbrev pub AddsNothing : {D : Type 0} → Ghosts D → D → D → Type 0
@@ -76,11 +77,12 @@ pub record TalkUnopened {D : Type 0} (now : D → Moment) (past : D → List Mom
   pub backups : is.backups ≡ was.backups
   pub leaves : Leaves (now old) (now new) (past old) (past new) (Left (now old))
 
--- what comes of a dialogue on the image of a disk, if the disk is honest at its end: the image was not opened, or this
--- was said on it
-abbrev pub TalkedOn : {D : Type 0} → Ghosts D → Bool → D → D → Outputs → Outputs → ℕ → Type 0
-TalkedOn disk watch old new was is status = disk.honest new
-    → TalkUnopened disk.now disk.past old new was is status ⊎ Talked watch disk.now disk.past old new was is status
+-- what comes of a dialogue on the image of a disk, with these bytes as input, if the disk is honest at its end: the
+-- image was not opened, or this was said on it
+abbrev pub TalkedOn : {D : Type 0} → Ghosts D → Bool → Option (List ℕ) → D → D → Outputs → Outputs → ℕ → Type 0
+TalkedOn disk watch input old new was is status = disk.honest new
+    → TalkUnopened disk.now disk.past old new (with_input input was) is status
+    ⊎ Talked watch disk.now disk.past old new (with_input input was) is status
 
 -- The same of a disk that is at this moment, and has no moment before it.
 pub record TalkedFrom {D : Type 0} (watch : Bool) (now : D → Moment) (past : D → List Moment) (first : Moment) (new : D)

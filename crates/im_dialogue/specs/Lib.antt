@@ -10,3 +10,4 @@ pub mod Looks
 pub mod Together
 pub mod Telling
 pub mod Dialogue
+pub mod Serving

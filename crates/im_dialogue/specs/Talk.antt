@@ -31,7 +31,7 @@ use Rattle.im_dialogue.specs.declared.backups.BackupFault.{BackupFault}
 use Rattle.im_dialogue.specs.Asking.{asked_of}
 use Rattle.im_dialogue.specs.Answers.{answer_text}
 use Rattle.im_dialogue.specs.Backups.{Backup, bytes_of}
-use Rattle.im_dialogue.specs.Hearing.{Hears, HearsSome, asking, left_after, left_behind, questions_left}
+use Rattle.im_dialogue.specs.Hearing.{Hears, HearsSome, asking, left_behind, questions_left}
 use Rattle.im_dialogue.specs.Watching.{watch_text}
 
 -- ---- what was said
@@ -327,23 +327,24 @@ TalkEnds {D} watch now past honest old was new is =
     (start : EngineState D) (held : Outputs) → Talking watch now past honest start held old was
     → Silenced watch now past honest start held new.disk is
 
--- what a call comes to that serves lines and prints their answers: they were answered and printed, or it was ended
-abbrev pub TalksWith : {D T E : Type 0} → Ghosts D → Bool → EngineState D → Outputs → EngineState D → Outputs
-    → Result T E → Type 0
-TalksWith disk watch old was new is result = MatchResult result
-    (λ done. TalksOn watch disk.now disk.past disk.honest old was new is)
-    (λ e. TalkEnds watch disk.now disk.past disk.honest old was new is)
+-- the same of a disk as contracts know it
+abbrev pub On : {D : Type 0} → Ghosts D → Bool → EngineState D → Outputs → EngineState D → Outputs → Type 0
+On disk watch = TalksOn watch disk.now disk.past disk.honest
 
--- the same of lines that ask for no backup, and of an input that asks for something else: whatever is kept and left
--- stays as it is
+-- the same of the end
+abbrev pub Ends : {D : Type 0} → Ghosts D → Bool → EngineState D → Outputs → EngineState D → Outputs → Type 0
+Ends disk watch = TalkEnds watch disk.now disk.past disk.honest
+
+-- What a call comes to that serves lines of no backup, and of an input that asks for something else: whatever is kept
+-- and left stays as it is.
 abbrev pub TalksThrough : {D T E : Type 0} → Ghosts D → Bool → EngineState D → Option (List ℕ)
     → Option (List (Option Question)) → EngineState D → Option (List ℕ) → (T → Option (List (Option Question)))
     → Result T E → Type 0
 TalksThrough disk watch old was before new is later result = MatchResult result
-    (λ done. (backups : List Backup) → TalksOn watch disk.now disk.past disk.honest old
-    (with_left before (outputs was backups)) new (with_left (later done) (outputs is backups)))
-    (λ e. (backups : List Backup) → TalkEnds watch disk.now disk.past disk.honest old
-    (with_left before (outputs was backups)) new (outputs is backups))
+    (λ done. (backups : List Backup) → On disk watch old (with_left before (outputs was backups)) new
+    (with_left (later done) (outputs is backups)))
+    (λ e. (backups : List Backup) → Ends disk watch old (with_left before (outputs was backups)) new
+    (outputs is backups))
 
 -- What a call comes to that serves the first of these questions, and returns how many, whatever is left behind them.
 abbrev pub TalksQueue : {D E : Type 0} → Ghosts D → Bool → List (Option Question) → EngineState D → Option (List ℕ)
@@ -353,27 +354,18 @@ TalksQueue disk watch asked old was new is result =
     → ((k : ℕ) → k ≤ length asked → Hears before (later k) (take k asked))
     → TalksThrough disk watch old was before new is later result
 
--- What a call comes to that serves lines of an input, given the bytes that the input had and has.
-abbrev pub TalksFrom : {D T E : Type 0} → Ghosts D → Bool → EngineState D → Outputs → Option (List ℕ) → EngineState D
-    → Outputs → Option (List (Option Question)) → Result T E → Type 0
-TalksFrom disk watch old was known new is left result =
-    TalksWith disk watch old (with_input known was) new (with_left left is) result
-
--- the same of a call that returns how many lines it served, or 0 at the end of the dialogue
-abbrev pub TalksMany : {D E : Type 0} → Ghosts D → Bool → EngineState D → Outputs → Option (List ℕ) → EngineState D
-    → Outputs → Option (List ℕ) → Result ℕ E → Type 0
-TalksMany disk watch old was known new is now result = MatchResult result
-    (λ many. TalksOn watch disk.now disk.past disk.honest old (with_input known was) new
-    (with_left (left_after many now) is))
-    (λ e. TalkEnds watch disk.now disk.past disk.honest old (with_input known was) new is)
-
 -- What a call comes to that serves this line, whatever is left behind it. It returns whether the dialogue continues.
 abbrev pub TalksLine : {D E : Type 0} → Ghosts D → Bool → Option Question → EngineState D → Outputs → EngineState D
     → Outputs → Result Bool E → Type 0
 TalksLine disk watch asked old was new is result = (rest : Option (List (Option Question))) → MatchResult result
-    (λ goes_on. TalksOn watch disk.now disk.past disk.honest old (with_left (asking asked rest) was) new
-    (with_left (left_behind goes_on rest) is))
-    (λ e. TalkEnds watch disk.now disk.past disk.honest old (with_left (asking asked rest) was) new is)
+    (λ goes_on. On disk watch old (with_left (asking asked rest) was) new (with_left (left_behind goes_on rest) is))
+    (λ e. Ends disk watch old (with_left (asking asked rest) was) new is)
+
+-- the same of a line that isn't in the grammar; the dialogue continues
+abbrev pub TalksWrong : {D T E : Type 0} → Ghosts D → EngineState D → Option (List ℕ) → Option (List ℕ) → Result T E
+    → Type 0
+TalksWrong disk engine was is result = (watch : Bool) (rest : Option (List (Option Question)))
+    → TalksThrough disk watch engine was (asking None rest) engine is (λ _. left_behind true rest) result
 
 -- the same of a call that does what a line asks, if a line asks so
 abbrev pub TalksAsked : {D E : Type 0} → Ghosts D → Bool → Question → EngineState D → Outputs → EngineState D → Outputs

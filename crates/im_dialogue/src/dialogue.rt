@@ -2,8 +2,9 @@
 ghost use Rattle.std.specs.Prelude.{◌≡◌, ◌≤◌, false};
 ghost use Rattle.im_disk.specs.Since.{LeavesNow};
 ghost use Rattle.im_engine.specs.State.{MeansState};
-ghost use Rattle.im_dialogue.specs.Dialogue.{ClosesTalk, TalkedOn};
-ghost use Rattle.im_dialogue.specs.Talk.{outputs, with_input};
+ghost use Rattle.im_dialogue.specs.Dialogue.{TalkedOn};
+ghost use Rattle.im_dialogue.specs.Serving.{ClosesDialogue};
+ghost use Rattle.im_dialogue.specs.Talk.{outputs};
 
 use crate::backups::Backups;
 use crate::resting::open_with_slots;
@@ -43,9 +44,9 @@ pub fn dialogue_on<D: Disk, B: Backups, R: BufRead + Ear, W: Write, N: Observer>
     observer: &mut N,
 ) -> (u8, D)
     ensures status { result.0 ≤ 1 }
-    ensures talked { TalkedOn D.Disk watch disk result.1
-        (with_input (R.remaining input.old) (outputs (W.contents out.old) (B.kept backups.old)))
-        (outputs (W.contents out.new) (B.kept backups.new)) result.0 }
+    ensures talked { TalkedOn D.Disk watch (R.remaining input.old) disk result.1
+        (outputs (W.contents out.old) (B.kept backups.old)) (outputs (W.contents out.new) (B.kept backups.new))
+        result.0 }
     ensures honest { D.honest result.1 → D.honest disk }
 {
     match open_with_slots(alloc, disk) {
@@ -73,9 +74,9 @@ fn talk_on<D: Disk, B: Backups, R: BufRead + Ear, W: Write, N: Observer>(
     requires means { D.honest dialogue.engine.disk
         → LeavesNow (D.now dialogue.engine.disk) (MeansState dialogue.engine) }
     ensures status { result.0 ≤ 1 }
-    ensures closed { ClosesTalk D.Disk dialogue.setting.watch dialogue.engine result.1
-        (with_input (R.remaining input.old) (outputs (W.contents out.old) (B.kept backups.old)))
-        (outputs (W.contents out.new) (B.kept backups.new)) result.0 }
+    ensures closed { ClosesDialogue D.Disk dialogue (R.remaining input.old) result.1
+        (outputs (W.contents out.old) (B.kept backups.old)) (outputs (W.contents out.new) (B.kept backups.new))
+        result.0 }
     ensures honest { D.honest result.1 → D.honest dialogue.engine.disk }
 {
     let alloc = dialogue.alloc;

@@ -1,8 +1,8 @@
 //! Room that is kept from line to line.
 
+use crate::buffer::InBuffer;
 use crate::grouping::Gathered;
 use crate::saying::Draft;
-use crate::together::InBuffer;
 use arrayvec::ArrayVec;
 use std::alloc::Global;
 

@@ -6,6 +6,7 @@ mod answers;
 mod asking;
 mod backup_name;
 mod backups;
+mod buffer;
 mod counting;
 mod dialogue;
 mod drafts;

@@ -1,10 +1,8 @@
 //! Prints the lines of answers.
-ghost use Rattle.std.specs.Prelude.{◌≡◌, ◌++◌, Bool, true, List, ℕ, Option, None, OnOk, string_bytes};
+ghost use Rattle.std.specs.Prelude.{◌≡◌, ◌++◌, List, ℕ, None, OnOk, string_bytes};
 ghost use Rattle.im_dialogue.specs.Answers.{answer_text};
-ghost use Rattle.im_dialogue.specs.declared.asking.Question.{Question};
 ghost use Rattle.im_dialogue.specs.Asking.{asked_of};
-ghost use Rattle.im_dialogue.specs.Hearing.{asking, left_behind};
-ghost use Rattle.im_dialogue.specs.Talk.{PrintsAnswer, TalksThrough};
+ghost use Rattle.im_dialogue.specs.Talk.{PrintsAnswer, TalksWrong};
 
 use crate::answers::{LineAnswer, add_answer};
 use crate::explaining::explain;
@@ -84,9 +82,7 @@ pub(crate) fn explain_line<D: Disk, W: Write>(
     out: &mut W,
 ) -> Result<(), Reason>
     requires wrong { asked_of line.now ≡ None }
-    ensures { (watch : Bool) (rest : Option (List (Option Question))) → TalksThrough D.Disk watch
-        engine.now (W.contents out.old) (asking None rest)
-        engine.now (W.contents out.new) (λ _. left_behind true rest) result }
+    ensures { TalksWrong D.Disk engine.now (W.contents out.old) (W.contents out.new) result }
 {
     match explain(draft.alloc, line) {
         Ok(fault) => {

@@ -1,20 +1,19 @@
 //! Serves a dialogue, line by line.
 ghost use Rattle.std.specs.Prelude.{◌≡◌, ◌≤◌, IfOk, length};
-ghost use Rattle.im_dialogue.specs.Asking.{asked_of};
-ghost use Rattle.im_dialogue.specs.Hearing.{as_asked, left_after, questions_left};
-ghost use Rattle.im_dialogue.specs.Talk.{TalksAsked, TalksFrom, TalksLine, TalksMany, TalksQueue, TalksThrough};
-ghost use Rattle.im_dialogue.specs.Talk.{outputs};
+ghost use Rattle.im_dialogue.specs.Hearing.{as_asked};
+ghost use Rattle.im_dialogue.specs.Talk.{TalksAsked, TalksQueue, outputs};
 ghost use Rattle.im_dialogue.specs.Together.{AreAsked};
 
 use crate::asking::{Question, read_asked};
 use crate::backups::Backups;
+use crate::buffer::{commands_among, end_of, gather};
 use crate::drafts::Drafts;
 use crate::grouping::take_parts;
 use crate::lines::{next_line, unread};
 use crate::resting::half_of;
 use crate::saying::explain_line;
 use crate::talk::{answer, make_room, turn_while_quiet};
-use crate::together::{commands_among, end_of, gather, serve_parts};
+use crate::together::serve_parts;
 use crate::watching::{make_nows, told_with};
 use im_damage::Damage;
 use im_disk::Disk;
@@ -33,7 +32,7 @@ pub struct Setting {
     pub slots: u32,
 }
 
-/// A dialogue: the engine on which it is held, its setting, and how many lines it has served.
+/// A dialogue: the engine on which it is held, its setting, where memory comes from, and the number of the next line.
 #[derive(Drop)]
 pub struct Dialogue<D: Disk> {
     /// The engine.
@@ -42,12 +41,13 @@ pub struct Dialogue<D: Disk> {
     pub setting: Setting,
     /// Where memory comes from.
     pub alloc: Global,
-    // The number of the next line.
     number: u64,
     drafts: Drafts,
 }
 
 impl<D: Disk> Dialogue<D> {
+    ghost use Rattle.im_dialogue.specs.Serving.{ServesAll, ServesLine, ServesMany, ServesTogether};
+
     /// Begins a dialogue on an engine. It has served no line.
     pub fn new(alloc: Global, engine: Engine<D>, setting: Setting) -> Dialogue<D>
         ensures engine { result.engine ≡ engine }
@@ -100,8 +100,7 @@ impl<D: Disk> Dialogue<D> {
         }
         match answer(&mut self.engine, backups, setting.slots, asked) {
             Ok(None) => Ok(false),
-            // The command is on the disk before its line is printed. After a crash between the two it can be asked
-            // again.
+            // The command is on the disk before its line is printed. After a crash between them it can be asked again.
             Ok(Some(answer)) => {
                 let told = told_with(answer, self.drafts.nows.as_str());
                 match self
@@ -123,9 +122,8 @@ impl<D: Disk> Dialogue<D> {
         backups: &mut B,
         out: &mut W,
     ) -> Result<bool, Reason>
-        ensures talks { TalksLine D.Disk self.old.setting.watch (asked_of self.old.drafts.line.items)
-            self.old.engine (outputs (W.contents out.old) (B.kept backups.old))
-            self.new.engine (outputs (W.contents out.new) (B.kept backups.new)) result }
+        ensures talks { ServesLine D.Disk self.old (outputs (W.contents out.old) (B.kept backups.old))
+            self.new (outputs (W.contents out.new) (B.kept backups.new)) result }
         ensures same { self.new.setting ≡ self.old.setting }
     {
         let line = self.drafts.line.as_slice();
@@ -167,16 +165,15 @@ impl<D: Disk> Dialogue<D> {
         }
     }
 
-    // Serves the first lines that stand together in the reader's buffer as one group, if two or more of them are
-    // commands and there is room for these. Returns how many lines it served, or 0. The others stay in the buffer.
+    // Serves the first lines in the reader's buffer as one group, if two or more of them are commands and there is room
+    // for these. Returns how many lines it served, or 0. The others stay in the buffer.
     fn serve_together<R: BufRead, W: Write>(
         &mut self,
         input: &mut R,
         out: &mut W,
     ) -> Result<u64, Reason>
-        ensures talks { TalksThrough D.Disk self.old.setting.watch
-            self.old.engine (W.contents out.old) (questions_left (R.remaining input.old))
-            self.new.engine (W.contents out.new) (λ _. questions_left (R.remaining input.new)) result }
+        ensures talks { ServesTogether D.Disk self.old (W.contents out.old) (R.remaining input.old)
+            self.new (W.contents out.new) (R.remaining input.new) result }
         ensures same { self.new.setting ≡ self.old.setting }
     {
         if let Err(reason) = gather(self.alloc, input, &mut self.drafts.standing) {
@@ -198,16 +195,16 @@ impl<D: Disk> Dialogue<D> {
         }
     }
 
-    // Reads a line and serves it by itself. Returns 1, or 0 if the dialogue is at its end.
+    // Reads a line and serves it. Returns 1, or 0 if the dialogue is at its end.
     fn serve_alone<B: Backups, R: BufRead, W: Write>(
         &mut self,
         backups: &mut B,
         input: &mut R,
         out: &mut W,
     ) -> Result<u64, Reason>
-        ensures talks { TalksMany D.Disk self.old.setting.watch
-            self.old.engine (outputs (W.contents out.old) (B.kept backups.old)) (R.remaining input.old)
-            self.new.engine (outputs (W.contents out.new) (B.kept backups.new)) (R.remaining input.new) result }
+        ensures talks { ServesMany D.Disk
+            self.old (outputs (W.contents out.old) (B.kept backups.old)) (R.remaining input.old)
+            self.new (outputs (W.contents out.new) (B.kept backups.new)) (R.remaining input.new) result }
         ensures same { self.new.setting ≡ self.old.setting }
     {
         match next_line(input, &mut self.drafts.line) {
@@ -223,17 +220,16 @@ impl<D: Disk> Dialogue<D> {
     }
 
     // Takes turns while nothing is there to be read and there is room for less than half of what the journal holds.
-    // Then serves what is read next: lines that stand together, or one. Returns how many, or 0 if the dialogue is at
-    // its end.
+    // Then serves lines that stand together, or one. Returns how many, or 0 if the dialogue is at its end.
     fn serve_rested<B: Backups, R: BufRead + Ear, W: Write>(
         &mut self,
         backups: &mut B,
         input: &mut R,
         out: &mut W,
     ) -> Result<u64, Reason>
-        ensures talks { TalksMany D.Disk self.old.setting.watch
-            self.old.engine (outputs (W.contents out.old) (B.kept backups.old)) (R.remaining input.old)
-            self.new.engine (outputs (W.contents out.new) (B.kept backups.new)) (R.remaining input.new) result }
+        ensures talks { ServesMany D.Disk
+            self.old (outputs (W.contents out.old) (B.kept backups.old)) (R.remaining input.old)
+            self.new (outputs (W.contents out.new) (B.kept backups.new)) (R.remaining input.new) result }
         ensures same { self.new.setting ≡ self.old.setting }
     {
         let half = half_of(self.setting.slots);
@@ -257,8 +253,7 @@ impl<D: Disk> Dialogue<D> {
     ///
     /// A line that isn't in the grammar is answered by where it goes wrong, and changes nothing. A line of more than
     /// 4,096 bytes is such a line, and no more of it is kept. An end of the input without a line feed before it is no
-    /// line. What is answered is what the lines of the input ask for, where its bytes are known: all of them, or up to
-    /// `quit`. After an error it is what the first of them ask for.
+    /// line. What is answered is what the lines of the input ask for, all of them, or the first ones after an error.
     ///
     /// Up to 16 requests and confirmations are served as one group, if their lines follow each other in the reader's
     /// buffer, with lines between them that change nothing. Their answers are written together, and are those that the
@@ -273,9 +268,7 @@ impl<D: Disk> Dialogue<D> {
     /// If the dialogue is watched, lines `E.N now REPLY` follow the answer to a request: one for each request that
     /// waited and is answered by it, in the order in which they came. A group then ends before a store or put of which
     /// it isn't known, before the group acts, whom it answers.
-    ///
     /// A backup is kept of the memory after all commands before its line. Its answer is written once it is kept.
-    ///
     /// A refusal is an answer, except for `Device` and `Failed`, which say that a call of the disk failed. They end the
     /// dialogue, as do an input that can't be read, an output that can't be written, and want of memory. What was
     /// printed is then a prefix of the answers. Each command that was answered is in every file that a crash leaves.
@@ -286,10 +279,9 @@ impl<D: Disk> Dialogue<D> {
         input: &mut R,
         out: &mut W,
     ) -> Result<(), Reason>
-        ensures talks { TalksFrom D.Disk self.old.setting.watch
-            self.old.engine (outputs (W.contents out.old) (B.kept backups.old)) (R.remaining input.old)
-            self.new.engine (outputs (W.contents out.new) (B.kept backups.new)) (left_after 0 (R.remaining input.new))
-            result }
+        ensures talks { ServesAll D.Disk
+            self.old (outputs (W.contents out.old) (B.kept backups.old)) (R.remaining input.old)
+            self.new (outputs (W.contents out.new) (B.kept backups.new)) (R.remaining input.new) result }
         ensures same { self.new.setting ≡ self.old.setting }
     {
         for _served in 0..u64::MAX {

@@ -1,18 +1,15 @@
-//! Lines that stand together in the reader's buffer are served as one group.
-ghost use Rattle.std.specs.Prelude.{◌≡◌, ◌≤◌, ◌-◌, ◌∷◌, ◌++◌, [], false, length, map};
-ghost use Rattle.std.specs.Prelude.{IfOk, IfSome, OnOk, Some, List, ℕ, string_bytes};
+//! Lines that stand together in the reader's buffer are served as one group, and answered.
+ghost use Rattle.std.specs.Prelude.{◌≡◌, ◌≤◌, ◌-◌, ◌++◌, false, length, map};
+ghost use Rattle.std.specs.Prelude.{IfOk, OnOk, List, ℕ, string_bytes};
 ghost use Rattle.im_dialogue.specs.Answers.{answer_text};
-ghost use Rattle.im_dialogue.specs.Hearing.{IsLinePart, ShowsText, StandsIn, TakesLine, end_at, is_quit};
-ghost use Rattle.im_dialogue.specs.Together.{AreAsked, answers_behind, group_start, line_answer, member_result};
+ghost use Rattle.im_dialogue.specs.Together.{answers_behind, group_start, line_answer, member_result};
 ghost use Rattle.im_dialogue.specs.Telling.{TalksAsGroup, TellsGroup};
 ghost use Rattle.im_dialogue.specs.Watching.{told_with};
 
 use crate::answers::{LineAnswer, add_answer};
-use crate::asking::{Question, read_asked};
 use crate::group_line::GroupLine;
 use crate::grouping::Gathered;
 use crate::known::places_of;
-use crate::lines::unread;
 use crate::saying::{Draft, name_of};
 use crate::watching::told_with;
 use arrayvec::ArrayVec;
@@ -23,139 +20,7 @@ use im_memory::Memory;
 use im_text::{Reason, put_through};
 use im_types::{Outcome, Refusal, Served};
 use std::alloc::{AllocError, Global};
-use std::io::{BufRead, ErrorKind, Write};
-
-// The most lines that are looked at for one group.
-const MOST_LINES: usize = 64;
-
-/// What the first lines in a reader's buffer ask for.
-#[derive(Drop)]
-pub(crate) struct InBuffer {
-    /// What each line asks for.
-    pub(crate) asked: Vec<Question>,
-    /// How many bytes the lines have up to each one, with its line feed.
-    pub(crate) ends: Vec<usize>,
-}
-
-// ---- which lines
-
-// Returns the first line of a text without its line feed, and the text after it. Returns none if the text has no line
-// feed.
-fn split_line(text: &[u8]) -> Option<(&[u8], &[u8])>
-    ensures { IfSome result (λ parts. (text.now ≡ parts.0.now ++ 10 ∷ parts.1.now) × IsLinePart parts.0.now) }
-{
-    for (at, byte) in text.iter().enumerate() {
-        if *byte == b'\n' {
-            return Some((&text[..at], &text[at + 1..]));
-        }
-    }
-    None
-}
-
-// Returns what a line asks for, if it may stand in a group: a command, or what changes nothing.
-fn groups(asked: Option<Question>) -> Option<Question>
-    ensures { IfSome result (λ found. (asked ≡ Some found) × (is_quit (Some found) ≡ false)) }
-{
-    match asked {
-        Some(Question::Turn) => None,
-        Some(Question::Backup(_)) => None,
-        Some(Question::Quit) => None,
-        Some(found) => Some(found),
-        None => None,
-    }
-}
-
-// Adds what a line asks for.
-fn add_asked(asked: &mut Vec<Question>, found: Question) -> Result<(), AllocError>
-    ensures { OnOk result (asked.new.items ≡ asked.old.items ++ found ∷ []) }
-{
-    asked.push(found)?;
-    Ok(())
-}
-
-// Takes what a line asks for, if it may stand in a group. Returns whether it did.
-fn take_line(alloc: Global, line: &[u8], asked: &mut Vec<Question>) -> Result<bool, AllocError>
-    requires asked { AreAsked asked.old.items }
-    ensures asked { OnOk result (AreAsked asked.new.items) }
-    ensures takes { IfOk result (λ taken. TakesLine line.now asked.old.items asked.new.items taken) }
-{
-    match groups(read_asked(alloc, line)?) {
-        Some(found) => {
-            add_asked(asked, found)?;
-            Ok(true)
-        }
-        None => Ok(false),
-    }
-}
-
-// Takes what the first whole lines of a text ask for. Adds for each where it ends, behind its line feed.
-fn take_lines(alloc: Global, text: &[u8], standing: &mut InBuffer) -> Result<(), AllocError>
-    requires asked { standing.old.asked.items ≡ [] }
-    requires ends { standing.old.ends.items ≡ [] }
-    ensures asked { OnOk result (AreAsked standing.new.asked.items) }
-    ensures stands { OnOk result (StandsIn text.now standing.new.asked.items standing.new.ends.items) }
-{
-    let mut rest = text;
-    for _line in 0..MOST_LINES {
-        let Some((line, later)) = split_line(rest) else {
-            return Ok(());
-        };
-        if !take_line(alloc, line, &mut standing.asked)? {
-            return Ok(());
-        }
-        rest = later;
-        standing.ends.push(text.len() - rest.len())?;
-    }
-    Ok(())
-}
-
-/// Takes what the first whole lines in a reader's buffer ask for, at most 64, up to the first line that stands in no
-/// group. It waits for more if the buffer is empty. The lines stay in the buffer.
-pub(crate) fn gather<R: BufRead>(
-    alloc: Global,
-    input: &mut R,
-    standing: &mut InBuffer,
-) -> Result<(), Reason>
-    ensures asked { OnOk result (AreAsked standing.new.asked.items) }
-    ensures stands { OnOk result ((text : List ℕ) × StandsIn text standing.new.asked.items standing.new.ends.items
-        × ShowsText (R.remaining input.old) (R.remaining input.new) (R.consumable_len input.new) text) }
-{
-    standing.asked.clear();
-    standing.ends.clear();
-    match input.fill_buf() {
-        Ok(text) => match take_lines(alloc, text, standing) {
-            Ok(()) => Ok(()),
-            Err(_) => Err(Reason::Memory),
-        },
-        Err(error) => match error.kind() {
-            ErrorKind::Interrupted => Ok(()), // Reading a line tries again.
-            kind => Err(unread(kind)),
-        },
-    }
-}
-
-/// Returns how many of the lines are commands, at most 16.
-pub(crate) fn commands_among(asked: &[Question]) -> u32 {
-    let mut many: u32 = 0;
-    for line in asked {
-        if let Question::Serve(_) = line {
-            many = many.saturating_add(1);
-        }
-    }
-    many.min(16)
-}
-
-/// Returns how many bytes the first `many` lines have, by where each line ends.
-pub(crate) fn end_of(ends: &[usize], many: usize) -> usize
-    ensures { many ≤ length ends.now → result ≡ end_at ends.now many }
-{
-    if many == 0 || many > ends.len() {
-        return 0;
-    }
-    ends[many - 1]
-}
-
-// ---- their answers
+use std::io::Write;
 
 // Returns what a member was answered.
 fn member_result(served: Served) -> Result<Outcome, Refusal>

@@ -10,8 +10,8 @@ pub trait Ear: Read {
     /// Whether a read never waits. An impl may say so.
     ghost is_ready: { Self → Bool } = { λ _. false };
 
-    /// Returns whether nothing is there to be read, so that a read would wait. Returns `false` if that can't be told. No
-    /// read misses anything for it.
+    /// Returns whether nothing is there to be read, so that a read would wait. Returns `false` if that can't be told.
+    /// No read misses anything for it.
     fn is_quiet(&mut self) -> bool
         ensures ready { is_ready self.old ≡ true → result ≡ false }
         ensures same { is_ready self.new ≡ is_ready self.old }

@@ -1,5 +1,5 @@
 -- The result of each kind of work. (Own.)
-use Rattle.std.specs.Prelude.{◌≡◌, ℕ, Bool, true, false, List, [], Option, None, Some, IfSome}
+use Rattle.std.specs.Prelude.{◌≡◌, ℕ, Bool, true, false, List, [], Option, None, Some, IfSome, IfOk, Result}
 use Rattle.im_types.specs.Layout.{Sizes}
 use Rattle.im_types.specs.Sizes.{AreLimits}
 use Rattle.im_disk.specs.declared.disk.Disk.{Ghosts as DiskGhosts}
@@ -24,6 +24,7 @@ use Rattle.im_program.specs.Sources.{IsTextOf, bytes_at}
 use Rattle.im_words.specs.declared.words.Loading.{Loading}
 use Rattle.im_words.specs.declared.words.ScriptRun.{ScriptRun}
 use Rattle.im_words.specs.declared.words.Serving.{Serving}
+use Rattle.im_words.specs.declared.words.Talking.{Talking}
 use Rattle.im_words.specs.Words.{Task, demonstration, format, serial, run, serve, inspect, migrate, copy, dump, load}
 
 -- each file that a crash leaves on this disk is the new image of these sizes, byte for byte
@@ -146,9 +147,11 @@ abbrev pub WasLoaded : {D : Type 0} → DiskGhosts D → Moment → Loading → 
 WasLoaded d first loading input was is status disk = d.honest disk
     → LoadedFrom d.now d.past first loading.asked (bytes_at loading.text.now input) disk was is status
 
--- a dialogue was served on this disk
-abbrev pub WasTalked : {D : Type 0} → DiskGhosts D → Moment → Bool → Outputs → Outputs → ℕ → D → Type 0
-WasTalked d first watch was is status disk = d.honest disk → TalkedFrom watch d.now d.past first disk was is status
+-- a dialogue of this input was served on a disk that is given back, if the call succeeded
+abbrev pub WasTalked : {D E : Type 0} → DiskGhosts D → Moment → Talking → Option (List ℕ) → Outputs → Outputs
+    → Result (ℕ × D) E → Type 0
+WasTalked d first talking input was is result = IfOk result (λ r. d.honest r.1
+    → TalkedFrom talking.watch d.now d.past first r.1 (with_input input was) is r.0)
 
 -- a task was done on this disk
 abbrev pub WasDone : {D : Type 0} → DiskGhosts D → Moment → Option (List ℕ) → Task → Option (List ℕ) → Option (List ℕ)

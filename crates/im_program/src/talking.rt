@@ -3,7 +3,7 @@ ghost use Rattle.std.specs.Prelude.{◌≡◌, ◌≤◌, IfOk, IfErr, OnErr};
 ghost use Rattle.std.specs.Io.KnownBytes.{Keeps};
 ghost use Rattle.im_types.specs.declared.refusals.Refusal.TheVariants.{Device};
 ghost use Rattle.im_dialogue.specs.Dialogue.{TalkUnopened, Talked, TalkedFrom};
-ghost use Rattle.im_dialogue.specs.Talk.{outputs, with_input};
+ghost use Rattle.im_dialogue.specs.Talk.{outputs};
 ghost use Rattle.im_program.specs.Working.{WasTalked};
 
 use crate::hand::AtHand;
@@ -44,9 +44,9 @@ pub fn talk_file<
     start: S,
 ) -> Result<(u8, FileDisk<S>), Refusal>
     ensures status { IfOk result (λ r. r.0 ≤ 1) }
-    ensures talked { IfOk result (λ r. WasTalked ⟦<FileDisk<S> as Disk>⟧ S.first talking.now.watch
-        (with_input (I.remaining hand.entry.input.now) (outputs (W.contents out.old) (B.kept backups.old)))
-        (outputs (W.contents out.new) (B.kept backups.new)) r.0 r.1) }
+    ensures talked { WasTalked ⟦<FileDisk<S> as Disk>⟧ S.first talking.now
+        (I.remaining hand.entry.input.now) (outputs (W.contents out.old) (B.kept backups.old))
+        (outputs (W.contents out.new) (B.kept backups.new)) result }
     ensures refused { IfErr result (λ refusal. refusal ≡ Device) }
     ensures same { OnErr result (Keeps (W.contents out.old) (W.contents out.new)) }
     ensures kept { OnErr result (B.kept backups.new ≡ B.kept backups.old) }

@@ -7,8 +7,8 @@ use Rattle.im_dialogue.specs.Answers.{answer_text}
 use Rattle.im_dialogue.specs.Together.{line_answer}
 use Rattle.im_dialogue.specs.Watching.{told_with}
 use Rattle.im_dialogue.proofs.PartLemmas.{Telling, asked_more, before_more, mapped_none, match_none, none_by}
-use Rattle.im_dialogue.proofs.PartLemmas.{telling_ends, telling_first, telling_lost, telling_over, telling_step, told_as}
-use Rattle.im_dialogue.proofs.PartLemmas.{told_before}
+use Rattle.im_dialogue.proofs.PartLemmas.{telling_ends, telling_first, telling_lost, telling_over, telling_step}
+use Rattle.im_dialogue.proofs.PartLemmas.{told_as, told_before}
 use Rattle.im_dialogue.proofs.together.make_lines.Goals as goal
 
 -- nothing is told yet

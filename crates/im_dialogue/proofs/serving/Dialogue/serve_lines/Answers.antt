@@ -35,7 +35,8 @@ loop-served-preserved g c =
           c.serve_rested.new.self.engine was is (left_after c.in-Ok.many later) (questions_left later)
           (same_left _ _ (left_some c.in-Ok.many later c.if-many-eq0.false))
           (on_after g.D.Disk.now g.D.Disk.past g.D.Disk.honest c.args.self.now.setting.watch c.args.self.now.engine
-          c.loop-served.self.engine c.serve_rested.new.self.engine was been (with_left (left_after c.in-Ok.many later) is)
+          c.loop-served.self.engine c.serve_rested.new.self.engine was been
+          (with_left (left_after c.in-Ok.many later) is)
           c.loop-served.invariant.0 (subst (λ (s : Setting). TalksOn s.watch g.D.Disk.now g.D.Disk.past g.D.Disk.honest
           c.loop-served.self.engine been c.serve_rested.new.self.engine (with_left (left_after c.in-Ok.many later) is))
           c.loop-served.invariant.1 c.in-Ok.ensures.talks)),

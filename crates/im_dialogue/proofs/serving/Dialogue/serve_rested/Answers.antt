@@ -1,8 +1,8 @@
 use Rattle.std.proofs.Common.{rules, subst, sym}
-use Rattle.std.specs.Prelude.{None}
+use Rattle.std.specs.Prelude.{None, MatchResult}
 use Rattle.im_dialogue.specs.declared.serving.Setting.{Setting}
 use Rattle.im_dialogue.specs.Hearing.{left_after, questions_left}
-use Rattle.im_dialogue.specs.Talk.{TalksMany, outputs, with_left}
+use Rattle.im_dialogue.specs.Talk.{Ends, On, outputs, with_left}
 use Rattle.im_dialogue.proofs.HearingLemmas.{left_some, same_left}
 use Rattle.im_dialogue.proofs.TalkLemmas.{ends_after, goes_quiet, halts_talk, on_after, then_talks, to_left}
 use Rattle.im_dialogue.proofs.serving.Dialogue.serve_rested.Goals as goal
@@ -35,10 +35,11 @@ returns-then-many-eq0-clause-talks g c =
     c.turn_while_quiet.new.engine (outputs (g.W.Write.contents c.args.out.now) kept) _ _
     c.turn_while_quiet.ensures.honest (search rules) c.turn_while_quiet.ensures.kept)
     (c.in-Ok.ensures.talks kept))
-    (subst (λ (s : Setting). TalksMany g.D.Disk s.watch c.serve_together.new.self.engine
-    (outputs (g.W.Write.contents c.serve_together.new.out) kept) later
-    c.serve_alone.new.self.engine is now c.serve_alone.result) c.serve_together.ensures.same
-    c.serve_alone.ensures.talks)
+    (subst (λ (s : Setting). MatchResult c.serve_alone.result
+    (λ many. On g.D.Disk s.watch c.serve_together.new.self.engine been c.serve_alone.new.self.engine
+    (with_left (left_after many now) is))
+    (λ e. Ends g.D.Disk s.watch c.serve_together.new.self.engine been c.serve_alone.new.self.engine is))
+    c.serve_together.ensures.same c.serve_alone.ensures.talks)
 
 pub returns-in-Ok-clause-talks : goal.returns-in-Ok-clause-talks
 returns-in-Ok-clause-talks g c =

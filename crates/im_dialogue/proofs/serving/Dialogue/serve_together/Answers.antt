@@ -1,6 +1,6 @@
 use Rattle.std.proofs.Common.{◌≡◌, ◌≤◌, ◌∙◌, ap, arith, length, rules, sym, subst, List, ℕ}
 use Rattle.std.specs.Prelude.{None}
-use Rattle.im_dialogue.specs.declared.together.InBuffer.{InBuffer}
+use Rattle.im_dialogue.specs.declared.buffer.InBuffer.{InBuffer}
 use Rattle.im_dialogue.specs.Hearing.{end_at, left_at, questions_left}
 use Rattle.im_dialogue.specs.Talk.{outputs, with_left}
 use Rattle.im_dialogue.proofs.HearingLemmas.{kept_left, queue_hears, queue_left}
@@ -10,7 +10,8 @@ use Rattle.im_dialogue.proofs.serving.Dialogue.serve_together.Goals as goal
 pub returns-in-Err-clause-talks : goal.returns-in-Err-clause-talks
 returns-in-Err-clause-talks g c = λ kept.
     talk_ends_here g.D.Disk.now g.D.Disk.past g.D.Disk.honest c.args.self.now.setting.watch c.args.self.now.engine
-    (with_left (questions_left (g.R.Read.remaining c.args.input.now)) (outputs (g.W.Write.contents c.args.out.now) kept))
+    (with_left (questions_left (g.R.Read.remaining c.args.input.now))
+    (outputs (g.W.Write.contents c.args.out.now) kept))
     None
 
 pub returns-then-many-lt-2-clause-talks : goal.returns-then-many-lt-2-clause-talks
@@ -23,7 +24,8 @@ pub returns-in-Err-make_room-clause-talks : goal.returns-in-Err-make_room-clause
 returns-in-Err-make_room-clause-talks g c = λ kept.
     halts_talk g.D.Disk.now g.D.Disk.past g.D.Disk.honest c.args.self.now.setting.watch c.args.self.now.engine
     c.make_room.new.engine
-    (with_left (questions_left (g.R.Read.remaining c.args.input.now)) (outputs (g.W.Write.contents c.args.out.now) kept))
+    (with_left (questions_left (g.R.Read.remaining c.args.input.now))
+    (outputs (g.W.Write.contents c.args.out.now) kept))
     None c.make_room.ensures.honest (search rules)
 
 pub returns-in-Ok-clause-talks : goal.returns-in-Ok-clause-talks
@@ -51,7 +53,8 @@ returns-in-Ok-clause-talks g c = λ kept.
     (queue_left known (g.R.Read.remaining c.gather.new.input) _ _ stands.0 asked ends served c.end_of.result stands.1
     stands.2 few end c.consume.ensures.bytes)
     (on_after now past honest watch c.args.self.now.engine c.make_room.new.engine c.serve_group.new.self.engine
-    (with_left (questions_left known) was) (with_left (questions_left known) was) (with_left (left_at ends known served) is)
+    (with_left (questions_left known) was) (with_left (questions_left known) was)
+    (with_left (left_at ends known served) is)
     (goes_talk now past honest watch c.args.self.now.engine c.make_room.new.engine
     (with_left (questions_left known) was) c.make_room.ensures.honest (search rules))
     (c.in-Ok.ensures.talks (questions_left known) (left_at ends known)

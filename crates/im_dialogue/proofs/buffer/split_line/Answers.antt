@@ -1,7 +1,7 @@
 use Rattle.std.proofs.lemmas.List.{take_rest}
 use Rattle.im_script.proofs.ScriptLemmas.{no_end}
 use Rattle.im_dialogue.proofs.HearingLemmas.{cut_at}
-use Rattle.im_dialogue.proofs.together.split_line.Goals as goal
+use Rattle.im_dialogue.proofs.buffer.split_line.Goals as goal
 
 pub returns-then-byte-eq10 : goal.returns-then-byte-eq10
 returns-then-byte-eq10 c =

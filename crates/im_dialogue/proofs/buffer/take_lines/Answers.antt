@@ -3,7 +3,7 @@ use Rattle.im_dialogue.specs.declared.asking.Question.{Question}
 use Rattle.im_dialogue.specs.Hearing.{EndsHere, StandsIn, TakesLine}
 use Rattle.im_dialogue.specs.Together.{AreAsked}
 use Rattle.im_dialogue.proofs.HearingLemmas.{stands_none, stands_with}
-use Rattle.im_dialogue.proofs.together.take_lines.Goals as goal
+use Rattle.im_dialogue.proofs.buffer.take_lines.Goals as goal
 
 pub loop-line-init : goal.loop-line-init
 loop-line-init c =

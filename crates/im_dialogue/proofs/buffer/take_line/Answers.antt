@@ -4,7 +4,7 @@ use Rattle.im_dialogue.specs.declared.asking.Question.{Question}
 use Rattle.im_dialogue.specs.Asking.{asked_of}
 use Rattle.im_dialogue.specs.Together.{AreAsked}
 use Rattle.im_dialogue.proofs.FitLemmas.{asked_push}
-use Rattle.im_dialogue.proofs.together.take_line.Goals as goal
+use Rattle.im_dialogue.proofs.buffer.take_line.Goals as goal
 
 pub returns-in_ok-add_asked-in-Some-clause-asked : goal.returns-in_ok-add_asked-in-Some-clause-asked
 returns-in_ok-add_asked-in-Some-clause-asked c =

@@ -1,7 +1,7 @@
 use Rattle.std.proofs.Common.{rules, arith, subst}
 use Rattle.std.specs.Io.BufRead.{FillKeeps}
 use Rattle.im_dialogue.proofs.HearingLemmas.{shows_nothing, stands_none}
-use Rattle.im_dialogue.proofs.together.gather.Goals as goal
+use Rattle.im_dialogue.proofs.buffer.gather.Goals as goal
 
 pub returns-in-Ok-take_lines-clause-stands : goal.returns-in-Ok-take_lines-clause-stands
 returns-in-Ok-take_lines-clause-stands g c =

@@ -1,7 +1,7 @@
 use Rattle.std.proofs.Common.{◌≤◌, length}
 use Rattle.im_dialogue.specs.Hearing.{EndsHere, StandsIn}
 use Rattle.im_dialogue.specs.Together.{AreAsked}
-use Rattle.im_dialogue.proofs.together.take_lines.Given as goal
+use Rattle.im_dialogue.proofs.buffer.take_lines.Given as goal
 
 abbrev pub invariant-loop-line : goal.invariant-loop-line
 invariant-loop-line l = record {
