@@ -48,7 +48,7 @@ use Rattle.im_types.specs.declared.TheConstants.{LAST}
 use Rattle.im_types.specs.Header.{Header}
 use Rattle.im_dialogue.specs.Telling.{Reaches, SaidMore, SaysAll}
 use Rattle.im_dialogue.specs.Backups.{Backup}
-use Rattle.im_dialogue.specs.Talk.{Exchange, IsOutcomeOf, IsAnswerTo, AnswerPoint, exchange_at, point_behind, put_of, stands_behind, texts_of}
+use Rattle.im_dialogue.specs.Talk.{Exchange, IsOutcomeOf, AnswersQuestion, AnswerPoint, exchange_at, point_behind, put_of, stands_behind, texts_of}
 use Rattle.im_dialogue.specs.Talk.{IsAt, MeansSaid}
 use Rattle.im_dialogue.specs.Talk.{Halts, TalksOn, TalkEnds, AreKept, Outputs, backups_of, outputs}
 use Rattle.im_dialogue.proofs.TalkLemmas.{silent}
@@ -247,7 +247,7 @@ module _ {D : Type 0} (watch : Bool) (start : EngineState D) (b : GroupStart) wh
         said = exchange (ServedAs c answered_so) ∷ told.said;
         reach = record {
           answered = (
-            subst (λ (o : Option Question). IsAnswerTo here (start.count + length (put_of start.memory told.said))
+            subst (λ (o : Option Question). AnswersQuestion here (start.count + length (put_of start.memory told.said))
                 (record { turns = told.reach.turns; point = point_between b ahead }) o
                 (ServedAs c answered_so)) (sym asked) (
                   answered_so,
@@ -298,11 +298,11 @@ module _ {D : Type 0} (watch : Bool) (start : EngineState D) (b : GroupStart) wh
           said = exchange answer ∷ told.said;
           reach = record {
             answered = (
-              subst (λ (o : Option Question). IsAnswerTo here (start.count + length (put_of start.memory told.said)) stand o
+              subst (λ (o : Option Question). AnswersQuestion here (start.count + length (put_of start.memory told.said)) stand o
                   answer) (sym read)
-                  (subst (λ (m : Contents). IsAnswerTo m (start.count + length (put_of start.memory told.said)) stand
+                  (subst (λ (m : Contents). AnswersQuestion m (start.count + length (put_of start.memory told.said)) stand
                   (Some asked) answer) told.reach.memory
-                  (subst (λ (n : ℕ). IsAnswerTo (memory_between b ahead) n stand (Some asked) answer) told.reach.count
+                  (subst (λ (n : ℕ). AnswersQuestion (memory_between b ahead) n stand (Some asked) answer) told.reach.count
                   (shown.answers told.reach.turns))),
               (told.reach.lead, told.reach.answered),
             );

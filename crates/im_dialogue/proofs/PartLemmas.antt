@@ -33,7 +33,7 @@ use Rattle.im_dialogue.specs.declared.look.Look.TheVariants.{Collect, Entry, Cel
 use Rattle.im_dialogue.specs.Answers.{answer_text, kept_line, look_text, recalled_line}
 use Rattle.im_dialogue.specs.Looks.{may_alter, may_change, may_reach}
 use Rattle.im_dialogue.specs.Showing.{block_said, cell_said, recall}
-use Rattle.im_dialogue.specs.Talk.{IsAnswerTo, KeepsNone, put_by}
+use Rattle.im_dialogue.specs.Talk.{AnswersQuestion, KeepsNone, put_by}
 use Rattle.im_dialogue.specs.Together.{LineAsksFor, GroupStart, group_start, memory_between, places_between}
 use Rattle.im_dialogue.specs.Together.{count_between, point_between, with_member, members_in}
 use Rattle.im_dialogue.specs.Together.{disturbs, LeavesShown, IsKnown, IsKnownBehind, IsGroupLine, StandTogether, MayBeServed}
@@ -263,7 +263,7 @@ module _ {D : Type 0} (watch : Bool) (old : EngineState D) where
       (told_nothing given ∙ sym (shown.tells watch (memory_between b ahead))))
 
   looked : (m : Contents) (n : ℕ) (p : Point) (asked : Question) (given : LineAnswer)
-      → ((turns : List TurnDone) → IsAnswerTo m n (record { turns = turns; point = p }) (Some asked) given)
+      → ((turns : List TurnDone) → AnswersQuestion m n (record { turns = turns; point = p }) (Some asked) given)
       → ((any : Contents) → put_by any given ≡ []) → ((watch : Bool) (any : Contents) → watch_text watch any given ≡ [])
       → KeepsNone given → IsKnown m n p asked given
   looked m n p asked given answers puts tells keeps =

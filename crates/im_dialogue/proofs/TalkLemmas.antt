@@ -38,7 +38,7 @@ use Rattle.im_dialogue.specs.Asking.{asked_of}
 use Rattle.im_dialogue.specs.Backups.{Backup}
 use Rattle.im_turning.specs.Turning.{IsSpent, Point, point_of, with_one}
 use Rattle.im_turning.proofs.TurningLemmas.{taken_of}
-use Rattle.im_dialogue.specs.Talk.{Exchange, IsOutcomeOf, IsAnswerTo, put_by, put_of, is_end, IsAt, MeansSaid, HasEnded, SaysNothing}
+use Rattle.im_dialogue.specs.Talk.{Exchange, IsOutcomeOf, AnswersQuestion, put_by, put_of, is_end, IsAt, MeansSaid, HasEnded, SaysNothing}
 use Rattle.im_dialogue.specs.Talk.{Halts, SaysLine, texts_of, Silent, TalksOn, TalkEnds}
 use Rattle.im_dialogue.specs.Talk.{AreKept, Outputs, AnswerPoint, backup_by, backups_of, exchange_at, point_behind}
 
@@ -233,7 +233,7 @@ module _ {D : Type 0} (now : D → Moment) (past : D → List Moment) (honest : 
         here,
         record {
           answered = (
-            subst (λ (o : Option Question). IsAnswerTo (after start.memory (put_of start.memory said))
+            subst (λ (o : Option Question). AnswersQuestion (after start.memory (put_of start.memory said))
                 (start.count + length (put_of start.memory said)) here o (Served c a)) (sym asked) (
                   a,
                   refl,
@@ -309,7 +309,7 @@ module _ {D : Type 0} (now : D → Moment) (past : D → List Moment) (honest : 
 
   quiet_at : (start engine : EngineState D) (said : List Exchange) (line name : List ℕ) (asked : Option Question)
       (answer : LineAnswer) → asked_of line ≡ asked → (at : At start engine said)
-      → ((m : Contents) → put_by m answer ≡ []) → IsAnswerTo engine.memory engine.count
+      → ((m : Contents) → put_by m answer ≡ []) → AnswersQuestion engine.memory engine.count
       (record { turns = at.turns; point = point_of engine }) asked answer
       → (here : AnswerPoint) × At start engine (exchange_at line answer name here ∷ said)
   quiet_at start engine said line name asked answer is at none answers =
@@ -322,11 +322,11 @@ module _ {D : Type 0} (now : D → Moment) (past : D → List Moment) (honest : 
         here,
         record {
           answered = (
-            subst (λ (o : Option Question). IsAnswerTo (after start.memory (put_of start.memory said))
+            subst (λ (o : Option Question). AnswersQuestion (after start.memory (put_of start.memory said))
                 (start.count + length (put_of start.memory said)) here o answer) (sym is)
-                (subst (λ (m : Contents). IsAnswerTo m
+                (subst (λ (m : Contents). AnswersQuestion m
                 (start.count + length (put_of start.memory said)) here asked answer) m
-                (subst (λ (n : ℕ). IsAnswerTo engine.memory n here asked answer) n answers)),
+                (subst (λ (n : ℕ). AnswersQuestion engine.memory n here asked answer) n answers)),
             (at.lead, at.answered),
           );
           turns = [];
@@ -342,7 +342,7 @@ module _ {D : Type 0} (now : D → Moment) (past : D → List Moment) (honest : 
 
   pub quiet : (engine : EngineState D) (asked : Option Question) (answer : LineAnswer)
       → ((m : Contents) → put_by m answer ≡ [])
-      → (engine.failed ≡ false → (turns : List TurnDone) → IsAnswerTo engine.memory engine.count
+      → (engine.failed ≡ false → (turns : List TurnDone) → AnswersQuestion engine.memory engine.count
       (record { turns = turns; point = point_of engine }) asked answer)
       → SaysLine now past honest engine engine asked answer
   quiet engine asked answer none answers = λ start said line name is so_far h. let far = so_far h in
@@ -454,16 +454,16 @@ module _ {D : Type 0} (now : D → Moment) (past : D → List Moment) (honest : 
     told_at : (start old new : EngineState D) (said : List Exchange) (asked : Option Question) (answer : LineAnswer)
         (line name told : List ℕ) (here : AnswerPoint) → asked_of line ≡ asked → At start old said
         → At start new (exchange_at line answer name here ∷ said)
-        → ((n : ℕ) (here : AnswerPoint) → IsAnswerTo old.memory n here asked answer
+        → ((n : ℕ) (here : AnswerPoint) → AnswersQuestion old.memory n here asked answer
         → told ≡ line_on name old.memory answer)
         → told ≡ line_on name (after start.memory (put_of start.memory said)) answer
     told_at start old new said asked answer line name told here read at after_it is =
         let m : Contents = after start.memory (put_of start.memory said) in
         let same : old.memory ≡ after start.memory (put_of start.memory said) = at.run.memory at.works in
-        let answers : IsAnswerTo old.memory (start.count + length (put_of start.memory said)) here asked answer
-        = subst (λ (m : Contents). IsAnswerTo m (start.count + length (put_of start.memory said)) here asked answer)
+        let answers : AnswersQuestion old.memory (start.count + length (put_of start.memory said)) here asked answer
+        = subst (λ (m : Contents). AnswersQuestion m (start.count + length (put_of start.memory said)) here asked answer)
         (sym same)
-        (subst (λ (o : Option Question). IsAnswerTo (after start.memory (put_of start.memory said))
+        (subst (λ (o : Option Question). AnswersQuestion (after start.memory (put_of start.memory said))
         (start.count + length (put_of start.memory said)) here o answer) read after_it.answered.0) in
         subst (λ (m : Contents). told ≡ line_on name m answer) same
         (is (start.count + length (put_of start.memory said)) here answers)
@@ -472,7 +472,7 @@ module _ {D : Type 0} (now : D → Moment) (past : D → List Moment) (honest : 
     pub talks_on : (old new : EngineState D) (was is : Outputs) (asked : Option Question) (answer : LineAnswer) (line name told : List ℕ)
         → asked_of line ≡ asked → (honest new.disk → honest old.disk)
         → SaysLine now past honest old new asked answer
-        → ((n : ℕ) (here : AnswerPoint) → IsAnswerTo old.memory n here asked answer
+        → ((n : ℕ) (here : AnswerPoint) → AnswersQuestion old.memory n here asked answer
         → told ≡ line_on name old.memory answer)
         → Appends was.text is.text told → is.backups ≡ backup_by old.memory answer ++ was.backups
         → TalksOn watch now past honest old was new is
@@ -499,7 +499,7 @@ module _ {D : Type 0} (now : D → Moment) (past : D → List Moment) (honest : 
     pub talk_ends : (old new : EngineState D) (was is : Outputs) (asked : Option Question) (answer : LineAnswer) (line name told : List ℕ)
         → asked_of line ≡ asked → (honest new.disk → honest old.disk)
         → SaysLine now past honest old new asked answer
-        → ((n : ℕ) (here : AnswerPoint) → IsAnswerTo old.memory n here asked answer
+        → ((n : ℕ) (here : AnswerPoint) → AnswersQuestion old.memory n here asked answer
         → told ≡ line_on name old.memory answer)
         → Begins was.text is.text told → is.backups ≡ backup_by old.memory answer ++ was.backups
         → TalkEnds watch now past honest old was new is

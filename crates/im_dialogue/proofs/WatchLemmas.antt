@@ -24,7 +24,7 @@ use Rattle.im_dialogue.specs.declared.answers.LineAnswer.TheVariants.{Served as 
 use Rattle.im_dialogue.specs.Watching.{watch_text, is_quiet, told_by, told_with}
 use Rattle.im_dialogue.specs.declared.look.Look.{Look}
 use Rattle.im_dialogue.specs.Answers.{answer_text}
-use Rattle.im_dialogue.specs.Talk.{IsAnswerTo, AnswerPoint}
+use Rattle.im_dialogue.specs.Talk.{AnswersQuestion, AnswerPoint}
 
 -- ---- who is resumed
 
@@ -82,7 +82,7 @@ quiet_resumes cells who (Put a v) quiet = absurd (cc)
 -- ---- what is told behind an answer
 
 told_is : (watch : Bool) (m : Contents) (n : ℕ) (here : AnswerPoint) (asked : Option Question) (answer : LineAnswer)
-    → IsAnswerTo m n here asked answer → told_with answer (told_by watch m asked) ≡ watch_text watch m answer
+    → AnswersQuestion m n here asked answer → told_with answer (told_by watch m asked) ≡ watch_text watch m answer
 told_is watch m n here (Some (asks.Serve command)) answer (outcome, is, of) = by_answer answer outcome is
   where
     by_outcome : (o : Result Outcome Refusal) → told_with (ServedAs command o) (told_by watch m (Some (asks.Serve command))) ≡ watch_text watch m (ServedAs command o)
@@ -111,7 +111,7 @@ told_is watch m n here None answer (number, (fault, is)) = subst
 
 -- the line of an answer, on the memory after it too, which is the same if the line only looks
 plain_line : (name : List ℕ) (m now : Contents) (n : ℕ) (here : AnswerPoint) (asked : Question) (answer : LineAnswer)
-    → ((look : Look) → asked ≡ asks.Look look → now ≡ m) → IsAnswerTo m n here (Some asked) answer
+    → ((look : Look) → asked ≡ asks.Look look → now ≡ m) → AnswersQuestion m n here (Some asked) answer
     → answer_text name now answer ≡ answer_text name m answer
 plain_line name m now n here (asks.Look look) answer same is =
     ap (λ (x : Contents). answer_text name x answer) (same look refl)
@@ -134,7 +134,7 @@ plain_line name m now n here asks.Quit answer same none = absurd none
 -- the line of an answer that was asked for, and what is told behind it
 pub line_is : (watch : Bool) (name : List ℕ) (m now : Contents) (n : ℕ) (here : AnswerPoint) (asked : Question) (answer : LineAnswer)
     (told : List ℕ) → ((look : Look) → asked ≡ asks.Look look → now ≡ m)
-    → told ≡ told_with answer (told_by watch m (Some asked)) → IsAnswerTo m n here (Some asked) answer
+    → told ≡ told_with answer (told_by watch m (Some asked)) → AnswersQuestion m n here (Some asked) answer
     → answer_text name now answer ++ told ≡ answer_text name m answer ++ watch_text watch m answer
 line_is watch name m now n here asked answer told same is answers =
     ap (λ (t : List ℕ). t ++ told) (plain_line name m now n here asked answer same answers)
@@ -142,7 +142,7 @@ line_is watch name m now n here asked answer told same is answers =
 
 -- the line that says where a line goes wrong, with nothing behind it
 pub wrong_line_is : (watch : Bool) (name : List ℕ) (m now : Contents) (n : ℕ) (here : AnswerPoint) (answer : LineAnswer) → now ≡ m
-    → IsAnswerTo m n here None answer
+    → AnswersQuestion m n here None answer
     → answer_text name now answer ++ [] ≡ answer_text name m answer ++ watch_text watch m answer
 wrong_line_is watch name m now n here answer same (number, (fault, is)) =
     subst (λ (x : LineAnswer). answer_text name now x ++ [] ≡ answer_text name m x ++ watch_text watch m x) (sym is) refl

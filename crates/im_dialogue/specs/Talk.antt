@@ -71,21 +71,21 @@ CountsIf commands (Ok count) = count ≡ commands
 CountsIf commands (Err fault) = Unit {0}
 
 -- the answer to what is asked, on this memory, after this many commands, of an engine that stands here
-abbrev pub IsAnswerTo : Contents → ℕ → AnswerPoint → Option Question → LineAnswer → Type 0
-IsAnswerTo m commands here (Some (asks.Serve command)) answer =
+abbrev pub AnswersQuestion : Contents → ℕ → AnswerPoint → Option Question → LineAnswer → Type 0
+AnswersQuestion m commands here (Some (asks.Serve command)) answer =
     (outcome : Result Outcome Refusal) × (answer ≡ Served command outcome) × IsOutcomeOf m here.point command outcome
-IsAnswerTo m commands here (Some (asks.Look look)) answer = answer ≡ Looked look
-IsAnswerTo m commands here (Some (asks.Window element)) answer = answer ≡ Window element (bounds m.windows element)
-IsAnswerTo m commands here (Some asks.Room) answer = answer ≡ Room here.point.room
-IsAnswerTo m commands here (Some asks.Turn) answer =
+AnswersQuestion m commands here (Some (asks.Look look)) answer = answer ≡ Looked look
+AnswersQuestion m commands here (Some (asks.Window element)) answer = answer ≡ Window element (bounds m.windows element)
+AnswersQuestion m commands here (Some asks.Room) answer = answer ≡ Room here.point.room
+AnswersQuestion m commands here (Some asks.Turn) answer =
     (done : TurnDone) × ((answer ≡ Turned done) × ((before : List TurnDone) × (here.turns ≡ done ∷ before)))
-IsAnswerTo m commands here (Some asks.Count) answer = answer ≡ Count commands
-IsAnswerTo m commands here (Some asks.About) answer =
+AnswersQuestion m commands here (Some asks.Count) answer = answer ≡ Count commands
+AnswersQuestion m commands here (Some asks.About) answer =
     (slots : ℕ) × (answer ≡ Facts (about_of m slots commands here.point.room))
-IsAnswerTo m commands here (Some (asks.Backup name)) answer =
+AnswersQuestion m commands here (Some (asks.Backup name)) answer =
     (kept : Result ℕ BackupFault) × (answer ≡ BackedUp name kept) × CountsIf commands kept
-IsAnswerTo m commands here (Some asks.Quit) answer = ⊥
-IsAnswerTo m commands here None answer = (number : ℕ) × ((fault : LineFault) × (answer ≡ Wrong number fault))
+AnswersQuestion m commands here (Some asks.Quit) answer = ⊥
+AnswersQuestion m commands here None answer = (number : ℕ) × ((fault : LineFault) × (answer ≡ Wrong number fault))
 
 -- the command, if this answer says that it was put on the disk
 abbrev pub put_by : Contents → LineAnswer → List Command
@@ -116,7 +116,7 @@ stands_behind m p (x ∷ xs) = behind_answer (after m (put_of m xs)) x
 abbrev pub AreAnswered : Contents → Point → List Exchange → Type 0
 AreAnswered m p [] = Unit {0}
 AreAnswered m p (x ∷ xs) =
-    IsAnswerTo (after m (put_of m xs)) (p.count + length (put_of m xs)) x.here (asked_of x.line) x.answer
+    AnswersQuestion (after m (put_of m xs)) (p.count + length (put_of m xs)) x.here (asked_of x.line) x.answer
     × (TurnsLead x.here.turns (stands_behind m p xs) x.here.point × AreAnswered m p xs)
 
 -- the lines that were answered on this memory, one below the other; if the dialogue is watched, each is followed by the

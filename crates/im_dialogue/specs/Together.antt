@@ -23,7 +23,7 @@ use Rattle.im_dialogue.specs.Asking.{asked_of}
 use Rattle.im_dialogue.specs.Looks.{may_alter}
 use Rattle.im_checkpoint.specs.declared.checkpoint.TurnDone.{TurnDone}
 use Rattle.im_turning.specs.Turning.{Point, point_of}
-use Rattle.im_dialogue.specs.Talk.{IsAnswerTo, KeepsNone, point_behind, put_by}
+use Rattle.im_dialogue.specs.Talk.{AnswersQuestion, KeepsNone, point_behind, put_by}
 use Rattle.im_dialogue.specs.Watching.{told_with, watch_text}
 
 -- ---- what lines ask for
@@ -105,7 +105,7 @@ LeavesShown m ahead shown (Known answer) = Unit {0}
 -- disk, told or kept for it
 pub record IsKnown (m : Contents) (commands : ℕ) (point : Point) (asked : Question) (answer : LineAnswer) : Type 0 where
   pub answers : (turns : List TurnDone)
-      → IsAnswerTo m commands (record { turns = turns; point = point }) (Some asked) answer
+      → AnswersQuestion m commands (record { turns = turns; point = point }) (Some asked) answer
   pub puts : (any : Contents) → put_by any answer ≡ []
   pub tells : (watch : Bool) (any : Contents) → watch_text watch any answer ≡ []
   pub keeps : KeepsNone answer
