@@ -159,7 +159,8 @@ impl Image {
     pub fn serve(&mut self, command: &Command) -> Result<Outcome, Refusal>
         ensures lost { self.old.lost ≡ true → (result ≡ Err Refusal.Device) × (self.new ≡ self.old) }
         ensures works { self.old.lost ≡ false → self.old.engine.failed ≡ false }
-        ensures answered { self.old.lost ≡ false → Answered (without_steps self.old) command.now result self.new.engine }
+        ensures answered { self.old.lost ≡ false
+            → Answered (without_steps self.old) command.now result self.new.engine }
         // On the way the file means the memory before the command or after it, and at the end what was answered.
         ensures carried { self.old.lost ≡ false
             → Carries self.old.engine.disk.now self.new (MeansEither (without_steps self.old) command.now) }
