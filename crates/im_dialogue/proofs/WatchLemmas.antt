@@ -29,17 +29,21 @@ use Rattle.im_dialogue.specs.Talk.{AnswersQuestion, AnswerPoint}
 -- ---- who is resumed
 
 -- by a cell of the kind that the operation is for
-at_one : (kind : Kind) (serve : CellState → Served) (cells : List (Option Held)) (a : ℕ) (held : Held) (to : CellState → List (Waiter × Reply)) → ((s : CellState) → (serve s).resumed ≡ to s)
+at_one : (kind : Kind) (serve : CellState
+    → Served) (cells : List (Option Held)) (a : ℕ) (held : Held) (to : CellState
+    → List (Waiter × Reply)) → ((s : CellState) → (serve s).resumed ≡ to s)
     → (at_cell kind serve cells a (Some held)).resumed ≡ (if same_kind kind held.block.kind then to held.state else [])
 at_one kind serve cells a held to is = by_test (same_kind kind held.block.kind)
   where
-    by_test : (b : Bool) → (if b then serve_cell cells a held.block (serve held.state) else only_tells cells WrongKind).resumed ≡ (if b then to held.state else [])
+    by_test : (b : Bool)
+        → (if b then serve_cell cells a held.block (serve held.state) else only_tells cells WrongKind).resumed ≡ (if b then to held.state else [])
     by_test true = is held.state
     by_test false = refl
 
 -- nobody is resumed by the other operations
 
-none_resumed : (kind : Kind) (serve : CellState → Served) (cells : List (Option Held)) (a : ℕ) (held : Option Held) → ((s : CellState) → (serve s).resumed ≡ []) → (at_cell kind serve cells a held).resumed ≡ []
+none_resumed : (kind : Kind) (serve : CellState → Served) (cells : List (Option Held)) (a : ℕ) (held : Option Held)
+    → ((s : CellState) → (serve s).resumed ≡ []) → (at_cell kind serve cells a held).resumed ≡ []
 none_resumed kind serve cells a None none = refl
 none_resumed kind serve cells a (Some held) none = at_one kind serve cells a held (λ s. []) none ∙ same [] (same_kind kind held.block.kind)
   where
@@ -57,20 +61,25 @@ take_resumes who (Empty waiters) = refl
 take_resumes who (Full v) = refl
 take_resumes who (Clashed v) = refl
 
-alloc_resumes : (cells : List (Option Held)) (kind : Kind) (n : ℕ) (b : Bool) (found : Option ℕ) → (if b then only_tells cells BadLength else allocate_at cells kind n found).resumed ≡ []
+alloc_resumes : (cells : List (Option Held)) (kind : Kind) (n : ℕ) (b : Bool) (found : Option ℕ)
+    → (if b then only_tells cells BadLength else allocate_at cells kind n found).resumed ≡ []
 alloc_resumes cells kind n true found = refl
 alloc_resumes cells kind n false None = refl
 alloc_resumes cells kind n false (Some base) = refl
 
-whole_resumes : (after : Block → List (Option Held)) (reply : Reply) (cells : List (Option Held)) (a : ℕ) (found : Option Block) → (unless_waited_for after reply cells a found).resumed ≡ []
+whole_resumes : (after : Block
+    → List (Option Held)) (reply : Reply) (cells : List (Option Held)) (a : ℕ) (found : Option Block)
+    → (unless_waited_for after reply cells a found).resumed ≡ []
 whole_resumes after reply cells a None = refl
 whole_resumes after reply cells a (Some block) = by_test (list_any is_waiting_cell (take block.length (drop a cells)))
   where
-    by_test : (b : Bool) → (if b then only_tells cells StillWaiting else record { cells = after block; entry = Answered reply; resumed = [] }).resumed ≡ []
+    by_test : (b : Bool)
+        → (if b then only_tells cells StillWaiting else record { cells = after block; entry = Answered reply; resumed = [] }).resumed ≡ []
     by_test true = refl
     by_test false = refl
 
-pub quiet_resumes : (cells : List (Option Held)) (who : Waiter) (op : Op) → is_quiet op ≡ true → (act cells who op).resumed ≡ []
+pub quiet_resumes : (cells : List (Option Held)) (who : Waiter) (op : Op) → is_quiet op ≡ true
+    → (act cells who op).resumed ≡ []
 quiet_resumes cells who (Alloc kind n) quiet = alloc_resumes cells kind n (n == 0) (place n cells)
 quiet_resumes cells who (Release a) quiet = whole_resumes (λ block. fill cells a block.length None) Released cells a (block_with_base a (held_at cells a))
 quiet_resumes cells who (Reset a) quiet = whole_resumes (λ block. change_each emptied cells a block.length) Cleared cells a (block_with_base a (held_at cells a))
@@ -85,11 +94,13 @@ told_is : (watch : Bool) (m : Contents) (n : ℕ) (here : AnswerPoint) (asked : 
     → AnswersQuestion m n here asked answer → told_with answer (told_by watch m asked) ≡ watch_text watch m answer
 told_is watch m n here (Some (asks.Serve command)) answer (outcome, is, of) = by_answer answer outcome is
   where
-    by_outcome : (o : Result Outcome Refusal) → told_with (ServedAs command o) (told_by watch m (Some (asks.Serve command))) ≡ watch_text watch m (ServedAs command o)
+    by_outcome : (o : Result Outcome Refusal)
+        → told_with (ServedAs command o) (told_by watch m (Some (asks.Serve command))) ≡ watch_text watch m (ServedAs command o)
     by_outcome (Ok outcome) = refl
     by_outcome (Err refusal) = refl
 
-    by_answer : (a : LineAnswer) (o : Result Outcome Refusal) → a ≡ ServedAs command o → told_with a (told_by watch m (Some (asks.Serve command))) ≡ watch_text watch m a
+    by_answer : (a : LineAnswer) (o : Result Outcome Refusal) → a ≡ ServedAs command o
+        → told_with a (told_by watch m (Some (asks.Serve command))) ≡ watch_text watch m a
     by_answer a o is = subst (λ (x : LineAnswer). told_with x (told_by watch m (Some (asks.Serve command))) ≡ watch_text watch m x) (sym is) (by_outcome o)
 told_is watch m n here (Some (asks.Look look)) answer is =
     subst (λ (x : LineAnswer). told_with x [] ≡ watch_text watch m x) (sym is) refl
