@@ -17,8 +17,8 @@ use Rattle.std.specs.Io.BufRead.{DropsConsumable}
 use Rattle.im_script.specs.Grammar.{is_ascii, is_line, words_of}
 use Rattle.im_script.specs.Script.{lines_of}
 use Rattle.im_dialogue.specs.declared.asking.Question.{Question}
-use Rattle.im_dialogue.specs.declared.lines.LinePart.{LinePart}
-use Rattle.im_dialogue.specs.declared.lines.LinePart.TheVariants as part
+use Rattle.im_dialogue.specs.declared.line_part.LinePart.{LinePart}
+use Rattle.im_dialogue.specs.declared.line_part.LinePart.TheVariants as piece
 use Rattle.im_dialogue.specs.declared.lines.TheConstants.{KEPT}
 use Rattle.im_dialogue.specs.Asking.{asked_in, asked_of}
 use Rattle.im_dialogue.specs.Hearing.{AreLines, EndLines, EndsHere, HasReadPart, Hears, HearsAll, HearsSome, IsLinePart}
@@ -121,9 +121,9 @@ front_length (suc m) (x ∷ xs) = let rest = front_length m xs in omega (arith, 
 
 -- so many parts of a group are so many of what is asked
 pub front_few : {P E : Type 0} (r : Result ℕ E) (asked : List Question) (f : P → Option Question) (parts : List P)
-    {m : ℕ} → map f parts ≡ take m (as_asked asked) → IfOk r (λ many. many ≤ length parts)
+    (m : ℕ) → map f parts ≡ take m (as_asked asked) → IfOk r (λ many. many ≤ length parts)
     → IfOk r (λ many. many ≤ length asked)
-front_few (Ok many) asked f parts {m = m} is few =
+front_few (Ok many) asked f parts m is few =
     let same = ap (λ (l : List (Option Question)). length l) is in
     let long = front_length m (as_asked asked) in
     let count = length_asked asked in
@@ -133,7 +133,7 @@ front_few (Ok many) asked f parts {m = m} is few =
     map_length : {X Y : Type 0} (f : X → Y) (xs : List X) → length (map f xs) ≡ length xs
     map_length f [] = refl
     map_length f (x ∷ xs) = ap (λ (n : ℕ). suc n) (map_length f xs)
-front_few (Err e) asked f parts is few = tt
+front_few (Err e) asked f parts m is few = tt
 
 -- one more was taken into a group, or none
 pub taken_more : (asked : List Question) (i : ℕ) (d : Question) (old new : List (Option Question)) (taken : Bool)
@@ -230,7 +230,7 @@ whole_part text i past none =
 
 -- nothing was read
 pub read_nothing : (a b : Option (List ℕ)) (line : List ℕ) → Keeps a b → length line ≤ KEPT
-    → ReadsMore part.More a b line line
+    → ReadsMore piece.More a b line line
 read_nothing a b line keeps few = (
   [],
   sym (ap (λ (l : List ℕ). take KEPT l) (append-nil line) ∙ take_all KEPT line few),
@@ -243,9 +243,9 @@ pub part_is : (a c : Option (List ℕ)) (text kept now : List ℕ) (before taken
     → IsLinePart (take before text)
     → (before < length text → take (before + 1) text ≡ take before text ++ 10 ∷ [])
     → now ≡ take KEPT (kept ++ take before text)
-    → (before < length text → (p ≡ part.Last) × (taken ≡ before + 1))
-    → (before ≡ length text → length text ≡ 0 → (p ≡ part.None) × (taken ≡ before))
-    → (before ≡ length text → 0 < length text → (p ≡ part.More) × (taken ≡ before))
+    → (before < length text → (p ≡ piece.Last) × (taken ≡ before + 1))
+    → (before ≡ length text → length text ≡ 0 → (p ≡ piece.None) × (taken ≡ before))
+    → (before ≡ length text → 0 < length text → (p ≡ piece.More) × (taken ≡ before))
     → Consumes a c (take taken text) → (length text ≡ 0 → IsAtEnd a) → ReadsMore p a c kept now
 part_is a c text kept now before taken p within none feed is last end more taken_all ends =
     by_test (nat_lt before (length text)) (length text == 0) refl refl
@@ -261,12 +261,12 @@ part_is a c text kept now before taken p within none feed is last end more taken
     by_test true z is_last is_none =
         let less : before < length text = grind (arith, nat_tests, is_last) in
         let it = last less in
-        read_so part.Last it.0 (subst (λ (l : List ℕ). Consumes a c l) (feed less) (taken_so (before + 1) it.1))
+        read_so piece.Last it.0 (subst (λ (l : List ℕ). Consumes a c l) (feed less) (taken_so (before + 1) it.1))
     by_test false true is_last is_none =
         let zero : length text ≡ 0 = grind (arith, nat_tests, is_none) in
         let all : before ≡ length text = omega (arith, zero, within) in
         let it = end all zero in
-        read_so part.None it.0 (
+        read_so piece.None it.0 (
           taken_so before it.1,
           (ends zero, take_none text before (omega (arith, zero, within))),
         )
@@ -274,7 +274,7 @@ part_is a c text kept now before taken p within none feed is last end more taken
         let some : 0 < length text = grind (arith, nat_tests, is_none) in
         let past : length text ≤ before = grind (arith, nat_tests, is_last) in
         let it = more (omega (arith, past, within)) some in
-        read_so part.More it.0 (taken_so before it.1)
+        read_so piece.More it.0 (taken_so before it.1)
 
     take_none : (xs : List ℕ) (n : ℕ) → n ≡ 0 → take n xs ≡ []
     take_none xs n zero = ap (λ (k : ℕ). take k xs) zero
@@ -286,7 +286,7 @@ read_none (Some bytes) line none = ([], bytes, refl, none ∙ sym (take_all KEPT
 
 -- one part more
 pub read_more : (a b c : Option (List ℕ)) (line more : List ℕ) → HasReadPart a b line
-    → ReadsMore part.More b c line more → HasReadPart a c more
+    → ReadsMore piece.More b c line more → HasReadPart a c more
 read_more None b c line more so_far it = tt
 read_more (Some bytes) b c line more (whole, rest, there, kept, none, all) (bytes_read, now, part, reads) =
     on c (subst (λ (o : Option (List ℕ)). Consumes o c bytes_read) there reads)
@@ -304,7 +304,7 @@ read_more (Some bytes) b c line more (whole, rest, there, kept, none, all) (byte
 
 -- the rest of the line
 pub read_last : (a b c : Option (List ℕ)) (line more : List ℕ) → HasReadPart a b line
-    → ReadsMore part.Last b c line more → ReadsLine true a c more
+    → ReadsMore piece.Last b c line more → ReadsLine true a c more
 read_last None b c line more so_far it = tt
 read_last (Some bytes) b c line more (whole, rest, there, kept, none, all) (bytes_read, now, part, reads) =
     on c (subst (λ (o : Option (List ℕ)). Consumes o c (bytes_read ++ 10 ∷ [])) there reads)
@@ -325,12 +325,12 @@ read_last (Some bytes) b c line more (whole, rest, there, kept, none, all) (byte
 
 -- the end of the input
 pub read_end : (a b c : Option (List ℕ)) (line more : List ℕ) → HasReadPart a b line
-    → ReadsMore part.None b c line more → ReadsLine false a c more
+    → ReadsMore piece.None b c line more → ReadsLine false a c more
 read_end None b c line more so_far it = tt
 read_end (Some bytes) b c line more (whole, rest, there, kept, none, all) (bytes_read, now, part, reads) =
-    on c (subst (λ (o : Option (List ℕ)). ReadsPart part.None o c bytes_read) there reads)
+    on c (subst (λ (o : Option (List ℕ)). ReadsPart piece.None o c bytes_read) there reads)
   where
-    on : (o : Option (List ℕ)) → ReadsPart part.None (Some rest) o bytes_read → ReadsLine false (Some bytes) o more
+    on : (o : Option (List ℕ)) → ReadsPart piece.None (Some rest) o bytes_read → ReadsLine false (Some bytes) o more
     on None it = absurd it.0
     on (Some left) it = (
       left,
@@ -429,7 +429,7 @@ stands_none text asked ends no_asked no_ends =
         many = refl;
         each = none;
       },
-      (refl, refl),
+      (omega arith, refl),
     ))
   where
     none : (k : ℕ) → k ≤ 0 → EndLines text (end_at [] k) (as_asked (take k []))
@@ -456,13 +456,13 @@ module _ (text : List ℕ) (asked : List Question) (ends : List ℕ) (rest line 
   text_is = here.1 ∙ ap (λ (l : List ℕ). front ++ l) (is ∙ sym (append_assoc line (10 ∷ []) later))
       ∙ sym (append_assoc front (line ++ 10 ∷ []) later)
 
-  front_length : length (front ++ (line ++ 10 ∷ [])) ≡ end
-  front_length =
+  front_end : length (front ++ (line ++ 10 ∷ [])) ≡ end
+  front_end =
       let whole = ap (λ (l : List ℕ). length l) text_is ∙ length-append (front ++ (line ++ 10 ∷ [])) later in
       omega (arith, whole)
 
   taken : take end text ≡ front ++ (line ++ 10 ∷ [])
-  taken = ap (λ (n : ℕ). take n text) (sym front_length)
+  taken = ap (λ (n : ℕ). take n text) (sym front_end)
       ∙ ap (λ (l : List ℕ). take (length (front ++ (line ++ 10 ∷ []))) l) text_is
       ∙ take_front (front ++ (line ++ 10 ∷ [])) later
 

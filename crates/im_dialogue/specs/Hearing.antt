@@ -6,8 +6,8 @@ use Rattle.std.specs.Io.{StartsWith}
 use Rattle.std.specs.Io.KnownBytes.{Consumes, IsAtEnd, Keeps}
 use Rattle.im_dialogue.specs.declared.asking.Question.{Question}
 use Rattle.im_dialogue.specs.declared.asking.Question.TheVariants as asks
-use Rattle.im_dialogue.specs.declared.lines.LinePart.{LinePart}
-use Rattle.im_dialogue.specs.declared.lines.LinePart.TheVariants as part
+use Rattle.im_dialogue.specs.declared.line_part.LinePart.{LinePart}
+use Rattle.im_dialogue.specs.declared.line_part.LinePart.TheVariants as piece
 use Rattle.im_script.specs.Script.{lines_of}
 use Rattle.im_dialogue.specs.declared.lines.TheConstants.{KEPT}
 use Rattle.im_dialogue.specs.Asking.{asked_of}
@@ -81,9 +81,9 @@ AreLines bytes asked =
 -- what was read of a line, given what the reader had and has: a part of it, the rest of it with its line feed, or the
 -- end of the input
 abbrev pub ReadsPart : LinePart → Option (List ℕ) → Option (List ℕ) → List ℕ → Type 0
-ReadsPart part.More was is bytes = Consumes was is bytes
-ReadsPart part.Last was is bytes = Consumes was is (bytes ++ 10 ∷ [])
-ReadsPart part.None was is bytes = Consumes was is bytes × (IsAtEnd was × (bytes ≡ []))
+ReadsPart piece.More was is bytes = Consumes was is bytes
+ReadsPart piece.Last was is bytes = Consumes was is (bytes ++ 10 ∷ [])
+ReadsPart piece.None was is bytes = Consumes was is bytes × (IsAtEnd was × (bytes ≡ []))
 
 -- the same of a line of which these bytes were kept and these are
 abbrev pub ReadsMore : LinePart → Option (List ℕ) → Option (List ℕ) → List ℕ → List ℕ → Type 0

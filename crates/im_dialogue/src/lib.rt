@@ -14,6 +14,7 @@ mod explaining;
 mod group_line;
 mod grouping;
 mod known;
+mod line_part;
 mod lines;
 mod look;
 mod looks;

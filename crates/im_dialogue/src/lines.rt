@@ -2,6 +2,7 @@
 ghost use Rattle.std.specs.Prelude.{◌≡◌, ◌≤◌, ◌<◌, ◌+◌, ◌∷◌, ◌++◌, [], length, take, IfOk, OnOk};
 ghost use Rattle.im_dialogue.specs.Hearing.{IsLinePart, ReadsLine, ReadsMore};
 
+use crate::line_part::LinePart;
 use im_script::MAX_LINE;
 use im_text::Reason;
 use std::alloc::AllocError;
@@ -10,17 +11,6 @@ use std::io::{BufRead, ErrorKind};
 /// The most bytes of a line that are kept. It is one more than a line may have, so that a longer line is known to be
 /// one.
 pub(crate) const KEPT: usize = MAX_LINE + 1;
-
-/// What was read of a line.
-#[derive(Clone, Copy, PartialEq, Eq)]
-pub(crate) enum LinePart {
-    /// Bytes of it, and more may come.
-    More,
-    /// The rest of it, with its line feed.
-    Last,
-    /// Nothing: the input is at its end.
-    None,
-}
 
 // Keeps more bytes of a line, up to its bound.
 #[tactic(auto, using(crate::proofs::LineLemmas::kept_some))]

@@ -6,7 +6,8 @@ use Rattle.im_dialogue.proofs.TalkLemmas.{talk_ends_here}
 use Rattle.im_dialogue.proofs.serving.Dialogue.serve_group.Goals as goal
 
 pub returns-in-Ok-clause-few : goal.returns-in-Ok-clause-few
-returns-in-Ok-clause-few g c = front_few _ c.args.self.now.drafts.standing.asked.items _ _ c.in-Ok.ensures.asks.1
+returns-in-Ok-clause-few g c = front_few _ c.args.self.now.drafts.standing.asked.items _ _
+    c.in-Ok.ensures.asks.0 c.in-Ok.ensures.asks.1
     c.serve_parts.ensures.few
 
 pub returns-in-Ok-clause-talks : goal.returns-in-Ok-clause-talks
