@@ -3,7 +3,7 @@ use Rattle.std.proofs.Common.{◌≡◌, ◌⊎◌, inl, inr, ℕ, Bool, true, f
 use Rattle.std.specs.Prelude.{Option, None, Some, IfSome, Result, Ok, Err, IfOk, if◌then◌else◌}
 use Rattle.im_disk.specs.declared.disk.Disk.{Ghosts as DiskGhosts}
 use Rattle.im_disk.specs.Moment.{Moment}
-use Rattle.im_words.specs.Words.{Task, demonstration, format, serial, run, serve, inspect, migrate, copy, dump, load}
+use Rattle.im_words.specs.Words.{Task}
 use Rattle.im_program.specs.Sources.{IsTextOf}
 use Rattle.im_program.specs.Working.{MakesImage, ScriptServed, ScriptServes, TextServed, WasDone}
 
@@ -44,15 +44,7 @@ pub done_with : {D I : Type 0} (d : DiskGhosts D) (first : Moment) (remaining : 
     → WasDone d first (remaining was_input) task was is status disk
 done_with d first remaining was_input input task (inr same) was is status disk it =
     subst (λ i. WasDone d first (remaining i) task was is status disk) same it
-done_with d first remaining was_input input (format image cells elements slots is_new) (inl makes) was is status disk it
-    = it
-done_with d first remaining was_input input demonstration (inl makes) was is status disk it = absurd makes
-done_with d first remaining was_input input (serial image script once) (inl makes) was is status disk it = absurd makes
-done_with d first remaining was_input input (run image script planned once trace) (inl makes) was is status disk it =
-    absurd makes
-done_with d first remaining was_input input (serve image watch backups) (inl makes) was is status disk it = absurd makes
-done_with d first remaining was_input input (inspect image look) (inl makes) was is status disk it = absurd makes
-done_with d first remaining was_input input (migrate old new) (inl makes) was is status disk it = absurd makes
-done_with d first remaining was_input input (copy old new asked) (inl makes) was is status disk it = absurd makes
-done_with d first remaining was_input input (dump image) (inl makes) was is status disk it = absurd makes
-done_with d first remaining was_input input (load text new asked) (inl makes) was is status disk it = absurd makes
+done_with d first remaining was_input input task (inl (image, cells, elements, slots, is_new, makes)) was is status disk
+    it =
+    subst (λ (t : Task). WasDone d first (remaining was_input) t was is status disk) (sym makes)
+    (subst (λ (t : Task). WasDone d first (remaining input) t was is status disk) makes it)

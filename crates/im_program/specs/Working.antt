@@ -160,8 +160,8 @@ WasDone d first input task was is status disk = d.honest disk → DoneOn d first
 
 -- the task makes an image, and a person may be asked before
 abbrev pub MakesImage : Task → Type 0
-MakesImage (format image cells elements slots is_new) = Unit {0}
-MakesImage _ = ⊥
+MakesImage task = (image : List ℕ) × (cells : ℕ) × (elements : ℕ) × (slots : ℕ) × (is_new : Bool)
+    × (task ≡ format image cells elements slots is_new)
 
 -- ---- two files
 

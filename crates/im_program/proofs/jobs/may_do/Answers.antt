@@ -1,5 +1,5 @@
-use Rattle.std.proofs.Common.{inl}
+use Rattle.std.proofs.Common.{inl, refl}
 use Rattle.im_program.proofs.jobs.may_do.Goals as goal
 
 pub returns-in-Format : goal.returns-in-Format
-returns-in-Format g c = rw c.in-Format.is (inl tt)
+returns-in-Format g c = rw c.in-Format.is (inl (_, _, _, _, _, refl))
