@@ -10,8 +10,8 @@ use crate::telling::print_finals;
 use im_damage::Damage;
 use im_disk::Disk;
 use im_engine::Engine;
-use im_serial::both;
-use im_text::{Observer, Printout, Progress, Reason, finish};
+use im_serial::{Paper, both};
+use im_text::{Observer, Progress, Reason, finish};
 use im_types::{Entry, Refusal};
 use std::alloc::Global;
 use std::io::Write;
@@ -92,7 +92,7 @@ pub fn close<D: Disk, W: Write, N: Observer>(
     engine: Engine<D>,
     did: Vec<Did>,
     done: Result<(), Reason>,
-    mut paper: Printout,
+    mut paper: Paper,
     out: &mut W,
     observer: &mut N,
 ) -> (u8, D)
@@ -116,7 +116,8 @@ pub fn close<D: Disk, W: Write, N: Observer>(
     let status = finish(
         alloc,
         both(ended, told),
-        &mut paper,
+        &mut paper.lines,
+        &mut paper.line,
         out,
         &mut Behind { observer },
     );

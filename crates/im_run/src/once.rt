@@ -34,7 +34,14 @@ fn refuse_rest<D: Disk, W: Write, N: Observer>(
         → (last : List ℕ) × (IsLast last × Begins start (W.contents out.new) (text ++ last)) }
 {
     let (engine, mut paper) = server.leave();
-    let _status = finish(alloc, Err(reason), &mut paper, out, observer);
+    let _status = finish(
+        alloc,
+        Err(reason),
+        &mut paper.lines,
+        &mut paper.line,
+        out,
+        observer,
+    );
     (1, engine.close())
 }
 

@@ -17,9 +17,9 @@ use crate::unserved::with_plan;
 use im_disk::Disk;
 use im_engine::Engine;
 use im_script::Script;
-use im_serial::{Desk, Server};
+use im_serial::{Desk, Paper, Server};
 use im_serving::{Gate, Watcher};
-use im_text::{Observer, Printout, Reason, diagnose, end};
+use im_text::{Observer, Reason, diagnose, end};
 use im_types::Refusal;
 use std::alloc::Global;
 use std::io::Write;
@@ -53,7 +53,7 @@ fn serve_on<
     context: &RunContext<'_, G, V, R>,
     engine: Engine<D>,
     work: Workload,
-    paper: Printout,
+    paper: Paper,
     out: &mut W,
     observer: &mut N,
 ) -> (u8, D, Calls)

@@ -90,7 +90,14 @@ fn serve_on<D: Disk, W: Write, N: Observer>(
     server.learn_all(observer);
     let told = server.tell(out);
     let (engine, mut paper) = server.leave();
-    let status = finish(alloc, both(served, told), &mut paper, out, observer);
+    let status = finish(
+        alloc,
+        both(served, told),
+        &mut paper.lines,
+        &mut paper.line,
+        out,
+        observer,
+    );
     // If the disk failed, a refusal was printed: the status is 1 already.
     let failed = engine.failed();
     (status_at(failed, status), engine.close())
@@ -182,7 +189,14 @@ fn serve_once_on<D: Disk, W: Write, N: Observer>(
     server.learn_all(observer);
     let told = server.tell(out);
     let (engine, mut paper) = server.leave();
-    let status = finish(alloc, both(served, told), &mut paper, out, observer);
+    let status = finish(
+        alloc,
+        both(served, told),
+        &mut paper.lines,
+        &mut paper.line,
+        out,
+        observer,
+    );
     // If the disk failed, a refusal was printed: the status is 1 already.
     let failed = engine.failed();
     (status_at(failed, status), engine.close())

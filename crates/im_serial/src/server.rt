@@ -17,7 +17,7 @@ use crate::past::make_done;
 use crate::waits::{Places, learn_all, note, tell_earlier, waited_at};
 use im_disk::Disk;
 use im_engine::Engine;
-use im_text::{Lines, Observer, Printout, Progress, Reason, Waited, make_line, make_now};
+use im_text::{Lines, Observer, Progress, Reason, Waited, make_line, make_now};
 use im_types::Entry;
 use std::alloc::{AllocError, Global};
 use std::io::Write;
@@ -45,6 +45,15 @@ impl Desk {
             line: String::with_capacity(alloc, LINE)?,
         })
     }
+}
+
+/// Where lines are made and printed.
+#[derive(Drop)]
+pub struct Paper {
+    /// The lines on their way to the writer.
+    pub lines: Lines,
+    /// The room in which a line is made.
+    pub line: String,
 }
 
 /// An engine that serves requests, and what is printed and noted of them.
@@ -96,7 +105,7 @@ impl<D: Disk> Server<D> {
     }
 
     /// Returns the engine, and where lines are printed.
-    pub fn leave(self) -> (Engine<D>, Printout)
+    pub fn leave(self) -> (Engine<D>, Paper)
         ensures engine { result.0 ≡ self.engine }
         ensures lines { result.1.lines ≡ self.lines }
     {
@@ -109,7 +118,7 @@ impl<D: Disk> Server<D> {
             line,
             progress: _,
         } = self;
-        (engine, Printout { lines, line })
+        (engine, Paper { lines, line })
     }
 
     // Prints a request's entry.

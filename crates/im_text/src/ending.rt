@@ -41,33 +41,25 @@ fn print_refusal<W: Write>(
     }
 }
 
-/// Where lines are made and printed.
-#[derive(Drop)]
-pub struct Printout {
-    /// The lines on their way to the writer.
-    pub lines: Lines,
-    /// The room in which a line is made.
-    pub line: String,
-}
-
 /// Ends work that keeps lines back. If the work is done, writes those lines. If it is refused, tells the observer why
 /// and writes the line of the refusal. Returns the status: 0 only if the work is done and all its lines are written,
 /// else 1.
 pub fn finish<W: Write, N: Observer>(
     alloc: Global,
     done: Result<(), Reason>,
-    paper: &mut Printout,
+    lines: &mut Lines,
+    line: &mut String,
     out: &mut W,
     observer: &mut N,
 ) -> u8
     ensures status { result ≤ 1 }
     ensures whole { result ≡ 0 → IsOk done × ((start : Option (List ℕ)) (text : List ℕ)
-        → Prints start (W.contents out.old) paper.old.lines text → Appends start (W.contents out.new) text) }
-    ensures last { (start : Option (List ℕ)) (text : List ℕ) → Prints start (W.contents out.old) paper.old.lines text
-        → (last : List ℕ) × (IsLast last × Prints start (W.contents out.new) paper.new.lines (text ++ last)) }
+        → Prints start (W.contents out.old) lines.old text → Appends start (W.contents out.new) text) }
+    ensures last { (start : Option (List ℕ)) (text : List ℕ) → Prints start (W.contents out.old) lines.old text
+        → (last : List ℕ) × (IsLast last × Prints start (W.contents out.new) lines.new (text ++ last)) }
 {
     match done {
-        Ok(()) => match paper.lines.flush(out) {
+        Ok(()) => match lines.flush(out) {
             Ok(()) => 0,
             Err(reason) => {
                 observer.refused(reason);
@@ -77,7 +69,7 @@ pub fn finish<W: Write, N: Observer>(
         Err(reason) => {
             observer.refused(reason);
             if let Some(refusal) = reason.refusal() {
-                print_refusal(alloc, refusal, &mut paper.lines, &mut paper.line, out);
+                print_refusal(alloc, refusal, lines, line, out);
             }
             1
         }

@@ -11,7 +11,7 @@ mod replies;
 mod statuses;
 
 pub use diagnosis::diagnose;
-pub use ending::{Printout, end, finish, put_refusal};
+pub use ending::{end, finish, put_refusal};
 pub use faults::{CallFault, PathFault, Words};
 pub use lines::{BATCH, Lines, put_through};
 pub use observer::{Observer, Progress, Warning};

@@ -19,6 +19,6 @@ returns-clause-printed g c =
     let before = c.args.paper.lines in
     subst (λ (x : Contents). Closes was before is x c.args.did.items c.status_of.result) c.memory.ensures
     (subst (λ (d : List Did). Closes was before is m d c.status_of.result) c.as_slice.ensures.value
-    (closed_by was (g.W.Write.contents t.new.out) is before t.new.lines f.new.paper.lines m c.as_slice.result.now c.status_of.result t.ensures.some
+    (closed_by was (g.W.Write.contents t.new.out) is before t.new.lines f.new.lines m c.as_slice.result.now c.status_of.result t.ensures.some
     (λ zero. on_ok_by t.result _ t.ensures.all (c.both.ensures.told (f.ensures.whole (c.status_of.ensures.done zero)).0))
     f.ensures.last (λ zero. (f.ensures.whole (c.status_of.ensures.done zero)).1)))

@@ -26,7 +26,7 @@ returns-clause-closed g c = λ honest.
     let marks = s.new.self.places.marks.items in
     (closed_once g.D.Disk c.args.script.now start v.result.0 c.close.result c.status_at.result from mid
     (g.W.Write.contents c.finish-status.new.out) held
-    l.new.self.lines v.result.1.lines c.finish-status.new.paper.lines w l.new.self.waited.items marks
+    l.new.self.lines v.result.1.lines c.finish-status.new.lines w l.new.self.waited.items marks
     (as_of (λ (e : EngineState g.row.D.Denot) (l : Lines). EndedOnce g.D.Disk start script held (server_of e from l w
     marks)) s.new.self.engine v.result.0 s.new.self.lines l.new.self.lines engines l.ensures.lines served.0)
     (λ zero. as_of (λ (e : EngineState g.row.D.Denot) (l : Lines). DoneOnce g.D.Disk start script held (server_of e from
