@@ -105,7 +105,7 @@ fn first_fault(alloc: Global, word: &[u8], rest: &[&[u8]]) -> Result<LineFault, 
     let expected = if begins_with_digit(word) {
         Expected::Waiter
     } else {
-        Expected::Question
+        Expected::Asked
     };
     Ok(LineFault::Word(Quoted::of(word), expected))
 }
@@ -118,7 +118,7 @@ fn words_fault(alloc: Global, words: &[&[u8]]) -> Result<LineFault, AllocError>
         return Ok(fault);
     }
     let Some((first, rest)) = words.split_first() else {
-        return Ok(LineFault::Ends(Expected::Question));
+        return Ok(LineFault::Ends(Expected::Asked));
     };
     match behind(first) {
         Some(expected) => rest_fault(alloc, rest, expected),
