@@ -7,14 +7,15 @@ use Rattle.std.proofs.lemmas.List.{append-nil, drop_more, length-take-le, take-a
 use Rattle.std.proofs.KnownBytes.{Consumes-kept, Consumes-nil}
 use Rattle.std.proofs.lemmas.List.Elements.{All-append, All-nil}
 use Rattle.std.proofs.lemmas.List.Splits.{length-slice_split, slice_split_at, slice_split_none}
-use Rattle.std.specs.Prelude.{◌==◌, ◌&&◌, nat_le, nat_lt, count_by, IfOk, IfSome, Option, None, Some, Result, Ok, Err}
+use Rattle.std.specs.Prelude.{◌==◌, ◌&&◌, nat_le, nat_lt, count_by, IfOk, IfSome, OnOk, Option, None, Some, Result, Ok, Err}
 use Rattle.std.specs.Prelude.{slice_index}
 use Rattle.std.specs.List.{list_all}
 use Rattle.std.specs.Option.{option_map}
 use Rattle.std.specs.Io.{StartsWith}
 use Rattle.std.specs.Io.KnownBytes.{Consumes, IsAtEnd, Keeps}
 use Rattle.std.specs.Io.BufRead.{DropsConsumable}
-use Rattle.im_script.specs.Grammar.{is_ascii, is_line, words_of}
+use Rattle.std.specs.Char.{is_ascii}
+use Rattle.im_script.specs.Grammar.{words_of}
 use Rattle.im_script.specs.Script.{lines_of}
 use Rattle.im_dialogue.specs.declared.asking.Question.{Question}
 use Rattle.im_dialogue.specs.declared.line_part.LinePart.{LinePart}
@@ -64,6 +65,11 @@ hears_as (Some all) (Some left) c xs one same = subst (λ (o : Left). Hears (Som
 pub same_left : (a b : Left) → a ≡ b → IfSome a (λ l. b ≡ Some l)
 same_left None b same = tt
 same_left (Some l) b same = sym same
+
+-- what holds if the call succeeded
+pub on_default : {A E P : Type 0} (r : Result A E) → OnOk r P → ((e : E) → r ≡ Err e → ⊥) → P
+on_default (Ok a) it not_err = it
+on_default (Err e) it not_err = absurd (not_err e refl)
 
 -- none of it was heard
 pub none_heard : (a b : Left) → Hears a b [] → IfSome a (λ l. b ≡ Some l)
@@ -119,6 +125,11 @@ front_length zero xs = omega arith
 front_length (suc m) [] = omega arith
 front_length (suc m) (x ∷ xs) = let rest = front_length m xs in omega (arith, rest)
 
+-- the same, of another name for what is asked
+pub asks_same : (parts : List (Option Question)) (asked others : List Question) (m : ℕ) → asked ≡ others
+    → parts ≡ take m (as_asked asked) → parts ≡ take m (as_asked others)
+asks_same parts asked others m same is = is ∙ ap (λ (l : List Question). take m (as_asked l)) same
+
 -- so many parts of a group are so many of what is asked
 pub front_few : {P E : Type 0} (r : Result ℕ E) (asked : List Question) (f : P → Option Question) (parts : List P)
     (m : ℕ) → map f parts ≡ take m (as_asked asked) → IfOk r (λ many. many ≤ length parts)
@@ -140,20 +151,24 @@ pub taken_more : (asked : List Question) (i : ℕ) (d : Question) (old new : Lis
     → i < length asked → old ≡ take i (as_asked asked)
     → new ≡ old ++ (if taken then Some (get_or asked i d) ∷ [] else []) → taken ≡ true
     → new ≡ take (i + 1) (as_asked asked)
-taken_more asked i d old new taken inside before is yes =
-    is ∙ ap (λ (b : Bool). old ++ (if b then Some (get_or asked i d) ∷ [] else [])) yes
+taken_more asked i d old new taken inside before is was =
+    is ∙ ap (λ (b : Bool). old ++ (if b then Some (get_or asked i d) ∷ [] else [])) was
     ∙ ap (λ (l : List (Option Question)). l ++ Some (get_or asked i d) ∷ []) before ∙ next i asked inside
+    ∙ ap (λ (n : ℕ). take n (as_asked asked)) more
   where
+    more : suc i ≡ i + 1
+    more = omega arith
+
     next : (i : ℕ) (xs : List Question) → i < length xs
-        → take i (as_asked xs) ++ Some (get_or xs i d) ∷ [] ≡ take (i + 1) (as_asked xs)
+        → take i (as_asked xs) ++ Some (get_or xs i d) ∷ [] ≡ take (suc i) (as_asked xs)
     next i [] within = absurd (omega (arith, within))
     next zero (x ∷ xs) within = refl
     next (suc i) (x ∷ xs) within = ap (λ (l : List (Option Question)). Some x ∷ l) (next i xs (omega (arith, within)))
 
 pub taken_still : (asked : Question) (old new : List (Option Question)) (taken : Bool)
     → new ≡ old ++ (if taken then Some asked ∷ [] else []) → taken ≡ false → new ≡ old
-taken_still asked old new taken is no =
-    is ∙ ap (λ (b : Bool). old ++ (if b then Some asked ∷ [] else [])) no ∙ append-nil old
+taken_still asked old new taken is wasnt =
+    is ∙ ap (λ (b : Bool). old ++ (if b then Some asked ∷ [] else [])) wasnt ∙ append-nil old
 
 -- a group asks for the first of what is asked
 pub hears_front : (before : Left) (later : ℕ → Left) (asked parts : List (Option Question)) (m : ℕ)
@@ -250,6 +265,9 @@ pub part_is : (a c : Option (List ℕ)) (text kept now : List ℕ) (before taken
 part_is a c text kept now before taken p within none feed is last end more taken_all ends =
     by_test (nat_lt before (length text)) (length text == 0) refl refl
   where
+    take_none : (xs : List ℕ) (n : ℕ) → n ≡ 0 → take n xs ≡ []
+    take_none xs n none_of = ap (λ (k : ℕ). take k xs) none_of
+
     read_so : (q : LinePart) → p ≡ q → ReadsPart q a c (take before text) → ReadsMore p a c kept now
     read_so q same it = subst (λ (x : LinePart). ReadsMore x a c kept now) (sym same)
         (take before text, is, none, it)
@@ -276,9 +294,6 @@ part_is a c text kept now before taken p within none feed is last end more taken
         let it = more (omega (arith, past, within)) some in
         read_so piece.More it.0 (taken_so before it.1)
 
-    take_none : (xs : List ℕ) (n : ℕ) → n ≡ 0 → take n xs ≡ []
-    take_none xs n zero = ap (λ (k : ℕ). take k xs) zero
-
 -- nothing is read yet
 pub read_none : (a : Option (List ℕ)) (line : List ℕ) → line ≡ [] → HasReadPart a a line
 read_none None line none = tt
@@ -292,7 +307,7 @@ read_more (Some bytes) b c line more (whole, rest, there, kept, none, all) (byte
     on c (subst (λ (o : Option (List ℕ)). Consumes o c bytes_read) there reads)
   where
     on : (o : Option (List ℕ)) → Consumes (Some rest) o bytes_read → HasReadPart (Some bytes) o more
-    on None no = absurd no
+    on None lost = absurd lost
     on (Some left) is = (
       whole ++ bytes_read,
       left,
@@ -313,7 +328,7 @@ read_last (Some bytes) b c line more (whole, rest, there, kept, none, all) (byte
     line_now = now ∙ ap (λ (l : List ℕ). take KEPT (l ++ bytes_read)) kept ∙ keep_more KEPT whole bytes_read
 
     on : (o : Option (List ℕ)) → Consumes (Some rest) o (bytes_read ++ 10 ∷ []) → ReadsLine true (Some bytes) o more
-    on None no = absurd no
+    on None lost = absurd lost
     on (Some left) is = (
       left,
       refl,
@@ -449,7 +464,7 @@ module _ (text : List ℕ) (asked : List Question) (ends : List ℕ) (rest line 
   abbrev more : List Question
   more = asked ++ found ∷ []
 
-  front : List ℕ
+  abbrev front : List ℕ
   front = take start text
 
   text_is : text ≡ (front ++ (line ++ 10 ∷ [])) ++ later

@@ -188,7 +188,8 @@ impl<D: Disk> Dialogue<D> {
         }
         match self.serve_group(out) {
             Ok(served) => {
-                input.consume(end_of(self.drafts.standing.ends.as_slice(), served));
+                let ends = self.drafts.standing.ends.as_slice();
+                input.consume(end_of(ends, served));
                 Ok(served as u64)
             }
             Err(reason) => Err(reason),
@@ -264,7 +265,6 @@ impl<D: Disk> Dialogue<D> {
     ///
     /// The reader tells whether something is there to be read. While nothing is, turns of a checkpoint are taken if
     /// there is room for less than half as many commands as the journal has slots.
-    ///
     /// If the dialogue is watched, lines `E.N now REPLY` follow the answer to a request: one for each request that
     /// waited and is answered by it, in the order in which they came. A group then ends before a store or put of which
     /// it isn't known, before the group acts, whom it answers.

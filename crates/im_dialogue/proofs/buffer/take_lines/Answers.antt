@@ -1,4 +1,4 @@
-use Rattle.std.proofs.Common.{rules, arith, ap, length, sym, subst, List, ℕ}
+use Rattle.std.proofs.Common.{true, false, rules, arith, ap, length, sym, subst, List, ℕ}
 use Rattle.im_dialogue.specs.declared.asking.Question.{Question}
 use Rattle.im_dialogue.specs.Hearing.{EndsHere, StandsIn, TakesLine}
 use Rattle.im_dialogue.specs.Together.{AreAsked}
@@ -30,5 +30,9 @@ loop-line-preserved c =
       here = more.1;
     }
 
-pub returns-then-not-take_line-clause-stands : goal.returns-then-not-take_line-clause-stands
-returns-then-not-take_line-clause-stands c = c.loop-line.invariant.stands
+pub returns-then-not-branch-clause-stands : goal.returns-then-not-branch-clause-stands
+returns-then-not-branch-clause-stands c =
+    let same : TakesLine c.in-Some.line.now c.loop-line.standing.asked.items c.take_line.new.asked.items false
+    = search rules in
+    subst (λ (l : List Question). StandsIn c.args.text.now l c.loop-line.standing.ends.items) (sym same)
+    c.loop-line.invariant.stands

@@ -11,7 +11,7 @@ pub loop-line-preserved : goal.loop-line-preserved
 loop-line-preserved g c = record {
   asked = asked_next c.args.asked.now c.loop-line.line-index c.loop-line-test.true c.loop-line.invariant.asked;
   group = c.in_ok-is_taken.ensures.group;
-  asks = taken_more c.args.asked.now c.loop-line.line-index _ _ _ c.loop-line-test.true c.loop-line.invariant.asks
+  asks = taken_more c.args.asked.now c.loop-line.line-index _ _ _ _ c.loop-line-test.true c.loop-line.invariant.asks
       c.in_ok-is_taken.ensures.asks (search rules);
 }
 

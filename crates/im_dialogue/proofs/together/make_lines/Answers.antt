@@ -19,7 +19,7 @@ loop-part-init g c = (
     search rules,
     λ watch old cs served. telling_first watch old cs c.args.group.now.parts.items
         (map string_bytes c.args.group.now.nows.items) c.args.group.now.members.items c.args.served.now _ _ _ _ _ served
-        (search rules) (search rules) (search rules),
+        (search rules) (search rules) (search rules) (search rules),
   ),
 )
 
@@ -30,8 +30,8 @@ returns-in_default-split_first-clause-tells g c = λ watch old cs served.
     let none : length c.loop-part.nows.now ≡ 0 = match_none _ _ _ c.split_first-in-Some.ensures.cases
     c.in_default-split_first.not-Some in
     told_as watch old cs _ _ _ (told_before c.args.group.now.parts.items inv.0 c.loop-part.parts.now _ inv.1.0
-    (c.told_of-in_default-split_first.ensures ∙ ap (λ (l : List GroupLine). length l - length c.loop-part.parts.now)
-    c.as_slice-in_default-split_first.ensures.value))
+    (c.told_of.ensures ∙ ap (λ (l : List GroupLine). length l - length c.loop-part.parts.now)
+    c.as_slice.ensures.value))
     (telling_lost watch old cs c.in-Some.part.now c.loop-part.parts.now c.in-Some.later.now
     (map string_bytes c.loop-part.nows.now) c.loop-part.answers.now (string_bytes c.loop-part.draft.text) _ parts_are
     (mapped_none string_bytes c.loop-part.nows.now none) (inv.1.1 watch old cs served))
@@ -90,7 +90,7 @@ returns-clause-tells g c = λ watch old cs served.
     let inv = c.loop-part.invariant in
     let none : length c.loop-part.parts.now ≡ 0 = search rules in
     told_as watch old cs _ _ _ (told_before c.args.group.now.parts.items inv.0 c.loop-part.parts.now _ inv.1.0
-    (c.told_of.ensures ∙ ap (λ (l : List GroupLine). length l - length c.loop-part.parts.now)
-    c.as_slice.ensures.value))
+    (c.told_of-2.ensures ∙ ap (λ (l : List GroupLine). length l - length c.loop-part.parts.now)
+    c.as_slice-2.ensures.value))
     (telling_over watch old cs c.loop-part.parts.now (map string_bytes c.loop-part.nows.now) c.loop-part.answers.now
     (string_bytes c.loop-part.draft.text) _ none (inv.1.1 watch old cs served))

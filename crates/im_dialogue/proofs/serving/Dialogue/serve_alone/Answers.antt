@@ -19,7 +19,8 @@ pub returns-in-Ok-false-clause-talks : goal.returns-in-Ok-false-clause-talks
 returns-in-Ok-false-clause-talks g c =
     left_as g.D.Disk.now g.D.Disk.past g.D.Disk.honest c.args.self.now.setting.watch c.args.self.now.engine
     (outputs (g.W.Write.contents c.args.out.now) (g.B.Backups.kept c.args.backups.now)) _ _
-    (asked_nothing _ _ _ c.in-Ok-false.ensures.read)
+    (asked_nothing (g.R.Read.remaining c.args.input.now) (g.R.Read.remaining c.next_line.new.input)
+    c.next_line.new.line.items (rw c.in-Ok-false.field-0-test at c.in-Ok-false.ensures.read))
 
 pub returns-in-Ok-true-serve_line-clause-talks : goal.returns-in-Ok-true-serve_line-clause-talks
 returns-in-Ok-true-serve_line-clause-talks g c =
@@ -37,8 +38,8 @@ returns-in-Ok-true-serve_line-clause-talks g c =
     (same_left _ _ (left_one later))
     (from_left now past honest watch c.args.self.now.engine c.serve_line.new.self.engine was
     (with_left (left_behind true (option_map questions_in later)) is) (questions_left known)
-    (asking (asked_of line) (option_map questions_in later)) (asked_line known later line c.in-Ok-true.ensures.read)
-    (c.in-Ok-true-serve_line.ensures.talks (option_map questions_in later)))
+    (asking (asked_of line) (option_map questions_in later)) (asked_line known later line (rw c.in-Ok-true.field-0-test at c.in-Ok-true.ensures.read))
+    (rw c.in-Ok-true-serve_line.field-0-test at (c.in-Ok-true-serve_line.ensures.talks (option_map questions_in later))))
 
 pub returns-in-Ok-false-serve_line-clause-talks : goal.returns-in-Ok-false-serve_line-clause-talks
 returns-in-Ok-false-serve_line-clause-talks g c =
@@ -56,8 +57,9 @@ returns-in-Ok-false-serve_line-clause-talks g c =
     (same_left _ _ (left_zero later))
     (from_left now past honest watch c.args.self.now.engine c.serve_line.new.self.engine was
     (with_left (left_behind false (option_map questions_in later)) is) (questions_left known)
-    (asking (asked_of line) (option_map questions_in later)) (asked_line known later line c.in-Ok-true.ensures.read)
-    (c.in-Ok-false-serve_line.ensures.talks (option_map questions_in later)))
+    (asking (asked_of line) (option_map questions_in later)) (asked_line known later line (rw c.in-Ok-true.field-0-test at c.in-Ok-true.ensures.read))
+    (rw c.in-Ok-false-serve_line.field-0-test at
+    (c.in-Ok-false-serve_line.ensures.talks (option_map questions_in later))))
 
 pub returns-in-Err-serve_line-clause-talks : goal.returns-in-Err-serve_line-clause-talks
 returns-in-Err-serve_line-clause-talks g c =
@@ -69,5 +71,5 @@ returns-in-Err-serve_line-clause-talks g c =
     (outputs (g.W.Write.contents c.args.out.now) (g.B.Backups.kept c.args.backups.now))
     (outputs (g.W.Write.contents c.serve_line.new.out) (g.B.Backups.kept c.serve_line.new.backups))
     (questions_left known) (asking (asked_of line) (option_map questions_in later))
-    (asked_line known later line c.in-Ok-true.ensures.read)
+    (asked_line known later line (rw c.in-Ok-true.field-0-test at c.in-Ok-true.ensures.read))
     (c.in-Err-serve_line.ensures.talks (option_map questions_in later))

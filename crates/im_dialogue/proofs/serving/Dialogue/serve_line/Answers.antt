@@ -21,14 +21,14 @@ returns-in-Ok-Some-clause-talks g c =
     (outputs (g.W.Write.contents c.serve_asked.new.out) (g.B.Backups.kept c.serve_asked.new.backups))
     c.serve_asked.result) (sym read) (c.serve_asked.ensures.talks c.args.self.now.drafts.line.items read)
 
-pub returns-in-Ok-explain_line-clause-talks : goal.returns-in-Ok-explain_line-clause-talks
-returns-in-Ok-explain_line-clause-talks g c = λ rest.
+pub returns-in-Ok-clause-talks : goal.returns-in-Ok-clause-talks
+returns-in-Ok-clause-talks g c = λ rest.
     let read : asked_of c.args.self.now.drafts.line.items ≡ None = search rules in
-    rw (sym read) (c.in-Ok-explain_line.ensures c.args.self.now.setting.watch rest
+    rw read (c.in-Ok.ensures c.args.self.now.setting.watch rest
     (g.B.Backups.kept c.args.backups.now))
 
 pub returns-in-Err-explain_line-clause-talks : goal.returns-in-Err-explain_line-clause-talks
 returns-in-Err-explain_line-clause-talks g c = λ rest.
     let read : asked_of c.args.self.now.drafts.line.items ≡ None = search rules in
-    rw (sym read) (c.in-Err-explain_line.ensures c.args.self.now.setting.watch rest
+    rw read (c.in-Err-explain_line.ensures c.args.self.now.setting.watch rest
     (g.B.Backups.kept c.args.backups.now))

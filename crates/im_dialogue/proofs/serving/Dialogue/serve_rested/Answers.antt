@@ -41,8 +41,8 @@ returns-then-many-eq0-clause-talks g c =
     (λ e. Ends g.D.Disk s.watch c.serve_together.new.self.engine been c.serve_alone.new.self.engine is))
     c.serve_together.ensures.same c.serve_alone.ensures.talks)
 
-pub returns-in-Ok-clause-talks : goal.returns-in-Ok-clause-talks
-returns-in-Ok-clause-talks g c =
+pub returns-else-many-eq0-clause-talks : goal.returns-else-many-eq0-clause-talks
+returns-else-many-eq0-clause-talks g c =
     let kept = g.B.Backups.kept c.args.backups.now in
     let known = questions_left (g.R.Read.remaining c.args.input.now) in
     let later = g.R.Read.remaining c.serve_together.new.input in

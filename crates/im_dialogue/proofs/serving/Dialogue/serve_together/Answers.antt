@@ -3,7 +3,7 @@ use Rattle.std.specs.Prelude.{None}
 use Rattle.im_dialogue.specs.declared.buffer.InBuffer.{InBuffer}
 use Rattle.im_dialogue.specs.Hearing.{end_at, left_at, questions_left}
 use Rattle.im_dialogue.specs.Talk.{outputs, with_left}
-use Rattle.im_dialogue.proofs.HearingLemmas.{kept_left, queue_hears, queue_left}
+use Rattle.im_dialogue.proofs.HearingLemmas.{kept_left, on_default, queue_hears, queue_left}
 use Rattle.im_dialogue.proofs.TalkLemmas.{ends_after, goes_talk, halts_talk, left_as, on_after, talk_ends_here, to_left}
 use Rattle.im_dialogue.proofs.serving.Dialogue.serve_together.Goals as goal
 
@@ -14,11 +14,11 @@ returns-in-Err-clause-talks g c = λ kept.
     (outputs (g.W.Write.contents c.args.out.now) kept))
     None
 
-pub returns-then-many-lt-2-clause-talks : goal.returns-then-many-lt-2-clause-talks
-returns-then-many-lt-2-clause-talks g c = λ kept.
+pub returns-then-many-lt2-clause-talks : goal.returns-then-many-lt2-clause-talks
+returns-then-many-lt2-clause-talks g c = λ kept.
     left_as g.D.Disk.now g.D.Disk.past g.D.Disk.honest c.args.self.now.setting.watch c.args.self.now.engine
     (outputs (g.W.Write.contents c.args.out.now) kept) _ _
-    (kept_left _ _ c.gather.ensures.stands.1.1.kept)
+    (kept_left _ _ (on_default c.gather.result c.gather.ensures.stands c.in_default.not-Err).2.kept)
 
 pub returns-in-Err-make_room-clause-talks : goal.returns-in-Err-make_room-clause-talks
 returns-in-Err-make_room-clause-talks g c = λ kept.
@@ -40,13 +40,15 @@ returns-in-Ok-clause-talks g c = λ kept.
     let standing = c.gather.new.standing in
     let asked = standing.asked.items in
     let ends = standing.ends.items in
-    let stands = c.gather.ensures.stands in
+    let stands = on_default c.gather.result c.gather.ensures.stands c.in_default.not-Err in
     let served = c.in-Ok.served in
     let few : served ≤ length asked = c.in-Ok.ensures.few in
+    let ends_are : c.as_slice-ends.result.now ≡ ends = c.as_slice-ends.ensures.value
+    ∙ ap (λ (b : InBuffer). b.ends.items) c.serve_group.ensures.standing in
+    let within : served ≤ length c.as_slice-ends.result.now
+    = omega (arith, few, stands.1.many, ap (λ (l : List ℕ). length l) ends_are) in
     let end : c.end_of.result ≡ end_at ends served
-    = c.end_of.ensures (omega (arith, few, stands.1.many, search rules))
-    ∙ ap (λ (l : List ℕ). end_at l served)
-    (c.as_slice.ensures.value ∙ ap (λ (b : InBuffer). b.ends.items) c.serve_group.ensures.standing) in
+    = c.end_of.ensures within ∙ ap (λ (l : List ℕ). end_at l served) ends_are in
     to_left now past honest watch c.args.self.now.engine c.serve_group.new.self.engine
     (with_left (questions_left known) was) is (left_at ends known served)
     (questions_left (g.R.Read.remaining c.consume.new.self))
@@ -70,7 +72,7 @@ returns-in-Err-serve_group-clause-talks g c = λ kept.
     let was = with_left (questions_left known) (outputs (g.W.Write.contents c.args.out.now) kept) in
     let asked = c.gather.new.standing.asked.items in
     let ends = c.gather.new.standing.ends.items in
-    let stands = c.gather.ensures.stands in
+    let stands = on_default c.gather.result c.gather.ensures.stands c.in_default.not-Err in
     ends_after now past honest watch c.args.self.now.engine c.make_room.new.engine c.serve_group.new.self.engine was was
     (outputs (g.W.Write.contents c.serve_group.new.out) kept)
     (goes_talk now past honest watch c.args.self.now.engine c.make_room.new.engine
