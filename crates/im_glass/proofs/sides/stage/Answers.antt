@@ -1,6 +1,5 @@
-use Rattle.std.proofs.Common.{◌≡◌, ◌∙◌, ◌+◌, ap, sym, refl, arith, subst, length, List, take, take_all}
+use Rattle.std.proofs.Common.{◌≡◌, ◌∙◌, ◌+◌, ◌++◌, ap, refl, arith, subst, length, List, take_all}
 use Rattle.im_types.specs.declared.changes.Change.{Change}
-use Rattle.im_types.specs.Changes.{is_below}
 use Rattle.im_glass.specs.Copies.{FollowEach}
 use Rattle.im_glass.proofs.CopyLemmas.{staged-none, staged-next}
 use Rattle.im_glass.proofs.sides.stage.Goals as goal
@@ -16,3 +15,28 @@ loop-change-preserved g c = (
       c.stage_one.ensures.all c.stage_one.ensures.one
       (rw c.loop-change.invariant.0 c.stage_one.ensures.below),
 )
+
+pub returns-clause-goes_on : goal.returns-clause-goes_on
+returns-clause-goes_on g c =
+    let i = c.loop-change.invariant in
+    rw (i.0)
+    (subst (λ (l : List Change). FollowEach _ g.J.PaneName.book l _) c.requires.kept.1 i.2.goes)
+
+pub returns-clause-kept : goal.returns-clause-kept
+returns-clause-kept g c = rw (c.loop-change.invariant.0) c.requires.kept.0
+
+pub returns-clause-log : goal.returns-clause-log
+returns-clause-log g c =
+    let i = c.loop-change.invariant in
+    rw (i.0)
+    (ap (λ (l : List Change). c.args.both.now.desk.shown.value.seen.log ++ l)
+    (i.2.changes_are ∙ take_all c.loop-change.change-index c.args.changes.now (omega arith)))
+
+pub returns-clause-all : goal.returns-clause-all
+returns-clause-all g c =
+    c.loop-change.invariant.2.to_is
+    ∙ ap (λ (l : List Change). c.args.all.now ++ l) (take_all c.loop-change.change-index c.args.changes.now (omega arith))
+    ∙ ap (λ (l : List Change). l ++ c.args.changes.now) c.requires.kept.1
+
+pub returns-clause-cells : goal.returns-clause-cells
+returns-clause-cells g c = rw (c.loop-change.invariant.0) refl
