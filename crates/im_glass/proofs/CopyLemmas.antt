@@ -5,6 +5,7 @@ use Rattle.std.proofs.Common.{append_assoc, get_or-set_same, get_or-set_other, t
 use Rattle.std.specs.Prelude.{◌==◌}
 use Rattle.std.proofs.lemmas.Bool.Decides.{nat_tests}
 use Rattle.std.proofs.lemmas.List.{append-nil, take_more}
+use Rattle.std.specs.List.{AllByRecursion}
 use Rattle.logbook.specs.Pages.{Book}
 use Rattle.im_types.specs.declared.changes.Change.{Change}
 use Rattle.im_types.specs.declared.changes.Change.TheVariants.{Same, Full, Gone}
@@ -109,6 +110,13 @@ pub staged-next : (n : ℕ) (book : Book) (from changes to to' : List Change) (i
 staged-next n book from changes to to' i d before after s less goes a below =
     subst (λ (l : List Change). Staged n book from l to' after) (sym (take_more changes i d less))
     (staged-more n book from (take i changes) to to' (get_or changes i d) before after s goes a below)
+
+-- one change more of the first cells alone
+pub below-more : (n : ℕ) (change : Change) → is_below n change ≡ true → (changes : List Change)
+    → AllByRecursion (λ (c : Change). is_below n c ≡ true) changes
+    → AllByRecursion (λ (c : Change). is_below n c ≡ true) (changes ++ change ∷ [])
+below-more n change is [] below = (is, tt)
+below-more n change is (c ∷ changes) below = (below.0, below-more n change is changes below.1)
 
 -- what a copy is after all that was put ahead
 pub record Brought (book : Book) (changes : List Change) (n : ℕ) (s : CopyState) : Type 0 where

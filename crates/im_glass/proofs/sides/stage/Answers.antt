@@ -1,4 +1,4 @@
-use Rattle.std.proofs.Common.{◌≡◌, ◌∙◌, ◌+◌, ◌++◌, ap, refl, arith, subst, length, List, take_all}
+use Rattle.std.proofs.Common.{◌≡◌, ◌∙◌, ◌+◌, ◌++◌, ap, refl, arith, subst, length, drop, List, take_all}
 use Rattle.im_types.specs.declared.changes.Change.{Change}
 use Rattle.im_glass.specs.Copies.{FollowEach}
 use Rattle.im_glass.proofs.CopyLemmas.{staged-none, staged-next}
@@ -13,14 +13,15 @@ loop-change-preserved g c = (
   omega (arith, c.stage_one.ensures.count, c.loop-change.invariant.1),
   staged-next _ _ _ c.args.changes.now _ _ c.loop-change.change-index _ _ _ c.loop-change.invariant.2 (omega arith)
       c.stage_one.ensures.all c.stage_one.ensures.one
-      (rw c.loop-change.invariant.0 c.stage_one.ensures.below),
+      (rw (← c.loop-change.invariant.0) c.stage_one.ensures.below),
 )
 
 pub returns-clause-goes_on : goal.returns-clause-goes_on
 returns-clause-goes_on g c =
     let i = c.loop-change.invariant in
     rw (i.0)
-    (subst (λ (l : List Change). FollowEach _ g.J.PaneName.book l _) c.requires.kept.1 i.2.goes)
+    (subst (λ (l : List Change). FollowEach (length c.args.both.now.desk.shown.value.cells) g.J.PaneName.book l
+    (drop c.loop-change.both.behind c.loop-change.both.log.items)) c.requires.kept.1 i.2.goes)
 
 pub returns-clause-kept : goal.returns-clause-kept
 returns-clause-kept g c = rw (c.loop-change.invariant.0) c.requires.kept.0

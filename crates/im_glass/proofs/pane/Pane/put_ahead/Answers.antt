@@ -1,7 +1,8 @@
-use Rattle.std.proofs.Common.{rules, ◌≡◌, ◌∙◌, ◌++◌, ◌∷◌, [], ap, sym, arith, length, length-append, List, true}
+use Rattle.std.proofs.Common.{◌≡◌, ◌∙◌, ◌++◌, ◌∷◌, [], ap, sym, arith, length, length-append, List, true}
 use Rattle.im_types.specs.declared.changes.Change.{Change}
 use Rattle.im_types.specs.Changes.{is_below}
 use Rattle.im_glass.specs.Panes.{PaneView, is_filled}
+use Rattle.im_glass.proofs.CopyLemmas.{below-more}
 use Rattle.im_glass.proofs.RoomLemmas.{not-filled}
 use Rattle.im_glass.proofs.pane.Pane.put_ahead.Goals as goal
 
@@ -25,7 +26,7 @@ invariant_of-self g c =
       i.3,
       i.4,
       i.5,
-      search rules,
+      below-more (length now.cells) c.args.change below items i.6,
       omega (
         arith,
         length-append items (c.args.change ∷ []),
@@ -49,8 +50,15 @@ returns-clause-contents g c =
       spare = p.spare;
     }) c.self.view_is)
 
-filled : goal.returns-clause-full
-filled g c =
+pub returns-then-is_filled-clause-full : goal.returns-then-is_filled-clause-full
+returns-then-is_filled-clause-full g c =
+    sym c.if-is_filled.true ∙ c.is_filled.ensures
+    ∙ ap (λ n. is_filled n c.len-2.result) (c.len.ensures ∙ c.self.inside.ahead.ok.0)
+    ∙ ap (is_filled (length c.self.inside.ahead.items)) (c.len-2.ensures ∙ ap length c.self.invariant.0)
+    ∙ ap (λ (p : PaneView). is_filled (length p.ahead) (length p.shown)) c.self.view_is
+
+pub returns-clause-full : goal.returns-clause-full
+returns-clause-full g c =
     sym c.if-is_filled.false ∙ c.is_filled.ensures
     ∙ ap (λ n. is_filled n c.len-2.result) (c.len.ensures ∙ c.self.inside.ahead.ok.0)
     ∙ ap (is_filled (length c.self.inside.ahead.items)) (c.len-2.ensures ∙ ap length c.self.invariant.0)
