@@ -1,4 +1,4 @@
-use Rattle.std.proofs.Common.{◌≡◌, ◌∙◌, ◌++◌, ◌∷◌, [], ap, refl, List}
+use Rattle.std.proofs.Common.{◌∙◌, ◌++◌, ◌∷◌, [], ap, refl, List}
 use Rattle.im_glass.specs.declared.copies.Ahead.{Ahead}
 use Rattle.im_glass.proofs.sides.append.Goals as goal
 

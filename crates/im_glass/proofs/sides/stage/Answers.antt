@@ -1,4 +1,4 @@
-use Rattle.std.proofs.Common.{◌≡◌, ◌∙◌, ◌+◌, ◌++◌, ap, refl, arith, subst, length, drop, List, take_all}
+use Rattle.std.proofs.Common.{◌∙◌, ◌++◌, ap, refl, arith, subst, length, drop, List, take_all}
 use Rattle.im_types.specs.declared.changes.Change.{Change}
 use Rattle.im_glass.specs.Copies.{FollowEach}
 use Rattle.im_glass.proofs.CopyLemmas.{staged-none, staged-next}

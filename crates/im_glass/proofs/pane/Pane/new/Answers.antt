@@ -1,4 +1,4 @@
-use Rattle.std.proofs.Common.{◌≡◌, ◌∙◌, ◌+◌, ◌≤◌, [], ap, sym, subst, arith, length, List, true}
+use Rattle.std.proofs.Common.{◌≡◌, ◌∙◌, [], ap, sym, subst, arith, length, List, true}
 use Rattle.std.specs.List.{AllByRecursion}
 use Rattle.logbook.specs.Pages.{Book}
 use Rattle.im_types.specs.declared.changes.Change.{Change}

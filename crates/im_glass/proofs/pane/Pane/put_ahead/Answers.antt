@@ -1,5 +1,4 @@
-use Rattle.std.proofs.Common.{◌≡◌, ◌∙◌, ◌++◌, ◌∷◌, [], ap, sym, arith, length, length-append, List, true}
-use Rattle.im_types.specs.declared.changes.Change.{Change}
+use Rattle.std.proofs.Common.{◌≡◌, ◌∙◌, ◌++◌, ◌∷◌, [], ap, sym, arith, length, length-append, true}
 use Rattle.im_types.specs.Changes.{is_below}
 use Rattle.im_glass.specs.Panes.{PaneView, is_filled}
 use Rattle.im_glass.proofs.CopyLemmas.{below-more}
