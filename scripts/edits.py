@@ -209,8 +209,8 @@ def is_of_type(function, name):
 
 
 def faults(top=sources.TOP):
-    """Yields the edits that don't say which clause they break, name one that doesn't exist, or whose old text is gone,
-    those of scripts/threads too."""
+    """Yields the edits that don't say which clause they break, name one that doesn't exist, rewrite another function
+    than they name, or whose old text is gone, those of scripts/threads too."""
     known = Known(top)
     for path in sorted((top / "scripts" / "threads").rglob("*.edit")):
         yield from misplaced(top, path, top)
@@ -224,3 +224,7 @@ def faults(top=sources.TOP):
                 yield f"{path.relative_to(top)}: no line `{BREAKS}FUNCTION CLAUSE`"
             elif why := next(filter(None, (known.why_not(crate, *it) for it in said)), None):
                 yield f"{path.relative_to(top)}: {why}"
+            else:
+                for it in filter(Path.is_file, (path, twin)):
+                    if other := known.elsewhere(crate, it, said, top):
+                        yield f"{it.relative_to(top)}: rewrites {other.path()}, and breaks {said[0][0]}"
