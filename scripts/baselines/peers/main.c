@@ -6,7 +6,6 @@
  *        PROGRAM open COUNT PATH                        opens what `fill` left
  *
  * It prints the nanoseconds of a put, of a group, or of the opening, and the syncs of each, which sync.c counts. */
-#define _GNU_SOURCE
 #include <dlfcn.h>
 #include <pthread.h>
 #include <stdio.h>

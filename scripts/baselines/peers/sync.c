@@ -1,7 +1,6 @@
 /* Syncs that all take SYNC_US microseconds and don't use the disk, so that all stores have the same one. A write to a
  * file that is opened to be written through (LMDB's header) is a sync, too. It is loaded before the C library
  * (LD_PRELOAD). */
-#define _GNU_SOURCE
 #include <fcntl.h>
 #include <stdatomic.h>
 #include <stdlib.h>
