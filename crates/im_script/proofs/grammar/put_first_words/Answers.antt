@@ -3,7 +3,7 @@ use Rattle.std.specs.Prelude.{None, is_some}
 use Rattle.std.specs.Option.{option_map_or}
 use Rattle.im_script.specs.Grammar.{texts, words_of}
 use Rattle.im_script.proofs.WordLemmas.{left_plain, next_words, none_plain, none_words}
-use Rattle.im_script.proofs.grammar.first_words.Goals as goal
+use Rattle.im_script.proofs.grammar.put_first_words.Goals as goal
 
 pub returns-in_err-part-clause-plain : goal.returns-in_err-part-clause-plain
 returns-in_err-part-clause-plain c =
@@ -11,7 +11,7 @@ returns-in_err-part-clause-plain c =
     ∙ c.in_err-part.ensures.plain)
 
 pub loop-rest-init : goal.loop-rest-init
-loop-rest-init c = rw c.new-words.ensures (record { plain = refl; words = refl })
+loop-rest-init c = rw c.requires.empty (record { plain = refl; words = refl })
 
 pub loop-rest-preserved : goal.loop-rest-preserved
 loop-rest-preserved c = record {

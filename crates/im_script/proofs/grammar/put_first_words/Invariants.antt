@@ -3,7 +3,7 @@ use Rattle.std.specs.Char.{is_ascii}
 use Rattle.std.specs.List.{list_all}
 use Rattle.std.specs.Option.{option_map_or}
 use Rattle.im_script.specs.Grammar.{texts, words_of}
-use Rattle.im_script.proofs.grammar.first_words.Given as goal
+use Rattle.im_script.proofs.grammar.put_first_words.Given as goal
 
 -- what is left of the line, with what was cut off, has the line's words and its bytes
 abbrev pub invariant-loop-rest : goal.invariant-loop-rest

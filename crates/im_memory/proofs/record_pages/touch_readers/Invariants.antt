@@ -5,7 +5,7 @@ use Rattle.im_pages.specs.PageSets.{size_of, IsWithin}
 use Rattle.im_memory.specs.Touched.{nodes_from}
 use Rattle.im_memory.specs.Covering.{AreIn}
 use Rattle.im_memory.proofs.CoverLemmas.{elements_of}
-use Rattle.im_memory.proofs.touches.touch_readers.Given as goal
+use Rattle.im_memory.proofs.record_pages.touch_readers.Given as goal
 
 -- a set that has all that is there so far, and what is left, has all
 abbrev pub invariant-loop-reader : goal.invariant-loop-reader

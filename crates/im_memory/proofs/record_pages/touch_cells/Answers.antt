@@ -1,7 +1,7 @@
 use Rattle.std.proofs.Common.{◌∙◌, arith}
 use Rattle.im_pages.specs.Places.{page_of_cell}
 use Rattle.im_memory.proofs.CoverLemmas.{AreIn-addresses, cells-count, cells-more}
-use Rattle.im_memory.proofs.touches.touch_cells.Goals as goal
+use Rattle.im_memory.proofs.record_pages.touch_cells.Goals as goal
 
 pub returns-clause-cells : goal.returns-clause-cells
 returns-clause-cells c =
