@@ -223,7 +223,7 @@ pub(crate) fn serve_orders<
     ensures recorded { result.trace.recorded ≡ opening.book.recorded }
     ensures planned { EndsBy K.memory K.plan result.trace.items result.engine.memory }
     ensures kept { D.honest result.engine.disk → K.begun.failed ≡ false
-        → ServedOn D.now D.past D.failures K.begun K.memory result.trace.items result.engine }
+        → ServedOn D.now D.past D.failures K.begun K.memory K.plan result.trace.items result.engine }
     ensures honest { D.honest result.engine.disk → K.honest }
     ensures told { AreAllTold K.memory result.trace.items (result.refused ≡ None) (map ask_of orders.items)
         result.did.items }
