@@ -115,8 +115,12 @@ module _ (windows : List Window) (base next : ℕ) (there : bounds windows 0 ≡
     (shut : (x : ℕ) → base ≤ x → x < upto
     → is_unsettled (kept_for windows (record { element = 0; number = x })) ≡ false) where
   settled_by_number : (k : ℕ) → base + k ≤ upto → AreSettledTo windows 0 (base + k)
-  settled_by_number zero le = subst (AreSettledTo windows 0) (omega arith) (settled_first windows 0 base next there)
-  settled_by_number (suc k) le = subst (AreSettledTo windows 0) (omega arith)
+  settled_by_number zero le =
+      let same : base ≡ base + 0 = omega arith in
+      subst (AreSettledTo windows 0) same (settled_first windows 0 base next there)
+  settled_by_number (suc k) le =
+      let same : (base + k) + 1 ≡ base + suc k = omega arith in
+      subst (AreSettledTo windows 0) same
       (settled_more windows 0 base next there (base + k) (settled_by_number k (omega arith)) (omega arith)
       (shut (base + k) (omega arith) (omega arith)))
 
