@@ -38,8 +38,9 @@ use Rattle.im_run.specs.Tracing.{TraceState}
 use Rattle.im_run.specs.Doing.{AreAllTold}
 use Rattle.im_run.specs.Orders.{Ask, AreOrders, IsOfAll, SetsUp, bases_made, script_heard, settled_when}
 use Rattle.im_run.specs.Planned.{EndsOnPlan, HasServedWhole}
-use Rattle.im_run.specs.Running.{BeginsFinals, Closes, EndedOn, PrintsFinals, Puts, Ran, RanOn, RunOn, ServedOn}
-use Rattle.im_run.specs.Running.{Settles, final_line, finals}
+use Rattle.im_run.specs.Running.{BeginsFinals, Closes, EndedOn, HasEnded, PrintsFinals, Puts, Ran, RanOn, RunOn}
+use Rattle.im_run.specs.Running.{ServedOn, Settles, final_line, finals}
+use Rattle.im_run.proofs.DoingLemmas.{told_weaker}
 
 -- ---- beginnings of lists
 
@@ -216,6 +217,28 @@ none_served {D} disk begun engine trace none same alive means =
     (subst (λ (t : List Line). ServedOn disk.now disk.past disk.failures here engine.memory None t engine) (sym none)
     all)
 
+-- servers that ended so, where it is known later that nothing was refused
+pub ended_weaker : {D : Type 0} (now : D → Moment) (past : D → List Moment) (failures : D → ℕ) (planned : Bool)
+    (whole : Option (List Ask)) (orders : List Ask) (begun engine : EngineState D) (trace : List Line) (did : List Did)
+    (none later : Type 0) → (later → none)
+    → HasEnded now past failures planned whole orders begun engine trace did none
+    → HasEnded now past failures planned whole orders begun engine trace did later
+ended_weaker now past failures planned whole orders begun engine trace did none later well it = record {
+  plan = it.plan;
+  served = it.served;
+  told = told_weaker begun.memory trace none later orders did well it.told;
+  all_served = λ is. it.all_served (well is);
+  as_planned = λ by. ⊎_elim
+      (λ ran. inl (record {
+        fits = ran.fits;
+        ended = ran.ended;
+        doubted = ran.doubted;
+        served = λ is. ran.served (well is);
+      }))
+      (λ n. inr (record { unserved = n.unserved; sure = n.sure; refused = λ is. n.refused (well is) }))
+      (it.as_planned by);
+}
+
 -- a server that was just made can serve
 pub ready_new : {D : Type 0} (disk : Ghosts D) (start engine : EngineState D) (held : Option (List ℕ))
     (before lines : Lines) (waited : List Waited) (marks : List Mark) → start.failed ≡ false
@@ -304,15 +327,15 @@ module _ {D : Type 0} (now : D → Moment) (past : D → List Moment) (failures 
   unfolding puts_on
   ended_run once planned script bases whole orders start mid setup text names was held is lines disk calls status it
       prints ended of_script is_whole set_up named =
-      let served = ended.served in
+      let served = ended.ended.served in
       let trace = calls.served in
       let begun = it.has.memory it.works in
       let put = accepted_in mid.memory trace in
-      let on = puts_on now past failures start mid ended.engine setup it.has it.works ended.plan trace served in
+      let on = puts_on now past failures start mid ended.engine setup it.has it.works ended.ended.plan trace served in
       let closes = ended.printed was text prints in
       let told_is : ended.engine.memory ≡ after start.memory on.told = sym served.ends
       ∙ sym (accepted-after mid.memory trace) ∙ goes_on now past failures start mid ended.engine setup it.has it.works
-      ended.plan trace served (accepted_in mid.memory trace) in
+      ended.ended.plan trace served (accepted_in mid.memory trace) in
       record {
         setup = setup;
         told = on.told;
@@ -342,14 +365,14 @@ module _ {D : Type 0} (now : D → Moment) (past : D → List Moment) (failures 
               (script_heard script) orders) named
               (subst (λ (m : Contents). AreOrders once m (settled_when once start.memory) bases (script_heard script)
               orders) begun of_script);
-          all = subst (λ (m : Contents). AreAllTold m trace (status ≡ 0) orders ended.did) begun ended.told;
+          all = subst (λ (m : Contents). AreAllTold m trace (status ≡ 0) orders ended.did) begun ended.ended.told;
           whole = whole;
           is_whole = subst (λ (b : List ℕ). IsOfAll once b (script_heard script) whole) named is_whole;
-          all_served = λ zero. subst (λ (m : Contents). HasServedWhole m.windows whole) told_is (ended.all_served zero);
+          all_served = λ zero. subst (λ (m : Contents). HasServedWhole m.windows whole) told_is (ended.ended.all_served zero);
           as_planned = λ by. subst (λ (m : Contents). EndsOnPlan m whole orders trace served.kept.doubt
               (after start.memory on.told) (status ≡ 0)) begun
               (subst (λ (end : Contents). EndsOnPlan mid.memory whole orders trace served.kept.doubt end (status ≡ 0))
-              told_is (ended.as_planned by));
+              told_is (ended.ended.as_planned by));
         });
       }
 
