@@ -30,7 +30,8 @@ use Rattle.im_text.proofs.PrintingLemmas.{prints_begins, take-prefix}
 use Rattle.im_text.proofs.TextLemmas.{written_none}
 use Rattle.im_serial.specs.declared.waits.Mark.{Mark}
 use Rattle.im_serial.specs.Asked.{Wanted}
-use Rattle.im_serial.specs.Serving.{GoesWith, HaltsWith, HasPut, MeansAtLeast, NotOpened, server_of}
+use Rattle.im_serial.specs.Once.{HasServedNothing}
+use Rattle.im_serial.specs.Serving.{GoesWith, HaltsWith, HasPut, MeansAtLeast, NotOpened, ScriptServer}
 use Rattle.im_run.specs.Setup.{CanServe}
 use Rattle.im_run.specs.declared.run.TheConstants.{STALLED}
 use Rattle.im_run.specs.declared.served.Did.{Did}
@@ -239,19 +240,15 @@ ended_weaker now past failures planned whole orders begun engine trace did none 
       (it.as_planned by);
 }
 
--- a server that was just made can serve
-pub ready_new : {D : Type 0} (disk : Ghosts D) (start engine : EngineState D) (held : Option (List ℕ))
-    (before lines : Lines) (waited : List Waited) (marks : List Mark) → start.failed ≡ false
-    → (disk.honest start.disk → LeavesNow (disk.now start.disk) (MeansState start))
-    → IsMemory (length start.memory.cells) (length start.memory.windows) start.memory → before.pending.items ≡ []
-    → waited ≡ [] → engine ≡ start → lines ≡ before → CanServe disk (server_of engine held lines waited marks)
-ready_new {D} disk start engine held before lines waited marks works means memory pending none same line = record {
-  works = ap (λ (e : EngineState D). e.failed) same ∙ works;
-  means = subst (λ (e : EngineState D). disk.honest e.disk → LeavesNow (disk.now e.disk) (MeansState e)) (sym same) means;
-  memory = subst (λ (e : EngineState D). IsMemory (length e.memory.cells) (length e.memory.windows) e.memory) (sym same)
-      memory;
-  pending = ap (λ (l : Lines). l.pending.items) line ∙ pending;
-  waited = none;
+-- a server that has served nothing can serve
+pub can_serve : {D : Type 0} (disk : Ghosts D) (s : ScriptServer D) (bases : List ℕ) → HasServedNothing disk s bases
+    → CanServe disk s
+can_serve disk s bases it = record {
+  works = it.works;
+  means = it.means;
+  memory = it.memory;
+  pending = it.pending;
+  waited = it.waited;
 }
 
 -- ---- what was printed

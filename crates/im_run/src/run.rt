@@ -10,18 +10,19 @@ use crate::beginning::begin;
 use crate::calls::Calls;
 use crate::closing::{Ending, close};
 use crate::context::RunContext;
+use crate::opening::open_server;
 use crate::orders::read_orders;
 use crate::served::{Outcome, serve_orders};
 use crate::sheet::{Commission, RunMode, Workload};
 use crate::tracing::Trace;
 use crate::unserved::with_whole;
+use im_controller::Opening;
 use im_disk::Disk;
 use im_engine::Engine;
 use im_script::Script;
-use im_controller::Opening;
-use im_serial::{Desk, Server};
+use im_serial::Server;
 use im_serving::{Gate, Watcher};
-use im_text::{Observer, Reason, diagnose, end};
+use im_text::{Observer, Reason};
 use im_types::Refusal;
 use std::alloc::Global;
 use std::io::Write;
@@ -249,30 +250,12 @@ pub fn run_on<
     ensures recorded { mode.recorded ≡ true → result.2.recorded ≡ true }
     ensures honest { D.honest result.1 → D.honest disk }
 {
-    let Ok(desk) = Desk::new(alloc) else {
-        let status = end(alloc, Err(Reason::Memory), out, observer);
-        return (status, disk, Trace::new(alloc));
-    };
-    match Engine::open(alloc, disk) {
-        Ok(engine) => {
-            let server = Server::new(alloc, engine, desk);
-            let asked = Commission {
-                script,
-                once: false,
-                mode,
-            };
-            let context = RunContext {
-                rt,
-                alloc,
-                gate,
-                watcher,
-            };
+    let context = RunContext::new(rt, alloc, gate, watcher);
+    match open_server(alloc, disk, out, observer) {
+        Ok(server) => {
+            let asked = Commission::anew(script, mode);
             run_server(&context, server, asked, out, observer)
         }
-        Err((refusal, mut disk)) => {
-            let reason = diagnose(alloc, &mut disk, refusal);
-            let status = end(alloc, Err(reason), out, observer);
-            (status, disk, Trace::new(alloc))
-        }
+        Err((status, disk)) => (status, disk, Trace::new(alloc)),
     }
 }
