@@ -20,7 +20,7 @@ use Rattle.im_laws.proofs.RunLemmas.{after-append}
 use Rattle.im_serial.specs.Begun.{new_memory}
 use Rattle.im_serial.proofs.BegunLemmas.{accepted_after, accepted_first}
 use Rattle.im_run.specs.Once.{RanOnce, RanRest}
-use Rattle.im_run.specs.Stops.{HasRunByPlan, MeansAccepted, MeansDoneByPlan, MeansRunByPlan, MeansServed}
+use Rattle.im_run.specs.Stops.{HasRunByPlan, MeansAccepted, MeansPlanDone, MeansPlanned, MeansServed}
 use Rattle.im_run.specs.Stops.{setup_blocks}
 use Rattle.im_run.specs.Tracing.{TraceState}
 use Rattle.im_run.proofs.PlanStops.{Stops, has_all, plan_stops}
@@ -90,7 +90,7 @@ module _ {D : Type 0} (disk : Ghosts D) (limits : Limits) (text : List ℕ) (old
 
   -- ---- by a plan
 
-  module _ (before : LeavesNow (disk.now old) (MeansRunByPlan limits text)) where
+  module _ (before : LeavesNow (disk.now old) (MeansPlanned limits text)) where
     module _ (it : RanRest disk.now disk.past disk.failures true text old new was is calls status) where
       planned_found : WasFound (HasRunByPlan limits text) it.ran.start
       planned_found = was_found (HasRunByPlan limits text) (disk.now old) it.ran.start before it.ran.found
@@ -104,11 +104,11 @@ module _ {D : Type 0} (disk : Ghosts D) (limits : Limits) (text : List ℕ) (old
           it.ran.setup it.ran.told it.ran.doubt calls.served status it.ran.printed.did it.ran.puts.accepted it.ran.tells
 
       planned_first : (file : List ℕ) → MeansBeginning it.ran.start (it.ran.told ++ it.ran.doubt) file
-          → MeansRunByPlan limits text file
+          → MeansPlanned limits text file
       planned_first = leaves_first limits it.ran.start (HasRunByPlan limits text) (run_first limits text)
           planned_found.put planned_found.count planned_is (it.ran.told ++ it.ran.doubt) planned_stops.run
 
-      planned_end : status ≡ 0 → LeavesNow (disk.now new) (MeansDoneByPlan limits text)
+      planned_end : status ≡ 0 → LeavesNow (disk.now new) (MeansPlanDone limits text)
       planned_end zero = λ file left.
           let settled = it.ran.settles (inl zero) in
           let none : it.ran.told ≡ it.ran.told ++ it.ran.doubt =
@@ -127,7 +127,7 @@ module _ {D : Type 0} (disk : Ghosts D) (limits : Limits) (text : List ℕ) (old
           )
 
     pub plan_keeps : RanOnce disk.now disk.past disk.failures true text old new was is calls status
-        → LeavesNow (disk.now new) (MeansRunByPlan limits text)
+        → LeavesNow (disk.now new) (MeansPlanned limits text)
     plan_keeps (inl it) file left = ⊎_elim (before file) (before file) (leaves_now (disk.now old) (disk.now new)
         (disk.past old) (disk.past new) (Left (disk.now old)) it.leaves file left)
     plan_keeps (inr (inl it)) file left = ⊎_elim (before file) (before file) (leaves_now (disk.now old) (disk.now new)
@@ -137,7 +137,7 @@ module _ {D : Type 0} (disk : Ghosts D) (limits : Limits) (text : List ℕ) (old
         it.ran.puts.leaves file left)
 
     pub plan_ends : RanOnce disk.now disk.past disk.failures true text old new was is calls status → status ≡ 0
-        → LeavesNow (disk.now new) (MeansDoneByPlan limits text)
+        → LeavesNow (disk.now new) (MeansPlanDone limits text)
     plan_ends (inl it) zero = absurd (no_end it.status_is zero)
     plan_ends (inr (inl it)) zero = absurd (no_end it.unrun.status_is zero)
     plan_ends (inr (inr it)) zero = planned_end it zero
@@ -202,7 +202,7 @@ module _ {D : Type 0} (disk : Ghosts D) (limits : Limits) (text : List ℕ) (old
 -- ---- a new image
 
 pub new_unrun : (limits : Limits) (text : List ℕ) (file : List ℕ) → Means (new_memory limits) 0 0 file
-    → MeansRunByPlan limits text file
+    → MeansPlanned limits text file
 new_unrun limits text file means = (
   [],
   (

@@ -115,13 +115,13 @@ pub record HasDoneByPlan (limits : Limits) (text : List ℕ) (put : List Command
   pub served : HasServed m.windows parts.plan
 
 -- the file means a memory that a planned run of the script came to
-abbrev pub MeansRunByPlan : Limits → List ℕ → List ℕ → Type 0
-MeansRunByPlan limits text file = (put : List Command) × ((m : Contents)
+abbrev pub MeansPlanned : Limits → List ℕ → List ℕ → Type 0
+MeansPlanned limits text file = (put : List Command) × ((m : Contents)
     × (HasRunByPlan limits text put m × Means m (length put) 0 file))
 
 -- the file means the memory at the end of the script's plan
-abbrev pub MeansDoneByPlan : Limits → List ℕ → List ℕ → Type 0
-MeansDoneByPlan limits text file = (put : List Command) × ((m : Contents)
+abbrev pub MeansPlanDone : Limits → List ℕ → List ℕ → Type 0
+MeansPlanDone limits text file = (put : List Command) × ((m : Contents)
     × (HasDoneByPlan limits text put m × Means m (length put) 0 file))
 
 -- each entry that both memories keep for a request of the plan is the same

@@ -8,7 +8,7 @@ ghost use Rattle.im_types.specs.Meaning.{Means, accept_each};
 ghost use Rattle.im_serial.specs.Begun.{new_memory};
 ghost use Rattle.im_run.specs.Once.{RunsOnceOn, RunsOnceOnPlan};
 ghost use Rattle.im_run.specs.Stops.{ActInOrder, CarriesOver, HasDoneByPlan, HaveSameEntries, MeansAccepted};
-ghost use Rattle.im_run.specs.Stops.{MeansDoneByPlan, MeansRunByPlan, MeansServed};
+ghost use Rattle.im_run.specs.Stops.{MeansPlanDone, MeansPlanned, MeansServed};
 
 use crate::context::RunContext;
 use crate::once::run_once_on;
@@ -33,7 +33,7 @@ pub fn numbers_act_once_in_order()
 /// A new image means what a planned run of any script comes to: nothing was put yet. So it does without a plan.
 pub fn new_images_are_unrun()
     ensures planned { (limits : Limits) (text : List ℕ) (file : List ℕ) → Means (new_memory limits) 0 0 file
-        → MeansRunByPlan limits text file }
+        → MeansPlanned limits text file }
     ensures accepted { (limits : Limits) (file : List ℕ) → Means (new_memory limits) 0 0 file
         → MeansAccepted limits file }
 {}
@@ -113,11 +113,11 @@ pub fn run_over_stops<
     ensures served { (limits : Limits) → result.0 ≡ 0 → CarriesOver image.disk.moment (MeansAccepted limits)
         result.1.moment (MeansServed limits asked.entry.script.now) }
     ensures planned { (limits : Limits) → asked.entry.mode.planned ≡ true
-        → CarriesOver image.disk.moment (MeansRunByPlan limits asked.entry.script.now) result.1.moment
-        (MeansRunByPlan limits asked.entry.script.now) }
+        → CarriesOver image.disk.moment (MeansPlanned limits asked.entry.script.now) result.1.moment
+        (MeansPlanned limits asked.entry.script.now) }
     ensures ended { (limits : Limits) → asked.entry.mode.planned ≡ true → result.0 ≡ 0
-        → CarriesOver image.disk.moment (MeansRunByPlan limits asked.entry.script.now) result.1.moment
-        (MeansDoneByPlan limits asked.entry.script.now) }
+        → CarriesOver image.disk.moment (MeansPlanned limits asked.entry.script.now) result.1.moment
+        (MeansPlanDone limits asked.entry.script.now) }
 {
     let Interrupted { mut disk, stops } = image;
     for at in 0..stops.len() {

@@ -3,7 +3,7 @@ use Rattle.im_disk.specs.Fuse.{Fused}
 use Rattle.im_disk.specs.Recording.{Recording}
 use Rattle.im_disk.specs.Since.{LeavesNow}
 use Rattle.im_serial.proofs.KeepsLemmas.{crashed_keeps}
-use Rattle.im_run.specs.Stops.{MeansAccepted, MeansRunByPlan}
+use Rattle.im_run.specs.Stops.{MeansAccepted, MeansPlanned}
 use Rattle.im_run.proofs.LeavingLemmas.{plan_ends, plan_keeps, run_ends, run_keeps}
 use Rattle.im_run.proofs.stops.run_over_stops.Goals as goal
 
@@ -24,8 +24,8 @@ loop-at-preserved g c =
     (subst (λ (d : Recording). LeavesNow d.moment P) (sym c.into_inner.ensures) kept) in (
       λ limits before. behind (MeansAccepted limits) (run_keeps _ limits text fuse r.result.1 was is r.result.2
           r.result.0 false (ready (MeansAccepted limits) (c.loop-at.invariant.0 limits before)) (r.ensures.run tt).1),
-      λ limits planned before. behind (MeansRunByPlan limits text) (plan_keeps _ limits text fuse r.result.1 was is
-          r.result.2 r.result.0 (ready (MeansRunByPlan limits text) (c.loop-at.invariant.1 limits planned before))
+      λ limits planned before. behind (MeansPlanned limits text) (plan_keeps _ limits text fuse r.result.1 was is
+          r.result.2 r.result.0 (ready (MeansPlanned limits text) (c.loop-at.invariant.1 limits planned before))
           (r.ensures.planned planned tt)),
     )
 
