@@ -39,8 +39,8 @@ use Rattle.im_run.specs.Tracing.{TraceState}
 use Rattle.im_run.specs.Doing.{AreAllTold}
 use Rattle.im_run.specs.Orders.{Ask, AreOrders, IsOfAll, SetsUp, bases_made, script_heard, settled_when}
 use Rattle.im_run.specs.Planned.{EndsOnPlan, HasServedWhole}
-use Rattle.im_run.specs.Running.{BeginsFinals, Closes, EndedOn, HasEnded, PrintsFinals, Puts, Ran, RanOn, RunOn}
-use Rattle.im_run.specs.Running.{ServedOn, Settles, final_line, finals}
+use Rattle.im_run.specs.Running.{BeginsFinals, Closes, EndedOn, PrintsFinals, Puts, Ran, RanOn, RunOn}
+use Rattle.im_run.specs.Running.{ServedOn, ServersEnded, Settles, final_line, finals}
 use Rattle.im_run.proofs.DoingLemmas.{told_weaker}
 
 -- ---- beginnings of lists
@@ -219,12 +219,11 @@ none_served {D} disk begun engine trace none same alive means =
     all)
 
 -- servers that ended so, where it is known later that nothing was refused
-pub ended_weaker : {D : Type 0} (now : D → Moment) (past : D → List Moment) (failures : D → ℕ) (planned : Bool)
-    (whole : Option (List Ask)) (orders : List Ask) (begun engine : EngineState D) (trace : List Line) (did : List Did)
-    (none later : Type 0) → (later → none)
-    → HasEnded now past failures planned whole orders begun engine trace did none
-    → HasEnded now past failures planned whole orders begun engine trace did later
-ended_weaker now past failures planned whole orders begun engine trace did none later well it = record {
+pub ended_weaker : {D : Type 0} (disk : Ghosts D) (planned : Bool) (whole : Option (List Ask)) (orders : List Ask)
+    (begun engine : EngineState D) (trace : List Line) (did : List Did) (none later : Type 0) → (later → none)
+    → ServersEnded disk planned whole orders begun engine trace did none
+    → ServersEnded disk planned whole orders begun engine trace did later
+ended_weaker disk planned whole orders begun engine trace did none later well it = record {
   plan = it.plan;
   served = it.served;
   told = told_weaker begun.memory trace none later orders did well it.told;
@@ -314,36 +313,64 @@ module _ {D : Type 0} (now : D → Moment) (past : D → List Moment) (failures 
         tells = inr (record { left = left; began = set_up; put = whole; untold = none; refused = never });
       }
 
+  -- a run of which nothing is said of a plan
+  pub unplanned : (once planned : Bool) (script : List ℕ) (start : EngineState D) (disk : D)
+      (was is : Option (List ℕ)) (calls : TraceState) (status : ℕ)
+      → RunOn now past failures once planned script start disk was is calls status
+      → RunOn now past failures once false script start disk was is calls status
+  unplanned once planned script start disk was is calls status it = record {
+    setup = it.setup;
+    told = it.told;
+    doubt = it.doubt;
+    puts = it.puts;
+    settles = it.settles;
+    printed = it.printed;
+    traced = it.traced;
+    tells = ⊎_elim (λ t. inl (record {
+      made = t.made;
+      put = t.put;
+      orders = t.orders;
+      of_script = t.of_script;
+      all = t.all;
+      whole = t.whole;
+      is_whole = t.is_whole;
+      all_served = t.all_served;
+      as_planned = λ no. absurd (true_false (sym no));
+    })) (λ ended. inr ended) it.tells;
+  }
+
+module _ {D : Type 0} (disk : Ghosts D) where
   -- the elements' servers ended
-  pub ended_run : (once planned : Bool) (script bases : List ℕ) (whole : Option (List Ask)) (orders : List Ask) (start mid : EngineState D) (setup : List Command) (text : List ℕ) (names : List Waiter) (was held is : Option (List ℕ)) (lines : Lines) (disk : D) (calls : TraceState) (status : ℕ) → GoesWith now past failures start mid setup text names
-      → Prints was held lines text → EndedOn now past failures planned whole orders mid disk held lines is calls.served status
+  pub ended_run : (once planned : Bool) (script bases : List ℕ) (whole : Option (List Ask)) (orders : List Ask) (start mid : EngineState D) (setup : List Command) (text : List ℕ) (names : List Waiter) (was held is : Option (List ℕ)) (lines : Lines) (new : D) (calls : TraceState) (status : ℕ) → GoesWith disk.now disk.past disk.failures start mid setup text names
+      → Prints was held lines text → EndedOn disk planned whole orders mid new held lines is calls.served status
       → AreOrders once mid.memory (settled_when once start.memory) bases (script_heard script) orders
       → IsOfAll once bases (script_heard script) whole
       → SetsUp once start.memory script setup [] → bases ≡ bases_made once start.memory script setup
-      → RunOn now past failures once planned script start disk was is calls status
+      → RunOn disk.now disk.past disk.failures once planned script start new was is calls status
   unfolding puts_on
-  ended_run once planned script bases whole orders start mid setup text names was held is lines disk calls status it
+  ended_run once planned script bases whole orders start mid setup text names was held is lines new calls status it
       prints ended of_script is_whole set_up named =
       let served = ended.ended.served in
       let trace = calls.served in
       let begun = it.has.memory it.works in
       let put = accepted_in mid.memory trace in
-      let on = puts_on now past failures start mid ended.engine setup it.has it.works ended.ended.plan trace served in
+      let on = puts_on disk.now disk.past disk.failures start mid ended.engine setup it.has it.works ended.ended.plan trace served in
       let closes = ended.printed was text prints in
       let told_is : ended.engine.memory ≡ after start.memory on.told = sym served.ends
-      ∙ sym (accepted-after mid.memory trace) ∙ goes_on now past failures start mid ended.engine setup it.has it.works
+      ∙ sym (accepted-after mid.memory trace) ∙ goes_on disk.now disk.past disk.failures start mid ended.engine setup it.has it.works
       ended.ended.plan trace served (accepted_in mid.memory trace) in
       record {
         setup = setup;
         told = on.told;
         doubt = on.doubt;
-        puts = subst (λ (d : D). Puts now past failures start start.disk d setup on.told on.doubt) (sym ended.disk_is) on.puts;
-        settles = settled start ended.engine setup (put ++ served.kept.doubt) disk status on ended.works ended.means;
+        puts = subst (λ (d : D). Puts disk.now disk.past disk.failures start start.disk d setup on.told on.doubt) (sym ended.disk_is) on.puts;
+        settles = settled disk.now disk.past disk.failures start ended.engine setup (put ++ served.kept.doubt) new status
+            on ended.works ended.means;
         printed = record {
           said = setup;
           others = [];
           split = sym (append-nil setup);
-          kept = subst (λ (d : D). LeavesNow (now d) (MeansAtLeast start (on.told ++ on.doubt) (length setup))) (sym ended.disk_is)
+          kept = subst (λ (d : D). LeavesNow (disk.now d) (MeansAtLeast start (on.told ++ on.doubt) (length setup))) (sym ended.disk_is)
               (λ file left. with_or_without start on.told on.doubt (length setup) file (omega (arith, length-append setup put)) (on.puts.last file left));
           did = ended.did;
           begins = subst (λ (m : Contents). BeginsFinals was is (replies start.memory setup) m ended.did) told_is (subst (λ (t : List ℕ). BeginsFinals was is t ended.engine.memory ended.did) it.lines closes.0);
@@ -373,33 +400,6 @@ module _ {D : Type 0} (now : D → Moment) (past : D → List Moment) (failures 
         });
       }
 
-  -- a run of which nothing is said of a plan
-  pub unplanned : (once planned : Bool) (script : List ℕ) (start : EngineState D) (disk : D)
-      (was is : Option (List ℕ)) (calls : TraceState) (status : ℕ)
-      → RunOn now past failures once planned script start disk was is calls status
-      → RunOn now past failures once false script start disk was is calls status
-  unplanned once planned script start disk was is calls status it = record {
-    setup = it.setup;
-    told = it.told;
-    doubt = it.doubt;
-    puts = it.puts;
-    settles = it.settles;
-    printed = it.printed;
-    traced = it.traced;
-    tells = ⊎_elim (λ t. inl (record {
-      made = t.made;
-      put = t.put;
-      orders = t.orders;
-      of_script = t.of_script;
-      all = t.all;
-      whole = t.whole;
-      is_whole = t.is_whole;
-      all_served = t.all_served;
-      as_planned = λ no. absurd (true_false (sym no));
-    })) (λ ended. inr ended) it.tells;
-  }
-
-module _ {D : Type 0} (disk : Ghosts D) where
   -- an opening leaves nothing new, and what it found was there
   unfoldable pub ran_on : (once planned : Bool) (script : List ℕ) (old : D) (start : EngineState D) (new : D) (was is : Option (List ℕ)) (calls : TraceState) (status : ℕ) → Leaves (disk.now old) (disk.now start.disk) (disk.past old) (disk.past start.disk) (Left (disk.now old)) → LeavesNow (disk.now start.disk) (MeansState start) → disk.failures start.disk ≡ disk.failures old
       → RunOn disk.now disk.past disk.failures once planned script start new was is calls status

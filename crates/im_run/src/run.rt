@@ -3,7 +3,7 @@ ghost use Rattle.std.specs.Prelude.{◌≡◌, ◌⊎◌, ◌≤◌, [], None, S
 ghost use Rattle.im_serial.specs.Serving.{seen_by};
 ghost use Rattle.im_run.specs.Orders.{ask_of, asks_in, bases_first};
 ghost use Rattle.im_run.specs.Planned.{FitsIfNew, plan_of, planned_orders};
-ghost use Rattle.im_run.specs.Running.{EndsRun, EndsServing, HasEnded, Ran, RunsOn, RunsOnPlan};
+ghost use Rattle.im_run.specs.Running.{EndsRun, EndsServers, EndsServing, Ran, RunsOn, RunsOnPlan};
 ghost use Rattle.im_run.specs.Setup.{CanServe};
 
 use crate::beginning::begin;
@@ -55,11 +55,9 @@ fn serve_opening<
         ≡ Some (plan_of (planned_orders (asks_in work.whole) (map ask_of work.orders.items))) }
     requires fits { work.mode.planned ≡ true → FitsIfNew (asks_in work.whole) opening.engine.memory
         (plan_of (planned_orders (asks_in work.whole) (map ask_of work.orders.items))) }
-    ensures ended { D.honest result.0.engine.disk → opening.engine.failed ≡ false → HasEnded D.now D.past D.failures
-        work.mode.planned (asks_in work.whole) (map ask_of work.orders.items) opening.engine result.0.engine
-        result.1.items result.0.did.items (IsOk result.0.done) }
+    ensures ended { EndsServers D.Disk work.mode.planned (asks_in work.whole) (map ask_of work.orders.items)
+        opening.engine result.0.engine result.1.items result.0.did.items (IsOk result.0.done) }
     ensures recorded { result.1.recorded ≡ opening.book.recorded }
-    ensures honest { D.honest result.0.engine.disk → D.honest opening.engine.disk }
 {
     let Workload { orders, whole, .. } = work;
     let Outcome {

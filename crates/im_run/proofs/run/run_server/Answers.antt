@@ -42,11 +42,11 @@ returns-in-Ok-clause-run g c = λ honest.
     let whole = asks_in c.in-Ok.work.whole in
     let mode = if_ok_at _ r.result.0 c.in-Ok.work c.in-Ok.is r.ensures.mode in
     let s = c.serve_on-status in
-    ended_run d.now d.past d.failures once c.args.asked.mode.planned script bases whole orders start mid put
+    ended_run d once c.args.asked.mode.planned script bases whole orders start mid put
     going.0 it.1.1.0 held from (g.W.Write.contents s.new.out) lines s.result.1
     (record { setup = r.result.1.items; served = s.result.2.items; recorded = s.result.2.recorded }) s.result.0 goes
     going.1.1
-    (subst (λ (p : Bool). EndedOn d.now d.past d.failures p whole orders mid s.result.1 from lines
+    (subst (λ (p : Bool). EndedOn d p whole orders mid s.result.1 from lines
     (g.W.Write.contents s.new.out) s.result.2.items s.result.0) (ap (λ (m : RunMode). m.planned) mode)
     (s.ensures.ended honest goes.works))
     (if_ok_at _ r.result.0 c.in-Ok.work c.in-Ok.is r.ensures.orders)

@@ -5,7 +5,7 @@ use Rattle.im_engine.specs.State.{EngineState, MeansState}
 use Rattle.im_text.specs.declared.lines.Lines.{Lines}
 use Rattle.im_run.specs.Orders.{ask_of, asks_in}
 use Rattle.im_run.specs.Planned.{FitsIfNew, plan_of, planned_orders}
-use Rattle.im_run.specs.Running.{Closes, HasEnded}
+use Rattle.im_run.specs.Running.{Closes, ServersEnded}
 use Rattle.im_run.proofs.DoingLemmas.{none_of_all}
 use Rattle.im_run.proofs.RunningLemmas.{ended_weaker, none_served}
 use Rattle.im_run.proofs.run.serve_on.Goals as goal
@@ -39,11 +39,10 @@ returns-in-Ok-clause-ended g c = λ honest alive.
       works = k.ensures.works;
       means = k.ensures.means honest;
       did = did;
-      ended = ended_weaker d.now d.past d.failures planned whole orders c.args.server.engine s.result.0.engine trace did
+      ended = ended_weaker d planned whole orders c.args.server.engine s.result.0.engine trace did
           (IsOk s.result.0.done) (k.result.0 ≡ 0) k.ensures.done
-          (subst (λ (e : EngineState g.row.D.Denot). HasEnded d.now d.past d.failures planned whole orders e
-          s.result.0.engine trace did (IsOk s.result.0.done)) same
-          (s.ensures.ended (subst d.honest k.ensures.disk honest) works));
+          (subst (λ (e : EngineState g.row.D.Denot). ServersEnded d planned whole orders e s.result.0.engine trace did
+          (IsOk s.result.0.done)) same ((s.ensures.ended (subst d.honest k.ensures.disk honest)).1 works));
       printed = subst (λ (l : Lines). Closes (g.W.Write.contents c.args.out.now) l (g.W.Write.contents k.new.out)
           s.result.0.engine.memory did k.result.0) v.ensures.lines k.ensures.printed;
     }
@@ -52,7 +51,7 @@ pub returns-in-Ok-clause-honest : goal.returns-in-Ok-clause-honest
 returns-in-Ok-clause-honest g c = λ honest.
     subst (λ (e : EngineState g.row.D.Denot). g.D.Disk.honest e.disk)
     (c.in-Ok.ensures.found ∙ c.leave-engine.ensures.engine)
-    (c.serve_opening-ending.ensures.honest (subst g.D.Disk.honest c.close-status.ensures.disk honest))
+    (c.serve_opening-ending.ensures.ended (subst g.D.Disk.honest c.close-status.ensures.disk honest)).0
 
 pub returns-in-Err-clause-ended : goal.returns-in-Err-clause-ended
 returns-in-Err-clause-ended g c = λ honest alive.
