@@ -1,5 +1,6 @@
 -- A script that is run once from a new image on, whatever stops it and however often. (Own.)
-use Rattle.std.specs.Prelude.{◌≡◌, ◌⊎◌, ◌==◌, ◌≤◌, ℕ, zero, suc, List, [], ◌∷◌, ◌++◌, length, Some, Ok, if◌then◌else◌}
+use Rattle.std.specs.Prelude.{◌≡◌, ◌⊎◌, ◌==◌, ◌≤◌, ℕ, zero, suc, Bool, true, List, [], ◌∷◌, ◌++◌, length, Some, Ok}
+use Rattle.std.specs.Prelude.{if◌then◌else◌}
 use Rattle.im_types.specs.declared.commands.Command.{Command}
 use Rattle.im_types.specs.declared.commands.Command.TheVariants.{Request as Asks, Confirm}
 use Rattle.im_types.specs.declared.commands.Request.{Request}
@@ -10,6 +11,7 @@ use Rattle.im_types.specs.Meaning.{Means, accept_each}
 use Rattle.im_types.specs.Run.{after}
 use Rattle.im_types.specs.Step.{asker}
 use Rattle.im_types.specs.Window.{ask}
+use Rattle.im_disk.specs.declared.disk.Disk.{Ghosts}
 use Rattle.im_disk.specs.Moment.{Moment}
 use Rattle.im_disk.specs.Since.{LeavesNow}
 use Rattle.im_plans.specs.Runs.{HasServed, IsInPlan}
@@ -128,3 +130,23 @@ MeansPlanDone limits text file = (put : List Command) × ((m : Contents)
 abbrev pub HaveSameEntries : List Request → Contents → Contents → Type 0
 HaveSameEntries plan m n = (r : Request) (entry later : Entry) → IsInPlan plan r
     → ask m.windows (asker r) ≡ Ok entry → ask n.windows (asker r) ≡ Ok later → entry ≡ later
+
+-- ---- one run more
+
+-- What a run of a script that is done once makes of the files that are left: if accepted commands led there from a new
+-- image, they do so behind it, and with status 0 all of the script is there. If it was planned, and planned runs led
+-- there, they do so behind it, and with status 0 the plan is at its end.
+pub record KeepsRun {D : Type 0} (disk : Ghosts D) (planned : Bool) (text : List ℕ) (old new : D)
+    (status : ℕ) : Type 0 where
+  pub accepted : (limits : Limits)
+      → CarriesOver (disk.now old) (MeansAccepted limits) (disk.now new) (MeansAccepted limits)
+  pub served : (limits : Limits) → status ≡ 0
+      → CarriesOver (disk.now old) (MeansAccepted limits) (disk.now new) (MeansServed limits text)
+  pub by_plan : (limits : Limits) → planned ≡ true
+      → CarriesOver (disk.now old) (MeansPlanned limits text) (disk.now new) (MeansPlanned limits text)
+  pub ended : (limits : Limits) → planned ≡ true → status ≡ 0
+      → CarriesOver (disk.now old) (MeansPlanned limits text) (disk.now new) (MeansPlanDone limits text)
+
+-- the same of a disk that is honest at the end
+abbrev pub KeepsRuns : {D : Type 0} → Ghosts D → Bool → List ℕ → D → D → ℕ → Type 0
+KeepsRuns disk planned text old new status = disk.honest new → KeepsRun disk planned text old new status

@@ -6,15 +6,13 @@ ghost use Rattle.im_types.specs.declared.sizes.Limits.{Limits};
 ghost use Rattle.im_types.specs.Contents.{Contents, full_at};
 ghost use Rattle.im_types.specs.Meaning.{Means, accept_each};
 ghost use Rattle.im_serial.specs.Begun.{new_memory};
-ghost use Rattle.im_run.specs.Once.{RunsOnceOn, RunsOnceOnPlan};
-ghost use Rattle.im_run.specs.Stops.{ActInOrder, CarriesOver, HasDoneByPlan, HaveSameEntries, MeansAccepted};
-ghost use Rattle.im_run.specs.Stops.{MeansPlanDone, MeansPlanned, MeansServed};
+ghost use Rattle.im_run.specs.Stops.{ActInOrder, CarriesOver, HasDoneByPlan, HaveSameEntries, KeepsRuns};
+ghost use Rattle.im_run.specs.Stops.{MeansAccepted, MeansPlanDone, MeansPlanned, MeansServed};
 
 use crate::context::RunContext;
 use crate::once::run_once_on;
 use crate::run::STALLED;
 use crate::sheet::Assignment;
-use crate::tracing::Trace;
 use im_disk::{Disk, FuseDisk, MemDisk};
 use im_serial::Interrupted;
 use im_serving::{Gate, Watcher};
@@ -48,7 +46,7 @@ pub fn planned_scripts_have_one_end()
         → HaveSameEntries it.parts.plan m n }
 {}
 
-// Runs a script once.
+// Runs a script once. Returns the status and the disk.
 fn run_in<
     D: Disk + Drop + Send,
     W: Write,
@@ -62,14 +60,11 @@ fn run_in<
     asked: Assignment<'_, '_>,
     out: &mut W,
     observer: &mut N,
-) -> (u8, D, Trace)
+) -> (u8, D)
     ensures status { (result.0 ≤ 1) ⊎ (result.0 ≡ STALLED) }
-    ensures run { RunsOnceOn D.Disk asked.entry.script.now disk result.1 (W.contents out.old) (W.contents out.new)
-        result.2 result.0 }
-    ensures planned { RunsOnceOnPlan D.Disk asked.entry.mode.planned asked.entry.script.now disk result.1
-        (W.contents out.old) (W.contents out.new) result.2 result.0 }
+    ensures keeps { KeepsRuns D.Disk asked.entry.mode.planned asked.entry.script.now disk result.1 result.0 }
 {
-    run_once_on(
+    let (status, disk, _trace) = run_once_on(
         context.rt,
         context.alloc,
         disk,
@@ -79,7 +74,8 @@ fn run_in<
         out,
         observer,
         asked.mode,
-    )
+    );
+    (status, disk)
 }
 
 /// Runs a script once, whatever stops it: a run for each stop, each behind the crash of the one before it, and then one
@@ -123,9 +119,9 @@ pub fn run_over_stops<
     for at in 0..stops.len() {
         let stop = stops[at];
         let fused = FuseDisk::new(disk, stop.passes, stop.mode);
-        let (_status, left, _trace) = run_in(context, fused, asked, out, observer);
+        let (_status, left) = run_in(context, fused, asked, out, observer);
         disk = left.into_inner().crash(stop.crash);
     }
-    let (status, disk, _trace) = run_in(context, disk, asked, out, observer);
+    let (status, disk) = run_in(context, disk, asked, out, observer);
     (status, disk)
 }
