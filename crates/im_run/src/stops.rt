@@ -122,6 +122,6 @@ pub fn run_over_stops<
         let (_status, left) = run_in(context, fused, asked, out, observer);
         disk = left.into_inner().crash(stop.crash);
     }
-    let (status, disk) = run_in(context, disk, asked, out, observer);
-    (status, disk)
+    let (status, left) = run_in(context, disk, asked, out, observer);
+    (status, left)
 }
