@@ -70,7 +70,7 @@ asks_there e r rest other = by_test (e == r.element) refl
 
 -- ---- their numbers follow each other
 
-next_by : Result (ℕ × ℕ) Refusal → ℕ
+abbrev next_by : Result (ℕ × ℕ) Refusal → ℕ
 next_by (Ok ends) = ends.1
 next_by (Err refusal) = 0
 
@@ -289,6 +289,7 @@ cells_behind cells (w ∷ wanted) = cells_behind (made_by cells w.action) wanted
 pub cells_led : (cells elements : ℕ) (put : List Command) (wanted : List Wanted) (m n : Contents) (bases : List ℕ)
     → IsMemory cells elements m → AreBlocks wanted → Leads m bases wanted put [] → accept_each m put ≡ Some n
     → (after m put).cells ≡ cells_behind m.cells wanted
+unfolding cells_behind made_by
 cells_led cells elements [] [] m n bases is are leads accepted = refl
 cells_led cells elements [] (w ∷ wanted) m n bases is are leads accepted = absurd (empty_or w wanted leads)
 cells_led cells elements (Confirm element upto ∷ put) wanted m n bases is are leads accepted =

@@ -30,7 +30,7 @@ use Rattle.im_run.proofs.StopsLemmas.{own_same}
 
 -- ---- commands as a trace
 
-lines_of : List Command → List Line
+abbrev lines_of : List Command → List Line
 lines_of [] = []
 lines_of (c ∷ cs) = record { call = Commands c; answer = Ok Confirmed } ∷ lines_of cs
 

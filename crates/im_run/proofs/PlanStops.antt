@@ -257,7 +257,7 @@ module _ (limits : Limits) (text : List ℕ) (earlier : List Command) (n : Conte
         let both = accept_split setup put n (after n told)
         (subst (λ (l : List Command). accept_each n l ≡ Some (after n told)) t.put accepts) in
         let memory = subst (IsMemory limits.cells limits.elements)
-        (sym (after-append (new_memory limits) earlier setup ∙ ap (λ (x : Contents). after x setup) (sym start_is)))
+        (after-append (new_memory limits) earlier setup ∙ ap (λ (x : Contents). after x setup) (sym start_is))
         (is_memory limits (earlier ++ setup)) in
         let asked = setup_asked limits text earlier n begun fit setup t.made both.0 in
         let more = had_more limits.cells limits.elements 0 put (after n setup) (after n told) memory both.1 in

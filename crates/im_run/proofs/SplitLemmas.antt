@@ -6,6 +6,7 @@ use Rattle.std.specs.Option.{option_map, option_map_or}
 use Rattle.std.proofs.lemmas.Bool.Decides.{nat_tests}
 use Rattle.im_types.specs.Contents.{Contents}
 use Rattle.im_script.specs.declared.script.Heard.{Heard}
+use Rattle.im_script.specs.declared.script.Said.{Said}
 use Rattle.im_script.specs.Script.{Draft, heard, lines_of, new_draft}
 use Rattle.im_serial.specs.Asked.{Wanted, said_by, wanted_by, wanted_in, wanted_of}
 use Rattle.im_serial.specs.Had.{bases_had, end_with, has_next, left_of, length_asked, met, met_all, news, sums_of}
@@ -212,9 +213,9 @@ heard_wanted (line ∷ lines) d = by_line (heard true d line) (heard_wanted line
   where
     by_line : (o : Option (Draft × Heard))
         → ((next : Draft) → wanted_in next lines ≡ all_wanted (lines_heard next lines))
-        → option_map_or (λ r. wanted_by r.1 ++ wanted_in r.0 lines)
+        → option_map_or (λ (r : Draft × Said). wanted_by r.1 ++ wanted_in r.0 lines)
         (option_map (λ (r : Draft × Heard). (r.0, said_by r.1)) o) []
-        ≡ all_wanted (option_map_or (λ r. r.1 ∷ lines_heard r.0 lines) o [])
+        ≡ all_wanted (option_map_or (λ (r : Draft × Heard). r.1 ∷ lines_heard r.0 lines) o [])
     by_line None behind = refl
     by_line (Some (next, h)) behind = ap (λ (l : List Wanted). wanted_by (said_by h) ++ l) (behind next)
 

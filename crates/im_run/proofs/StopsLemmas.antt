@@ -95,7 +95,7 @@ module _ {X : Type 0} (P : X → Type 0) where
   all_first (suc n) [] all = tt
   all_first (suc n) (x ∷ xs) all = (all.0, all_first n xs all.1)
 
-both_on : (plan : List Request) (xs ys : List Command) → AreOnPlan (Some plan) xs → AreOnPlan (Some plan) ys
+pub both_on : (plan : List Request) (xs ys : List Command) → AreOnPlan (Some plan) xs → AreOnPlan (Some plan) ys
     → AreOnPlan (Some plan) (xs ++ ys)
 both_on plan = all_both (λ (c : Command). IsOnPlan (Some plan) (Commands c))
 
@@ -111,7 +111,7 @@ if_on plan true c rest on all = (on, all)
 if_on plan false c rest on all = all
 
 -- those that a planned run accepts
-accepted_on : (plan : List Request) (trace : List Line) (m : Contents) → IsPlannedRun plan trace
+pub accepted_on : (plan : List Request) (trace : List Line) (m : Contents) → IsPlannedRun plan trace
     → AreOnPlan (Some plan) (accepted_in m trace)
 accepted_on plan [] m run = tt
 accepted_on plan (line ∷ trace) m run = by_call line.call run.0 (λ n. accepted_on plan trace n run.1)
