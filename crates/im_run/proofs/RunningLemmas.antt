@@ -9,7 +9,6 @@ use Rattle.im_types.specs.declared.commands.Request.{Request}
 use Rattle.im_types.specs.declared.operations.Waiter.{Waiter}
 use Rattle.im_types.specs.Contents.{Contents}
 use Rattle.im_types.specs.Meaning.{Means, accept_each}
-use Rattle.im_types.specs.Memory.{IsMemory}
 use Rattle.im_types.specs.Run.{after}
 use Rattle.im_types.specs.Trace.{IsLegal}
 use Rattle.im_laws.proofs.RunLemmas.{after-append}
@@ -24,11 +23,9 @@ use Rattle.im_engine.proofs.Keeping.{accept_both}
 use Rattle.im_controller.specs.Kept.{MeansSome, begun_in, accepted_in}
 use Rattle.im_controller.proofs.KeptLemmas.{accepted-after, kept_start}
 use Rattle.im_text.specs.declared.lines.Lines.{Lines}
-use Rattle.im_text.specs.declared.replies.Waited.{Waited}
 use Rattle.im_text.specs.Printing.{Begins, IsLast, Prints, PrintsMore, replies}
 use Rattle.im_text.proofs.PrintingLemmas.{prints_begins, take-prefix}
 use Rattle.im_text.proofs.TextLemmas.{written_none}
-use Rattle.im_serial.specs.declared.waits.Mark.{Mark}
 use Rattle.im_serial.specs.Asked.{Wanted}
 use Rattle.im_serial.specs.Once.{HasServedNothing}
 use Rattle.im_serial.specs.Serving.{GoesWith, HaltsWith, HasPut, MeansAtLeast, NotOpened, ScriptServer}

@@ -251,7 +251,11 @@ pub fn run_on<
     let context = RunContext::new(rt, alloc, gate, watcher);
     match open_server(alloc, disk, out, observer) {
         Ok(server) => {
-            let asked = Commission::anew(script, mode);
+            let asked = Commission {
+                script,
+                once: false,
+                mode,
+            };
             run_server(&context, server, asked, out, observer)
         }
         Err((status, disk)) => (status, disk, Trace::new(alloc)),

@@ -57,23 +57,6 @@ pub struct Commission<'s, 'a> {
     pub mode: RunMode,
 }
 
-impl<'s, 'a> Commission<'s, 'a> {
-    ghost use Rattle.std.specs.Prelude.{◌≡◌, false};
-
-    /// A script that is run anew.
-    pub fn anew(script: &'s Script<'a>, mode: RunMode) -> Commission<'s, 'a>
-        ensures script { result.entry.script.now ≡ script.now }
-        ensures once { result.entry.once ≡ false }
-        ensures mode { result.entry.mode ≡ mode }
-    {
-        Commission {
-            script,
-            once: false,
-            mode,
-        }
-    }
-}
-
 /// What the servers of a run do.
 #[derive(Drop)]
 pub struct Workload {

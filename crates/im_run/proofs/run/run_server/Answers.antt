@@ -1,4 +1,4 @@
-use Rattle.std.proofs.Common.{Bool, ◌∙◌, [], ap, map, refl, subst, sym}
+use Rattle.std.proofs.Common.{Bool, ◌∙◌, [], ap, map, refl, subst}
 use Rattle.std.specs.Prelude.{Some}
 use Rattle.im_engine.specs.State.{EngineState}
 use Rattle.im_text.specs.declared.lines.Lines.{Lines}

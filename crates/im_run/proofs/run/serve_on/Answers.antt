@@ -1,4 +1,4 @@
-use Rattle.std.proofs.Common.{◌≡◌, ◌∙◌, List, ap, inr, map, subst, sym}
+use Rattle.std.proofs.Common.{◌≡◌, ◌∙◌, ap, inr, map, subst, sym}
 use Rattle.std.specs.Prelude.{IsOk, None}
 use Rattle.im_disk.specs.Since.{LeavesNow}
 use Rattle.im_engine.specs.State.{EngineState, MeansState}

@@ -1,4 +1,4 @@
-use Rattle.std.proofs.Common.{◌≡◌, List, map, refl, subst}
+use Rattle.std.proofs.Common.{◌≡◌, map, refl, subst}
 use Rattle.std.specs.Prelude.{IfSome, IsOk, None}
 use Rattle.im_types.specs.Contents.{Contents}
 use Rattle.im_run.specs.Orders.{ask_of, asks_in}

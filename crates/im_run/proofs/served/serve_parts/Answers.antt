@@ -12,12 +12,14 @@ note_all-requires g c =
     if_ok_map _ _ served.result served.ensures.ends (λ all it. elements_end g.K.Name.memory made.result.parts.items
     all.items it ∙ sym made.ensures.named)
 
-pub returns-clause-told : goal.returns-clause-told
-returns-clause-told g c = λ trace seen.
+pub returns : goal.returns
+returns g c =
     let made = c.make_parts-parts in
     let served = c.serve_elements-served in
     let notes = c.note_all in
-    all_told_by (λ all. all.items) served.result g.K.Name.memory trace (made.result.refused ≡ None)
-    (notes.result.refused ≡ None) (map ask_of c.args.orders.items) made.result.parts.items notes.result.did.items
-    made.ensures.made served.ensures.ends
-    (if_ok_map _ _ served.result notes.ensures.some (λ all it. (it.0, it.1 trace seen))) notes.ensures.none
+    record {
+      told = λ trace seen. all_told_by (λ all. all.items) served.result g.K.Name.memory trace
+          (made.result.refused ≡ None) (notes.result.refused ≡ None) (map ask_of c.args.orders.items)
+          made.result.parts.items notes.result.did.items made.ensures.made served.ensures.ends
+          (if_ok_map _ _ served.result notes.ensures.some (λ all it. (it.0, it.1 trace seen))) notes.ensures.none;
+    }
