@@ -57,7 +57,7 @@ use Rattle.im_run.specs.declared.served.Did.{Did}
 use Rattle.im_run.specs.declared.served.Did.TheVariants.{Sent, Glanced}
 use Rattle.im_run.specs.Doing.{AreAllTold, HasToldScript}
 use Rattle.im_run.specs.Orders.{Ask, SetsUp}
-use Rattle.im_run.specs.Planned.{EndsOnPlan}
+use Rattle.im_run.specs.Planned.{EndsOnPlan, HasServedWhole}
 use Rattle.im_run.specs.Tracing.{IsTraced, TraceState}
 
 -- the reason that a call of the disk failed
@@ -121,35 +121,49 @@ abbrev pub Closes : Option (List ℕ) → Lines → Option (List ℕ) → Conten
 Closes was before is m did status = (start : Option (List ℕ)) (text : List ℕ) → Prints start was before text
     → BeginsFinals start is text m did × (status ≡ 0 → Appends start is (text ++ finals m did (length did)))
 
--- What elements' servers left since they began: this trace is legal and leads to the engine's memory, and a crash left
--- a prefix of it. If they were under a plan, it has what is in doubt too.
+-- What elements' servers left since they began, by a plan or freely: this trace is legal and leads to the engine's
+-- memory, and a crash left a prefix of it. If there is a plan, it has what is in doubt too.
 pub record ServedOn {D : Type 0} (now : D → Moment) (past : D → List Moment) (failures : D → ℕ) (b : Begun)
-    (m : Contents) (trace : List Line) (engine : EngineState D) : Type 0 where
+    (m : Contents) (plan : Option (List Requests)) (trace : List Line) (engine : EngineState D) : Type 0 where
   pub legal : IsLegal m trace
   pub ends : end_of m trace ≡ engine.memory
-  pub plan : Option (List Requests)
   pub kept : HasKept now past failures b m plan (accepted_in m trace) engine
 
--- An engine's servers of these orders ended with this trace, the engine was closed, and this status was given. If all
--- requests of the script are known, a plan is of them.
-pub record EndedOn {D : Type 0} (now : D → Moment) (past : D → List Moment) (failures : D → ℕ) (planned : Bool)
-    (whole : Option (List Ask)) (orders : List Ask) (begun : EngineState D) (disk : D) (was : Option (List ℕ))
-    (before : Lines) (is : Option (List ℕ)) (trace : List Line) (status : ℕ) : Type 0 where
+-- Servers of these orders began on an engine and ended on that one, with this trace, and this was done. It is all that
+-- the orders ask for if nothing was refused; and each request of the script was served then, if all are known. A plan
+-- is of all of them, if they are known.
+pub record ServersEnded {D : Type 0} (disk : Ghosts D) (planned : Bool) (whole : Option (List Ask)) (orders : List Ask)
+    (begun engine : EngineState D) (trace : List Line) (did : List Did) (none : Type 0) : Type 0 where
+  pub plan : Option (List Requests)
+  pub served : ServedOn disk.now disk.past disk.failures (begun_in disk.now disk.past disk.failures begun) begun.memory
+      plan trace engine
+  pub told : AreAllTold begun.memory trace none orders did
+  pub all_served : none → HasServedWhole engine.memory.windows whole
+  pub as_planned : planned ≡ true → EndsOnPlan begun.memory whole orders trace served.kept.doubt engine.memory none
+
+-- the same, of a disk that is honest at the end, and of an engine that works
+abbrev pub EndsServers : {D : Type 0} → Ghosts D → Bool → Option (List Ask) → List Ask → EngineState D → EngineState D
+    → List Line → List Did → Type 0 → Type 0
+EndsServers disk planned whole orders begun engine trace did none = disk.honest engine.disk → disk.honest begun.disk
+    × (begun.failed ≡ false → ServersEnded disk planned whole orders begun engine trace did none)
+
+-- An engine's servers of these orders ended with this trace, the engine was closed, and this status was given.
+pub record EndedOn {D : Type 0} (disk : Ghosts D) (planned : Bool) (whole : Option (List Ask)) (orders : List Ask)
+    (begun : EngineState D) (new : D) (was : Option (List ℕ)) (before : Lines) (is : Option (List ℕ))
+    (trace : List Line) (status : ℕ) : Type 0 where
   pub engine : EngineState D
-  pub disk_is : disk ≡ engine.disk
-  pub served : ServedOn now past failures (begun_in now past failures begun) begun.memory trace engine
+  pub disk_is : new ≡ engine.disk
   pub works : (status ≡ 0) ⊎ (status ≡ STALLED) → engine.failed ≡ false
-  pub means : engine.failed ≡ false → LeavesNow (now disk) (MeansState engine)
+  pub means : engine.failed ≡ false → LeavesNow (disk.now new) (MeansState engine)
   pub did : List Did
-  pub told : AreAllTold begun.memory trace (status ≡ 0) orders did
-  pub as_planned : planned ≡ true → EndsOnPlan begun.memory whole orders trace engine.memory (status ≡ 0)
+  pub ended : ServersEnded disk planned whole orders begun engine trace did (status ≡ 0)
   pub printed : Closes was before is engine.memory did status
 
 -- the same of an engine that works, and of a disk that is honest at the end
 abbrev pub EndsServing : {D : Type 0} → Ghosts D → Bool → Option (List Ask) → List Ask → EngineState D → D
     → Option (List ℕ) → Lines → Option (List ℕ) → List Line → ℕ → Type 0
 EndsServing disk planned whole orders begun new was before is trace status = disk.honest new → begun.failed ≡ false
-    → EndedOn disk.now disk.past disk.failures planned whole orders begun new was before is trace status
+    → EndedOn disk planned whole orders begun new was before is trace status
 
 -- Since the image was opened these commands were put on it: those of the setup, then those of the elements' servers.
 -- Each was accepted in its turn. All were acknowledged but those in doubt. There are commands in doubt only if a call
@@ -184,13 +198,23 @@ pub record Says {D : Type 0} (now : D → Moment) (start : EngineState D) (new :
   pub whole : status ≡ 0
       → Appends was is (replies start.memory setup ++ finals (after start.memory told) did (length did))
 
+-- The setup of a script was ended, at some block: nothing was put behind it, nothing is told of the script, and the
+-- status is not 0.
+pub record HasEndedSetup (once : Bool) (start : Contents) (text : List ℕ) (setup told doubt : List Command)
+    (status : ℕ) (did : List Did) : Type 0 where
+  pub left : List Wanted
+  pub began : SetsUp once start text setup left
+  pub put : told ++ doubt ≡ setup
+  pub untold : did ≡ []
+  pub refused : status ≡ 0 → ⊥
+
 -- This is told of a script, of all that its parts ask for if the status is 0: its setup was served whole, and its parts
--- with this trace, up to that memory. Or its setup was ended, at some block: nothing is told of it, and the status is
--- not 0.
-abbrev pub TellsScript : Bool → Bool → Contents → List ℕ → List Command → List Line → Contents → ℕ → List Did → Type 0
-TellsScript once planned start text setup trace end status did =
-    HasToldScript once planned start text setup trace end (status ≡ 0) did
-    ⊎ ((left : List Wanted) × SetsUp once start text setup left × (did ≡ []) × (status ≡ 0 → ⊥))
+-- with this trace. Or its setup was ended.
+abbrev pub TellsScript : Bool → Bool → Contents → List ℕ → List Command → List Command → List Command → List Line → ℕ
+    → List Did → Type 0
+TellsScript once planned start text setup told doubt trace status did =
+    HasToldScript once planned start text setup told doubt trace (status ≡ 0) did
+    ⊎ HasEndedSetup once start text setup told doubt status did
 
 -- An engine was closed, and this status was given, after a run of a script on it with these calls.
 pub record RunOn {D : Type 0} (now : D → Moment) (past : D → List Moment) (failures : D → ℕ) (once planned : Bool)
@@ -203,8 +227,7 @@ pub record RunOn {D : Type 0} (now : D → Moment) (past : D → List Moment) (f
   pub settles : Settles now start disk told doubt status
   pub printed : Says now start disk setup told doubt was is status
   pub traced : IsTraced start.memory setup told calls
-  pub tells : TellsScript once planned start.memory text setup calls.served (after start.memory told) status
-      printed.did
+  pub tells : TellsScript once planned start.memory text setup told doubt calls.served status printed.did
 
 -- the same of a disk that is honest at the end
 abbrev pub EndsRun : {D : Type 0} → Ghosts D → Bool → Bool → List ℕ → EngineState D → D → Option (List ℕ)
@@ -225,8 +248,7 @@ pub record RanOn {D : Type 0} (now : D → Moment) (past : D → List Moment) (f
   pub settles : Settles now start new told doubt status
   pub printed : Says now start new setup told doubt was is status
   pub traced : IsTraced start.memory setup told calls
-  pub tells : TellsScript once planned start.memory text setup calls.served (after start.memory told) status
-      printed.did
+  pub tells : TellsScript once planned start.memory text setup told doubt calls.served status printed.did
 
 -- A script was run on the image of a disk that is honest at the end, or the image was not opened. Nothing is said of a
 -- plan.
