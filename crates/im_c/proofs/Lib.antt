@@ -3,4 +3,3 @@ mod AsImage
 pub mod Boxes
 pub mod Faults
 mod Crosses
-mod Names

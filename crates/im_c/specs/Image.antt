@@ -16,9 +16,9 @@ use Rattle.im_checkpoint.specs.declared.checkpoint.TurnDone.{TurnDone}
 use Rattle.im_checkpoint.specs.declared.checkpoint.TurnDone.TheVariants.{Idle, Began, Page, Synced, InForce, Swept}
 use Rattle.im_engine.specs.State.{MeansState, MeansEither}
 use Rattle.im_engine.specs.Run.{Answered, SweepAnswered, TurnAnswered}
-use Rattle.im_listed.specs.Listing.{CarriedTask, Puts, Settles}
+use Rattle.im_listed.specs.Listing.{Task, Puts, Settles}
 use Rattle.im_listed.specs.History.{given}
-use Rattle.im_listed.specs.Image.{ImageState, Carries, without_steps}
+use Rattle.im_listed.specs.Image.{ImageState, Carries, begun_in}
 use Rattle.im_c.specs.declared.plain.LtCommand.{LtCommand}
 use Rattle.im_c.specs.declared.plain.LtOutcome.{LtOutcome}
 use Rattle.im_c.specs.declared.plain.LtBounds.{LtBounds}
@@ -26,12 +26,12 @@ use Rattle.im_c.specs.declared.plain.LtStep.{LtStep}
 use Rattle.im_c.specs.Plain.{meant, outcome_of, entry_outcome, refused, no_call}
 
 -- a file with the length of an image, each byte of which is in doubt
-abbrev pub blank_image : Sizes → Moment
-blank_image s = given (replicate (image_length layout_in_use s) 0)
+abbrev pub blank : Sizes → Moment
+blank s = given (replicate (image_length layout_in_use s) 0)
 
 -- the effect of a call that is none: no step is left
 abbrev pub idle_after : ImageState → ImageState
-idle_after i = record i { engine = without_steps i }
+idle_after i = record i { engine = begun_in i }
 
 -- the outcome of a command, and what the caller's file holds on the way
 pub record ServesOne (old : ImageState) (c : LtCommand) (out : LtOutcome) (new : ImageState) : Type 0 where
@@ -42,8 +42,8 @@ pub record ServesOne (old : ImageState) (c : LtCommand) (out : LtOutcome) (new :
   pub works : (command : Command) → meant c ≡ Some command → old.lost ≡ false → old.engine.failed ≡ false
   pub known : (command : Command) → meant c ≡ Some command → old.lost ≡ false
       → (answer : Result Outcome Refusal) × (out ≡ outcome_of answer)
-      × Answered (without_steps old) command answer new.engine
-      × Carries old.engine.disk.now new (MeansEither (without_steps old) command)
+      × Answered (begun_in old) command answer new.engine
+      × Carries old.engine.disk.now new (MeansEither (begun_in old) command)
 
 -- what a turn did, by its number, and which page
 abbrev pub turn_code : TurnDone → ℕ
@@ -70,9 +70,8 @@ pub record Turns (old : ImageState) (out : LtOutcome) (new : ImageState) : Type 
   -- so the answer isn't `Failed`
   pub works : old.lost ≡ false → old.engine.failed ≡ false
   pub alive : old.lost ≡ false
-      → (answer : Result TurnDone Refusal) × (out ≡ turn_outcome answer)
-      × TurnAnswered (without_steps old) answer new.engine
-      × Carries old.engine.disk.now new (MeansState (without_steps old))
+      → (answer : Result TurnDone Refusal) × (out ≡ turn_outcome answer) × TurnAnswered (begun_in old) answer new.engine
+      × Carries old.engine.disk.now new (MeansState (begun_in old))
 
 -- the outcome for a sweep: how many slots it closed
 abbrev pub sweep_outcome : Result ℕ Refusal → LtOutcome
@@ -85,9 +84,8 @@ pub record SweepsBy (old : ImageState) (most : ℕ) (out : LtOutcome) (new : Ima
   -- so the answer isn't `Failed`
   pub works : old.lost ≡ false → old.engine.failed ≡ false
   pub alive : old.lost ≡ false
-      → (answer : Result ℕ Refusal) × (out ≡ sweep_outcome answer)
-      × SweepAnswered (without_steps old) most answer new.engine
-      × Carries old.engine.disk.now new (MeansState (without_steps old))
+      → (answer : Result ℕ Refusal) × (out ≡ sweep_outcome answer) × SweepAnswered (begun_in old) most answer new.engine
+      × Carries old.engine.disk.now new (MeansState (begun_in old))
 
 -- the entry that is kept under an element's number
 pub record CollectsFrom (i : ImageState) (element number : ℕ) (out : LtOutcome) : Type 0 where
@@ -119,7 +117,7 @@ pub record ShowsWindow (i : ImageState) (element : ℕ) (out : LtBounds) : Type 
   pub alive : i.lost ≡ false → out ≡ window_of (bounds i.engine.memory.windows element)
 
 -- a step, in C's form
-abbrev pub step_told : Option CarriedTask → LtStep
+abbrev pub step_told : Option Task → LtStep
 step_told None = record { kind = 0; place = 0; length = 0 }
 step_told (Some (Puts place bytes)) = record { kind = 1; place = place; length = length bytes }
 step_told (Some Settles) = record { kind = 2; place = 0; length = 0 }
@@ -130,7 +128,7 @@ pub record CopiesBytes (bytes old : List ℕ) (answer : ℕ) (new : List ℕ) : 
   pub other : (length bytes ≡ length old → ⊥) → (answer ≡ 255) × (new ≡ old)
 
 -- a buffer gets the bytes of a write
-abbrev pub Copies : Option CarriedTask → List ℕ → ℕ → List ℕ → Type 0
+abbrev pub Copies : Option Task → List ℕ → ℕ → List ℕ → Type 0
 Copies None old answer new = (answer ≡ 255) × (new ≡ old)
 Copies (Some (Puts place bytes)) old answer new = CopiesBytes bytes old answer new
 Copies (Some Settles) old answer new = (answer ≡ 255) × (new ≡ old)

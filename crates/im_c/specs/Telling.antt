@@ -1,32 +1,8 @@
 -- Faults, texts and names, for C.
-use Rattle.std.specs.Prelude.{
-  ◌≡◌,
-  ◌⊎◌,
-  ℕ,
-  ◌<◌,
-  ◌≤◌,
-  List,
-  [],
-  ◌∷◌,
-  ◌++◌,
-  ◌==◌,
-  codes,
-  drop,
-  length,
-  Option,
-  None,
-  Some,
-  Err,
-}
+use Rattle.std.specs.Prelude.{◌≡◌, ◌⊎◌, ℕ, ◌<◌, ◌≤◌, List, [], ◌++◌, ◌==◌, codes, drop, length, Some, Err}
 use Rattle.std.specs.Prelude.{if◌then◌else◌}
-use Rattle.std.specs.Option.{option_map_or}
 use Rattle.im_types.specs.declared.refusals.Refusal.{Refusal}
-use Rattle.im_types.specs.declared.refusals.Refusal.TheVariants.{Gap, Forgotten, WindowFull, Mismatch, NoElement}
-use Rattle.im_types.specs.declared.refusals.Refusal.TheVariants.{NotAnswered, JournalFull, Device, Failed, NoMemory}
-use Rattle.im_types.specs.declared.refusals.Refusal.TheVariants.{TraceFull, WrongLength, NoHeader, BadHeader, BadPage}
-use Rattle.im_types.specs.declared.refusals.Refusal.TheVariants.{BadRecord, BadLimits, BadScript, Stalled, OffPlan}
-use Rattle.im_types.specs.declared.refusals.Refusal.TheVariants.{OldVersion, NotBlank, BadPlan, PaneGone}
-use Rattle.im_c.specs.declared.naming.TheConstants.{REFUSALS}
+use Rattle.im_types.specs.declared.refusals.Refusal.TheVariants.{NoMemory, Device}
 use Rattle.im_types.specs.Refusals.{number_of}
 use Rattle.im_types.specs.Header.{header_fault, layout_in}
 use Rattle.im_types.specs.Meaning.{Reads}
@@ -61,52 +37,42 @@ pub record PutsText (text old new : List ℕ) : Type 0 where
   pub other : length old < length text → new ≡ old
 
 -- the report of these bytes has this length, and is put into a buffer
-pub record ReportPut (file : List ℕ) (count : ℕ) (old new : List ℕ) : Type 0 where
+pub record IsTold (file : List ℕ) (count : ℕ) (old new : List ℕ) : Type 0 where
   pub text : List ℕ
   pub tells : Tells file (Some []) (Some text)
   pub whole : count ≡ length text
   pub put : PutsText text old new
 
--- the name of a refusal
-abbrev pub name_of : Refusal → List ℕ
-name_of Gap = codes "Gap"
-name_of Forgotten = codes "Forgotten"
-name_of WindowFull = codes "WindowFull"
-name_of Mismatch = codes "Mismatch"
-name_of NoElement = codes "NoElement"
-name_of NotAnswered = codes "NotAnswered"
-name_of JournalFull = codes "JournalFull"
-name_of Device = codes "Device"
-name_of Failed = codes "Failed"
-name_of NoMemory = codes "NoMemory"
-name_of TraceFull = codes "TraceFull"
-name_of WrongLength = codes "WrongLength"
-name_of NoHeader = codes "NoHeader"
-name_of BadHeader = codes "BadHeader"
-name_of BadPage = codes "BadPage"
-name_of BadRecord = codes "BadRecord"
-name_of BadLimits = codes "BadLimits"
-name_of BadScript = codes "BadScript"
-name_of Stalled = codes "Stalled"
-name_of OffPlan = codes "OffPlan"
-name_of OldVersion = codes "OldVersion"
-name_of NotBlank = codes "NotBlank"
-name_of BadPlan = codes "BadPlan"
-name_of PaneGone = codes "PaneGone"
-
--- the first of these refusals with this number
-abbrev pub refusal_with : ℕ → List Refusal → Option Refusal
-refusal_with number [] = None
-refusal_with number (refusal ∷ others) =
-    if number_of refusal == number then Some refusal else refusal_with number others
-
--- the name of a number that only C knows
-abbrev pub own_name : ℕ → List ℕ
-own_name number = if number == 254 then codes "Unserved" else if number == 255 then codes "NoCall" else codes ""
-
 -- the name of the refusal with this number
 abbrev pub refusal_name : ℕ → List ℕ
-refusal_name number = option_map_or name_of (refusal_with number REFUSALS) (own_name number)
+refusal_name number =
+    if number == 1 then codes "Gap"
+    else if number == 2 then codes "Forgotten"
+    else if number == 3 then codes "WindowFull"
+    else if number == 4 then codes "Mismatch"
+    else if number == 5 then codes "NoElement"
+    else if number == 6 then codes "NotAnswered"
+    else if number == 7 then codes "JournalFull"
+    else if number == 8 then codes "Device"
+    else if number == 9 then codes "Failed"
+    else if number == 10 then codes "NoMemory"
+    else if number == 11 then codes "TraceFull"
+    else if number == 12 then codes "WrongLength"
+    else if number == 13 then codes "NoHeader"
+    else if number == 14 then codes "BadHeader"
+    else if number == 15 then codes "BadPage"
+    else if number == 16 then codes "BadRecord"
+    else if number == 17 then codes "BadLimits"
+    else if number == 18 then codes "BadScript"
+    else if number == 19 then codes "Stalled"
+    else if number == 20 then codes "OffPlan"
+    else if number == 21 then codes "OldVersion"
+    else if number == 22 then codes "NotBlank"
+    else if number == 23 then codes "BadPlan"
+    else if number == 24 then codes "PaneGone"
+    else if number == 254 then codes "Unserved"
+    else if number == 255 then codes "NoCall"
+    else codes ""
 
 -- the name of the answer with this tag
 abbrev pub answer_name : ℕ → List ℕ

@@ -21,7 +21,7 @@ pub use image::{LtImage, lt_close, lt_format, lt_image_length, lt_open};
 pub use inspecting::lt_inspect;
 pub use looking::{lt_held_collect, lt_held_count, lt_held_entry, lt_held_room, lt_held_window};
 pub use memory::{LtMemory, lt_held_memory_collect, lt_memory_free, lt_memory_new, lt_memory_step};
-pub use naming::{law_of_names, lt_answer_name, lt_refusal_name};
+pub use naming::{lt_answer_name, lt_refusal_name};
 pub use plain::{LtBounds, LtCommand, LtLimits, LtOutcome, LtStep, LtWaiter};
 pub use serving::{lt_serve, lt_sweep, lt_turn};
 pub use sizes::lt_limits;

@@ -1,109 +1,43 @@
 //! The names of refusals and answers, for C.
 ghost use Rattle.std.specs.Prelude.{◌≡◌, length};
-ghost use Rattle.im_types.specs.declared.refusals.Refusal.{Refusal};
-ghost use Rattle.im_types.specs.Refusals.{number_of};
-ghost use Rattle.im_c.specs.Telling.{PutsText, answer_name, name_of, own_name, refusal_name, refusal_with};
+ghost use Rattle.im_c.specs.Telling.{PutsText, answer_name, refusal_name};
 
 use crate::inspecting::put_text;
-use im_types::Refusal;
 
-// All refusals, in the order of their numbers. A law says that none is left out.
-const REFUSALS: [Refusal; 24] = [
-    Refusal::Gap,
-    Refusal::Forgotten,
-    Refusal::WindowFull,
-    Refusal::Mismatch,
-    Refusal::NoElement,
-    Refusal::NotAnswered,
-    Refusal::JournalFull,
-    Refusal::Device,
-    Refusal::Failed,
-    Refusal::NoMemory,
-    Refusal::TraceFull,
-    Refusal::WrongLength,
-    Refusal::NoHeader,
-    Refusal::BadHeader,
-    Refusal::BadPage,
-    Refusal::BadRecord,
-    Refusal::BadLimits,
-    Refusal::BadScript,
-    Refusal::Stalled,
-    Refusal::OffPlan,
-    Refusal::OldVersion,
-    Refusal::NotBlank,
-    Refusal::BadPlan,
-    Refusal::PaneGone,
-];
-
-// The name of a refusal.
-fn name_of(refusal: Refusal) -> &'static str
-    ensures { result.now ≡ name_of refusal }
-{
-    match refusal {
-        Refusal::Gap => "Gap",
-        Refusal::Forgotten => "Forgotten",
-        Refusal::WindowFull => "WindowFull",
-        Refusal::Mismatch => "Mismatch",
-        Refusal::NoElement => "NoElement",
-        Refusal::NotAnswered => "NotAnswered",
-        Refusal::JournalFull => "JournalFull",
-        Refusal::Device => "Device",
-        Refusal::Failed => "Failed",
-        Refusal::NoMemory => "NoMemory",
-        Refusal::TraceFull => "TraceFull",
-        Refusal::WrongLength => "WrongLength",
-        Refusal::NoHeader => "NoHeader",
-        Refusal::BadHeader => "BadHeader",
-        Refusal::BadPage => "BadPage",
-        Refusal::BadRecord => "BadRecord",
-        Refusal::BadLimits => "BadLimits",
-        Refusal::BadScript => "BadScript",
-        Refusal::Stalled => "Stalled",
-        Refusal::OffPlan => "OffPlan",
-        Refusal::OldVersion => "OldVersion",
-        Refusal::NotBlank => "NotBlank",
-        Refusal::BadPlan => "BadPlan",
-        Refusal::PaneGone => "PaneGone",
-    }
-}
-
-// The refusal with this number.
-fn refusal_with(number: u8) -> Option<Refusal>
-    ensures { result ≡ refusal_with number REFUSALS }
-{
-    for refusal in REFUSALS.iter() {
-        if refusal.number() == number {
-            return Some(*refusal);
-        }
-    }
-    None
-}
-
-// The name of a number that is no refusal of the memory.
-fn own_name(number: u8) -> &'static str
-    ensures { result.now ≡ own_name number }
+// The name of the refusal with this number.
+fn name_of(number: u8) -> &'static str
+    ensures { result.now ≡ refusal_name number }
 {
     match number {
+        1 => "Gap",
+        2 => "Forgotten",
+        3 => "WindowFull",
+        4 => "Mismatch",
+        5 => "NoElement",
+        6 => "NotAnswered",
+        7 => "JournalFull",
+        8 => "Device",
+        9 => "Failed",
+        10 => "NoMemory",
+        11 => "TraceFull",
+        12 => "WrongLength",
+        13 => "NoHeader",
+        14 => "BadHeader",
+        15 => "BadPage",
+        16 => "BadRecord",
+        17 => "BadLimits",
+        18 => "BadScript",
+        19 => "Stalled",
+        20 => "OffPlan",
+        21 => "OldVersion",
+        22 => "NotBlank",
+        23 => "BadPlan",
+        24 => "PaneGone",
         254 => "Unserved",
         255 => "NoCall",
         _ => "",
     }
 }
-
-// The name of the refusal with this number.
-fn name_with(number: u8) -> &'static str
-    ensures { result.now ≡ refusal_name number }
-{
-    match refusal_with(number) {
-        Some(refusal) => name_of(refusal),
-        None => own_name(number),
-    }
-}
-
-/// A law of the names: each refusal is named under its number.
-pub fn law_of_names()
-    ensures { (refusal : Refusal) → refusal_name (number_of refusal) ≡ name_of refusal }
-{}
 
 // The name of the answer with this tag.
 fn answer_of(tag: u8) -> &'static str
@@ -143,7 +77,7 @@ pub extern "C" fn lt_refusal_name(refusal: u8, buffer: &mut [u8]) -> usize
     ensures length { result ≡ length (refusal_name refusal) }
     ensures name { PutsText (refusal_name refusal) buffer.old buffer.new }
 {
-    tell_name(name_with(refusal), buffer)
+    tell_name(name_of(refusal), buffer)
 }
 
 /// Returns the length of the name of the answer with this tag. The name is at the start of `buffer` if it fits, and the

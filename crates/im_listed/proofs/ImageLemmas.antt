@@ -16,7 +16,7 @@ use Rattle.im_engine.specs.Run.{Answered, SweepAnswered, TurnAnswered, TurnTaken
 use Rattle.im_listed.specs.History.{given}
 use Rattle.im_listed.specs.Numbers.{told_number}
 use Rattle.im_listed.specs.Listing.{Listing, carried, over, with_no_steps, LeftOnTheWay, Accounts}
-use Rattle.im_listed.specs.Image.{ImageState, Carries, IsFaultOf, IsWant, without_steps, tells_device}
+use Rattle.im_listed.specs.Image.{ImageState, Carries, IsFaultOf, IsWant, begun_in, tells_device}
 use Rattle.im_listed.proofs.NumberLemmas.{told_same}
 
 -- what is known after a call, of the engine as it began
@@ -51,8 +51,8 @@ ends_of : (lost : Bool) (m : Moment) (d : Listing) → (lost ≡ false → m ≡
 ends_of true m d e account is = absurd (false≢true (sym is))
 ends_of false m d e account is = account.ends ∙ ap (λ (b : Moment). carried b d.steps) (sym (e is))
 
-carries : (old new : ImageState) (P : EngineState Listing → List ℕ → Type 0) → Facts (without_steps old) new P
-    → Carries old.engine.disk.now new (P (without_steps old))
+carries : (old new : ImageState) (P : EngineState Listing → List ℕ → Type 0) → Facts (begun_in old) new P
+    → Carries old.engine.disk.now new (P (begun_in old))
 carries old new P f =
     let here : new.lost ≡ false → old.engine.disk.now
     ≡ new.engine.disk.begun =
@@ -60,12 +60,12 @@ carries old new P f =
     (sym (f.same is)) in
     record {
       ends = ends_of new.lost old.engine.disk.now new.engine.disk here f.account;
-      way = way_of new.lost old.engine.disk.now new.engine.disk (P (without_steps old)) here f.account f.leaves f.start;
+      way = way_of new.lost old.engine.disk.now new.engine.disk (P (begun_in old)) here f.account f.leaves f.start;
       means = f.means;
     }
 
 pub carries_on : (old new : ImageState) (P : EngineState Listing → List ℕ → Type 0) (s : EngineState Listing) → s
-    ≡ without_steps old → Facts s new P → Carries old.engine.disk.now new (P (without_steps old))
+    ≡ begun_in old → Facts s new P → Carries old.engine.disk.now new (P (begun_in old))
 carries_on old new P s e f = carries old new P (subst (λ (t : EngineState Listing). Facts t new P) e f)
 
 pub begun_with : (bytes : List ℕ) (d start : Listing) → (start.failed ≡ false) × (start.begun ≡ given bytes)

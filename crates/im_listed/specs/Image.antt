@@ -10,7 +10,7 @@ use Rattle.im_groups.specs.Ahead.{ServesPrefix}
 use Rattle.im_engine.specs.State.{EngineState, MeansState, IsFirstFault}
 use Rattle.im_engine.specs.Commands.{CommandsAnswered, MeansCommands, commands_put}
 use Rattle.im_engine.specs.Run.{is_device}
-use Rattle.im_listed.specs.Listing.{CarriedTask, Listing, carried, LeftOnTheWay, with_no_steps}
+use Rattle.im_listed.specs.Listing.{Task, Listing, carried, LeftOnTheWay, with_no_steps}
 
 -- an engine over a caller's bytes, and whether a call of the disk failed, here or at the caller
 pub record ImageState : Type 0 where
@@ -18,11 +18,11 @@ pub record ImageState : Type 0 where
   pub lost : Bool
 
 -- the engine as a call finds it, without the list of the call before
-abbrev pub without_steps : ImageState → EngineState Listing
-without_steps s = record s.engine { disk = with_no_steps s.engine.disk }
+abbrev pub begun_in : ImageState → EngineState Listing
+begun_in s = record s.engine { disk = with_no_steps s.engine.disk }
 
 -- what the caller has to carry out after a call: nothing, if a step was lost
-abbrev pub steps_of : ImageState → List CarriedTask
+abbrev pub steps_of : ImageState → List Task
 steps_of s = if s.lost then [] else s.engine.disk.steps
 
 -- the answer says that a call of the disk failed
@@ -51,9 +51,8 @@ pub record Carries (old : Moment) (new : ImageState) (P : List ℕ → Type 0) :
 pub record ServesFirst (old : ImageState) (members : List Command) (answers : List Served)
     (new : ImageState) : Type 0 where
   -- how many are served, and where it ends
-  pub begins : ServesPrefix (without_steps old).memory
-      (commands_put (without_steps old) (take (length answers) members)) members
+  pub begins : ServesPrefix (begun_in old).memory (commands_put (begun_in old) (take (length answers) members)) members
       (length answers)
-  pub answered : CommandsAnswered (without_steps old) (take (length answers) members) answers new.engine
+  pub answered : CommandsAnswered (begun_in old) (take (length answers) members) answers new.engine
   -- on the way the file means the memory before those that are served, or after all of them
-  pub carried : Carries old.engine.disk.now new (MeansCommands (without_steps old) (take (length answers) members))
+  pub carried : Carries old.engine.disk.now new (MeansCommands (begun_in old) (take (length answers) members))

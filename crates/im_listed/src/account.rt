@@ -6,24 +6,24 @@ ghost use Rattle.im_listed.specs.History.{ListedCall, listed_call};
 use std::marker::{Model, PhantomData};
 
 #[derive(Drop)]
-pub(crate) struct CallBook {
+pub(crate) struct Ledger {
     marker: PhantomData<u8>,
     pub(crate) ghost events: { List ListedCall },
 }
 
-impl Model for CallBook {
+impl Model for Ledger {
     ghost also_owns = { λ _. ftrue };
 }
 
 // It owns nothing, so it may move to another thread.
-unsafe impl Send for CallBook {}
+unsafe impl Send for Ledger {}
 
-impl CallBook {
+impl Ledger {
     // An empty list.
-    pub(crate) fn new() -> CallBook
+    pub(crate) fn new() -> Ledger
         ensures { result.events ≡ [] }
     {
-        CallBook {
+        Ledger {
             marker: PhantomData,
         }
     }

@@ -10,8 +10,7 @@ ghost use Rattle.im_engine.specs.State.{MeansState, MeansEither, IsFound};
 ghost use Rattle.im_engine.specs.Run.{Answered, SweepAnswered, TurnAnswered};
 ghost use Rattle.im_listed.specs.Listing.{Accounts, task_of, carried};
 ghost use Rattle.im_listed.specs.History.{given};
-ghost use Rattle.im_listed.specs.Image.{ImageState, Carries, IsFaultOf, IsWant, steps_of, tells_device};
-ghost use Rattle.im_listed.specs.Image.{without_steps};
+ghost use Rattle.im_listed.specs.Image.{ImageState, Carries, IsFaultOf, IsWant, begun_in, steps_of, tells_device};
 ghost use Rattle.im_listed.specs.Image.{ServesFirst};
 
 use crate::listed::Listed;
@@ -143,7 +142,7 @@ impl Image {
 
     /// Empties the list of steps. Each call of `serve`, `serve_commands`, `turn` and `sweep` does so first.
     pub fn forget_steps(&mut self)
-        ensures { self.new ≡ record self.old { engine = without_steps self.old } }
+        ensures { self.new ≡ record self.old { engine = begun_in self.old } }
     {
         self.engine.empty_list();
     }
@@ -159,11 +158,10 @@ impl Image {
     pub fn serve(&mut self, command: &Command) -> Result<Outcome, Refusal>
         ensures lost { self.old.lost ≡ true → (result ≡ Err Refusal.Device) × (self.new ≡ self.old) }
         ensures works { self.old.lost ≡ false → self.old.engine.failed ≡ false }
-        ensures answered { self.old.lost ≡ false
-            → Answered (without_steps self.old) command.now result self.new.engine }
+        ensures answered { self.old.lost ≡ false → Answered (begun_in self.old) command.now result self.new.engine }
         // On the way the file means the memory before the command or after it, and at the end what was answered.
         ensures carried { self.old.lost ≡ false
-            → Carries self.old.engine.disk.now self.new (MeansEither (without_steps self.old) command.now) }
+            → Carries self.old.engine.disk.now self.new (MeansEither (begun_in self.old) command.now) }
     {
         if self.lost {
             return Err(Refusal::Device);
@@ -205,10 +203,10 @@ impl Image {
         ensures lost { self.old.lost ≡ true → (result ≡ Err Refusal.Device) × (self.new ≡ self.old) }
         // So the answer isn't `Failed`.
         ensures works { self.old.lost ≡ false → self.old.engine.failed ≡ false }
-        ensures answered { self.old.lost ≡ false → TurnAnswered (without_steps self.old) result self.new.engine }
+        ensures answered { self.old.lost ≡ false → TurnAnswered (begun_in self.old) result self.new.engine }
         // On the way the file means the same memory.
         ensures carried { self.old.lost ≡ false
-            → Carries self.old.engine.disk.now self.new (MeansState (without_steps self.old)) }
+            → Carries self.old.engine.disk.now self.new (MeansState (begun_in self.old)) }
     {
         if self.lost {
             return Err(Refusal::Device);
@@ -224,9 +222,9 @@ impl Image {
     pub fn sweep(&mut self, most: u32) -> Result<u32, Refusal>
         ensures lost { self.old.lost ≡ true → (result ≡ Err Refusal.Device) × (self.new ≡ self.old) }
         ensures works { self.old.lost ≡ false → self.old.engine.failed ≡ false }
-        ensures answered { self.old.lost ≡ false → SweepAnswered (without_steps self.old) most result self.new.engine }
+        ensures answered { self.old.lost ≡ false → SweepAnswered (begun_in self.old) most result self.new.engine }
         ensures carried { self.old.lost ≡ false
-            → Carries self.old.engine.disk.now self.new (MeansState (without_steps self.old)) }
+            → Carries self.old.engine.disk.now self.new (MeansState (begun_in self.old)) }
     {
         if self.lost {
             return Err(Refusal::Device);

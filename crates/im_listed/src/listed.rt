@@ -6,7 +6,7 @@ ghost use Rattle.im_listed.specs.Listing.{Puts, task_of, over, with_no_steps, la
 ghost use Rattle.im_listed.specs.Listing.{Accounts};
 ghost use Rattle.im_listed.specs.Numbers.{told_number};
 
-use crate::account::CallBook;
+use crate::account::Ledger;
 use crate::step::Step;
 use im_disk::{DeviceFault, Disk};
 use im_engine::Empties;
@@ -36,7 +36,7 @@ pub struct Listed {
     steps: Vec<Step>,
     calm: bool,
     failed: bool,
-    ledger: CallBook,
+    ledger: Ledger,
 }
 
 impl Model for Listed {
@@ -96,7 +96,7 @@ impl Listed {
         ensures honest { ⟦<Listed as Disk>⟧.honest result }
     {
         let alloc = *bytes.allocator();
-        let mut ledger = CallBook::new();
+        let mut ledger = Ledger::new();
         ledger.note(&[GIVEN, 0], &bytes);
         Listed {
             bytes,

@@ -2,7 +2,7 @@ use Rattle.std.proofs.Common.{◌≡◌, inl, List, ℕ, false, sym, ◌∙◌, 
 use Rattle.im_engine.specs.State.{EngineState, MeansEither}
 use Rattle.im_listed.specs.Listing.{Listing}
 use Rattle.im_listed.specs.Numbers.{told_number}
-use Rattle.im_listed.specs.Image.{ImageState, without_steps, tells_device}
+use Rattle.im_listed.specs.Image.{ImageState, begun_in, tells_device}
 use Rattle.im_listed.proofs.ImageLemmas.{carries_on, start_of, alive_after, steady_after}
 use Rattle.im_listed.proofs.image.Image.serve.Goals as goal
 
@@ -25,7 +25,7 @@ returns-clause-carried c = λ alive.
     ≡ false = λ is. sym c.tells_device-self-inside.ensures ∙ is in
     carries_on c.args.self.now new
     (λ (t : EngineState Listing) (file : List ℕ). MeansEither t c.args.command.now file) s
-    (c.empty_list.ensures.emptied ∙ ap (λ (i : ImageState). without_steps i) c.self.view_is) (record {
+    (c.empty_list.ensures.emptied ∙ ap (λ (i : ImageState). begun_in i) c.self.view_is) (record {
       same = λ is. steady_after c.serve-answer.result (told_number s.disk.failed s.disk.begun)
           (told_number new.engine.disk.failed new.engine.disk.begun) c.serve-answer.ensures.faults (calm is);
       leaves = c.serve-answer.ensures.leaves tt here;

@@ -3,7 +3,7 @@ use Rattle.im_groups.specs.Ahead.{ServesPrefix}
 use Rattle.im_engine.specs.State.{EngineState}
 use Rattle.im_engine.specs.Commands.{CommandsAnswered, MeansCommands, commands_put}
 use Rattle.im_listed.specs.Listing.{Listing}
-use Rattle.im_listed.specs.Image.{ImageState, without_steps}
+use Rattle.im_listed.specs.Image.{ImageState, begun_in}
 use Rattle.im_listed.proofs.ImageLemmas.{carries_on, start_of}
 use Rattle.im_listed.proofs.image.Image.serve_commands.Goals as goal
 
@@ -14,7 +14,7 @@ returns-clause-served c = λ alive.
     let on : e.failed ≡ false = c.self.invariant c.if-self.false in
     let here : s.failed ≡ false = ap (λ (t : EngineState Listing). t.failed) c.empty_list.ensures.emptied ∙ on in
     let emptied = c.empty_list.ensures.emptied in
-    let same : s ≡ without_steps c.args.self.now = emptied ∙ ap (λ (i : ImageState). without_steps i) c.self.view_is in
+    let same : s ≡ begun_in c.args.self.now = emptied ∙ ap (λ (i : ImageState). begun_in i) c.self.view_is in
     let new : ImageState = record { engine = c.serve_commands.new.self; lost = c.known-self-inside-2.result } in
     let calm : new.lost ≡ false → new.engine.failed ≡ false = λ is. sym c.known-self-inside-2.ensures.failed ∙ is in
     let all = c.args.members.now.items in

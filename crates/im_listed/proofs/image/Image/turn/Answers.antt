@@ -2,7 +2,7 @@ use Rattle.std.proofs.Common.{◌≡◌, List, ℕ, false, sym, ◌∙◌, ap}
 use Rattle.im_engine.specs.State.{EngineState, MeansState}
 use Rattle.im_listed.specs.Listing.{Listing}
 use Rattle.im_listed.specs.Numbers.{told_number}
-use Rattle.im_listed.specs.Image.{ImageState, without_steps}
+use Rattle.im_listed.specs.Image.{ImageState, begun_in}
 use Rattle.im_listed.proofs.ImageLemmas.{carries_on, start_of, steady_turn}
 use Rattle.im_listed.proofs.image.Image.turn.Goals as goal
 
@@ -15,7 +15,7 @@ returns-clause-carried c = λ alive.
     let new : ImageState = record { engine = c.turn-answer.new.self; lost = c.known-self-inside-2.result } in
     let calm : new.lost ≡ false → new.engine.failed ≡ false = λ is. sym c.known-self-inside-2.ensures.failed ∙ is in
     carries_on c.args.self.now new (λ (t : EngineState Listing) (file : List ℕ). MeansState t file) s
-    (c.empty_list.ensures.emptied ∙ ap (λ (i : ImageState). without_steps i) c.self.view_is) (record {
+    (c.empty_list.ensures.emptied ∙ ap (λ (i : ImageState). begun_in i) c.self.view_is) (record {
       same = λ is. steady_turn s new.engine c.turn-answer.result (told_number s.disk.failed s.disk.begun)
           (told_number new.engine.disk.failed new.engine.disk.begun)
           c.turn-answer.ensures.answered c.turn-answer.ensures.faults here (calm is);
