@@ -17,7 +17,8 @@ pub fn finish_with_receipt<D: Disk, K: Name, R: Wait>(
     ports: Vec<Port<K>>,
     receipt: &Receipt<K>,
 ) -> Finished<D>
-    ensures keeps { StaysDurable D.Disk K.begun K.memory result.trace.items receipt.now result.engine.disk }
+    ensures keeps { StaysDurable D.Disk K.origin.begun K.origin.memory result.trace.items receipt.now
+        result.engine.disk }
 {
     let Finished {
         engine,

@@ -18,14 +18,12 @@ use im_disk::Disk;
 use im_engine::Engine;
 use im_script::Script;
 use im_serial::{Desk, Paper, Server};
-use im_serving::{Gate, Watcher};
+use im_serving::{Gate, Host, Watcher};
 use im_text::{Observer, Reason, diagnose, end};
 use im_types::Refusal;
 use std::alloc::Global;
 use std::io::Write;
 use std::marker::Brand;
-use std::sync::Wait;
-use std::thread::Threads;
 
 /// The status of a run in which servers waited for each other and nothing else was refused.
 pub const STALLED: u8 = 3;
@@ -48,7 +46,7 @@ fn serve_on<
     N: Observer,
     G: Gate + Sync,
     V: Watcher + Sync,
-    R: Threads + Wait + Sync,
+    R: Host,
 >(
     context: &RunContext<'_, G, V, R>,
     engine: Engine<D>,
@@ -93,7 +91,7 @@ pub(crate) fn run_server<
     N: Observer,
     G: Gate + Sync,
     V: Watcher + Sync,
-    R: Threads + Wait + Sync,
+    R: Host,
 >(
     context: &RunContext<'_, G, V, R>,
     server: Server<D>,
@@ -192,7 +190,7 @@ pub fn run_on<
     N: Observer,
     G: Gate + Sync,
     V: Watcher + Sync,
-    R: Threads + Wait + Sync,
+    R: Host,
 >(
     rt: &R,
     alloc: Global,

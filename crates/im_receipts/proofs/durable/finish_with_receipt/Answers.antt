@@ -9,7 +9,7 @@ use Rattle.im_receipts.proofs.durable.finish_with_receipt.Goals as goal
 pub returns : goal.returns
 returns g c = record {
   keeps = λ honest began.
-      let m = g.K.Name.memory in
+      let m = g.K.Name.origin.memory in
       let receipt = c.args.receipt.now in
       let trace = c.finish-engine.result.trace in
       let kept = c.finish-engine.ensures.keeps honest began in
@@ -24,7 +24,7 @@ returns g c = record {
             (sym (c.times.ensures.same ∙ same)) begins;
         by = kept.by receipt.history receipt.time left;
         since = λ file since. has_receipt c.repeat_is_told_again.ensures m c.order.ensures.memory.agrees
-            g.K.Name.begun.count receipt c.outcome-outcome.ensures.legal c.outcome-outcome.ensures.last trace.items kept.kept.doubt
+            g.K.Name.origin.begun.count receipt c.outcome-outcome.ensures.legal c.outcome-outcome.ensures.last trace.items kept.kept.doubt
             file begins (kept.since receipt.history receipt.time left file since);
       };
 }
