@@ -96,8 +96,7 @@ pub fn lend<D: Disk, K: Name, R: Wait>(
     tally: &mut Tally<K>,
     command: &Command,
 ) -> Result<Receipt<K>, Refusal>
-    ensures lends { Lends D.Disk K.origin.marks K.origin.plan shared.old tally.old command.now result shared.new
-        tally.new }
+    ensures lends { Lends D.Disk K.origin shared.old tally.old command.now result shared.new tally.new }
     ensures planned { TellsOf K.origin.memory K.origin.plan result }
     ensures legal { IfOk result (λ r. IsLegal K.origin.memory r.history) }
     ensures calls { D.honest shared.new.engine.disk → CallsBy D.past shared.old.engine.disk shared.new.engine.disk

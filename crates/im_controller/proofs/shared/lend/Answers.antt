@@ -134,11 +134,9 @@ returns-in-Ok-clause-lends g c =
       servers = c.shared.inside.servers;
       shown = c.show_put-told.new.pane.shown;
     } in
-    subst (λ (s : SharedState g.row.D.Denot). Lends g.D.Disk g.K.Name.origin.marks g.K.Name.origin.plan s
-    c.args.tally.now
+    subst (λ (s : SharedState g.row.D.Denot). Lends g.D.Disk g.K.Name.origin s c.args.tally.now
     c.args.command.now c.receipt.result s' c.leave.new.tally) c.shared.view_is
-    (lends-served g.D.Disk g.K.Name.origin.marks g.K.Name.origin.plan _ s' c.args.tally.now c.leave.new.tally
-    c.args.command.now
+    (lends-served g.D.Disk g.K.Name.origin _ s' c.args.tally.now c.leave.new.tally c.args.command.now
     c.serve-answer.result c.receipt.result is (sym c.failed.ensures.failed ∙ c.if-failed.false) room
     (ap (λ (p : Option (List Request)). has_command p c.args.command.now) (sym c.shared.invariant.7)
     ∙ sym c.has_command.ensures ∙ c.if-not-has_command.false)
