@@ -7,9 +7,10 @@ LIBDIR = lib
 check:
 	scripts/check
 
-# The gate: every proof from nothing, the wrong bodies that the prover must refuse, and the tests.
+# The gate: every proof from nothing, the wrong bodies that the prover must refuse, and the tests. Each proof has one
+# processor: with two it takes a third more of them.
 test:
-	rt ci
+	RT_JOBS=$${RT_JOBS:-$$(nproc)} rt ci
 
 # The proved program, as out/imem.
 imem:

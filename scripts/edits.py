@@ -102,7 +102,8 @@ def read_words(said, crate, top=sources.TOP):
     """Reads the prover's words about a crate. A goal is open if a search finds no proof, which a note says with its
     place in the code, or if the answer that is written for it doesn't fit."""
     words = Words(flaws=FLAW.findall(said), refused=[function.split("::", 1)[-1] for function, _ in OPEN.findall(said)])
-    notes = [(function_at(crate, file, int(line), top), goal) for file, line, goal in NOTE.findall(said)]
+    functions = list(sources.functions(crate, top))
+    notes = [(function_at(functions, file, int(line)), goal) for file, line, goal in NOTE.findall(said)]
     for function, rest in OPEN.findall(said):
         name = function.split("::", 1)[-1]
         folder = "proofs/" + name.replace("::", "/") + "/"
@@ -118,10 +119,9 @@ def read_words(said, crate, top=sources.TOP):
     return words
 
 
-def function_at(crate, file, line, top):
-    """Returns the function that has this line of a file, or None. An edit keeps the lines of a file."""
-    found = (it for it in sources.functions(crate, top) if it.file == Path(file).name and it.line <= line < it.line + it.lines)
-    return next(found, None)
+def function_at(functions, file, line):
+    """Returns the one of these functions that has this line of a file, or None. An edit keeps the lines of a file."""
+    return next((it for it in functions if it.file == Path(file).name and it.line <= line < it.line + it.lines), None)
 
 
 def is_named(function, name):
@@ -159,6 +159,19 @@ class Known:
         traits = {owner.removeprefix(it.owner) for it in found if owner != it.owner}
         return found + [it for it in self.all if it.name == name and it.owner and it.owner in traits]
 
+    def around(self, crate, file, old, top=sources.TOP):
+        """Returns the function that has this text of a file, in its contract or its body, or None."""
+        text = (top / "crates" / crate / file).read_text()
+        return function_at(self.by_crate[crate], file, text[: text.index(old)].count("\n") + 1) if text.count(old) == 1 else None
+
+    def elsewhere(self, crate, path, said, top):
+        """Returns a function that an edit, or its twin, rewrites, if it rewrites none that the edit is meant to break.
+        Its old text stands there by chance. None if it rewrites one."""
+        places = [self.around(crate, file, old, top) for file, old, _ in pairs(path) if file.startswith("src/")]
+        found = [it for it in places if it]
+        is_meant = any(is_named(it, name) or is_of_type(it, name) for it in found for name, _ in said)
+        return None if is_meant or len(found) < len(places) else next(iter(found), None)
+
     def labels(self, functions, kind):
         """Returns the labels of the clauses of these functions, function by function."""
         return [[clause.label for clause in it.clauses if clause.kind == kind] for it in functions]
@@ -190,9 +203,14 @@ def misplaced(folder, path, top):
             yield f"{path.relative_to(top)}: stands {found} times in {file}: {old[:60]}"
 
 
+def is_of_type(function, name):
+    """Whether a name of the prover is that of the type, or of a trait's impl for the type, that has this function."""
+    return bool(function.owner) and name.split("::")[-1].startswith(function.owner)
+
+
 def faults(top=sources.TOP):
-    """Yields the edits that don't say which clause they break, name one that doesn't exist, or whose old text is gone,
-    those of scripts/threads too."""
+    """Yields the edits that don't say which clause they break, name one that doesn't exist, rewrite another function
+    than they name, or whose old text is gone, those of scripts/threads too."""
     known = Known(top)
     for path in sorted((top / "scripts" / "threads").rglob("*.edit")):
         yield from misplaced(top, path, top)
@@ -206,3 +224,7 @@ def faults(top=sources.TOP):
                 yield f"{path.relative_to(top)}: no line `{BREAKS}FUNCTION CLAUSE`"
             elif why := next(filter(None, (known.why_not(crate, *it) for it in said)), None):
                 yield f"{path.relative_to(top)}: {why}"
+            else:
+                for it in filter(Path.is_file, (path, twin)):
+                    if other := known.elsewhere(crate, it, said, top):
+                        yield f"{it.relative_to(top)}: rewrites {other.path()}, and breaks {said[0][0]}"

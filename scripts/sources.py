@@ -1,6 +1,9 @@
 """What the sources of this repository contain, for the scripts beside this file: crates, functions with their clauses,
 lemmas."""
+import functools
+import hashlib
 import re
+import subprocess
 from dataclasses import dataclass, field
 from pathlib import Path
 from typing import NamedTuple
@@ -54,11 +57,33 @@ class Lemma:
     text: str
 
 
+def rows(top=TOP):
+    """Returns the row of each crate of crates.txt, in its order: its name with its kind, and what it stands on."""
+    lines = [line.split("#")[0].partition(":") for line in (top / "crates.txt").read_text().splitlines()]
+    return {name.split()[0]: (name.split(), rest.split()) for name, colon, rest in lines if colon}
+
+
 def stands_on(top=TOP):
     """Returns for each crate of crates.txt, in its order, the crates of this repository that it stands on."""
-    lines = [line.split("#")[0].partition(":") for line in (top / "crates.txt").read_text().splitlines()]
-    named = {name.split()[0]: rest.split() for name, colon, rest in lines if colon}
-    return {crate: [it for it in rest if it in named] for crate, rest in named.items()}
+    named = rows(top)
+    return {crate: [it for it in rest if it in named] for crate, (_, rest) in named.items()}
+
+
+@functools.cache
+def stamp(crate, top=TOP):
+    """Returns a short sum of all that the prover's verdict on a crate stands on: its sources, definitions and proofs,
+    those of the crates below, and the toolchain."""
+    total, folder = hashlib.sha256(repr((toolchain(), (top / "HANDLES").read_text(), rows(top)[crate])).encode()), top / "crates" / crate
+    for path in sorted(it for part in ("src", "specs", "proofs") for it in (folder / part).rglob("*") if it.is_file()):
+        total.update(repr((str(path.relative_to(folder)), path.read_bytes())).encode())
+    total.update(repr([stamp(it, top) for it in stands_on(top)[crate]]).encode())
+    return total.hexdigest()[:12]
+
+
+@functools.cache
+def toolchain():
+    """Returns what the toolchain says that it is."""
+    return subprocess.run(["rt", "version"], capture_output=True, text=True, check=True).stdout.strip()
 
 
 def functions(crate, top=TOP):

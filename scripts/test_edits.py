@@ -1,13 +1,17 @@
 #!/usr/bin/env python3
-"""Tests how edits.py reads edits and the prover's words, on what the prover said of some edits (kept/).
+"""Tests how edits.py reads edits and the prover's words, on what the prover said of some edits (kept/), and what
+trying.py would try together, and not again.
 
 usage: scripts/test_edits.py      from anywhere in a checkout
 """
 import tempfile
 import unittest
 from pathlib import Path
+from unittest import mock
 
 import edits
+import sources
+import trying
 
 KEPT = Path(__file__).resolve().parent / "kept"
 # The functions that the kept words are about, as far as it matters, each at the line that they name.
@@ -176,6 +180,77 @@ class Edits(WithSources):
         for what, why in wrong.items():
             self.assertEqual(known.why_not("im_disk", "gate::open_gate", what), why)
         self.assertEqual(known.why_not("im_disk", "gate::no_gate", "opened"), "there is no function gate::no_gate")
+
+    def test_an_edit_of_another_function_than_it_names(self):
+        known, path = edits.Known(self.top), self.top / "one.edit"
+        look = lambda name: known.elsewhere("im_arena", path, [(name, "returns")], self.top)
+        path.write_text("file: src/lib.rt\nold: self.nodes.len() as u32\nnew: 0\n")
+        self.assertEqual(look("Arena::node_count").name, "list_count")
+        self.assertIsNone(look("Arena::list_count"))
+        self.assertIsNone(look("ArenaDrop"))
+
+
+class Trying(WithSources):
+    """What is tried together, and what isn't tried again."""
+
+    def setUp(self):
+        super().setUp()
+        (self.top / "HANDLES").write_text("Handles allowed: none.\n")
+        (self.top / "crates/im_arena/edits").mkdir()
+        self.reach = trying.Reach("im_arena", edits.Known(self.top), self.top)
+        sources.stamp.cache_clear()
+        mock.patch.object(sources, "toolchain", lambda: "a kit").start()
+        self.addCleanup(mock.patch.stopall)
+
+    def edit(self, name, breaks, old, file="src/lib.rt"):
+        path = self.top / "crates/im_arena/edits" / f"{name}.edit"
+        path.write_text("".join(f"# breaks: {it} returns\n" for it in breaks) + f"file: {file}\nold: {old}\nnew: {old} + 0\n")
+        return path
+
+    def test_edits_of_different_functions_are_tried_together(self):
+        one = self.edit("list_count-one", ["Arena::list_count"], "self.nodes.len() as u32")
+        other = self.edit("is_full-one", ["Arena::is_full"], "self.free_count() == 1")
+        same = self.edit("is_full-other", ["Arena::is_full"], "self.free_count()")
+        meant = self.edit("list_count-both", ["Arena::list_count", "Arena::node_count"], "self.nodes.len()")
+        law = self.edit("list_count-law", ["Arena::list_count"], "length self.now.held.lists")
+        self.assertEqual(self.reach.companies([one, other, same, meant, law]), [[one, other], [same, meant], [law]])
+        self.assertEqual(self.reach.asked(one, one), ["Arena::list_count"])
+        self.assertEqual(self.reach.asked(meant, meant), ["Arena::list_count", "Arena::node_count"])
+        self.assertIsNone(self.reach.asked(law, law))
+
+    def test_twins_of_one_text_are_not_tried_together(self):
+        edit = self.edit("is_full-one", ["Arena::is_full"], "self.free_count() == 1")
+        twin, other = edit.with_suffix(".twin"), edit.with_name("is_full-other.twin")
+        for it in (twin, other):
+            it.write_text("file: src/lib.rt\nold: self.free_count() == 1\nnew: 1 == self.free_count()\n")
+        self.assertEqual(self.reach.rounds([(twin, edit), (other, edit)]), [[twin], [other]])
+
+    def test_what_went_well_is_known_until_something_changes(self):
+        path = self.edit("is_full-one", ["Arena::is_full"], "self.free_count() == 1")
+        record = trying.Record("im_arena", self.top)
+        record.note("is_full-one", "edits", True)
+        record.write()
+        again = trying.Record("im_arena", self.top)
+        self.assertTrue(again.is_done("is_full-one", "edits"))
+        self.assertFalse(again.is_done("is_full-one", "twins"))
+        self.assertEqual(again.counts(), (1, 0, 0, 1))
+        again.note("is_full-one", "twins", True)
+        self.assertEqual(again.counts(), (1, 1, 1, 0))
+        again.write()
+        source = self.top / "crates/im_arena/src/lib.rt"
+        source.write_text(source.read_text() + "// a remark\n")
+        sources.stamp.cache_clear()
+        self.assertEqual(trying.Record("im_arena", self.top).counts(), (1, 0, 1, 0))
+        path.write_text(path.read_text().replace("+ 0", "+ 1"))
+        self.assertEqual(trying.Record("im_arena", self.top).counts(), (1, 0, 0, 1))
+
+    def test_the_stamp_is_of_the_crates_below_too(self):
+        (self.top / "crates.txt").write_text("im_disk:\nim_arena: im_disk\n")
+        before = sources.stamp("im_arena", self.top)
+        source = self.top / "crates/im_disk/src/gate.rt"
+        source.write_text(source.read_text() + "// a remark\n")
+        sources.stamp.cache_clear()
+        self.assertNotEqual(sources.stamp("im_arena", self.top), before)
 
 
 if __name__ == "__main__":

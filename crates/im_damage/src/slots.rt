@@ -52,7 +52,7 @@ fn slot_in(ring: &[u8], slots: usize, sequence: u64) -> &[u8] {
 
 // The part of a journal that a slot is in.
 #[derive(Clone, Copy, Debug, PartialEq, Eq)]
-enum Part {
+enum JournalPart {
     // In the run. The slot leads a group.
     Leads,
     // In the run, within a group. This many slots of the group are still to come, with this one.
@@ -64,11 +64,11 @@ enum Part {
 }
 
 // How many slots of a group are still to come behind a slot in this part.
-fn due_behind(part: Part, slot: &[u8]) -> u8 {
+fn due_behind(part: JournalPart, slot: &[u8]) -> u8 {
     match part {
-        Part::Leads => count_in(slot).saturating_sub(1),
-        Part::Follows(due) => due.saturating_sub(1),
-        Part::Room | Part::Rest => 0,
+        JournalPart::Leads => count_in(slot).saturating_sub(1),
+        JournalPart::Follows(due) => due.saturating_sub(1),
+        JournalPart::Room | JournalPart::Rest => 0,
     }
 }
 
@@ -78,15 +78,16 @@ fn goes_on(slot: &[u8], sequence: u64) -> bool {
 }
 
 // The part of a slot, by the part of the slot before it and the number of group slots still to come.
-fn part_of(before: Part, due: u8, slot: &[u8], sequence: u64) -> Part {
+fn part_of(before: JournalPart, due: u8, slot: &[u8], sequence: u64) -> JournalPart {
     match before {
-        Part::Leads | Part::Follows(_) if due > 0 => Part::Follows(due),
-        Part::Leads | Part::Follows(_) if goes_on(slot, sequence) => Part::Leads,
-        Part::Rest => Part::Rest,
+        JournalPart::Leads | JournalPart::Follows(_) if due > 0 => JournalPart::Follows(due),
+        JournalPart::Leads | JournalPart::Follows(_) if goes_on(slot, sequence) =>
+            JournalPart::Leads,
+        JournalPart::Rest => JournalPart::Rest,
         _ => if is_open(slot) {
-            Part::Rest
+            JournalPart::Rest
         } else {
-            Part::Room
+            JournalPart::Room
         },
     }
 }
@@ -131,7 +132,7 @@ fn take_slot(memory: &mut Memory, slot: &[u8], sequence: u64) -> Option<SlotFaul
 // What is wrong with a slot in this part. `left` slots of the ring are left, including this one. The memory serves the
 // command of a slot of the run.
 fn of_slot(
-    part: Part,
+    part: JournalPart,
     slot: &[u8],
     memory: &mut Memory,
     numbers: (u64, u64),
@@ -139,10 +140,10 @@ fn of_slot(
 ) -> Option<SlotFault> {
     let (sequence, first) = numbers;
     let fault = match part {
-        Part::Leads => of_leader(slot, sequence, left),
-        Part::Follows(_) => of_follower(slot, sequence),
-        Part::Room => return None,
-        Part::Rest => {
+        JournalPart::Leads => of_leader(slot, sequence, left),
+        JournalPart::Follows(_) => of_follower(slot, sequence),
+        JournalPart::Room => return None,
+        JournalPart::Rest => {
             let number = sequence_in(slot);
             return if number < first {
                 None
@@ -191,12 +192,12 @@ impl Display for Older {
 
 // The number of commands in the run. `first` is the sequence number of its first one.
 fn run_in(ring: &[u8], slots: usize, first: u64) -> usize {
-    let mut part = Part::Leads;
+    let mut part = JournalPart::Leads;
     let mut due = 0;
     for past in 0..slots {
         let sequence = first.saturating_add(past as u64);
         part = part_of(part, due, slot_in(ring, slots, sequence), sequence);
-        if matches!(part, Part::Room | Part::Rest) {
+        if matches!(part, JournalPart::Room | JournalPart::Rest) {
             return past;
         }
         due = due_behind(part, slot_in(ring, slots, sequence));
@@ -231,7 +232,7 @@ pub fn older_slot(ring: &[u8], slots: u32, first: u64) -> Option<Older> {
 /// the run's first command.
 pub fn of_journal(ring: &[u8], memory: &mut Memory, slots: u32, first: u64) -> Damage {
     let slots = slots as usize;
-    let mut part = Part::Leads;
+    let mut part = JournalPart::Leads;
     let mut due = 0;
     for past in 0..slots {
         let sequence = first.saturating_add(past as u64);

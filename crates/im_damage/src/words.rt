@@ -92,45 +92,74 @@ impl Display for SlotFault {
     }
 }
 
+// Adds that the file hasn't the length that its header wants.
+fn add_length<W: fmt::Write>(f: &mut Formatter<W>, found: usize, wanted: usize) -> fmt::Result {
+    write!(f, "it has {found} bytes, where its header wants {wanted}")
+}
+
+// Adds that the file is shorter than any image.
+fn add_short<W: fmt::Write>(f: &mut Formatter<W>, found: usize) -> fmt::Result {
+    let least = 2 * PAGE;
+    write!(
+        f,
+        "it has {found} bytes, where its two headers alone take {least}"
+    )
+}
+
+// Adds that both headers are open.
+fn add_twice<W: fmt::Write>(f: &mut Formatter<W>, generation: u64) -> fmt::Result {
+    write!(
+        f,
+        "headers 0 and 1 are both open with generation {generation}"
+    )
+}
+
+// Adds which page of the area in force is damaged.
+fn add_page<W: fmt::Write>(f: &mut Formatter<W>, page: usize) -> fmt::Result {
+    write!(f, "page {page} of the area in force: ")
+}
+
+// Adds that a byte behind the records of a page isn't zero.
+fn add_padding<W: fmt::Write>(f: &mut Formatter<W>, page: usize) -> fmt::Result {
+    add_page(f, page)?;
+    f.write_str("a byte behind the last record isn't 0")
+}
+
+// Adds that a cell's record doesn't agree with its block.
+fn add_blocks<W: fmt::Write>(f: &mut Formatter<W>, page: usize, address: usize) -> fmt::Result {
+    add_page(f, page)?;
+    write!(f, "cell {address} isn't of the block in which it lies")
+}
+
+// Adds that the list of those who wait at a cell leads astray.
+fn add_list<W: fmt::Write>(f: &mut Formatter<W>, page: usize, address: usize) -> fmt::Result {
+    add_page(f, page)?;
+    write!(
+        f,
+        "the list of those who wait at cell {address} leads astray"
+    )
+}
+
+// Adds that a record isn't spelled as it should be.
+fn add_record<W: fmt::Write>(f: &mut Formatter<W>, page: usize, of: RecordOf) -> fmt::Result {
+    add_page(f, page)?;
+    write!(f, "the record of {of}")
+}
+
 impl Display for Damage {
     fn fmt<W: fmt::Write>(&self, f: &mut Formatter<W>) -> fmt::Result {
         match *self {
             Damage::Unknown => write!(f, "it is damaged"),
-            Damage::Length(found, wanted) => {
-                write!(f, "it has {found} bytes, where its header wants {wanted}")
-            }
-            Damage::Short(found) => {
-                let least = 2 * PAGE;
-                write!(
-                    f,
-                    "it has {found} bytes, where its two headers alone take {least}"
-                )
-            }
-            Damage::Twice(generation) => {
-                write!(
-                    f,
-                    "headers 0 and 1 are both open with generation {generation}"
-                )
-            }
+            Damage::Length(found, wanted) => add_length(f, found, wanted),
+            Damage::Short(found) => add_short(f, found),
+            Damage::Twice(generation) => add_twice(f, generation),
             Damage::Unmade => f.write_str(UNMADE),
             Damage::Closed => f.write_str(CLOSED),
             Damage::Header(number, field) => write!(f, "header {number}: {field}"),
-            Damage::Record(page, of) => write!(
-                f,
-                "page {page} of the area in force: the record of {of}"
-            ),
-            Damage::Padding(page) => write!(
-                f,
-                "page {page} of the area in force: a byte behind the last record isn't 0"
-            ),
-            Damage::Blocks(page, address) => write!(
-                f,
-                "page {page} of the area in force: cell {address} isn't of the block in which it lies"
-            ),
-            Damage::List(page, address) => write!(
-                f,
-                "page {page} of the area in force: the list of those who wait at cell {address} leads astray"
-            ),
+            Damage::Record(page, of) => add_record(f, page, of),
+            Damage::Padding(page) => add_padding(f, page),
+            Damage::Blocks(page, address) => add_blocks(f, page, address),
+            Damage::List(page, address) => add_list(f, page, address),
             Damage::Waiters => f.write_str(STRANGERS),
             Damage::Slot(slot, fault) => write!(f, "slot {slot} of the journal: {fault}"),
         }

@@ -230,6 +230,6 @@ impl<D: Disk> Engine<D> {
             memory: _,
             failed: _,
         } = self;
-        disk
+        disk // As it was: no call is made.
     }
 }

@@ -4,46 +4,46 @@ use Rattle.std.proofs.Common.{true, false, Option, Some, None, refl, ap, ◌∙�
 use Rattle.im_types.specs.declared.changes.Change.{Change}
 use Rattle.im_types.specs.declared.changes.Change.TheVariants.{Same, Full, Gone}
 use Rattle.im_types.specs.Place.{fill}
-use Rattle.im_glass.specs.Cells.{cell_of, cells_of, written}
+use Rattle.im_glass.specs.Cells.{cell_seen, cells_seen, written}
 
 pub cells_length : (fulls : List Bool) (values : List ℕ) → length fulls ≡ length values
-    → length (cells_of fulls values) ≡ length fulls
+    → length (cells_seen fulls values) ≡ length fulls
 cells_length [] values e = refl
 cells_length (f ∷ fulls) [] e = absurd (omega (arith, e))
 cells_length (f ∷ fulls) (v ∷ values) e = ap suc (cells_length fulls values (omega (arith, e)))
 
 pub cells_get : (fulls : List Bool) (values : List ℕ) (a : ℕ) (f : Bool) (v : ℕ) → length fulls ≡ length values
     → a < length fulls
-    → cell_of (get_or fulls a f) (get_or values a v) ≡ get_or (cells_of fulls values) a None
+    → cell_seen (get_or fulls a f) (get_or values a v) ≡ get_or (cells_seen fulls values) a None
 cells_get [] values a f v e h = absurd (omega arith)
 cells_get (g ∷ fulls) [] a f v e h = absurd (omega (arith, e))
 cells_get (g ∷ fulls) (w ∷ values) zero f v e h = refl
 cells_get (g ∷ fulls) (w ∷ values) (suc a) f v e h = cells_get fulls values a f v (omega (arith, e)) (omega (arith, h))
 
 pub cells_past : (fulls : List Bool) (values : List ℕ) (a : ℕ) → length fulls ≤ a → None
-    ≡ get_or (cells_of fulls values) a None
+    ≡ get_or (cells_seen fulls values) a None
 cells_past [] values a h = refl
 cells_past (g ∷ fulls) [] a h = refl
 cells_past (g ∷ fulls) (w ∷ values) zero h = absurd (omega (arith, h))
 cells_past (g ∷ fulls) (w ∷ values) (suc a) h = cells_past fulls values a (omega (arith, h))
 
-pub cells_filled : (fulls : List Bool) (values : List ℕ) (a v : ℕ) → cells_of (set fulls a true) (set values a v)
-    ≡ set (cells_of fulls values) a (Some v)
+pub cells_filled : (fulls : List Bool) (values : List ℕ) (a v : ℕ) → cells_seen (set fulls a true) (set values a v)
+    ≡ set (cells_seen fulls values) a (Some v)
 cells_filled [] values a v = refl
 cells_filled (g ∷ fulls) [] zero v = refl
 cells_filled (g ∷ fulls) [] (suc a) v = refl
 cells_filled (g ∷ fulls) (w ∷ values) zero v = refl
-cells_filled (g ∷ fulls) (w ∷ values) (suc a) v = ap (λ cells. cell_of g w ∷ cells) (cells_filled fulls values a v)
+cells_filled (g ∷ fulls) (w ∷ values) (suc a) v = ap (λ cells. cell_seen g w ∷ cells) (cells_filled fulls values a v)
 
-pub cells_emptied : (fulls : List Bool) (values : List ℕ) (a : ℕ) → cells_of (set fulls a false) values
-    ≡ set (cells_of fulls values) a None
+pub cells_emptied : (fulls : List Bool) (values : List ℕ) (a : ℕ) → cells_seen (set fulls a false) values
+    ≡ set (cells_seen fulls values) a None
 cells_emptied [] values a = refl
 cells_emptied (g ∷ fulls) [] zero = refl
 cells_emptied (g ∷ fulls) [] (suc a) = refl
 cells_emptied (g ∷ fulls) (w ∷ values) zero = refl
-cells_emptied (g ∷ fulls) (w ∷ values) (suc a) = ap (λ cells. cell_of g w ∷ cells) (cells_emptied fulls values a)
+cells_emptied (g ∷ fulls) (w ∷ values) (suc a) = ap (λ cells. cell_seen g w ∷ cells) (cells_emptied fulls values a)
 
-pub cells_new : (n v : ℕ) → cells_of (replicate n false) (replicate n v) ≡ replicate n None
+pub cells_new : (n v : ℕ) → cells_seen (replicate n false) (replicate n v) ≡ replicate n None
 cells_new zero v = refl
 cells_new (suc n) v = ap (λ cells. None ∷ cells) (cells_new n v)
 

@@ -3,3 +3,4 @@ pub mod PrefixLemmas
 pub mod BookLemmas
 pub mod CopyLemmas
 pub mod RuleLemmas
+pub mod RoomLemmas

@@ -7,8 +7,8 @@ use Rattle.atomic_table.proofs.Lists.{at_set, at_snoc}
 use Rattle.logbook.specs.Pages.{Book}
 use Rattle.im_glass.specs.declared.copies.Copy.{Copy}
 use Rattle.im_glass.specs.declared.rule.Known.{Known}
-use Rattle.im_glass.specs.Copies.{History, IsKept}
-use Rattle.im_glass.specs.Rule.{state_of, IsOf, IsShown, Looks, newcomer}
+use Rattle.im_glass.specs.Copies.{History, IsKeptCopy}
+use Rattle.im_glass.specs.Rule.{state_of, IsOf, IsShown, SeesShown, newcomer}
 
 none-known : (book : Book) → IsOf newcomer book
 none-known book s e = absurd (cc)
@@ -31,7 +31,7 @@ admits copy knowns h = (
 
 -- a look, and a change of what is shown
 pub moves : (seat : ℕ) (known : Known) (old new : Copy) → new.seen.book ≡ old.seen.book
-    → (IsKept (state_of old) → IsKept (state_of new)) → TurnsAt IsShown seat known old new Looks
+    → (IsKeptCopy (state_of old) → IsKeptCopy (state_of new)) → TurnsAt IsShown seat known old new SeesShown
 moves seat known old new same keep knowns h at =
     let now : Known = record { seen = Some new.seen } in
     let kept = keep h.0 in (
@@ -44,7 +44,7 @@ moves seat known old new same keep knowns h at =
       (refl, kept, λ s e. h.1 seat known at s e ∙ sym same),
     )
 
-pub looks : (seat : ℕ) (known : Known) → Turns IsShown seat known (λ copy. copy) Looks
+pub looks : (seat : ℕ) (known : Known) → Turns IsShown seat known (λ copy. copy) SeesShown
 looks seat known copy = moves seat known copy copy refl (λ k. k)
 
 -- a note is cut off, and taken in

@@ -5,15 +5,15 @@ use Rattle.im_types.specs.declared.changes.Change.TheVariants.{Same, Full as Fil
 use Rattle.im_types.specs.Place.{fill}
 
 -- a cell: its value if it is full
-abbrev pub cell_of : Bool → ℕ → Option ℕ
-cell_of true value = Some value
-cell_of false value = None
+abbrev pub cell_seen : Bool → ℕ → Option ℕ
+cell_seen true value = Some value
+cell_seen false value = None
 
 -- each cell: its value if it is full
-abbrev pub cells_of : List Bool → List ℕ → List (Option ℕ)
-cells_of [] values = []
-cells_of (full ∷ fulls) [] = []
-cells_of (full ∷ fulls) (value ∷ values) = cell_of full value ∷ cells_of fulls values
+abbrev pub cells_seen : List Bool → List ℕ → List (Option ℕ)
+cells_seen [] values = []
+cells_seen (full ∷ fulls) [] = []
+cells_seen (full ∷ fulls) (value ∷ values) = cell_seen full value ∷ cells_seen fulls values
 
 -- the cells after a change
 abbrev pub written : List (Option ℕ) → Change → List (Option ℕ)

@@ -27,23 +27,32 @@ abbrev pub after_all : CopyState → List Ahead → CopyState
 after_all s ahead = fold applied_to s ahead
 
 -- the cells are those after the changes, and the count is the number of the changes
-pub record IsKept (s : CopyState) : Type 0 where
+pub record IsKeptCopy (s : CopyState) : Type 0 where
   pub values : (a : ℕ) → slice_index_or s.1 a None ≡ value_after a None s.0.log
   pub count : s.2 ≡ length s.0.log
 
 -- what is put ahead continues the book's changes, one after another, and is of the first n cells alone
-abbrev pub GoesOn : ℕ → Book → List Change → List Ahead → Type 0
-GoesOn n book changes [] = Unit {0}
-GoesOn n book changes (ahead ∷ rest) =
+abbrev pub FollowEach : ℕ → Book → List Change → List Ahead → Type 0
+FollowEach n book changes [] = Unit {0}
+FollowEach n book changes (ahead ∷ rest) =
     (ahead.seen.book ≡ book) × (ahead.seen.log ≡ changes ++ ahead.change ∷ []) × (ahead.count ≡ length ahead.seen.log)
-    × (is_below n ahead.change ≡ true) × GoesOn n book ahead.seen.log rest
+    × (is_below n ahead.change ≡ true) × FollowEach n book ahead.seen.log rest
 
 -- what is put ahead changes nothing
-abbrev pub IsIdle : CopyState → List Ahead → Type 0
-IsIdle s [] = Unit {0}
-IsIdle s (ahead ∷ rest) = (applied_to s ahead ≡ s) × IsIdle s rest
+abbrev pub ChangeNothing : CopyState → List Ahead → Type 0
+ChangeNothing s [] = Unit {0}
+ChangeNothing s (ahead ∷ rest) = (applied_to s ahead ≡ s) × ChangeNothing s rest
 
 -- the changes that are put ahead
 abbrev pub changes_ahead : List Ahead → List Change
 changes_ahead [] = []
 changes_ahead (ahead ∷ rest) = ahead.change ∷ changes_ahead rest
+
+-- one operation more: it has this change, and the list of this book that ends in it
+pub record AddsOne (book : Book) (change : Change) (list : List Change) (before after : List Ahead) : Type 0 where
+  pub one : Ahead
+  pub is : after ≡ before ++ one ∷ []
+  pub change_is : one.change ≡ change
+  pub book_is : one.seen.book ≡ book
+  pub list_is : one.seen.log ≡ list
+  pub count_is : one.count ≡ length list

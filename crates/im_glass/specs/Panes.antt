@@ -1,5 +1,5 @@
 -- What contracts see of a pane. (Own.)
-use Rattle.std.specs.Prelude.{◌≡◌, ℕ, List, []}
+use Rattle.std.specs.Prelude.{◌≡◌, ℕ, ◌^◌, List, [], Bool, true, nat_lt, nat_le, if◌then◌else◌}
 use Rattle.logbook.specs.Pages.{Book}
 use Rattle.im_types.specs.declared.changes.Change.{Change}
 
@@ -17,6 +17,10 @@ pub record UnnamedView : Type 0 where
   pub shown : List Change
   pub cells : ℕ
   pub spare : ℕ
+
+-- whether a pane takes no more changes, given how many are put ahead and how many are shown
+abbrev pub is_filled : ℕ → ℕ → Bool
+is_filled ahead shown = if nat_lt ahead 16 then nat_le (2 ^ 61) shown else true
 
 -- a pane without a name, under a name; nothing is put ahead on it
 abbrev pub with_name : UnnamedView → PaneView

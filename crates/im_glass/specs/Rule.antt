@@ -5,7 +5,7 @@ use lib.ListN.{get_elem?}
 use Rattle.logbook.specs.Pages.{Book}
 use Rattle.im_glass.specs.declared.copies.Copy.{Copy}
 use Rattle.im_glass.specs.declared.rule.Known.{Known}
-use Rattle.im_glass.specs.Copies.{History, CopyState, IsKept}
+use Rattle.im_glass.specs.Copies.{History, CopyState, IsKeptCopy}
 
 -- a copy, as its state
 abbrev pub state_of : Copy → CopyState
@@ -13,7 +13,7 @@ state_of copy = (copy.seen, copy.cells, copy.count)
 
 -- a copy that is kept, and of this book
 abbrev pub IsKeptOf : Book → Copy → Type 0
-IsKeptOf book copy = (copy.seen.book ≡ book) × IsKept (state_of copy)
+IsKeptOf book copy = (copy.seen.book ≡ book) × IsKeptCopy (state_of copy)
 
 -- what it has seen, if anything, is of this book
 abbrev pub IsOf : Known → Book → Type 0
@@ -22,12 +22,12 @@ IsOf known book = (seen : History) → known.seen ≡ Some seen → seen.book �
 -- what is shown is kept, and each who has seen it knows its book
 abbrev pub IsShown : Copy → List Known → Type 0
 IsShown copy knowns =
-    IsKept (state_of copy)
+    IsKeptCopy (state_of copy)
     × ((seat : ℕ) (known : Known) → get_elem? knowns seat ≡ some known → IsOf known copy.seen.book)
 
 -- a look sees what is then shown, which is kept and of the book that was known
-abbrev pub Looks : Known → Copy → Copy → Known → Type 0
-Looks known old new now = (now.seen ≡ Some new.seen) × IsKept (state_of new) × IsOf known new.seen.book
+abbrev pub SeesShown : Known → Copy → Copy → Known → Type 0
+SeesShown known old new now = (now.seen ≡ Some new.seen) × IsKeptCopy (state_of new) × IsOf known new.seen.book
 
 -- one who has seen nothing
 abbrev pub newcomer : Known

@@ -7,6 +7,7 @@ ghost use Rattle.im_glass.specs.Books.{IsLonger, head_of};
 use im_types::Change;
 use logbook::{Gain, Offer, Plain, Play, Rule, Seen, Start, Word};
 use std::marker::{Brand, Model, PhantomData};
+use std::sync::Wait;
 
 /// The rule of the book: its word is the length of its list.
 pub struct InOrder;
@@ -272,5 +273,18 @@ impl<J: PaneName> Beginning<J> {
             );
         self.count = if found == count { count + 1 } else { found };
         found == count
+    }
+
+    /// Adds a change. Only the pane that owns the book adds to its list, so the list is never longer than all that was
+    /// seen. If it were, the call would wait for ever.
+    pub(crate) fn put<R: Wait>(&mut self, rt: &R, book: &Book<J>, change: Change)
+        requires { length self.old < 2 ^ 62 }
+        ensures { self.new ≡ self.old ++ change ∷ [] }
+    {
+        if self.add(book, change) {
+            return;
+        }
+        for _ in rt.forever() {}
+        unreachable!()
     }
 }

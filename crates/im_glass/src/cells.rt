@@ -18,11 +18,11 @@ pub struct FullCells {
 
 impl Model for FullCells {
     ghost use Rattle.std.specs.Prelude.{◌≡◌, List, Option, ℕ, length};
-    ghost use Rattle.im_glass.specs.Cells.{cells_of};
+    ghost use Rattle.im_glass.specs.Cells.{cells_seen};
 
     ghost Value = { List (Option ℕ) };
 
-    ghost view = { λ c. cells_of c.full.items c.values.items };
+    ghost view = { λ c. cells_seen c.full.items c.values.items };
 
     ghost invariant = { λ c. length c.full.items ≡ length c.values.items };
 }

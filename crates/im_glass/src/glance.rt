@@ -4,7 +4,7 @@ ghost use mathlib.Core.List.{IsPrefix};
 ghost use Rattle.left_right.specs.Sides.{view};
 ghost use Rattle.im_types.specs.Changes.{value_after};
 ghost use Rattle.im_types.specs.declared.refusals.Refusal.TheVariants as Refusal;
-ghost use Rattle.im_glass.specs.Copies.{IsKept};
+ghost use Rattle.im_glass.specs.Copies.{IsKeptCopy};
 ghost use Rattle.im_glass.specs.Rule.{HasSeen, state_of};
 
 use crate::book::{Beginning, PaneName};
@@ -62,7 +62,7 @@ impl<J: PaneName> Model for Glance<J> {
 impl Spare {
     // Makes one more reader, which has seen what is shown.
     pub(crate) fn new(writer: &mut Writer<Copy, Ahead, Known, Shows>) -> Result<Spare, AllocError>
-        requires kept { IsKept (state_of writer.old.desk.shown.value) }
+        requires kept { IsKeptCopy (state_of writer.old.desk.shown.value) }
         requires known { (view writer.old.desk.place).seen ≡ Some writer.old.desk.shown.value.seen }
         ensures found { IfOk result (λ s. s ≡ writer.old.desk.shown.value.seen.book) }
         ensures same { (writer.new.desk.shown ≡ writer.old.desk.shown) × (writer.new.log ≡ writer.old.log)

@@ -1,23 +1,24 @@
 //! Panes, which show the full cells.
-ghost use Rattle.std.specs.Prelude.{◌≡◌, ◌-◌, ◌<◌, ◌++◌, ◌∷◌, [], true, IfOk, IfSome, IsOkUnless, IsSome, OnErr, OnOk};
-ghost use Rattle.std.specs.Prelude.{◌↔◌};
+ghost use Rattle.std.specs.Prelude.{◌≡◌, ◌-◌, ◌<◌, ◌++◌, ◌∷◌, [], true, length, is_err, IfOk, IfSome, IsOkUnless};
+ghost use Rattle.std.specs.Prelude.{◌↔◌, IsSome, OnErr, OnOk};
 ghost use mathlib.Core.List.{IsPrefix};
 ghost use Rattle.im_types.specs.declared.refusals.Refusal.TheVariants.{NoMemory};
 ghost use Rattle.im_types.specs.Changes.{is_below};
-ghost use Rattle.im_glass.specs.Panes.{PaneView, with_name};
+ghost use Rattle.im_glass.specs.Panes.{PaneView, is_filled, with_name};
 
 use crate::book::{Beginning, Book, NewBook, PaneName};
-use crate::copies::Ahead;
 use crate::glance::{Glance, Spare};
-use crate::sides::{Both, copies, show_all, spare_readers};
+use crate::sides::{Both, copies, show_changes, spare_readers};
 use crate::unnamed::Unnamed;
-use core::mem::replace_with;
 use im_types::{Change, Refusal};
 use std::alloc::Global;
 use std::marker::Model;
 use std::sync::Wait;
 
-// The list never has more changes than this.
+// How many changes may be put ahead.
+pub(crate) const AHEAD: usize = 16;
+
+// A pane that shows so many changes takes no more.
 const MOST: u64 = 1 << 61;
 
 /// A pane shows the full cells, as a list of changes. Contracts see the changes that are shown, those that are put
@@ -25,16 +26,19 @@ const MOST: u64 = 1 << 61;
 pub struct Pane<J: PaneName> {
     pub(crate) both: Both,
     pub(crate) book: Book<J>,
-    // The changes that are shown, followed by those that are put ahead.
+    // The changes that are shown.
     pub(crate) all: Beginning<J>,
+    // The changes that are put ahead, with room for all that may be. The book has none of them yet.
+    pub(crate) ahead: Vec<Change>,
     pub(crate) spare: Vec<Spare>,
 }
 
 impl<J: PaneName> Model for Pane<J> {
-    ghost use Rattle.std.specs.Prelude.{◌≡◌, ◌++◌, length, drop, Some};
+    ghost use Rattle.std.specs.Prelude.{◌≡◌, ◌+◌, ◌^◌, ◌≤◌, [], length, drop, true, Some, vec_capacity};
     ghost use Rattle.std.specs.List.{AllByRecursion};
     ghost use Rattle.left_right.specs.Sides.{view as known};
-    ghost use Rattle.im_glass.specs.Copies.{GoesOn, IsKept, changes_ahead};
+    ghost use Rattle.im_types.specs.Changes.{is_below};
+    ghost use Rattle.im_glass.specs.Copies.{IsKeptCopy};
     ghost use Rattle.im_glass.specs.Rule.{state_of};
     ghost use Rattle.im_glass.specs.Panes.{PaneView};
 
@@ -42,19 +46,21 @@ impl<J: PaneName> Model for Pane<J> {
 
     ghost view = { λ p. record {
       shown = p.both.desk.shown.value.seen.log;
-      ahead = changes_ahead (drop p.both.behind p.both.log.items);
+      ahead = p.ahead.items;
       cells = length p.both.desk.shown.value.cells;
       spare = length p.spare.items;
     } };
 
     ghost invariant = { λ p.
-        GoesOn (length p.both.desk.shown.value.cells) J.book p.both.desk.shown.value.seen.log
-        (drop p.both.behind p.both.log.items)
-        × (p.all ≡ p.both.desk.shown.value.seen.log ++ changes_ahead (drop p.both.behind p.both.log.items))
+        (p.all ≡ p.both.desk.shown.value.seen.log)
+        × (drop p.both.behind p.both.log.items ≡ [])
         × (p.both.desk.shown.value.seen.book ≡ J.book)
-        × IsKept (state_of p.both.desk.shown.value)
+        × IsKeptCopy (state_of p.both.desk.shown.value)
         × ((known p.both.desk.place).seen ≡ Some p.both.desk.shown.value.seen)
-        × AllByRecursion (λ b. b ≡ J.book) p.spare.items };
+        × AllByRecursion (λ b. b ≡ J.book) p.spare.items
+        × AllByRecursion (λ c. is_below (length p.both.desk.shown.value.cells) c ≡ true) p.ahead.items
+        × (length p.both.desk.shown.value.seen.log + length p.ahead.items ≤ 2 ^ 61 + 16)
+        × (16 ≤ vec_capacity p.ahead) };
 }
 
 /// What was shown at some moment. Contracts see its changes.
@@ -88,6 +94,16 @@ impl<J: PaneName> Told<J> {
     }
 }
 
+// Returns whether a pane takes no more changes, given how many are put ahead and how many are shown.
+fn is_filled(ahead: usize, shown: u64) -> bool
+    ensures { result ≡ is_filled ahead shown }
+{
+    if ahead < AHEAD {
+        return shown >= MOST;
+    }
+    true
+}
+
 impl<J: PaneName> Pane<J> {
     /// Makes a pane of the given number of cells, none of them full, with the given number of readers, above 0. A cell
     /// takes 18 bytes, and a change that is shown takes no more. Returns `NoMemory` if there is no room for it. (Own.)
@@ -103,6 +119,9 @@ impl<J: PaneName> Pane<J> {
         ensures found { IfOk result (λ p. p ≡ record { shown = []; ahead = []; cells = cells; spare = readers }) }
         ensures only { IsOkUnless result NoMemory }
     {
+        let Ok(ahead) = Vec::with_capacity(alloc, AHEAD) else {
+            return Err(Refusal::NoMemory);
+        };
         let (book, all) = book.named::<J>();
         let Ok(both) = copies(rt, alloc, all.seen(), cells, readers) else {
             return Err(Refusal::NoMemory);
@@ -113,6 +132,7 @@ impl<J: PaneName> Pane<J> {
                 both,
                 book,
                 all,
+                ahead,
                 spare,
             }),
             Err(_) => {
@@ -137,35 +157,21 @@ impl<J: PaneName> Pane<J> {
         Some(glance)
     }
 
-    /// Puts ahead a change of this pane's cells, which isn't shown yet. Returns `NoMemory` if there is no room for it.
-    /// Each later change is refused so too, since the list then has a change that the pane lacks. It takes no memory
-    /// while at most 16 changes are put ahead and at most 16 were before the last show. (Own.)
+    /// Puts a change of this pane's cells ahead: it isn't shown yet. It takes no memory. Returns `NoMemory` exactly if
+    /// 16 changes are put ahead, or 2^61 are shown. Then the pane is as it was, and it takes changes again once these
+    /// 16 are shown. (Own.)
     pub fn put_ahead(&mut self, change: Change) -> Result<(), Refusal>
         requires { is_below self.old.cells change ≡ true }
         ensures contents { OnOk result (self.new ≡ record self.old { ahead = self.old.ahead ++ change ∷ [] }) }
         ensures same { OnErr result (self.new ≡ self.old) }
+        ensures full { is_err result ≡ is_filled (length self.old.ahead) (length self.old.shown) }
         ensures only { IsOkUnless result NoMemory }
     {
-        if self.all.len() >= MOST {
+        if is_filled(self.ahead.len(), self.all.len()) {
             return Err(Refusal::NoMemory);
         }
-        let mut all = self.all.again();
-        // The list is longer only if an earlier change was refused for want of room. Then no more changes are taken.
-        if !all.add(&self.book, change) {
-            return Err(Refusal::NoMemory);
-        }
-        let ahead = Ahead {
-            change,
-            count: all.len(),
-            seen: all.seen(),
-        };
-        match self.both.append(ahead) {
-            Ok(()) => {
-                self.all = all;
-                Ok(())
-            }
-            Err(_) => Err(Refusal::NoMemory),
-        }
+        self.ahead.push_reserved(change);
+        Ok(())
     }
 
     /// Shows all changes that were put ahead, at once, and returns what is shown then. It waits for the readers that
@@ -174,7 +180,14 @@ impl<J: PaneName> Pane<J> {
         ensures contents { self.new ≡ record self.old { shown = self.old.shown ++ self.old.ahead; ahead = [] } }
         ensures found { result ≡ self.new.shown }
     {
-        replace_with(&mut self.both, rt, |both, rt| show_all::<J, R>(rt, both));
+        show_changes(
+            rt,
+            &mut self.both,
+            &self.book,
+            &mut self.all,
+            self.ahead.as_slice(),
+        );
+        self.ahead.clear();
         Told {
             all: self.all.again(),
         }
@@ -184,10 +197,7 @@ impl<J: PaneName> Pane<J> {
     pub fn told(&self) -> Told<J>
         ensures { result ≡ self.now.shown }
     {
-        let shown = self.both.published();
-        Told {
-            all: Beginning::of(shown.seen.again(), shown.count),
-        }
+        Told::of(self.all.again())
     }
 
     /// Returns how many cells there are.
@@ -207,11 +217,13 @@ impl<J: PaneName> Pane<J> {
             both,
             book,
             all,
+            ahead,
             spare,
         } = self;
         Unnamed {
             both,
             book: book.unnamed(all),
+            ahead,
             spare,
         }
     }
@@ -222,6 +234,7 @@ impl<J: PaneName> Pane<J> {
             both,
             book: _,
             all: _,
+            ahead: _,
             spare: _,
         } = self;
         let _last = both.take(rt);

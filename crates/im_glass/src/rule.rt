@@ -24,9 +24,9 @@ impl Protocol<Copy, Known> for Shows {
 pub struct Sees;
 
 impl Outcome<Copy, Known> for Sees {
-    ghost use Rattle.im_glass.specs.Rule.{Looks};
+    ghost use Rattle.im_glass.specs.Rule.{SeesShown};
 
-    ghost then = { Looks };
+    ghost then = { SeesShown };
 }
 
 // What the one who shows tells a reader.

@@ -1,21 +1,25 @@
 //! The two copies of a pane: the one that is shown, and the other one.
-ghost use Rattle.std.specs.Prelude.{◌≡◌, ◌<◌, ◌++◌, [], None, Some, drop, length, replicate, IfOk};
+ghost use Rattle.std.specs.Prelude.{◌≡◌, ◌+◌, ◌^◌, ◌<◌, ◌≤◌, ◌++◌, ◌∷◌, [], true, None, Some, drop, length, replicate};
+ghost use Rattle.std.specs.Prelude.{IfOk};
 ghost use Rattle.std.specs.List.{AllByRecursion};
 ghost use Rattle.left_right.specs.Sides.{view};
-ghost use Rattle.im_glass.specs.Copies.{IsKept, IsIdle, GoesOn, after_all, changes_ahead};
+ghost use Rattle.im_types.specs.Changes.{is_below};
+ghost use Rattle.im_glass.specs.Copies.{IsKeptCopy, ChangeNothing, FollowEach, AddsOne, after_all, changes_ahead};
 ghost use Rattle.im_glass.specs.Rule.{state_of, IsKeptOf};
 
-use crate::book::PaneName;
+use crate::book::{Beginning, Book, PaneName};
 use crate::cells::FullCells;
 use crate::copies::{Ahead, Copy, History};
 use crate::glance::Spare;
 use crate::rule::{Known, Sees, Shows};
+use core::mem::replace_with;
 use im_types::Change;
 use left_right::writer::Writer;
 use std::alloc::{AllocError, Global};
 use std::sync::Wait;
 
-// How many changes, put ahead or shown last, have room.
+// How many changes have room in the list of what a copy lacks: those of a show, and those of the show before it, which
+// are the most that a pane has ahead.
 const GROUPS: u32 = 32;
 
 pub(crate) type Both = Writer<Copy, Ahead, Known, Shows>;
@@ -70,8 +74,8 @@ fn new_copies(alloc: Global, seen: &History, cells: u32, readers: u16) -> Result
 
 // Shows changes that change nothing.
 fn show_nothing<R: Wait>(rt: &R, both: Both) -> Both
-    requires kept { IsKept (state_of both.desk.shown.value) }
-    requires idle { IsIdle (state_of both.desk.shown.value) (drop both.behind both.log.items) }
+    requires kept { IsKeptCopy (state_of both.desk.shown.value) }
+    requires idle { ChangeNothing (state_of both.desk.shown.value) (drop both.behind both.log.items) }
     ensures state { state_of result.desk.shown.value ≡ state_of both.desk.shown.value }
     ensures known { (view result.desk.place).seen ≡ Some result.desk.shown.value.seen }
     ensures none { drop result.behind result.log.items ≡ [] }
@@ -84,7 +88,7 @@ fn make_room(both: &mut Both, seen: &History) -> Result<(), AllocError>
     requires shown { state_of both.old.desk.shown.value ≡ (seen.now, both.old.desk.shown.value.cells, 0) }
     requires none { drop both.old.behind both.old.log.items ≡ [] }
     ensures same { both.new.desk ≡ both.old.desk }
-    ensures idle { IsIdle (state_of both.old.desk.shown.value) (drop both.new.behind both.new.log.items) }
+    ensures idle { ChangeNothing (state_of both.old.desk.shown.value) (drop both.new.behind both.new.log.items) }
 {
     for _place in 0..GROUPS {
         let ahead = Ahead {
@@ -106,7 +110,7 @@ pub(crate) fn spare_readers(
     both: &mut Both,
     readers: u16,
 ) -> Result<Vec<Spare>, AllocError>
-    requires kept { IsKept (state_of both.old.desk.shown.value) }
+    requires kept { IsKeptCopy (state_of both.old.desk.shown.value) }
     requires known { (view both.old.desk.place).seen ≡ Some both.old.desk.shown.value.seen }
     ensures count { IfOk result (λ spare. length spare.items ≡ readers) }
     ensures book { IfOk result (λ spare. AllByRecursion (λ b. b ≡ both.old.desk.shown.value.seen.book) spare.items) }
@@ -123,7 +127,7 @@ pub(crate) fn spare_readers(
 
 // Shows what is put ahead.
 fn publish<R: Wait>(rt: &R, both: Both) -> (Both, ())
-    requires kept { IsKept (after_all (state_of both.desk.shown.value) (drop both.behind both.log.items)) }
+    requires kept { IsKeptCopy (after_all (state_of both.desk.shown.value) (drop both.behind both.log.items)) }
     requires book { (after_all (state_of both.desk.shown.value) (drop both.behind both.log.items)).0.book
         ≡ both.desk.shown.value.seen.book }
     ensures state { state_of result.0.desk.shown.value
@@ -137,7 +141,7 @@ fn publish<R: Wait>(rt: &R, both: Both) -> (Both, ())
 
 // Shows the changes that are put ahead, of this book.
 pub(crate) fn show_all<J: PaneName, R: Wait>(rt: &R, both: Both) -> (Both, ())
-    requires goes_on { GoesOn (length both.desk.shown.value.cells) J.book both.desk.shown.value.seen.log
+    requires goes_on { FollowEach (length both.desk.shown.value.cells) J.book both.desk.shown.value.seen.log
         (drop both.behind both.log.items) }
     requires kept { IsKeptOf J.book both.desk.shown.value }
     ensures log { result.0.desk.shown.value.seen.log
@@ -148,4 +152,94 @@ pub(crate) fn show_all<J: PaneName, R: Wait>(rt: &R, both: Both) -> (Both, ())
     ensures none { drop result.0.behind result.0.log.items ≡ [] }
 {
     publish(rt, both)
+}
+
+// Adds a change to what the copies lack, with the list that ends in it. It tries until there is room, and finds it at
+// the first try: room for two shows was made with the copies.
+fn append<J: PaneName, R: Wait>(rt: &R, both: &mut Both, change: Change, all: &Beginning<J>)
+    ensures desk { both.new.desk ≡ both.old.desk }
+    ensures one { AddsOne J.book change all.now (drop both.old.behind both.old.log.items)
+        (drop both.new.behind both.new.log.items) }
+{
+    for _ in rt.forever() {
+        let ahead = Ahead {
+            change,
+            count: all.len(),
+            seen: all.seen(),
+        };
+        match both.append(ahead) {
+            Ok(()) => return,
+            Err(_) => {}
+        }
+    }
+    unreachable!()
+}
+
+// Puts a change into the list, and adds it to what the copies lack.
+fn stage_one<J: PaneName, R: Wait>(
+    rt: &R,
+    both: &mut Both,
+    book: &Book<J>,
+    all: &mut Beginning<J>,
+    change: Change,
+)
+    requires below { is_below (length both.old.desk.shown.value.cells) change ≡ true }
+    requires few { length all.old < 2 ^ 62 }
+    ensures desk { both.new.desk ≡ both.old.desk }
+    ensures all { all.new ≡ all.old ++ change ∷ [] }
+    ensures count { length all.new ≡ length all.old + 1 }
+    ensures one { AddsOne J.book change all.new (drop both.old.behind both.old.log.items)
+        (drop both.new.behind both.new.log.items) }
+    ensures below { is_below (length both.old.desk.shown.value.cells) change ≡ true }
+{
+    all.put(rt, book, change);
+    append(rt, both, change, all);
+}
+
+// Puts changes into the list, and adds them to what the copies lack.
+fn stage<J: PaneName, R: Wait>(
+    rt: &R,
+    both: &mut Both,
+    book: &Book<J>,
+    all: &mut Beginning<J>,
+    changes: &[Change],
+)
+    requires none { drop both.old.behind both.old.log.items ≡ [] }
+    requires changes { AllByRecursion (λ c. is_below (length both.old.desk.shown.value.cells) c ≡ true) changes.now
+        × (length all.old + length changes.now ≤ 2 ^ 61 + 16) }
+    requires kept { IsKeptOf J.book both.old.desk.shown.value × (all.old ≡ both.old.desk.shown.value.seen.log) }
+    ensures goes_on { FollowEach (length both.new.desk.shown.value.cells) J.book both.new.desk.shown.value.seen.log
+        (drop both.new.behind both.new.log.items) }
+    ensures kept { IsKeptOf J.book both.new.desk.shown.value }
+    ensures log { both.new.desk.shown.value.seen.log ++ changes_ahead (drop both.new.behind both.new.log.items)
+        ≡ both.old.desk.shown.value.seen.log ++ changes.now }
+    ensures all { all.new ≡ both.old.desk.shown.value.seen.log ++ changes.now }
+    ensures cells { length both.new.desk.shown.value.cells ≡ length both.old.desk.shown.value.cells }
+{
+    for change in changes {
+        stage_one(rt, both, book, all, *change);
+    }
+}
+
+// Shows changes, at once.
+pub(crate) fn show_changes<J: PaneName, R: Wait>(
+    rt: &R,
+    both: &mut Both,
+    book: &Book<J>,
+    all: &mut Beginning<J>,
+    changes: &[Change],
+)
+    requires none { drop both.old.behind both.old.log.items ≡ [] }
+    requires changes { AllByRecursion (λ c. is_below (length both.old.desk.shown.value.cells) c ≡ true) changes.now
+        × (length all.old + length changes.now ≤ 2 ^ 61 + 16) }
+    requires kept { IsKeptOf J.book both.old.desk.shown.value × (all.old ≡ both.old.desk.shown.value.seen.log) }
+    ensures log { both.new.desk.shown.value.seen.log ≡ both.old.desk.shown.value.seen.log ++ changes.now }
+    ensures all { all.new ≡ both.new.desk.shown.value.seen.log }
+    ensures kept { IsKeptOf J.book both.new.desk.shown.value }
+    ensures cells { length both.new.desk.shown.value.cells ≡ length both.old.desk.shown.value.cells }
+    ensures rests { ((view both.new.desk.place).seen ≡ Some both.new.desk.shown.value.seen)
+        × (drop both.new.behind both.new.log.items ≡ []) }
+{
+    stage(rt, both, book, all, changes);
+    replace_with(both, rt, |both, rt| show_all::<J, R>(rt, both));
 }

@@ -18,14 +18,16 @@ use std::sync::Wait;
 pub struct Unnamed {
     pub(crate) both: Both,
     pub(crate) book: UnnamedBook,
+    // Room for the changes that may be put ahead.
+    pub(crate) ahead: Vec<Change>,
     pub(crate) spare: Vec<Spare>,
 }
 
 impl Model for Unnamed {
-    ghost use Rattle.std.specs.Prelude.{◌≡◌, [], length, drop, Some};
+    ghost use Rattle.std.specs.Prelude.{◌≡◌, ◌+◌, ◌^◌, ◌≤◌, [], length, drop, Some, vec_capacity};
     ghost use Rattle.std.specs.List.{AllByRecursion};
     ghost use Rattle.left_right.specs.Sides.{view as known};
-    ghost use Rattle.im_glass.specs.Copies.{IsKept};
+    ghost use Rattle.im_glass.specs.Copies.{IsKeptCopy};
     ghost use Rattle.im_glass.specs.Rule.{state_of};
     ghost use Rattle.im_glass.specs.Panes.{UnnamedView};
 
@@ -42,9 +44,12 @@ impl Model for Unnamed {
         (drop u.both.behind u.both.log.items ≡ [])
         × (u.book.seen.log ≡ u.both.desk.shown.value.seen.log)
         × (u.both.desk.shown.value.seen.book ≡ u.book.seen.book)
-        × IsKept (state_of u.both.desk.shown.value)
+        × IsKeptCopy (state_of u.both.desk.shown.value)
         × ((known u.both.desk.place).seen ≡ Some u.both.desk.shown.value.seen)
-        × AllByRecursion (λ b. b ≡ u.book.seen.book) u.spare.items };
+        × AllByRecursion (λ b. b ≡ u.book.seen.book) u.spare.items
+        × (u.ahead.items ≡ [])
+        × (length u.both.desk.shown.value.seen.log ≤ 2 ^ 61 + 16)
+        × (16 ≤ vec_capacity u.ahead) };
 }
 
 impl Unnamed {
@@ -53,12 +58,18 @@ impl Unnamed {
         requires { self.book ≡ J.book }
         ensures { result ≡ with_name self }
     {
-        let Unnamed { both, book, spare } = self;
+        let Unnamed {
+            both,
+            book,
+            ahead,
+            spare,
+        } = self;
         let (book, all) = book.named::<J>();
         Pane {
             both,
             book,
             all,
+            ahead,
             spare,
         }
     }
@@ -68,6 +79,7 @@ impl Unnamed {
         let Unnamed {
             both,
             book: _,
+            ahead: _,
             spare: _,
         } = self;
         let _last = both.take(rt);

@@ -13,7 +13,9 @@ use im_types::{Command, LAST, MAX_GROUP, Op, Request};
 /// The code of a confirmation.
 const CONFIRM: u8 = 8;
 
-fn spell_fields(
+/// The fields of a slot. All other bytes are zero.
+#[derive(Clone, Copy)]
+struct SlotFields {
     group: u8,
     code: u8,
     element: u16,
@@ -21,20 +23,24 @@ fn spell_fields(
     number: u64,
     address: u32,
     value: u64,
-) -> [u8; 64]
-    ensures bytes { result ≡ open_gate ∷ slot_fields group code element sequence number address value }
-    ensures fits { (element < 2 ^ 16) × (sequence < 2 ^ 64) × (number < 2 ^ 64) × (address < 2 ^ 32) ×
-        (value < 2 ^ 64) }
+}
+
+// Spells the fields of a slot behind an open gate.
+fn spell_fields(f: SlotFields) -> [u8; 64]
+    ensures bytes { result
+        ≡ open_gate ∷ slot_fields f.group f.code f.element f.sequence f.number f.address f.value }
+    ensures fits { (f.element < 2 ^ 16) × (f.sequence < 2 ^ 64) × (f.number < 2 ^ 64) × (f.address < 2 ^ 32) ×
+        (f.value < 2 ^ 64) }
 {
     let mut slot = [0; 64];
     slot[0] = OPEN;
-    slot[1] = group;
-    slot[2] = code;
-    LittleEndian::write_u16(&mut slot[4..6], element);
-    LittleEndian::write_u64(&mut slot[8..16], sequence);
-    LittleEndian::write_u64(&mut slot[16..24], number);
-    LittleEndian::write_u32(&mut slot[24..28], address);
-    LittleEndian::write_u64(&mut slot[32..40], value);
+    slot[1] = f.group;
+    slot[2] = f.code;
+    LittleEndian::write_u16(&mut slot[4..6], f.element);
+    LittleEndian::write_u64(&mut slot[8..16], f.sequence);
+    LittleEndian::write_u64(&mut slot[16..24], f.number);
+    LittleEndian::write_u32(&mut slot[24..28], f.address);
+    LittleEndian::write_u64(&mut slot[32..40], f.value);
     slot
 }
 
@@ -47,18 +53,24 @@ pub(crate) fn spell_in(group: u8, command: &Command, sequence: u64) -> [u8; 64]
     ensures reads_back { read_in group result ≡ Some command.now }
 {
     match *command {
-        Command::Request(r) => spell_fields(
+        Command::Request(r) => spell_fields(SlotFields {
             group,
-            op_code(r.op),
-            r.element,
+            code: op_code(r.op),
+            element: r.element,
             sequence,
-            r.number,
-            address_of(r.op),
-            op_value(r.op),
-        ),
-        Command::Confirm { element, upto } => {
-            spell_fields(group, CONFIRM, element, sequence, upto, 0, 0)
-        }
+            number: r.number,
+            address: address_of(r.op),
+            value: op_value(r.op),
+        }),
+        Command::Confirm { element, upto } => spell_fields(SlotFields {
+            group,
+            code: CONFIRM,
+            element,
+            sequence,
+            number: upto,
+            address: 0,
+            value: 0,
+        }),
     }
 }
 

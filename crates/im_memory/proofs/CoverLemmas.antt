@@ -30,7 +30,7 @@ use Rattle.im_istore.proofs.Cells.{held_at-cells}
 use Rattle.im_pages.specs.Places.{page_of_cell, page_of_node, page_of_session}
 use Rattle.im_pages.specs.PageSets.{has, with_pages}
 use Rattle.im_memory.specs.State.{MemoryState, rows_of}
-use Rattle.im_memory.specs.Touched.{IsOther, Places, nowhere, one_cell, addresses, first_at, last_at, next_at}
+use Rattle.im_memory.specs.Touched.{IsOther, Places, nowhere, cell_alone, addresses, first_at, last_at, next_at}
 use Rattle.im_memory.specs.Touched.{nodes_from, nodes_behind, by_fetch, by_take, by_put, by_store, at_kind, places_at}
 use Rattle.im_memory.specs.Touched.{places_from, places_of, elements_in, touched}
 use Rattle.im_memory.specs.Changing.{places_in}
@@ -301,15 +301,15 @@ module _ (slots : List (Option Slot)) (arena : Shown) (agree : Agree slots arena
           (sym (named slots arena agree a w ws is).0) among
 
   -- a store or a put to a cell that doesn't wait
-  pub other-cell : (by : CellState → Places) → by (IsEmpty []) ≡ one_cell a → ((v : ℕ) → by (IsFull v) ≡ one_cell a)
-      → ((v : ℕ) → by (IsClashed v) ≡ one_cell a)
+  pub other-cell : (by : CellState → Places) → by (IsEmpty []) ≡ cell_alone a → ((v : ℕ) → by (IsFull v) ≡ cell_alone a)
+      → ((v : ℕ) → by (IsClashed v) ≡ cell_alone a)
       → (cell : Cell) → cell ≢ Waiting → list_at arena.held a ≡ []
       → HasPlaces n (by (state_of cell (list_at arena.held a))) set
   other-cell by empty full clashed cell other none = quiet-state (λ state. HasPlaces n (by state) set) cell
       (list_at arena.held a) other none (of_one (by (IsEmpty [])) empty) (λ v. of_one (by (IsFull v)) (full v))
       (λ v. of_one (by (IsClashed v)) (clashed v))
     where
-      of_one : (p : Places) → p ≡ one_cell a → HasPlaces n p set
+      of_one : (p : Places) → p ≡ cell_alone a → HasPlaces n p set
       of_one p is = subst (λ p. HasPlaces n p set) (sym is) (record { of_cells = (cell_in, tt); of_nodes = tt })
 
   -- a put to a cell that waits

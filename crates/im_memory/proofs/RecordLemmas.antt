@@ -3,7 +3,6 @@ use Rattle.std.proofs.Common.{◌≡◌, inl, ⊎_elim, ℕ, zero, suc, ◌<◌,
 use Rattle.std.proofs.Common.{sym, ap, ◌∙◌, subst, arith}
 use Rattle.std.specs.Prelude.{Option, slice_get, slice_index_or, replicate}
 use Rattle.im_types.specs.declared.TheConstants.{NONE, WINDOW}
-use Rattle.im_types.specs.declared.operations.Block.{Block}
 use Rattle.im_types.specs.declared.operations.Waiter.{Waiter}
 use Rattle.im_types.specs.declared.records.CellRecord.TheVariants.{Free as FreeCell, Held as BlockCell}
 use Rattle.im_types.specs.declared.records.CellRecord.{CellRecord}
@@ -11,13 +10,12 @@ use Rattle.im_types.specs.Contents.{new_window}
 use Rattle.im_types.specs.Pages.{Records}
 use Rattle.im_types.specs.Records.{IsLink}
 use Rattle.im_laws.proofs.Tests.{below_or_from, some_same}
-use Rattle.im_types.specs.declared.cells.Cell.{Cell}
 use Rattle.im_cell.specs.declared.slots.Slot.{Slot}
-use Rattle.im_cell.specs.Slots.{slot_at, block_in, cell_in}
+use Rattle.im_cell.specs.Slots.{slot_at}
 use Rattle.im_arena.specs.declared.table.Ends.{Ends}
 use Rattle.im_types.specs.declared.records.NodeRecord.{NodeRecord}
 use Rattle.im_arena.specs.Lists.{Shown, Threads, IsThreaded, list_at, ends_at, first_in, last_in, free_record, link_of}
-use Rattle.im_memory.specs.Shown.{tag_of, cell_record, cell_records, records_of, AreWithin}
+use Rattle.im_memory.specs.Shown.{tag_shown, cell_record, cell_records, records_of, AreWithin}
 use Rattle.im_memory.specs.State.{empty_records}
 use Rattle.im_memory.proofs.ThreadLemmas.{first-within, last-within, read-within}
 use Rattle.im_memory.proofs.ShownLemmas.{IsNode, On, Off, Past, each-node}
@@ -37,32 +35,16 @@ cell-at (slot ∷ slots) [] (suc a) = cell-at slots [] a
 cell-at (slot ∷ slots) (e ∷ ends) zero = refl
 cell-at (slot ∷ slots) (e ∷ ends) (suc a) = cell-at slots ends a
 
-free-block : (slot : Option Slot) (ends : Option Ends) → None ≡ block_in slot → FreeCell 0 NONE ≡ cell_record slot ends
-free-block None ends e = refl
-free-block (Some slot) ends e = absurd (cc)
-
-free-cell : (slot : Option Slot) (ends : Option Ends) → None ≡ cell_in slot → FreeCell 0 NONE ≡ cell_record slot ends
-free-cell None ends e = refl
-free-cell (Some slot) ends e = absurd (cc)
-
-held-cell : (slot : Option Slot) (ends : Option Ends) (block : Block) (cell : Cell) → Some block ≡ block_in slot
-    → Some cell ≡ cell_in slot → BlockCell block (tag_of cell ends) ≡ cell_record slot ends
-held-cell None ends block cell b c = absurd (cc)
-held-cell (Some slot) ends block cell b c =
-    let one : block ≡ slot.block = cc in
-    let two : cell ≡ slot.cell = cc in
-    ap (λ block. BlockCell block (tag_of cell ends)) one ∙ ap (λ cell. BlockCell slot.block (tag_of cell ends)) two
-
 module _ (slots : List (Option Slot)) (arena : Shown) (a : ℕ) where
-  pub block-none : None ≡ block_in (slot_at slots a) → FreeCell 0 NONE
+  pub slot-none : None ≡ slot_at slots a → FreeCell 0 NONE
       ≡ slice_index_or (cell_records slots arena.links.ends) a (FreeCell 0 NONE)
-  block-none e = free-block (slot_at slots a) (ends_at arena.links a) e ∙ sym (cell-at slots arena.links.ends a)
+  slot-none e = ap (λ (slot : Option Slot). cell_record slot (ends_at arena.links a)) e
+      ∙ sym (cell-at slots arena.links.ends a)
 
-  pub cell-some : (block : Block) (cell : Cell) → Some block ≡ block_in (slot_at slots a) → Some cell
-      ≡ cell_in (slot_at slots a)
-      → BlockCell block (tag_of cell (ends_at arena.links a))
+  pub slot-some : (slot : Slot) → Some slot ≡ slot_at slots a
+      → BlockCell slot.block (tag_shown slot.cell (ends_at arena.links a))
       ≡ slice_index_or (cell_records slots arena.links.ends) a (FreeCell 0 NONE)
-  cell-some block cell b c = held-cell (slot_at slots a) (ends_at arena.links a) block cell b c
+  slot-some slot e = ap (λ (slot : Option Slot). cell_record slot (ends_at arena.links a)) e
       ∙ sym (cell-at slots arena.links.ends a)
 
 -- the ends of a list are nodes

@@ -23,7 +23,7 @@ use Rattle.im_istore.specs.Joined.{state_of, held_of, joined, cells_of}
 use Rattle.im_istore.specs.Agreement.{has_some}
 use Rattle.im_istore.proofs.Cells.{list_of}
 use Rattle.im_memory.specs.MakesMemory.{contents_of, MakesMemory}
-use Rattle.im_memory.specs.Shown.{tag_of, cell_record, cell_records, records_of}
+use Rattle.im_memory.specs.Shown.{tag_shown, cell_record, cell_records, records_of}
 use Rattle.im_memory.proofs.CellsLemmas.{length-cells, no_list}
 use Rattle.im_memory.proofs.ThreadLemmas.{chain_from, length-chain, place-chain, record-read, record_past}
 use Rattle.im_memory.proofs.ThreadLemmas.{holds-chain, last-chain, Listed, listed-at}
@@ -35,7 +35,7 @@ HasEnds ends waiters = (ends ≡ None) ↔ (waiters ≡ [])
 
 -- one cell
 state-shown : (cell : Cell) (ends : Option Ends) (waiters : List Waiter) → is_waiting_cell cell ≡ has_some waiters
-    → HasEnds ends waiters → state_shown (tag_of cell ends) waiters ≡ state_of cell waiters
+    → HasEnds ends waiters → state_shown (tag_shown cell ends) waiters ≡ state_of cell waiters
 state-shown Empty ends waiters agree has = let none = no_list waiters (sym agree) in ap
     (λ waiters. state_of Empty waiters) (sym none)
 state-shown Waiting None waiters agree has = let none = has.0 refl in ap (λ waiters. state_of Waiting waiters)

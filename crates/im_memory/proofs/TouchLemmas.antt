@@ -39,9 +39,9 @@ use Rattle.im_istore.specs.Records.{LeavesLinks}
 use Rattle.im_istore.proofs.Cells.{held_at-cells}
 use Rattle.im_memory.specs.declared.acts.Resumed.{Resumed}
 use Rattle.im_memory.specs.declared.acts.Resumed.TheVariants.{Nobody, Taker, Readers}
-use Rattle.im_memory.specs.Shown.{tag_of, cell_record, cell_records, records_of}
+use Rattle.im_memory.specs.Shown.{tag_shown, cell_record, cell_records, records_of}
 use Rattle.im_memory.specs.State.{rows_of}
-use Rattle.im_memory.specs.Touched.{IsOther, Places, nowhere, one_cell, addresses, tag_in, first_at, last_at, next_at}
+use Rattle.im_memory.specs.Touched.{IsOther, Places, nowhere, cell_alone, addresses, tag_in, first_at, last_at, next_at}
 use Rattle.im_memory.specs.Touched.{nodes_from, nodes_behind, by_fetch, by_take, by_put, by_store, places_at}
 use Rattle.im_memory.specs.Touched.{places_from, places_of, places, elements_told, touched_in, ChangesOnly}
 use Rattle.im_memory.specs.Changing.{places_in, ChangesAt, IsAway, AreAmong, LeavesOthers}
@@ -114,7 +114,7 @@ changed_each slots arena base n = record {
 
 -- the record of a cell that somebody waits for names the ends of its list
 named-cell : (cell : Cell) (ends : Option Ends) → is_waiting_cell cell ≡ true
-    → (tag_first (tag_of cell ends) ≡ first_in ends) × (tag_last (tag_of cell ends) ≡ last_in ends)
+    → (tag_first (tag_shown cell ends) ≡ first_in ends) × (tag_last (tag_shown cell ends) ≡ last_in ends)
 named-cell Empty ends e = absurd (cc)
 named-cell Waiting None e = (refl, refl)
 named-cell Waiting (Some ends) e = (refl, refl)
@@ -282,8 +282,8 @@ module _ (slots slots2 : List (Option Slot)) (arena arena2 : Shown) (agree : Agr
       → ChangesAt (by_take arena.links.spare last a (state_of cell (list_at arena.held a))) slots arena slots2 arena2
   take_state Empty e = behind (list_at arena.held a) refl e
   take_state Waiting e = behind (list_at arena.held a) refl e
-  take_state (Full v) e = cell-change a (one_cell a) slots slots2 arena arena2 others (linked _ e) refl
-  take_state (Clashed v) e = cell-change a (one_cell a) slots slots2 arena arena2 others (linked _ e) refl
+  take_state (Full v) e = cell-change a (cell_alone a) slots slots2 arena arena2 others (linked _ e) refl
+  take_state (Clashed v) e = cell-change a (cell_alone a) slots slots2 arena arena2 others (linked _ e) refl
 
   pub take-change : entry ≡ (at_cell M (take_from who) was a (held_at was a)).entry
       → ((reply : Reply) → access_in M (slot_at slots a) ≡ Err reply → slots2 ≡ slots)

@@ -5,9 +5,11 @@ use Rattle.im_types.specs.declared.operations.Kind.{Kind}
 use Rattle.im_types.specs.declared.operations.Kind.TheVariants.{I, M}
 use Rattle.im_types.specs.declared.operations.Op.{Op}
 use Rattle.im_types.specs.declared.operations.Op.TheVariants.{Alloc, Release, Reset, Fetch, Store, Take, Put}
+use Rattle.im_types.specs.declared.operations.Waiter.{Waiter}
 use Rattle.im_types.specs.declared.commands.Command.{Command}
 use Rattle.im_types.specs.declared.commands.Command.TheVariants.{Request as Asks, Confirm}
 use Rattle.im_types.specs.Contents.{CellState, Empty, Full, Clashed, Held, Contents, held_at}
+use Rattle.im_types.specs.declared.operations.Reply.{Reply}
 use Rattle.im_types.specs.declared.operations.Reply.TheVariants.{NoCell}
 use Rattle.im_types.specs.declared.operations.Entry.TheVariants.{Answered}
 use Rattle.im_types.specs.declared.operations.Block.{Block}
@@ -18,12 +20,21 @@ use Rattle.im_types.specs.Pages.{Records}
 use Rattle.im_pages.specs.Places.{page_of_cell, page_of_node, page_of_session, AgreeOnPage}
 use Rattle.im_pages.specs.PageSets.{has, with_page, with_pages, IsWithin}
 use Rattle.im_memory.specs.State.{MemoryState}
-use Rattle.im_memory.specs.Touched.{Places, Touched, at_kind, touched, ChangesOnly}
+use Rattle.im_memory.specs.Touched.{Places, Touched, at_kind, elements_in, touched, ChangesOnly}
 
 -- the page of each of these is in the set
 abbrev pub AreIn : (ℕ → ℕ) → List Bool → List ℕ → Type 0
 AreIn page set [] = Unit {0}
 AreIn page set (x ∷ xs) = (has set (page x) ≡ true) × AreIn page set xs
+
+-- the page of the first waiter's session is in the set, if there is a waiter; `page` gives that of an element
+abbrev pub HasFirst : (ℕ → ℕ) → List Bool → List Waiter → Type 0
+HasFirst page set waiters =
+    (first : Waiter) (others : List Waiter) → waiters ≡ first ∷ others → has set (page first.element) ≡ true
+
+-- the page of the session of each request that gets one of these replies is in the set
+abbrev pub HasTold : ℕ → ℕ → List Bool → List (Waiter × Reply) → Type 0
+HasTold cells elements set told = AreIn (page_of_session cells elements) set (elements_in told)
 
 -- the new set has each page of the old one, and the same length
 pub record Grows (old new : List Bool) : Type 0 where

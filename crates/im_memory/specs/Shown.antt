@@ -16,12 +16,12 @@ use Rattle.im_arena.specs.Lists.{Shown, IsThreaded}
 use Rattle.im_memory.specs.MakesMemory.{MakesMemory}
 
 -- the tag of a cell whose list has these ends
-abbrev pub tag_of : Cell → Option Ends → PresenceTag
-tag_of Empty ends = TagEmpty
-tag_of Waiting None = TagEmpty
-tag_of Waiting (Some ends) = TagWaiting ends.first ends.last
-tag_of (Full v) ends = TagFull v
-tag_of (Clashed v) ends = TagClashed v
+abbrev pub tag_shown : Cell → Option Ends → PresenceTag
+tag_shown Empty ends = TagEmpty
+tag_shown Waiting None = TagEmpty
+tag_shown Waiting (Some ends) = TagWaiting ends.first ends.last
+tag_shown (Full v) ends = TagFull v
+tag_shown (Clashed v) ends = TagClashed v
 
 -- both ends of a list are below a number of nodes
 abbrev pub AreWithin : ℕ → Option Ends → Type 0
@@ -31,7 +31,7 @@ AreWithin nodes (Some ends) = (ends.first < nodes) × (ends.last < nodes)
 -- the record of a slot whose list has these ends; a free cell shows no hole
 abbrev pub cell_record : Option Slot → Option Ends → CellRecord
 cell_record None ends = FreeCell 0 NONE
-cell_record (Some slot) ends = BlockCell slot.block (tag_of slot.cell ends)
+cell_record (Some slot) ends = BlockCell slot.block (tag_shown slot.cell ends)
 
 -- the record of each cell
 abbrev pub cell_records : List (Option Slot) → List (Option Ends) → List CellRecord

@@ -66,8 +66,8 @@ abbrev pub nowhere : Places
 nowhere = record { cells = []; nodes = [] }
 
 -- the record of one cell
-abbrev pub one_cell : ℕ → Places
-one_cell a = record { cells = a ∷ []; nodes = [] }
+abbrev pub cell_alone : ℕ → Places
+cell_alone a = record { cells = a ∷ []; nodes = [] }
 
 -- the nodes that change if a request is put behind these: the spare node and, if requests wait already, the last node
 -- before it
@@ -84,21 +84,21 @@ by_fetch spare last a (Clashed v) = nowhere
 -- the places of a store, if the list of the cell begins at this node: the nodes of all readers are freed
 abbrev pub by_store : List NodeRecord → ℕ → ℕ → CellState → Places
 by_store nodes first a (Empty readers) = record { cells = a ∷ []; nodes = nodes_from nodes first (length readers) }
-by_store nodes first a (Full v) = one_cell a
-by_store nodes first a (Clashed v) = one_cell a
+by_store nodes first a (Full v) = cell_alone a
+by_store nodes first a (Clashed v) = cell_alone a
 
 -- the places of a take
 abbrev pub by_take : ℕ → ℕ → ℕ → CellState → Places
 by_take spare last a (Empty waiters) = record { cells = a ∷ []; nodes = nodes_behind spare last waiters }
-by_take spare last a (Full v) = one_cell a
-by_take spare last a (Clashed v) = one_cell a
+by_take spare last a (Full v) = cell_alone a
+by_take spare last a (Clashed v) = cell_alone a
 
 -- the places of a put: the node of the first taker is freed
 abbrev pub by_put : ℕ → ℕ → CellState → Places
-by_put first a (Empty []) = one_cell a
+by_put first a (Empty []) = cell_alone a
 by_put first a (Empty (taker ∷ takers)) = record { cells = a ∷ []; nodes = first ∷ [] }
-by_put first a (Full v) = one_cell a
-by_put first a (Clashed v) = one_cell a
+by_put first a (Full v) = cell_alone a
+by_put first a (Clashed v) = cell_alone a
 
 -- the value of this function at a cell of the operation's kind; else the value for none
 abbrev pub at_kind : {X : Type 0} → X → Kind → (CellState → X) → Option Held → X

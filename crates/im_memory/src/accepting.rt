@@ -3,12 +3,14 @@ ghost use Rattle.std.specs.Prelude.{◌≡◌, true, Ok};
 ghost use Rattle.im_types.specs.Step.{step, is_accepted};
 ghost use Rattle.im_memory.specs.Touched.{touched, ChangesOnly};
 
-use crate::memory::{Memory, serve};
+use crate::memory::Memory;
+use crate::serving::serve;
 use im_types::{Command, Entry, Outcome, Refusal, Request};
 
 impl Memory {
     /// Serves one command that the memory accepts, as [`Memory::step`] does, and doesn't judge it again. The call takes
     /// no memory.
+    #[inline(always)]
     pub fn accept(&mut self, command: &Command) -> Result<Outcome, Refusal>
         requires accepted { is_accepted self.old.contents command.now ≡ true }
         ensures answer { result ≡ (step self.old.contents command.now).answer }
@@ -24,6 +26,7 @@ impl Memory {
     }
 
     // Serves a request that the memory accepts.
+    #[inline(always)]
     fn serve_new(&mut self, request: &Request) -> Entry
         requires accepted { is_accepted self.old.contents (Command.Request request.now) ≡ true }
         ensures answer { Ok (Outcome.Entry result)

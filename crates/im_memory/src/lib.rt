@@ -9,8 +9,10 @@
 mod accepting;
 mod acts;
 mod memory;
+mod record_pages;
 mod records;
 mod restore;
+mod serving;
 mod touches;
 mod windows;
 

@@ -1,12 +1,10 @@
 //! A memory, and one command on it.
 ghost use Rattle.std.specs.Prelude.{◌≡◌, ◌*◌, ◌≤◌, List, [], ◌∷◌, ◌++◌, length};
-ghost use Rattle.std.specs.Prelude.{IfOk, IfErr, OnErr, Ok, false, slice_get};
-ghost use Rattle.im_types.specs.declared.commands.Judged.TheVariants.{Fresh};
+ghost use Rattle.std.specs.Prelude.{IfOk, IfErr, OnErr, false, slice_get};
 ghost use Rattle.im_types.specs.declared.commands.Command.{Command};
 ghost use Rattle.im_types.specs.Contents.{empty_contents, held_at, block_at, waiters_at, kept_for};
-ghost use Rattle.im_types.specs.Window.{judge, ask, bounds};
-ghost use Rattle.im_types.specs.Step.{step, serve, asker, is_accepted, acceptance};
-ghost use Rattle.im_types.specs.Act.{act};
+ghost use Rattle.im_types.specs.Window.{ask, bounds};
+ghost use Rattle.im_types.specs.Step.{step, is_accepted, acceptance};
 ghost use Rattle.im_types.specs.Run.{after};
 ghost use Rattle.im_types.specs.Agreement.{KeepsEntries};
 ghost use Rattle.im_types.specs.Memory.{IsMemory};
@@ -14,13 +12,11 @@ ghost use Rattle.im_types.specs.History.{ValueLaw, MatchingLaw};
 ghost use Rattle.im_types.specs.Layout.{Sizes};
 ghost use Rattle.im_types.specs.Pages.{ShowsRecords};
 ghost use Rattle.im_types.specs.Presences.{presence_in};
-ghost use Rattle.im_memory.specs.MakesMemory.{contents_of, MakesMemory};
-ghost use Rattle.im_memory.specs.Shown.{records_of};
-ghost use Rattle.im_memory.specs.State.{state_of, empty_records};
+ghost use Rattle.im_memory.specs.State.{empty_records};
 ghost use Rattle.im_memory.specs.Touched.{touched, ChangesOnly};
 
-use crate::acts::{act, resume};
 use crate::records::{MemoryRecords, are_threaded};
+use crate::serving::serve;
 use crate::windows::judge_confirm;
 use im_arena::{Arena, Waiters};
 use im_cell::CellTable;
@@ -64,36 +60,6 @@ impl Model for Memory {
     ghost view = { λ m. state_of m.table m.arena m.sessions };
 
     ghost invariant = { λ m. MakesMemory m.table m.arena m.sessions };
-}
-
-// Serves a new request: does its operation, keeps its entry, and answers the requests that it resumes.
-pub(crate) fn serve(
-    table: &mut CellTable,
-    arena: &mut Arena,
-    sessions: &mut Sessions,
-    request: &Request,
-) -> Entry
-    requires memory { MakesMemory table.old arena.old sessions.old }
-    requires fresh { judge sessions.old request.now ≡ Ok Fresh }
-    ensures answer { let m = contents_of table.old arena.old sessions.old in result
-        ≡ (act m.cells (asker request.now) request.now.op).entry }
-    ensures contents { let m = contents_of table.old arena.old sessions.old in
-        contents_of table.new arena.new sessions.new
-        ≡ (serve m request.now (act m.cells (asker request.now) request.now.op)).contents }
-    ensures memory { MakesMemory table.new arena.new sessions.new }
-    ensures changes { let m = state_of table.old arena.old sessions.old in
-        ChangesOnly (touched m (Command.Request request.now)) m.records (records_of table.new arena.new sessions.new) }
-{
-    let who = Waiter {
-        element: request.element,
-        number: request.number,
-    };
-    // A copy, which the changes to the memory leave: it is read once.
-    let asked = *request;
-    let acted = act(table, arena, who, asked.op);
-    sessions.note(&asked, acted.entry);
-    resume(sessions, arena, acted.resumed);
-    acted.entry
 }
 
 impl Memory {

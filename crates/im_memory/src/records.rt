@@ -9,8 +9,9 @@ ghost use Rattle.im_types.specs.Window.{bounds};
 ghost use Rattle.im_types.specs.Pages.{ShowsRecords};
 ghost use Rattle.im_types.specs.Records.{FitsTag, FitsCell, FitsNode};
 ghost use Rattle.im_arena.specs.Lists.{IsThreaded, ends_at};
+ghost use Rattle.im_cell.specs.Slots.{HasBlocks};
 ghost use Rattle.im_memory.specs.MakesMemory.{contents_of, MakesMemory};
-ghost use Rattle.im_memory.specs.Shown.{tag_of, records_of, AreWithin};
+ghost use Rattle.im_memory.specs.Shown.{tag_shown, records_of, AreWithin};
 
 use im_arena::{Arena, Ends};
 use im_cell::CellTable;
@@ -46,6 +47,13 @@ pub(crate) fn are_threaded(arena: &Arena)
     let _ = arena.ends(0);
 }
 
+// Shows that each block of a table lies within it. The call does nothing but ask for that law.
+fn have_blocks(table: &CellTable)
+    ensures { HasBlocks table.now }
+{
+    let _ = table.block_of(0);
+}
+
 impl<'a> MemoryRecords<'a> {
     /// Returns the records of the memory that a table, an arena and windows make.
     pub(crate) fn new(
@@ -72,19 +80,16 @@ impl<'a> MemoryRecords<'a> {
         ensures shown { result ≡ slice_index_or self.now.cells a (FreeCell 0 NONE) }
         ensures fits { FitsCell (length self.now.cells) (length self.now.nodes) result }
     {
-        let free = CellRecord::Free {
-            hole: 0,
-            next: NONE,
-        };
-        let Some(block) = self.table.block_of(a) else {
-            return free;
-        };
-        let Some(cell) = self.table.get(a) else {
-            return free;
-        };
-        CellRecord::Held {
-            block,
-            tag: tag_of(cell, ends_at(self.arena, a)),
+        have_blocks(self.table);
+        match self.table.slot(a) {
+            Some(slot) => CellRecord::Held {
+                block: slot.block,
+                tag: tag_of(slot.cell, ends_at(self.arena, a)),
+            },
+            None => CellRecord::Free {
+                hole: 0,
+                next: NONE,
+            },
         }
     }
 
@@ -132,7 +137,7 @@ fn ends_at(arena: &Arena, a: u32) -> Option<Ends>
 
 // Returns the presence tag of a cell whose list has these ends.
 fn tag_of(cell: Cell, ends: Option<Ends>) -> PresenceTag
-    ensures tag { result ≡ tag_of cell ends }
+    ensures tag { result ≡ tag_shown cell ends }
     ensures fits { (nodes : ℕ) → AreWithin nodes ends → FitsTag nodes result }
 {
     match cell {
@@ -144,7 +149,7 @@ fn tag_of(cell: Cell, ends: Option<Ends>) -> PresenceTag
 }
 
 fn waiting_tag(ends: Option<Ends>) -> PresenceTag
-    ensures tag { result ≡ tag_of Cell.Waiting ends }
+    ensures tag { result ≡ tag_shown Cell.Waiting ends }
     ensures fits { (nodes : ℕ) → AreWithin nodes ends → FitsTag nodes result }
 {
     match ends {

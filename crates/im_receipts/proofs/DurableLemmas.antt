@@ -1,32 +1,41 @@
--- A file that has at least the accepted commands of a receipt's history has what the receipt tells.
-use Rattle.std.proofs.Common.{◌≡◌, ℕ, zero, suc, ◌+◌, ◌-◌, ◌<◌, ◌≤◌, List, [], ◌∷◌, ◌++◌, Ok, length, length-append}
-use Rattle.std.proofs.Common.{length-take, take}
+-- A file that has at least the accepted commands of a history has what its last line tells.
+use Rattle.std.proofs.Common.{◌≡◌, inl, inr, Err, Result, ℕ, zero, suc, ◌+◌, ◌-◌, ◌≤◌, List, [], ◌∷◌, ◌++◌}
+use Rattle.std.proofs.Common.{Ok, length, length-append, length-take, take}
 use Rattle.std.proofs.Common.{refl, sym, ap, ◌∙◌, subst, arith, append_assoc}
 use mathlib.Core.List.{IsPrefix}
 use Rattle.im_types.specs.declared.operations.Entry.{Entry}
+use Rattle.im_types.specs.declared.operations.Entry.TheVariants.{Answered}
+use Rattle.im_types.specs.declared.operations.Waiter.{Waiter}
+use Rattle.im_types.specs.declared.operations.Kept.{Kept}
 use Rattle.im_types.specs.declared.commands.Command.{Command}
-use Rattle.im_types.specs.declared.commands.Command.TheVariants.{Request as Asks}
-use Rattle.im_types.specs.declared.commands.Call.TheVariants.{Command as Commands}
+use Rattle.im_types.specs.declared.commands.Call.TheVariants.{Command as Commands, Collect}
+use Rattle.im_types.specs.declared.commands.Outcome.{Outcome}
+use Rattle.im_types.specs.declared.commands.Outcome.TheVariants.{Entry as Tells}
+use Rattle.im_types.specs.declared.refusals.Refusal.{Refusal}
 use Rattle.im_types.specs.declared.commands.Request.{Request}
 use Rattle.im_types.specs.declared.commands.Line.{Line}
-use Rattle.im_types.specs.Contents.{Contents}
+use Rattle.im_types.specs.Contents.{Contents, Window}
 use Rattle.im_types.specs.Agreement.{WaitingAgrees}
 use Rattle.im_types.specs.Meaning.{Means}
 use Rattle.im_types.specs.Run.{after}
-use Rattle.im_types.specs.Trace.{IsLegal, end_of}
+use Rattle.im_types.specs.Trace.{IsLegal, end_of, told}
+use Rattle.im_types.specs.Window.{ask}
 use Rattle.im_laws.specs.Requests.{after_request, IsAnswered}
 use Rattle.im_laws.specs.Traces.{commands_of}
 use Rattle.im_laws.proofs.RunLemmas.{after-append}
 use Rattle.im_laws.proofs.RunAgrees.{after-agrees}
 use Rattle.im_laws.proofs.TraceLemmas.{end_of-append, end_of-commands, IsLegal-split}
-use Rattle.im_laws.specs.Entries.{IsToldAgainOrForgotten}
+use Rattle.im_laws.proofs.EntryLemmas.{ask-kept}
+use Rattle.im_laws.proofs.WaiterLemmas.{waiting_only}
+use Rattle.im_laws.specs.Entries.{IsKeptFor, IsToldAgainOrForgotten, LastsOrIsForgotten}
+use Rattle.im_plans.proofs.PlannedRuns.{IsKeptAs, asked-kept}
 use Rattle.im_controller.specs.Kept.{accepted_in, MeansFrom, IsLeftAt}
-use Rattle.im_controller.specs.Log.{ReceiptState}
+use Rattle.im_controller.specs.Log.{ReceiptState, FoundState}
 use Rattle.im_controller.specs.Lines.{EndsIn, line_of, time_at}
 use Rattle.im_controller.proofs.KeptLemmas.{accepted-after, accepted-more}
 use Rattle.im_promise.specs.Traces.{line_telling}
 use Rattle.im_receipts.specs.Alike.{GivesEntry}
-use Rattle.im_receipts.specs.Durable.{HasReceipt}
+use Rattle.im_receipts.specs.Durable.{IsFoundAgainOrForgotten}
 use Rattle.im_receipts.proofs.Tellings.{is_telling}
 
 -- the first elements of two lists, if they go past the first one
@@ -37,11 +46,36 @@ take_past (suc n) (x ∷ xs) ys less =
     let same : n - length xs ≡ suc n - length (x ∷ xs) = omega arith in
     ap (λ l. x ∷ l) (take_past n xs ys (omega (arith, less))) ∙ ap (λ k. x ∷ (xs ++ take k ys)) same
 
+-- a file that means the memory after the accepted commands of a history, and after others that were accepted later
+pub record MeansPast (m : Contents) (count : ℕ) (history : List Line) (file : List ℕ) : Type 0 where
+  pub later : List Command
+  pub means : let all = accepted_in m history ++ later in Means (after m all) (count + length all) 0 file
+
+pub means_past : (m : Contents) (count : ℕ) (history trace : List Line) (doubt : List Command) (file : List ℕ)
+    → IsPrefix history trace → MeansFrom m count (accepted_in m trace ++ doubt) (length (accepted_in m history)) file
+    → MeansPast m count history file
+means_past m count history trace doubt file begins means =
+    let xs = accepted_in m history in
+    let more = accepted_in (end_of m history) begins.0 in
+    let all : accepted_in m trace ++ doubt ≡ xs ++ (more ++ doubt) =
+    ap (λ l. accepted_in m l ++ doubt) (sym begins.1)
+    ∙ ap (λ l. l ++ doubt) (accepted-more m (end_of m history) history begins.0 refl)
+    ∙ append_assoc xs more doubt in
+    let later = take (means.0 - length xs) (more ++ doubt) in
+    let is : take means.0 (accepted_in m trace ++ doubt) ≡ xs ++ later =
+    ap (λ l. take means.0 l) all ∙ take_past means.0 xs (more ++ doubt) means.1 in
+    let long : means.0 ≡ length (xs ++ later) =
+    omega (arith, ap length is, length-take means.0 (accepted_in m trace ++ doubt), means.2) in record {
+      later = later;
+      means = subst (λ (n : ℕ). Means (after m (xs ++ later)) (count + n) 0 file) long
+          (subst (λ (l : List Command). Means (after m l) (count + means.0) 0 file) is means.3);
+    }
+
 module _ (again : (m : Contents) (r : Request) (entry : Entry) (commands : List Command) → WaitingAgrees m
     → IsAnswered m r entry → IsToldAgainOrForgotten (after (after_request m r) commands) r entry)
-    (m : Contents) (agrees : WaitingAgrees m) (count : ℕ) (receipt : ReceiptState) (legal : IsLegal m receipt.history)
+    (m : Contents) (agrees : WaitingAgrees m) (receipt : ReceiptState) (legal : IsLegal m receipt.history)
     (last : EndsIn receipt.history (line_of (Commands receipt.command) (Ok receipt.outcome))) where
-  told_later : (later : List Command) (r : Request) (entry : Entry) → GivesEntry receipt r entry
+  pub told_later : (later : List Command) (r : Request) (entry : Entry) → GivesEntry receipt r entry
       → IsToldAgainOrForgotten (after m (accepted_in m receipt.history ++ later)) r entry
   told_later later r entry gives =
       let it = is_telling m r entry receipt gives legal last in
@@ -58,37 +92,60 @@ module _ (again : (m : Contents) (r : Request) (entry : Entry) (commands : List 
       (after-agrees m (commands_of before) agrees) in
       subst (λ (x : Contents). IsToldAgainOrForgotten x r entry) (sym same) (again n r entry later here answered)
 
-  pub has_receipt : (trace : List Line) (doubt : List Command) (file : List ℕ) → IsPrefix receipt.history trace
-      → MeansFrom m count (accepted_in m trace ++ doubt) (length (accepted_in m receipt.history)) file
-      → HasReceipt m count receipt file
-  has_receipt trace doubt file begins means =
-      let xs = accepted_in m receipt.history in
-      let more = accepted_in (end_of m receipt.history) begins.0 in
-      let all : accepted_in m trace ++ doubt ≡ xs ++ (more ++ doubt) =
-      ap (λ l. accepted_in m l ++ doubt) (sym begins.1)
-      ∙ ap (λ l. l ++ doubt) (accepted-more m (end_of m receipt.history) receipt.history begins.0 refl)
-      ∙ append_assoc xs more doubt in
-      let later = take (means.0 - length xs) (more ++ doubt) in
-      let is : take means.0 (accepted_in m trace ++ doubt) ≡ xs ++ later =
-      ap (λ l. take means.0 l) all ∙ take_past means.0 xs (more ++ doubt) means.1 in
-      let long : means.0 ≡ length (xs ++ later) =
-      omega (arith, ap length is, length-take means.0 (accepted_in m trace ++ doubt), means.2) in record {
-        later = later;
-        means = subst (λ (n : ℕ). Means (after m (xs ++ later)) (count + n) 0 file) long
-            (subst (λ (l : List Command). Means (after m l) (count + means.0) 0 file) is means.3);
-        again = told_later later;
-      }
+-- what a collect was told is kept under its number
+collected-kept : (windows : List Window) (who : Waiter) (entry : Entry) (asked : Result Entry Refusal)
+    → ask windows who ≡ asked → Ok (Tells entry) ≡ told asked → IsKeptAs windows who entry
+collected-kept windows who entry (Ok other) is e = asked-kept windows who entry (is ∙ ap Ok (same e))
+  where
+    same : ◌≡◌ {A = Result Outcome Refusal} (Ok (Tells entry)) (Ok (Tells other)) → other ≡ entry
+    same e = let outcome : Tells other ≡ Tells entry = cc in cc
+collected-kept windows who entry (Err refusal) is e = absurd (not_told e)
+  where
+    not_told : ◌≡◌ {A = Result Outcome Refusal} (Ok (Tells entry)) (Err refusal) → ⊥
+    not_told e = cc
 
--- the last line of a receipt's history was left at the receipt's time
-pub is_left_at : (trace : List Line) (times : List ℕ) (receipt : ReceiptState) → IsPrefix receipt.history trace
-    → EndsIn receipt.history (line_of (Commands receipt.command) (Ok receipt.outcome))
-    → receipt.time ≡ time_at times (length receipt.history) → IsLeftAt trace times receipt.history receipt.time
-is_left_at trace times receipt begins last is = record {
+found_again : (m : Contents) (who : Waiter) (entry : Entry) (k : Kept) → k.entry ≡ entry → LastsOrIsForgotten m who k
+    → IsFoundAgainOrForgotten m who entry
+found_again m who entry k is (inl forgotten) = inl forgotten
+found_again m who entry k is (inr (inl same)) =
+    inr (record { entry = k.entry; since = inl is; found = ask-kept m.windows who k same })
+found_again m who entry k is (inr (inr h)) = inr (record {
+  entry = Answered h.0;
+  since = inr (h.0, sym is ∙ waiting_only k.entry h.1, refl);
+  found = ask-kept m.windows who (record { op = k.op; entry = Answered h.0 }) h.2;
+})
+
+module _ (lasts : (m : Contents) (commands : List Command) (who : Waiter) (k : Kept) → IsKeptFor m who k
+    → LastsOrIsForgotten (after m commands) who k)
+    (m : Contents) (agrees : WaitingAgrees m) (found : FoundState) (legal : IsLegal m found.history)
+    (last : EndsIn found.history (line_of (Collect found.element found.number) (Ok (Tells found.entry)))) where
+  abbrev who : Waiter
+  who = record { element = found.element; number = found.number }
+
+  pub found_later : (later : List Command)
+      → IsFoundAgainOrForgotten (after m (accepted_in m found.history ++ later)) who found.entry
+  found_later later =
+      let before : List Line = last.0 in
+      let n = end_of m before in
+      let this = line_of (Collect found.element found.number) (Ok (Tells found.entry)) ∷ [] in
+      let kept = collected-kept n.windows who found.entry (ask n.windows who) refl
+      (IsLegal-split m before this (subst (IsLegal m) last.1 legal)).1.0 in
+      let ends : end_of m found.history ≡ n = ap (end_of m) last.1 ∙ end_of-append m before this in
+      let same : after m (accepted_in m found.history ++ later) ≡ after n later =
+      after-append m (accepted_in m found.history) later
+      ∙ ap (λ x. after x later) (accepted-after m found.history ∙ ends) in
+      let here : WaitingAgrees n = subst WaitingAgrees (sym (end_of-commands m before))
+      (after-agrees m (commands_of before) agrees) in
+      subst (λ (x : Contents). IsFoundAgainOrForgotten x who found.entry) (sym same)
+      (found_again (after n later) who found.entry kept.kept kept.entry_is
+      (lasts n later who kept.kept (record { agrees = here; is = kept.there })))
+
+-- the last line of a history was left at the time that its receipt has
+pub is_left_at : (trace : List Line) (times : List ℕ) (history : List Line) (line : Line) (time : ℕ)
+    → IsPrefix history trace → EndsIn history line → time ≡ time_at times (length history)
+    → IsLeftAt trace times history time
+is_left_at trace times history line time begins last is = record {
   begins = begins;
-  some = omega (
-    arith,
-    ap length last.1,
-    length-append last.0 (line_of (Commands receipt.command) (Ok receipt.outcome) ∷ []),
-  );
+  some = omega (arith, ap length last.1, length-append last.0 (line ∷ []));
   time_is = is;
 }

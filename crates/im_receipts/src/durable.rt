@@ -1,10 +1,47 @@
-//! What a receipt tells is on the disk from then on.
-ghost use Rattle.im_receipts.specs.Durable.{StaysDurable};
+//! What a receipt tells is on the disk from then on, and so is an entry that was found.
+ghost use Rattle.std.specs.Prelude.{◌≡◌};
+ghost use mathlib.Core.List.{IsPrefix};
+ghost use Rattle.im_controller.specs.Lines.{time_at};
+ghost use Rattle.im_controller.specs.Chains.{IsOpened};
+ghost use Rattle.im_controller.specs.Kept.{KeptSince};
+ghost use Rattle.im_receipts.specs.Durable.{StaysDurable, StaysFound};
 
-use im_controller::{Controller, Finished, Name, Port, Receipt, finish};
+use im_controller::{Controller, Finished, Found, Name, Port, Prefix, Receipt, When, finish};
 use im_disk::Disk;
-use im_laws::repeat_is_told_again;
+use im_laws::{entry_lasts, repeat_is_told_again};
 use std::sync::Wait;
+
+// Ends a controller, and compares its trace with a history that one of its threads has seen, and with a line's time.
+fn finish_with<D: Disk, K: Name, R: Wait>(
+    rt: &R,
+    controller: Controller<D, K>,
+    ports: Vec<Port<K>>,
+    history: &Prefix<K>,
+    when: &When<K>,
+) -> Finished<D>
+    ensures begins { IsPrefix history.now result.trace.items }
+    ensures time { when.now.time ≡ time_at result.trace.times when.now.lines }
+    ensures keeps { KeptSince D.Disk K.origin result.trace.items result.trace.times result.engine }
+    ensures memory { IsOpened K.origin.memory }
+{
+    let Finished {
+        engine,
+        mut trace,
+        came,
+        left,
+        claimed,
+    } = finish(rt, controller, ports);
+    history.order(history);
+    trace.knows(history);
+    trace.times(when);
+    Finished {
+        engine,
+        trace,
+        came,
+        left,
+        claimed,
+    }
+}
 
 /// Ends a controller as [`finish`] does, and says of a receipt that any of its threads was told: each file that a crash
 /// may have left from the receipt's time on means the memory after its history's accepted commands, and perhaps after
@@ -20,23 +57,25 @@ pub fn finish_with_receipt<D: Disk, K: Name, R: Wait>(
     ensures keeps { StaysDurable D.Disk K.origin.begun K.origin.memory result.trace.items receipt.now
         result.engine.disk }
 {
-    let Finished {
-        engine,
-        mut trace,
-        came,
-        left,
-        claimed,
-    } = finish(rt, controller, ports);
     let _outcome = receipt.outcome();
-    receipt.history().order(receipt.history());
-    trace.knows(receipt.history());
-    trace.times(receipt.when());
     repeat_is_told_again();
-    Finished {
-        engine,
-        trace,
-        came,
-        left,
-        claimed,
-    }
+    finish_with(rt, controller, ports, receipt.history(), receipt.when())
+}
+
+/// Ends a controller as [`finish`] does, and says of an entry that any of its threads found: each file that a crash may
+/// have left from that collect's time on means the memory after its history's accepted commands, and perhaps after
+/// commands accepted later. In that memory the number has the entry that was found, or the answer that has come since,
+/// unless its element confirmed it. That holds as [`finish_with_receipt`] says. Contracts alone see it.
+pub fn finish_with_found<D: Disk, K: Name, R: Wait>(
+    rt: &R,
+    controller: Controller<D, K>,
+    ports: Vec<Port<K>>,
+    found: &Found<K>,
+) -> Finished<D>
+    ensures keeps { StaysFound D.Disk K.origin.begun K.origin.memory result.trace.items found.now result.engine.disk }
+{
+    entry_lasts();
+    let finished = finish_with(rt, controller, ports, found.history(), found.when());
+    let _entry = found.entry();
+    finished
 }

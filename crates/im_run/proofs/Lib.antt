@@ -1,8 +1,15 @@
 pub mod BlocksLemmas
+pub mod CountLemmas
 pub mod DoingLemmas
+pub mod EndLemmas
+pub mod KnownLemmas
+pub mod LeavingLemmas
 pub mod OrdersLemmas
 pub mod PlannedLemmas
+pub mod PlanStops
 pub mod RestLemmas
 pub mod RunningLemmas
+pub mod SplitLemmas
+pub mod StopsLemmas
 pub mod TracingLemmas
 pub mod WholeLemmas

@@ -6,11 +6,12 @@ use Rattle.im_types.specs.declared.operations.Entry.{Entry}
 use Rattle.im_types.specs.declared.operations.Waiter.{Waiter}
 use Rattle.im_types.specs.declared.commands.Call.{Call}
 use Rattle.im_types.specs.declared.commands.Call.TheVariants.{Command as Commands, Collect}
+use Rattle.im_types.specs.declared.commands.Command.{Command}
 use Rattle.im_types.specs.declared.commands.Command.TheVariants.{Request as Asks}
 use Rattle.im_types.specs.declared.commands.Line.{Line}
 use Rattle.im_types.specs.declared.commands.Request.{Request}
 use Rattle.im_types.specs.Agreement.{WaitingAgrees}
-use Rattle.im_types.specs.Contents.{Contents}
+use Rattle.im_types.specs.Contents.{Contents, Window}
 use Rattle.im_types.specs.Step.{asker, step}
 use Rattle.im_types.specs.Trace.{IsLegal, contents_after, end_of}
 use Rattle.im_laws.proofs.EntryLemmas.{told-kept}
@@ -18,7 +19,7 @@ use Rattle.im_laws.proofs.RunAgrees.{step-agrees}
 use Rattle.im_laws.proofs.Tests.{some_same}
 use Rattle.im_plans.specs.Runs.{HasServed, IsInPlan, IsTaken}
 use Rattle.im_plans.proofs.Taken.{kept-taken, step-taken}
-use Rattle.im_controller.specs.Planned.{EndsAsPlanned, EndsBy}
+use Rattle.im_controller.specs.Planned.{AreOnPlan, EndsAsPlanned, EndsBy}
 use Rattle.im_serving.specs.declared.intent.Intent.{Intent}
 use Rattle.im_serving.specs.declared.intent.Intent.TheVariants as intent_kinds
 use Rattle.im_serving.specs.Serving.{StandIn, asked_line, asked_lines, ops_of}
@@ -27,7 +28,8 @@ use Rattle.im_run.specs.Doing.{AreAllTold}
 use Rattle.im_run.specs.declared.sheet.AllOrders.{AllOrders}
 use Rattle.im_run.specs.Orders.{Ask, ask_of, asks_in}
 use Rattle.im_run.proofs.WholeLemmas.{all_served, in_either}
-use Rattle.im_run.specs.Planned.{AreServed, EndsOnPlan, FitsIfNew, plan_of, planned_orders, requests_from}
+use Rattle.im_run.specs.Planned.{AreServed, EndsOnPlan, FitsIfNew, HasServedWhole, plan_of, planned_orders}
+use Rattle.im_run.specs.Planned.{requests_from}
 
 -- ---- the plan of the controller
 
@@ -123,20 +125,36 @@ module _ (m : Contents) (trace : List Line) (agrees : WaitingAgrees m) (legal : 
 
 -- ---- a planned run
 
+-- what is in doubt is on the plan
+pub plan_doubts : (plan : List Request) (found : Option (List Request)) (doubt : List Command) → found ≡ Some plan
+    → AreOnPlan found doubt → AreOnPlan (Some plan) doubt
+plan_doubts plan found doubt is on = subst (λ (o : Option (List Request)). AreOnPlan o doubt) is on
+
+-- all requests of a script were served, if they are known
+pub whole_served : (windows : List Window) (whole : Option AllOrders)
+    → IfSome whole (λ w. AreServed windows w.orders.items) → HasServedWhole windows (asks_in whole)
+whole_served windows None it = tt
+whole_served windows (Some whole) it = all_served windows whole.orders.items it
+
 -- it ended as planned, and if all was told, all was served
 pub ends_on_plan : (m : Contents) (trace : List Line) (whole : Option AllOrders) (orders : List Ask) (told : List Did)
-    (end : Contents) (none : Type 0) → IsLegal m trace → end_of m trace ≡ end → AreAllTold m trace none orders told
+    (doubt : List Command) (end : Contents) (none : Type 0) → IsLegal m trace → end_of m trace ≡ end
+    → AreAllTold m trace none orders told
     → (none → IfSome whole (λ w. AreServed end.windows w.orders.items))
     → FitsIfNew (asks_in whole) m (plan_of (planned_orders (asks_in whole) orders))
     → EndsAsPlanned m (plan_of (planned_orders (asks_in whole) orders)) trace end
-    → EndsOnPlan m (asks_in whole) orders trace end none
-ends_on_plan m trace None orders told end none legal ends it served fits planned = inl (
-  fits,
-  (
-    planned,
-    λ well. subst (λ (e : Contents). HasServed e.windows (plan_of orders)) ends
-        (orders_taken m trace planned.starts.agrees legal none orders told it well),
-  ),
-)
-ends_on_plan m trace (Some whole) orders told end none legal ends it served fits planned =
-    inl (fits, (planned, λ well. all_served end.windows whole.orders.items (served well)))
+    → AreOnPlan (Some (plan_of (planned_orders (asks_in whole) orders))) doubt
+    → EndsOnPlan m (asks_in whole) orders trace doubt end none
+ends_on_plan m trace None orders told doubt end none legal ends it served fits planned on = inl (record {
+  fits = fits;
+  ended = planned;
+  doubted = on;
+  served = λ well. subst (λ (e : Contents). HasServed e.windows (plan_of orders)) ends
+      (orders_taken m trace planned.starts.agrees legal none orders told it well);
+})
+ends_on_plan m trace (Some whole) orders told doubt end none legal ends it served fits planned on = inl (record {
+  fits = fits;
+  ended = planned;
+  doubted = on;
+  served = λ well. all_served end.windows whole.orders.items (served well);
+})

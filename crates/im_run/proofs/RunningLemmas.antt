@@ -5,6 +5,7 @@ use Rattle.std.specs.Io.KnownBytes.{Appends}
 use Rattle.std.proofs.lemmas.List.{append-nil, take_all, take-append-le, take-append-drop, length-take-le}
 use Rattle.im_types.specs.declared.commands.Command.{Command}
 use Rattle.im_types.specs.declared.commands.Line.{Line}
+use Rattle.im_types.specs.declared.commands.Request.{Request}
 use Rattle.im_types.specs.declared.operations.Waiter.{Waiter}
 use Rattle.im_types.specs.Contents.{Contents}
 use Rattle.im_types.specs.Meaning.{Means, accept_each}
@@ -36,7 +37,7 @@ use Rattle.im_run.specs.declared.served.Did.{Did}
 use Rattle.im_run.specs.Tracing.{TraceState}
 use Rattle.im_run.specs.Doing.{AreAllTold}
 use Rattle.im_run.specs.Orders.{Ask, AreOrders, IsOfAll, SetsUp, bases_made, script_heard, settled_when}
-use Rattle.im_run.specs.Planned.{EndsOnPlan}
+use Rattle.im_run.specs.Planned.{EndsOnPlan, HasServedWhole}
 use Rattle.im_run.specs.Running.{BeginsFinals, Closes, EndedOn, PrintsFinals, Puts, Ran, RanOn, RunOn, ServedOn}
 use Rattle.im_run.specs.Running.{Settles, final_line, finals}
 
@@ -138,8 +139,9 @@ module _ {D : Type 0} (now : D → Moment) (past : D → List Moment) (failures 
         (true_or_false engine.failed)
 
   -- and then by the elements' servers
-  module _ (start mid engine : EngineState D) (setup : List Command) (it : HasPut now past failures start mid setup) (alive : mid.failed ≡ false) (trace : List Line)
-      (on : ServedOn now past failures (begun_in now past failures mid) mid.memory trace engine) where
+  module _ (start mid engine : EngineState D) (setup : List Command) (it : HasPut now past failures start mid setup)
+      (alive : mid.failed ≡ false) (plan : Option (List Request)) (trace : List Line)
+      (on : ServedOn now past failures (begun_in now past failures mid) mid.memory plan trace engine) where
     abbrev served : List Command
     served = accepted_in mid.memory trace
 
@@ -199,20 +201,20 @@ module _ {D : Type 0} (now : D → Moment) (past : D → List Moment) (failures 
 -- no servers began
 pub none_served : {D : Type 0} (disk : Ghosts D) (begun engine : EngineState D) (trace : List Line) → trace ≡ []
     → engine ≡ begun → engine.failed ≡ false → LeavesNow (disk.now engine.disk) (MeansState engine)
-    → ServedOn disk.now disk.past disk.failures (begun_in disk.now disk.past disk.failures begun) begun.memory trace
-    engine
+    → ServedOn disk.now disk.past disk.failures (begun_in disk.now disk.past disk.failures begun) begun.memory None
+    trace engine
 none_served {D} disk begun engine trace none same alive means =
     let here = begun_in disk.now disk.past disk.failures engine in
-    let all : ServedOn disk.now disk.past disk.failures here engine.memory [] engine = record {
+    let all : ServedOn disk.now disk.past disk.failures here engine.memory None [] engine = record {
       legal = tt;
       ends = refl;
-      plan = None;
       kept = (kept_start disk here engine.memory None (λ many time. ⊥) engine refl refl alive means
           (λ many time no. no)).kept;
     } in
     subst (λ (b : EngineState D). ServedOn disk.now disk.past disk.failures
-    (begun_in disk.now disk.past disk.failures b) b.memory trace engine) same
-    (subst (λ (t : List Line). ServedOn disk.now disk.past disk.failures here engine.memory t engine) (sym none) all)
+    (begun_in disk.now disk.past disk.failures b) b.memory None trace engine) same
+    (subst (λ (t : List Line). ServedOn disk.now disk.past disk.failures here engine.memory None t engine) (sym none)
+    all)
 
 -- a server that was just made can serve
 pub ready_new : {D : Type 0} (disk : Ghosts D) (start engine : EngineState D) (held : Option (List ℕ))
@@ -289,14 +291,14 @@ module _ {D : Type 0} (now : D → Moment) (past : D → List Moment) (failures 
           whole = λ zero. absurd (never zero);
         };
         traced = record { legal = subst (IsLegal (after start.memory put)) (sym unserved) tt; accepted = inl unserved };
-        tells = inr (left, set_up, none, never);
+        tells = inr (record { left = left; began = set_up; put = whole; untold = none; refused = never });
       }
 
   -- the elements' servers ended
   pub ended_run : (once planned : Bool) (script bases : List ℕ) (whole : Option (List Ask)) (orders : List Ask) (start mid : EngineState D) (setup : List Command) (text : List ℕ) (names : List Waiter) (was held is : Option (List ℕ)) (lines : Lines) (disk : D) (calls : TraceState) (status : ℕ) → GoesWith now past failures start mid setup text names
       → Prints was held lines text → EndedOn now past failures planned whole orders mid disk held lines is calls.served status
       → AreOrders once mid.memory (settled_when once start.memory) bases (script_heard script) orders
-      → (planned ≡ true → IsOfAll once bases (script_heard script) whole)
+      → IsOfAll once bases (script_heard script) whole
       → SetsUp once start.memory script setup [] → bases ≡ bases_made once start.memory script setup
       → RunOn now past failures once planned script start disk was is calls status
   unfolding puts_on
@@ -306,9 +308,11 @@ module _ {D : Type 0} (now : D → Moment) (past : D → List Moment) (failures 
       let trace = calls.served in
       let begun = it.has.memory it.works in
       let put = accepted_in mid.memory trace in
-      let on = puts_on now past failures start mid ended.engine setup it.has it.works trace served in
+      let on = puts_on now past failures start mid ended.engine setup it.has it.works ended.plan trace served in
       let closes = ended.printed was text prints in
-      let told_is : ended.engine.memory ≡ after start.memory on.told = sym served.ends ∙ sym (accepted-after mid.memory trace) ∙ goes_on now past failures start mid ended.engine setup it.has it.works trace served (accepted_in mid.memory trace) in
+      let told_is : ended.engine.memory ≡ after start.memory on.told = sym served.ends
+      ∙ sym (accepted-after mid.memory trace) ∙ goes_on now past failures start mid ended.engine setup it.has it.works
+      ended.plan trace served (accepted_in mid.memory trace) in
       record {
         setup = setup;
         told = on.told;
@@ -332,21 +336,20 @@ module _ {D : Type 0} (now : D → Moment) (past : D → List Moment) (failures 
         };
         tells = inl (record {
           made = set_up;
+          put = ap (λ (m : Contents). setup ++ accepted_in m trace) begun;
           orders = orders;
           of_script = subst (λ (b : List ℕ). AreOrders once (after start.memory setup) (settled_when once start.memory) b
               (script_heard script) orders) named
               (subst (λ (m : Contents). AreOrders once m (settled_when once start.memory) bases (script_heard script)
               orders) begun of_script);
           all = subst (λ (m : Contents). AreAllTold m trace (status ≡ 0) orders ended.did) begun ended.told;
-          as_planned = λ by. (
-            whole,
-            (
-              subst (λ (b : List ℕ). IsOfAll once b (script_heard script) whole) named (is_whole by),
-              subst (λ (m : Contents). EndsOnPlan m whole orders trace (after start.memory on.told) (status ≡ 0)) begun
-                  (subst (λ (end : Contents). EndsOnPlan mid.memory whole orders trace end (status ≡ 0)) told_is
-                  (ended.as_planned by)),
-            ),
-          );
+          whole = whole;
+          is_whole = subst (λ (b : List ℕ). IsOfAll once b (script_heard script) whole) named is_whole;
+          all_served = λ zero. subst (λ (m : Contents). HasServedWhole m.windows whole) told_is (ended.all_served zero);
+          as_planned = λ by. subst (λ (m : Contents). EndsOnPlan m whole orders trace served.kept.doubt
+              (after start.memory on.told) (status ≡ 0)) begun
+              (subst (λ (end : Contents). EndsOnPlan mid.memory whole orders trace served.kept.doubt end (status ≡ 0))
+              told_is (ended.as_planned by));
         });
       }
 
@@ -365,9 +368,13 @@ module _ {D : Type 0} (now : D → Moment) (past : D → List Moment) (failures 
     traced = it.traced;
     tells = ⊎_elim (λ t. inl (record {
       made = t.made;
+      put = t.put;
       orders = t.orders;
       of_script = t.of_script;
       all = t.all;
+      whole = t.whole;
+      is_whole = t.is_whole;
+      all_served = t.all_served;
       as_planned = λ no. absurd (true_false (sym no));
     })) (λ ended. inr ended) it.tells;
   }

@@ -9,6 +9,7 @@ use Rattle.im_types.specs.declared.commands.Line.{Line}
 use Rattle.im_types.specs.declared.refusals.Refusal.{Refusal}
 use Rattle.im_types.specs.Contents.{Contents}
 use Rattle.im_types.specs.Run.{after}
+use Rattle.im_controller.specs.Kept.{accepted_in}
 use Rattle.im_controller.specs.State.{PortState}
 use Rattle.im_script.specs.declared.script.Heard.{Heard}
 use Rattle.im_serving.specs.declared.intent.Intent.{Intent}
@@ -19,7 +20,7 @@ use Rattle.im_serving.specs.Serving.{AreDone, AreGlanced, HasAnswers, IsGlanced,
 use Rattle.im_run.specs.declared.served.Did.{Did}
 use Rattle.im_run.specs.declared.served.Did.TheVariants as did
 use Rattle.im_run.specs.Orders.{AreOrders, Ask, IsOfAll, SetsUp, bases_made, script_heard, settled_when}
-use Rattle.im_run.specs.Planned.{EndsOnPlan}
+use Rattle.im_run.specs.Planned.{EndsOnPlan, HasServedWhole}
 
 -- ---- what is told of it
 
@@ -57,25 +58,24 @@ AreAllTold m trace none (order ∷ orders) told =
     (mine : List Did) × ((others : List Did) × ((told ≡ mine ++ others)
     × (IsOrderTold m trace none order mine × AreAllTold m trace none orders others)))
 
--- A planned run of these orders of a script ended as its plan says. The plan is of all requests of the script's parts
--- if it is done once, the names standing for these bases, and else of the orders.
-abbrev pub EndsByScript : Bool → List ℕ → List Heard → Contents → List Ask → List Line → Contents → Type 0 → Type 0
-EndsByScript once bases script m orders trace end none =
-    (whole : Option (List Ask)) × (IsOfAll once bases script whole × EndsOnPlan m whole orders trace end none)
-
 -- The setup of a script was served whole on this memory, by these commands, and the names stand for the bases that they
--- made. Then its parts were served, with this trace, which ends in that memory, and this is told of them. It is told of
--- all that they ask for if nothing was refused. If the run was planned, it ended as its plan says: that of all requests
--- of the parts, if the script is done once.
-pub record HasToldScript (once planned : Bool) (start : Contents) (text : List ℕ) (setup : List Command)
-    (trace : List Line) (end : Contents) (none : Type 0) (told : List Did) : Type 0 where
+-- made. Then its parts were served, with this trace; so all these commands were acknowledged, and those are in doubt.
+-- This is told of the parts, and it is all that they ask for if nothing was refused. If the script is done once, all
+-- requests of its parts are known, the settled ones too, and each was served if nothing was refused. If the run was
+-- planned, it ended as its plan says: that of all those requests, if they are known.
+pub record HasToldScript (once planned : Bool) (start : Contents) (text : List ℕ) (setup acknowledged doubt : List
+    Command) (trace : List Line) (none : Type 0) (told : List Did) : Type 0 where
   pub made : SetsUp once start text setup []
+  pub put : acknowledged ≡ setup ++ accepted_in (after start setup) trace
   pub orders : List Ask
   pub of_script : AreOrders once (after start setup) (settled_when once start) (bases_made once start text setup)
       (script_heard text) orders
   pub all : AreAllTold (after start setup) trace none orders told
-  pub as_planned : planned ≡ true → EndsByScript once (bases_made once start text setup) (script_heard text)
-      (after start setup) orders trace end none
+  pub whole : Option (List Ask)
+  pub is_whole : IsOfAll once (bases_made once start text setup) (script_heard text) whole
+  pub all_served : none → HasServedWhole (after start acknowledged).windows whole
+  pub as_planned : planned ≡ true
+      → EndsOnPlan (after start setup) whole orders trace doubt (after start acknowledged) none
 
 -- ---- while it is noted
 

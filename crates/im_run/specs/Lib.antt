@@ -4,4 +4,5 @@ pub mod Orders
 pub mod Planned
 pub mod Running
 pub mod Setup
+pub mod Stops
 pub mod Tracing

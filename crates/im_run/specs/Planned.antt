@@ -2,13 +2,14 @@
 use Rattle.std.specs.Prelude.{◌≡◌, ◌⊎◌, ℕ, suc, List, [], ◌∷◌, ◌++◌, Option, None, Some}
 use Rattle.std.specs.Prelude.{Bool, true, ◌&&◌, nat_lt, slice_get}
 use Rattle.std.specs.Option.{option_map_or}
+use Rattle.im_types.specs.declared.commands.Command.{Command}
 use Rattle.im_types.specs.declared.commands.Line.{Line}
 use Rattle.im_types.specs.declared.commands.Request.{Request}
 use Rattle.im_types.specs.Contents.{Contents, Window}
 use Rattle.im_types.specs.Plan.{FitsPlan}
 use Rattle.im_types.specs.Window.{next_number}
 use Rattle.im_plans.specs.Runs.{HasServed}
-use Rattle.im_controller.specs.Planned.{EndsAsPlanned}
+use Rattle.im_controller.specs.Planned.{AreOnPlan, EndsAsPlanned}
 use Rattle.im_serving.specs.declared.intent.Intent.{Intent}
 use Rattle.im_serving.specs.declared.intent.Intent.TheVariants.{Request as Asks, Glance}
 use Rattle.im_run.specs.declared.sheet.Order.{Order}
@@ -61,10 +62,30 @@ abbrev pub FitsIfNew : Option (List Ask) → Contents → List Request → Type 
 FitsIfNew None m plan = FitsPlan m plan
 FitsIfNew (Some whole) m plan = Unit {0}
 
--- A planned run of these orders went from the one memory to the other, with this trace: it ended as the plan says, and
--- all of the plan was served if nothing was refused. If it didn't begin, no request was served, and something was
--- refused. The plan is of all requests of a script, if it goes on with one, and else of those of the orders.
-abbrev pub EndsOnPlan : Contents → Option (List Ask) → List Ask → List Line → Contents → Type 0 → Type 0
-EndsOnPlan m whole orders trace end none = let plan = plan_of (planned_orders whole orders) in
-    (FitsIfNew whole m plan × (EndsAsPlanned m plan trace end × (none → HasServed end.windows plan)))
-    ⊎ ((trace ≡ []) × (none → ⊥))
+-- all requests of a script were served, if they are known
+abbrev pub HasServedWhole : List Window → Option (List Ask) → Type 0
+HasServedWhole windows None = Unit {0}
+HasServedWhole windows (Some whole) = HasServed windows (plan_of whole)
+
+-- A planned run of these orders went from the one memory to the other, with this trace, and left these commands in
+-- doubt. The plan is of all requests of a script, if it goes on with one, and else of those of the orders.
+pub record RanByPlan (m : Contents) (whole : Option (List Ask)) (orders : List Ask) (trace : List Line)
+    (doubt : List Command) (end : Contents) (none : Type 0) : Type 0 where
+  pub fits : FitsIfNew whole m (plan_of (planned_orders whole orders))
+  -- it ended as the plan says
+  pub ended : EndsAsPlanned m (plan_of (planned_orders whole orders)) trace end
+  -- the plan has the requests in doubt too
+  pub doubted : AreOnPlan (Some (plan_of (planned_orders whole orders))) doubt
+  -- all of the plan was served if nothing was refused
+  pub served : none → HasServed end.windows (plan_of (planned_orders whole orders))
+
+-- it didn't begin: no request was served, nothing is in doubt, and something was refused
+pub record DidNotBegin (trace : List Line) (doubt : List Command) (none : Type 0) : Type 0 where
+  pub unserved : trace ≡ []
+  pub sure : doubt ≡ []
+  pub refused : none → ⊥
+
+-- a planned run of these orders ended as its plan says, or it didn't begin
+abbrev pub EndsOnPlan : Contents → Option (List Ask) → List Ask → List Line → List Command → Contents → Type 0 → Type 0
+EndsOnPlan m whole orders trace doubt end none =
+    RanByPlan m whole orders trace doubt end none ⊎ DidNotBegin trace doubt none

@@ -57,7 +57,7 @@ use Rattle.im_run.specs.declared.served.Did.{Did}
 use Rattle.im_run.specs.declared.served.Did.TheVariants.{Sent, Glanced}
 use Rattle.im_run.specs.Doing.{AreAllTold, HasToldScript}
 use Rattle.im_run.specs.Orders.{Ask, SetsUp}
-use Rattle.im_run.specs.Planned.{EndsOnPlan}
+use Rattle.im_run.specs.Planned.{EndsOnPlan, HasServedWhole}
 use Rattle.im_run.specs.Tracing.{IsTraced, TraceState}
 
 -- the reason that a call of the disk failed
@@ -121,13 +121,12 @@ abbrev pub Closes : Option (List ℕ) → Lines → Option (List ℕ) → Conten
 Closes was before is m did status = (start : Option (List ℕ)) (text : List ℕ) → Prints start was before text
     → BeginsFinals start is text m did × (status ≡ 0 → Appends start is (text ++ finals m did (length did)))
 
--- What elements' servers left since they began: this trace is legal and leads to the engine's memory, and a crash left
--- a prefix of it. If they were under a plan, it has what is in doubt too.
+-- What elements' servers left since they began, by a plan or freely: this trace is legal and leads to the engine's
+-- memory, and a crash left a prefix of it. If there is a plan, it has what is in doubt too.
 pub record ServedOn {D : Type 0} (now : D → Moment) (past : D → List Moment) (failures : D → ℕ) (b : Begun)
-    (m : Contents) (trace : List Line) (engine : EngineState D) : Type 0 where
+    (m : Contents) (plan : Option (List Requests)) (trace : List Line) (engine : EngineState D) : Type 0 where
   pub legal : IsLegal m trace
   pub ends : end_of m trace ≡ engine.memory
-  pub plan : Option (List Requests)
   pub kept : HasKept now past failures b m plan (accepted_in m trace) engine
 
 -- An engine's servers of these orders ended with this trace, the engine was closed, and this status was given. If all
@@ -137,12 +136,15 @@ pub record EndedOn {D : Type 0} (now : D → Moment) (past : D → List Moment) 
     (before : Lines) (is : Option (List ℕ)) (trace : List Line) (status : ℕ) : Type 0 where
   pub engine : EngineState D
   pub disk_is : disk ≡ engine.disk
-  pub served : ServedOn now past failures (begun_in now past failures begun) begun.memory trace engine
+  pub plan : Option (List Requests)
+  pub served : ServedOn now past failures (begun_in now past failures begun) begun.memory plan trace engine
   pub works : (status ≡ 0) ⊎ (status ≡ STALLED) → engine.failed ≡ false
   pub means : engine.failed ≡ false → LeavesNow (now disk) (MeansState engine)
   pub did : List Did
   pub told : AreAllTold begun.memory trace (status ≡ 0) orders did
-  pub as_planned : planned ≡ true → EndsOnPlan begun.memory whole orders trace engine.memory (status ≡ 0)
+  pub all_served : status ≡ 0 → HasServedWhole engine.memory.windows whole
+  pub as_planned : planned ≡ true
+      → EndsOnPlan begun.memory whole orders trace served.kept.doubt engine.memory (status ≡ 0)
   pub printed : Closes was before is engine.memory did status
 
 -- the same of an engine that works, and of a disk that is honest at the end
@@ -184,13 +186,23 @@ pub record Says {D : Type 0} (now : D → Moment) (start : EngineState D) (new :
   pub whole : status ≡ 0
       → Appends was is (replies start.memory setup ++ finals (after start.memory told) did (length did))
 
+-- The setup of a script was ended, at some block: nothing was put behind it, nothing is told of the script, and the
+-- status is not 0.
+pub record HasEndedSetup (once : Bool) (start : Contents) (text : List ℕ) (setup told doubt : List Command)
+    (status : ℕ) (did : List Did) : Type 0 where
+  pub left : List Wanted
+  pub began : SetsUp once start text setup left
+  pub put : told ++ doubt ≡ setup
+  pub untold : did ≡ []
+  pub refused : status ≡ 0 → ⊥
+
 -- This is told of a script, of all that its parts ask for if the status is 0: its setup was served whole, and its parts
--- with this trace, up to that memory. Or its setup was ended, at some block: nothing is told of it, and the status is
--- not 0.
-abbrev pub TellsScript : Bool → Bool → Contents → List ℕ → List Command → List Line → Contents → ℕ → List Did → Type 0
-TellsScript once planned start text setup trace end status did =
-    HasToldScript once planned start text setup trace end (status ≡ 0) did
-    ⊎ ((left : List Wanted) × SetsUp once start text setup left × (did ≡ []) × (status ≡ 0 → ⊥))
+-- with this trace. Or its setup was ended.
+abbrev pub TellsScript : Bool → Bool → Contents → List ℕ → List Command → List Command → List Command → List Line → ℕ
+    → List Did → Type 0
+TellsScript once planned start text setup told doubt trace status did =
+    HasToldScript once planned start text setup told doubt trace (status ≡ 0) did
+    ⊎ HasEndedSetup once start text setup told doubt status did
 
 -- An engine was closed, and this status was given, after a run of a script on it with these calls.
 pub record RunOn {D : Type 0} (now : D → Moment) (past : D → List Moment) (failures : D → ℕ) (once planned : Bool)
@@ -203,8 +215,7 @@ pub record RunOn {D : Type 0} (now : D → Moment) (past : D → List Moment) (f
   pub settles : Settles now start disk told doubt status
   pub printed : Says now start disk setup told doubt was is status
   pub traced : IsTraced start.memory setup told calls
-  pub tells : TellsScript once planned start.memory text setup calls.served (after start.memory told) status
-      printed.did
+  pub tells : TellsScript once planned start.memory text setup told doubt calls.served status printed.did
 
 -- the same of a disk that is honest at the end
 abbrev pub EndsRun : {D : Type 0} → Ghosts D → Bool → Bool → List ℕ → EngineState D → D → Option (List ℕ)
@@ -225,8 +236,7 @@ pub record RanOn {D : Type 0} (now : D → Moment) (past : D → List Moment) (f
   pub settles : Settles now start new told doubt status
   pub printed : Says now start new setup told doubt was is status
   pub traced : IsTraced start.memory setup told calls
-  pub tells : TellsScript once planned start.memory text setup calls.served (after start.memory told) status
-      printed.did
+  pub tells : TellsScript once planned start.memory text setup told doubt calls.served status printed.did
 
 -- A script was run on the image of a disk that is honest at the end, or the image was not opened. Nothing is said of a
 -- plan.

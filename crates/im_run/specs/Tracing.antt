@@ -132,6 +132,10 @@ abbrev pub PrintsMarked : Bool → List Line → List Line → ℕ → Option (L
 PrintsMarked marked setup lines many was before is after =
     (text : List ℕ) × (IsMarkedText marked setup lines many text × PrintsMore was before is after text)
 
+-- the text of all lines was printed
+abbrev pub PrintsAll : Bool → List Line → List Line → Option (List ℕ) → Lines → Option (List ℕ) → Lines → Type 0
+PrintsAll marked setup lines was before is after = PrintsMarked marked setup lines (length lines) was before is after
+
 -- a beginning of this text was printed
 abbrev pub PrintsBeginning : Option (List ℕ) → Lines → Option (List ℕ) → Lines → List ℕ → Type 0
 PrintsBeginning was before is after text =

@@ -17,13 +17,18 @@ mod planned;
 mod run;
 mod served;
 mod sheet;
+mod stops;
 mod telling;
 mod tracing;
 mod unserved;
 mod whole;
 mod wording;
 
+pub use context::RunContext;
 pub use once::run_once_on;
 pub use run::{STALLED, run_on};
-pub use sheet::RunMode;
+pub use sheet::{Assignment, RunMode};
+pub use stops::{
+    new_images_are_unrun, numbers_act_once_in_order, planned_scripts_have_one_end, run_over_stops,
+};
 pub use tracing::{Trace, write_marked_trace, write_trace};

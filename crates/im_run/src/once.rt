@@ -100,7 +100,8 @@ fn run_rest<
 /// the image, as [`serial_once_on`](im_serial::serial_once_on) says.
 ///
 /// So at status 0 each request of a part was sent now, or is before its element's first one that waits: confirmed,
-/// or kept with its operation.
+/// or kept with its operation. It is seen at the end that each number of the script was used.
+/// [`run_over_stops`](crate::run_over_stops) says what any number of such calls comes to.
 ///
 /// If the run is planned, the plan is of all requests of the script's parts, those that aren't sent too, under their
 /// numbers. It has to be under way in the memory after the setup, as calls with this script leave it; else nothing more

@@ -202,19 +202,16 @@ fn set_up<D: Disk, W: Write, N: Observer>(
     }
 }
 
-// Reads all that a script asks for, if it is planned and done once.
+// Reads all that a script asks for, if it is done once.
 fn read_whole_if(
     alloc: Global,
     bases: &[u32],
     asked: Commission<'_, '_>,
 ) -> Result<Option<AllOrders>, Reason>
-    ensures { IfOk result (λ whole. asked.entry.mode.planned ≡ true → IsOfAll asked.entry.once bases.now
-        (script_heard asked.entry.script.now) (asks_in whole)) }
+    ensures { IfOk result (λ whole. IsOfAll asked.entry.once bases.now (script_heard asked.entry.script.now)
+        (asks_in whole)) }
 {
     if !asked.once {
-        return Ok(None);
-    }
-    if !asked.mode.planned {
         return Ok(None);
     }
     match read_whole(alloc, bases, asked.script) {
@@ -233,8 +230,8 @@ fn make_workload(
 ) -> Result<Workload, Reason>
     ensures asked { IfOk result (λ work. map ask_of work.orders.items
         ≡ asks_among (first_asked asked.entry.once memory.now.contents) orders.items) }
-    ensures whole { IfOk result (λ work. asked.entry.mode.planned ≡ true → IsOfAll asked.entry.once bases.now
-        (script_heard asked.entry.script.now) (asks_in work.whole)) }
+    ensures whole { IfOk result (λ work. IsOfAll asked.entry.once bases.now (script_heard asked.entry.script.now)
+        (asks_in work.whole)) }
     ensures mode { IfOk result (λ work. work.mode ≡ asked.entry.mode) }
 {
     let orders = match number_orders(alloc, memory, orders, asked.once) {
@@ -258,7 +255,7 @@ fn make_workload(
 ///
 /// If the script is done once, a block that the memory has isn't made again, and an element doesn't ask for what is
 /// settled: its requests before the first that waits. Those from that one on are asked for again, under their numbers.
-/// If it is planned too, all that the script asks for is read beside it.
+/// All that the script asks for is read beside it, so that it is seen at the end that all was served.
 ///
 /// It is refused with what serving a block is refused with, with `Place` if a request's place lies past the last
 /// address, and with `Memory`. The setup's calls until then are returned.
@@ -274,8 +271,8 @@ pub fn read_orders<D: Disk, W: Write, N: Observer>(
         (W.contents out.old) server.new (W.contents out.new) }
     ensures orders { IfOk result.0 (λ work. HasOrders asked.entry.once server.old.engine.memory
         server.new.engine.memory server.new.bases.items asked.entry.script.now work.orders.items) }
-    ensures whole { IfOk result.0 (λ work. asked.entry.mode.planned ≡ true → IsOfAll asked.entry.once
-        server.new.bases.items (script_heard asked.entry.script.now) (asks_in work.whole)) }
+    ensures whole { IfOk result.0 (λ work. IsOfAll asked.entry.once server.new.bases.items
+        (script_heard asked.entry.script.now) (asks_in work.whole)) }
     ensures mode { IfOk result.0 (λ work. work.mode ≡ asked.entry.mode) }
 {
     let Ok(mut sheet) = Sheet::new(alloc, server.engine.memory(), asked.once) else {

@@ -13,7 +13,7 @@ use crate::orders::read_orders;
 use crate::served::{Outcome, serve_orders};
 use crate::sheet::{Commission, RunMode, Workload};
 use crate::tracing::Trace;
-use crate::unserved::with_plan;
+use crate::unserved::with_whole;
 use im_disk::Disk;
 use im_engine::Engine;
 use im_script::Script;
@@ -72,7 +72,7 @@ fn serve_on<
                 trace,
                 refused,
             } = serve_orders::<D, Brand, G, V, R>(context, opening, orders);
-            let reason = with_plan(engine.memory(), &whole, reason_of(refused));
+            let reason = with_whole(engine.memory(), &whole, reason_of(refused));
             let (status, disk) = close(alloc, engine, did, reason, paper, out, observer);
             (status, disk, trace)
         }

@@ -214,7 +214,8 @@ pub(crate) fn serve_orders<
     ensures recorded { result.trace.recorded ≡ opening.book.recorded }
     ensures planned { EndsBy K.origin.memory K.origin.plan result.trace.items result.engine.memory }
     ensures kept { D.honest result.engine.disk → K.origin.begun.failed ≡ false
-        → ServedOn D.now D.past D.failures K.origin.begun K.origin.memory result.trace.items result.engine }
+        → ServedOn D.now D.past D.failures K.origin.begun K.origin.memory K.origin.plan result.trace.items
+        result.engine }
     ensures honest { D.honest result.engine.disk → K.origin.honest }
     ensures told { AreAllTold K.origin.memory result.trace.items (result.refused ≡ None) (map ask_of orders.items)
         result.did.items }

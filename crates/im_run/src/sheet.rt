@@ -37,6 +37,15 @@ pub struct RunMode {
     pub recorded: bool,
 }
 
+/// A script, and how it is run.
+#[derive(Clone, Copy)]
+pub struct Assignment<'s, 'a> {
+    /// The script.
+    pub script: &'s Script<'a>,
+    /// How it is run.
+    pub mode: RunMode,
+}
+
 /// A script that is to be run, and whether it is done once: then what is settled of it isn't asked for anew.
 #[derive(Clone, Copy)]
 pub struct Commission<'s, 'a> {
@@ -53,7 +62,7 @@ pub struct Commission<'s, 'a> {
 pub struct Workload {
     /// What each element asks for.
     pub orders: Vec<Order>,
-    /// All that the script asks for, if its plan goes on with what was done before.
+    /// All that the script asks for, if it is done once. A plan is of that then.
     pub whole: Option<AllOrders>,
     /// How it is run.
     pub mode: RunMode,

@@ -2,7 +2,7 @@
 ghost use Rattle.std.specs.Prelude.{◌≡◌, ◌++◌, [], OnOk, length, slice_get, true};
 ghost use Rattle.std.specs.Io.KnownBytes.{Appends};
 ghost use Rattle.im_text.specs.Printing.{Begins, Pushes};
-ghost use Rattle.im_run.specs.Tracing.{BeginsMarked, MayStand, PrintsMarked, PrintsSome, WritesMarked, marked_line};
+ghost use Rattle.im_run.specs.Tracing.{BeginsMarked, MayStand, PrintsAll, PrintsSome, WritesMarked, marked_line};
 ghost use Rattle.im_run.specs.Tracing.{trace_text, unmarked};
 
 use crate::calls::Calls;
@@ -146,9 +146,8 @@ fn print_lines<W: Write>(
     lines: &mut Lines,
     out: &mut W,
 ) -> Result<(), Reason>
-    ensures all { OnOk result (PrintsMarked both.entry.marked both.entry.setup.now
-        (both.entry.setup.now ++ both.entry.served.now)
-        (length (both.entry.setup.now ++ both.entry.served.now)) (W.contents out.old) lines.old (W.contents out.new)
+    ensures all { OnOk result (PrintsAll both.entry.marked both.entry.setup.now
+        (both.entry.setup.now ++ both.entry.served.now) (W.contents out.old) lines.old (W.contents out.new)
         lines.new) }
     ensures some { PrintsSome both.entry.marked both.entry.setup.now
         (both.entry.setup.now ++ both.entry.served.now) (W.contents out.old) lines.old (W.contents out.new)

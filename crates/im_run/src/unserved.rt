@@ -1,4 +1,4 @@
-//! Whether all of a plan was served, at the end of a run that goes on with it.
+//! Whether all of a script was served, at the end of a run that does it once.
 ghost use Rattle.std.specs.Prelude.{◌≡◌, IfNone, IfSome, IsOk, true};
 ghost use Rattle.im_run.specs.Planned.{AreServed, all_below, next_or};
 
@@ -48,8 +48,8 @@ fn find_unserved(memory: &Memory, orders: &[Order]) -> Option<u16>
     None
 }
 
-/// Returns why a run ended that went on with a plan: if nothing else was refused, all of the plan was served.
-pub fn with_plan(
+/// Returns why a run ended. If nothing was refused, all requests of the script were served, if they are known.
+pub fn with_whole(
     memory: &Memory,
     whole: &Option<AllOrders>,
     done: Result<(), Reason>,
@@ -62,7 +62,7 @@ pub fn with_plan(
     };
     match done {
         Ok(()) => match find_unserved(memory, whole.orders.as_slice()) {
-            Some(element) => Err(Reason::Request(element, Refusal::BadPlan)), // It would not be the plan's end.
+            Some(element) => Err(Reason::Request(element, Refusal::BadPlan)), // It would not be the script's end.
             None => Ok(()),
         },
         Err(reason) => Err(reason),

@@ -1,13 +1,15 @@
 -- A script read line by line. (Own.)
 use Rattle.std.proofs.Common.{Bool, ◌≡◌, ◌∙◌, eq-eqb, ◌++◌, ◌==◌, true, false, All, ℕ, ◌+◌, ◌<◌, ◌≤◌, List, [], ◌∷◌}
-use Rattle.std.proofs.Common.{arith, refl, sym, ap, subst, length, take, drop, get_or, inl, inr}
+use Rattle.std.proofs.Common.{arith, refl, sym, ap, subst, length, take, drop, get_or, inl, inr, Bor, get_or-take}
+use Rattle.std.proofs.Common.{◌-◌, length-drop}
 use Rattle.std.specs.Prelude.{◌⊎◌, Option, Some, None, Result, Ok, Err, IfErr, IfSome, IsSome}
 use Rattle.std.specs.List.{slice_split}
-use Rattle.std.specs.Option.{option_map, option_and_then}
+use Rattle.std.specs.Option.{option_map, option_and_then, option_map_or}
 use Rattle.std.proofs.lemmas.List.{take_more, take_all, take-append-drop, length-take-le, drop_more}
 use Rattle.std.proofs.lemmas.List.Splits.{slice_split_at}
 use Rattle.std.proofs.lemmas.Bool.{ne_eqb}
-use Rattle.std.proofs.lemmas.List.Elements.{All-append, All-cons, All-nil}
+use Rattle.std.proofs.lemmas.List.Elements.{All-append, All-cons, All-nil, All-from_get_or}
+use Rattle.memchr.specs.Find.{Nowhere, Passes, is_byte}
 use Rattle.im_script.specs.Script.{Draft, heard, is_few, lines_after, lines_of, lines_say, new_draft, script_of}
 use Rattle.im_script.specs.declared.script.Heard.{Heard}
 use Rattle.im_script.specs.declared.faults.ScriptFault.{ScriptFault}
@@ -181,3 +183,62 @@ no_end end text i inside other none =
     (All-append (λ byte. (byte == end) ≡ false) (take i text) (get_or text i 0 ∷ []) none
     (All-cons (λ byte. (byte == end) ≡ false) (get_or text i 0) [] (ne_eqb (get_or text i 0) end other)
     (All-nil (λ byte. (byte == end) ≡ false))))
+
+-- no byte before this place is `end`
+pub none_before : (end : ℕ) (text : List ℕ) (i : ℕ) → i ≤ length text → Nowhere (Passes (is_byte end) text) 0 i
+    → All (λ byte. (byte == end) ≡ false) (take i text)
+none_before end text i inside none = All-from_get_or (λ byte. (byte == end) ≡ false) (take i text) 0 (λ k less.
+    let below : k < i = omega (arith, less, length-take-le i text inside) in
+    ne_eqb (get_or (take i text) k 0) end (λ is.
+    none k (omega arith) below (eq-eqb (get_or text k 0) end (sym (get_or-take i text k 0 below) ∙ is))))
+
+-- ---- lines that are left
+
+-- the next line and those behind it, of the lines from this one on
+pub lines_here : (all : List (List ℕ)) (n : ℕ) (rest : Option (Bor (List ℕ))) (left : Bor (List ℕ)) (line : List ℕ)
+    (behind : Option (Bor (List ℕ))) → drop n all ≡ option_map_or (λ r. lines_of r.now) rest [] → rest ≡ Some left
+    → lines_of left.now ≡ line ∷ option_map_or (λ r. lines_of r.now) behind []
+    → drop n all ≡ line ∷ option_map_or (λ r. lines_of r.now) behind []
+lines_here all n rest left line behind so_far is cut =
+    so_far ∙ ap (λ (o : Option (Bor (List ℕ))). option_map_or (λ r. lines_of r.now) o []) is ∙ cut
+
+pub line_inside : (all : List (List ℕ)) (n : ℕ) (line : List ℕ) (more : List (List ℕ)) → drop n all ≡ line ∷ more
+    → n < length all
+line_inside all n line more here =
+    let longer : length (line ∷ more) ≡ length all - n = sym (ap length here) ∙ length-drop n all in
+    omega (arith, longer)
+
+pub line_here : (all : List (List ℕ)) (n : ℕ) (line : List ℕ) (more : List (List ℕ)) → drop n all ≡ line ∷ more
+    → line ≡ get_or all n line
+line_here all n line more here =
+    ap (λ (l : List (List ℕ)). get_or l 0 line)
+    (sym here ∙ drop_more all n line (line_inside all n line more here))
+
+pub lines_behind : (all : List (List ℕ)) (n : ℕ) (line : List ℕ) (more : List (List ℕ)) → drop n all ≡ line ∷ more
+    → drop (n + 1) all ≡ more
+lines_behind all n line more here =
+    ap (λ (l : List (List ℕ)). drop 1 l)
+    (sym (drop_more all n line (line_inside all n line more here)) ∙ here)
+
+-- each line takes a byte, but for the last
+pub few_left : (n : ℕ) (text : List ℕ) (rest : Option (Bor (List ℕ))) (left : Bor (List ℕ))
+    (behind : Option (Bor (List ℕ))) → rest ≡ Some left → IfSome behind (λ r. length r.now < length left.now)
+    → n + option_map_or (λ r. length r.now + 1) rest 0 ≤ length text + 1
+    → (n + 1) + option_map_or (λ r. length r.now + 1) behind 0 ≤ length text + 1
+few_left n text rest left None is smaller few =
+    let so_far : n + (length left.now + 1) ≤ length text + 1 = subst (λ (o : Option (Bor (List ℕ))).
+    n + option_map_or (λ r. length r.now + 1) o 0 ≤ length text + 1) is few in
+    omega (arith, so_far)
+few_left n text rest left (Some behind) is smaller few =
+    let so_far : n + (length left.now + 1) ≤ length text + 1 = subst (λ (o : Option (Bor (List ℕ))).
+    n + option_map_or (λ r. length r.now + 1) o 0 ≤ length text + 1) is few in
+    omega (arith, so_far, smaller)
+
+-- no line is left
+pub none_left : (all : List (List ℕ)) (n : ℕ) (rest : Option (Bor (List ℕ))) → rest ≡ None
+    → drop n all ≡ option_map_or (λ r. lines_of r.now) rest [] → length all ≤ n
+none_left all n rest is left =
+    let none : drop n all ≡ [] = left
+    ∙ ap (λ (o : Option (Bor (List ℕ))). option_map_or (λ r. lines_of r.now) o []) is in
+    let all_past : length all - n ≡ 0 = sym (length-drop n all) ∙ ap length none in
+    omega (arith, all_past)

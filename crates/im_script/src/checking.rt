@@ -10,19 +10,26 @@ use crate::MAX_SCRIPT;
 use crate::faults::ScriptFault;
 use crate::reader::Reader;
 use crate::script::Script;
+use memchr::memchr;
 use std::alloc::Global;
+
+// Splits a text after its first line.
+fn cut_line(text: &[u8]) -> (&[u8], Option<&[u8]>)
+    ensures lines { lines_of text.now ≡ result.0.now ∷ option_map_or (λ rest. lines_of rest.now) result.1 [] }
+    ensures smaller { IfSome result.1 (λ rest. length rest.now < length text.now) }
+{
+    match memchr(b'\n', text) {
+        Some(at) => (&text[..at], Some(&text[at + 1..])),
+        None => (text, None),
+    }
+}
 
 /// Splits a text after its first line. Returns the line and the text after its line feed, or `None` for the latter if
 /// the text ends with the line.
 pub fn split_line(text: &[u8]) -> (&[u8], Option<&[u8]>)
     ensures { lines_of text.now ≡ result.0.now ∷ option_map_or (λ rest. lines_of rest.now) result.1 [] }
 {
-    for (at, byte) in text.iter().enumerate() {
-        if *byte == b'\n' {
-            return (&text[..at], Some(&text[at + 1..]));
-        }
-    }
-    (text, None)
+    cut_line(text)
 }
 
 /// Reads a text that isn't too large. `glances` says whether it may have glances.
@@ -36,9 +43,12 @@ fn read_lines(alloc: Global, text: &[u8], glances: bool) -> Result<Script<'_>, S
 {
     let mut reader = Reader::new(alloc);
     let mut number = 0;
-    for line in text.split(|byte| *byte == b'\n') {
+    let mut rest = Some(text);
+    while let Some(left) = rest {
+        let (line, behind) = cut_line(left);
         number += 1;
         reader.hear(alloc, number, line, glances)?;
+        rest = behind;
     }
     Ok(Script { text })
 }

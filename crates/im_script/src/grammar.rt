@@ -66,19 +66,20 @@ fn keep_word<'a>(words: &mut Words<'a>, part: &'a [u8])
     words.push(part);
 }
 
-/// Returns the first five words of a line, or all if it has fewer. Returns `None` if a byte of the line isn't ASCII.
-pub fn first_words<'a>(line: &'a [u8]) -> Option<Words<'a>>
+/// Puts the first five words of a line into `words`, which has none yet, or all if the line has fewer. Returns `None`
+/// if a byte of the line isn't ASCII. They are put where the caller keeps them, so that they aren't copied.
+pub fn put_first_words<'a>(line: &'a [u8], words: &mut Words<'a>) -> Option<()>
+    requires empty { words.old.items ≡ [] }
     ensures plain { is_some result ≡ list_all is_ascii line.entry.now }
-    ensures words { IfSome result (λ words. take 5 (texts words.items) ≡ take 5 (words_of line.entry.now)) }
+    ensures words { IfSome result (λ _. take 5 (texts words.new.items) ≡ take 5 (words_of line.entry.now)) }
 {
-    let mut words = ArrayVec::new();
     let mut rest = Some(line);
     while let Some(text) = rest {
         let (part, behind) = cut_word(text)?;
-        keep_word(&mut words, part);
+        keep_word(words, part);
         rest = behind;
     }
-    Some(words)
+    Some(())
 }
 
 /// Appends a decimal digit to a number. Returns `None` if the byte is no digit or the result doesn't fit in a u64.

@@ -6,9 +6,10 @@ ghost use Rattle.im_script.specs.Grammar.{is_short};
 use crate::MAX_LINE;
 use crate::explaining::explain;
 use crate::faults::{LineFault, ScriptFault};
-use crate::grammar::{first_words, is_short, read_number, split_words};
+use crate::grammar::{is_short, put_first_words, read_number, split_words};
 use crate::lines::{is_setup, read_action, read_glance, read_named_block, read_part};
 use crate::script::{Heard, LAST_ELEMENT, Said, ScriptLine, Stage};
+use arrayvec::ArrayVec;
 use im_types::Refusal;
 use indexmap::IndexSet;
 use std::alloc::Global;
@@ -115,13 +116,16 @@ impl<'a> Reader<'a> {
         if !is_short(line) {
             return Err(Refusal::BadScript);
         }
-        let Some(words) = first_words(line) else {
+        let mut words = ArrayVec::new();
+        let Some(()) = put_first_words(line, &mut words) else {
             return Err(Refusal::BadScript);
         };
         self.take_words(words.as_slice())
     }
 
-    /// Returns the fault of a refused line with this number. `glances` says whether the script may have glances.
+    /// Returns the fault of a refused line with this number. `glances` says whether the script may have glances. It
+    /// stands by itself, so that what reads a line stays small.
+    #[inline(never)]
     fn fault(&self, alloc: Global, line: usize, text: &'a [u8], glances: bool) -> ScriptFault
         ensures line { IfSome (bad_line result) (λ number. number ≡ line) }
         ensures size { is_of_size result ≡ false }
@@ -210,7 +214,8 @@ impl<'a> Reader<'a> {
         if !is_short(line) {
             return Err(Refusal::BadScript);
         }
-        let Some(words) = first_words(line) else {
+        let mut words = ArrayVec::new();
+        let Some(()) = put_first_words(line, &mut words) else {
             return Err(Refusal::BadScript);
         };
         self.hear_words(words.as_slice())

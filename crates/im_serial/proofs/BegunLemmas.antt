@@ -41,9 +41,10 @@ use Rattle.im_laws.proofs.Tests.{some_none, some_same}
 use Rattle.im_laws.proofs.WindowLemmas.{kept_for-note}
 use Rattle.im_script.specs.declared.places.Action.{Action}
 use Rattle.im_script.specs.Places.{op_of}
-use Rattle.im_serial.specs.Asked.{HasReached, IsAsked, Leads, Wanted, base_told, bases_by, number_next, request_in}
+use Rattle.im_serial.specs.Asked.{HasReached, IsAsked, Leads, Wanted, base_told, bases_after, bases_by, number_next}
+use Rattle.im_serial.specs.Asked.{request_in}
 use Rattle.im_serial.specs.Asked.{standing, whole_course}
-use Rattle.im_serial.specs.Had.{left_of, length_asked, met, next_had, numbers_had}
+use Rattle.im_serial.specs.Had.{end_with, left_of, length_asked, met, next_had, numbers_had, sums_of}
 use Rattle.im_serial.specs.Once.{IsAskedOnce}
 use Rattle.im_serial.specs.Had.{bases_had, news}
 use Rattle.im_serial.specs.Once.{AreMade, HasMade, IsMade, met_of}
@@ -51,7 +52,7 @@ use Rattle.im_serial.specs.declared.meeting.Met.TheVariants as met_as
 use Rattle.im_serial.specs.Begun.{HasComeTo, HasGoneOn, new_memory}
 use Rattle.im_serial.proofs.AskedLemmas.{stands_asked, stands_confirmed, stands_first}
 use Rattle.im_serial.proofs.LeftLemmas.{AreLeft, bases_left, count_more, count_same, end-append, end_of}
-use Rattle.im_serial.proofs.LeftLemmas.{end_with, first_had, had_at, news_left, others_left, sums-append, sums_of}
+use Rattle.im_serial.proofs.LeftLemmas.{first_had, had_at, news_left, others_left, sums-append}
 use Rattle.im_serial.proofs.SetupLemmas.{ArePacked, AreUnnamed, HasSetup, IsBlock, allocated, allocated_alone}
 use Rattle.im_serial.proofs.SetupLemmas.{free_all}
 
@@ -101,18 +102,18 @@ leads_first m bases (w ∷ wanted) (Asks r ∷ put) left (suc many) (is, inr (no
 
 -- ---- how many requests a memory has
 
-abbrev had_by : Result (ℕ × ℕ) Refusal → ℕ
+abbrev pub had_by : Result (ℕ × ℕ) Refusal → ℕ
 had_by (Ok ends) = ends.1 - 1
 had_by (Err refusal) = 0
 
-had_bounds : (m : Contents) (e : ℕ) → left_of (numbers_had m) e ≡ had_by (bounds m.windows e)
+pub had_bounds : (m : Contents) (e : ℕ) → left_of (numbers_had m) e ≡ had_by (bounds m.windows e)
 had_bounds m e = had_at m.windows e ∙ by_window (slice_get m.windows e)
   where
     by_window : (o : Option Window) → option_map_or (λ (w : Window). next_number w - 1) o 0 ≡ had_by (bounds_of o)
     by_window None = refl
     by_window (Some w) = refl
 
-next_bounds : (m : Contents) (e base next : ℕ) → bounds m.windows e ≡ Ok (base, next) → next_had m e ≡ next
+pub next_bounds : (m : Contents) (e base next : ℕ) → bounds m.windows e ≡ Ok (base, next) → next_had m e ≡ next
 next_bounds m e base next is = by_window (slice_get m.windows e) is
   where
     next_by : Result (ℕ × ℕ) Refusal → ℕ
@@ -124,7 +125,7 @@ next_bounds m e base next is = by_window (slice_get m.windows e) is
     by_window (Some w) is = ap next_by is
 
 -- a confirmation leaves it
-had_confirmed : (m : Contents) (element upto e : ℕ) → is_accepted m (Confirm element upto) ≡ true
+pub had_confirmed : (m : Contents) (element upto e : ℕ) → is_accepted m (Confirm element upto) ≡ true
     → left_of (numbers_had (step m (Confirm element upto)).contents) e ≡ left_of (numbers_had m) e
 had_confirmed m element upto e accepted =
     let it = accepted-moves_base m element upto accepted in
@@ -150,7 +151,7 @@ module _ (cells elements : ℕ) (m : Contents) (is : IsMemory cells elements m) 
       omega arith
 
   -- a request is one more of its element's
-  had_here : (e : ℕ) → e ≡ r.element → left_of (numbers_had (step m (Asks r)).contents) e
+  pub had_here : (e : ℕ) → e ≡ r.element → left_of (numbers_had (step m (Asks r)).contents) e
       ≡ left_of (numbers_had m) e + 1
   had_here e same =
       let now = (step m (Asks r)).contents in
@@ -161,7 +162,7 @@ module _ (cells elements : ℕ) (m : Contents) (is : IsMemory cells elements m) 
       let some = number_some in
       omega arith
 
-  had_there : (e : ℕ) → (e ≡ r.element → ⊥) → left_of (numbers_had (step m (Asks r)).contents) e
+  pub had_there : (e : ℕ) → (e ≡ r.element → ⊥) → left_of (numbers_had (step m (Asks r)).contents) e
       ≡ left_of (numbers_had m) e
   had_there e other = had_bounds (step m (Asks r)).contents e ∙ ap had_by (takes.others e other) ∙ sym (had_bounds m e)
 
@@ -173,11 +174,11 @@ module _ (cells elements : ℕ) (m : Contents) (is : IsMemory cells elements m) 
     acts : act m.cells (asker r) r.op ≡ allocate m.cells kind n
     acts = ap (act m.cells (asker r)) block
 
-    answers : (step m (Asks r)).answer ≡ Ok (Tells (allocate m.cells kind n).entry)
+    pub answers : (step m (Asks r)).answer ≡ Ok (Tells (allocate m.cells kind n).entry)
     answers = ap (λ (j : Result Judged Refusal). (step_request m r j).answer) fresh
         ∙ ap (λ a. Ok (Tells a.entry)) acts
 
-    cells_then : (step m (Asks r)).contents.cells ≡ (allocate m.cells kind n).cells
+    pub cells_then : (step m (Asks r)).contents.cells ≡ (allocate m.cells kind n).cells
     cells_then = ap (λ (j : Result Judged Refusal). (step_request m r j).contents.cells) fresh ∙ ap (λ a. a.cells) acts
 
     -- its entry is kept
@@ -198,24 +199,24 @@ module _ (cells elements : ℕ) (m : Contents) (is : IsMemory cells elements m) 
 -- ---- where a script stands from a new image on
 
 -- These commands were put from a new image on, for these requests of the script, and the others are left.
-record Stands (limits : Limits) (script : List Wanted) (put : List Command) (done left : List Wanted) : Type 0 where
-  split : script ≡ done ++ left
-  counts : AreLeft (numbers_had (after (new_memory limits) put)) done
-  setup : (ArePacked (end_of 0 done) (after (new_memory limits) put).cells × HasSetup left) ⊎ AreUnnamed left
-  reached : HasReached (new_memory limits) (standing (Some (whole_course script)) (sums_of 0 done) left) put
+pub record Stands (limits : Limits) (script : List Wanted) (put : List Command) (done left : List Wanted) : Type 0 where
+  pub split : script ≡ done ++ left
+  pub counts : AreLeft (numbers_had (after (new_memory limits) put)) done
+  pub setup : (ArePacked (end_of 0 done) (after (new_memory limits) put).cells × HasSetup left) ⊎ AreUnnamed left
+  pub reached : HasReached (new_memory limits) (standing (Some (whole_course script)) (sums_of 0 done) left) put
 
 -- A block of the setup wasn't made: its request is the last one.
-abbrev IsStuck : Limits → List Wanted → List Command → Type 0
+abbrev pub IsStuck : Limits → List Wanted → List Command → Type 0
 IsStuck limits script put = (HasMade (after (new_memory limits) put) script → ⊥)
     × ((last : List Wanted) × Leads (new_memory limits) [] script put last)
 
-nothing_had : (elements e : ℕ) → let new : List Window = replicate elements new_window in
+pub nothing_had : (elements e : ℕ) → let new : List Window = replicate elements new_window in
     option_map_or (λ (w : Window). next_number w - 1) (slice_get new e) 0 ≡ 0
 nothing_had zero e = refl
 nothing_had (suc n) zero = refl
 nothing_had (suc n) (suc e) = nothing_had n e
 
-stands_new : (limits : Limits) (script : List Wanted) → HasSetup script → Stands limits script [] [] script
+pub stands_new : (limits : Limits) (script : List Wanted) → HasSetup script → Stands limits script [] [] script
 unfolding empty_contents
 stands_new limits script setup = record {
   split = refl;
@@ -224,15 +225,15 @@ stands_new limits script setup = record {
   reached = stands_first (new_memory limits) (whole_course script);
 }
 
-is_memory : (limits : Limits) (put : List Command) → IsMemory limits.cells limits.elements (after (new_memory limits)
-    put)
+pub is_memory : (limits : Limits) (put : List Command)
+    → IsMemory limits.cells limits.elements (after (new_memory limits) put)
 is_memory limits put = after-memory limits.cells limits.elements (new_memory limits) put (empty-memory limits.cells
     limits.elements)
 
 -- ---- one request
 
 module _ (m : Contents) (bases : List ℕ) (w : Wanted) (r : Request) (is : request_in m bases w ≡ Some r) where
-  asked_by : (w.element ≡ r.element) × (op_of bases w.action ≡ Some r.op)
+  pub asked_by : (w.element ≡ r.element) × (op_of bases w.action ≡ Some r.op)
   asked_by = by_both (number_next m w.element) (op_of bases w.action) is
     where
       by_both : (n : Option ℕ) (o : Option Op) → option_and_then (λ number. option_map (λ op. record {
@@ -246,7 +247,7 @@ module _ (m : Contents) (bases : List ℕ) (w : Wanted) (r : Request) (is : requ
           let same = some_same (record { element = w.element; number = n; op = op }) r e in
           (ap (λ (q : Request). q.element) same, ap (λ (q : Request). Some q.op) same)
 
-  block_asked : (b : IsBlock w) → r.op ≡ op.Alloc b.kind b.length
+  pub block_asked : (b : IsBlock w) → r.op ≡ op.Alloc b.kind b.length
   block_asked b = some_same r.op (op.Alloc b.kind b.length) (sym asked_by.1 ∙ ap (op_of bases) b.action)
 
 named_end : (end : ℕ) (w : Wanted) → w.named ≡ true → end_with end w ≡ end + length_asked w.action
@@ -444,12 +445,12 @@ module _ (limits : Limits) (script : List Wanted) (put : List Command) (done lef
 -- ---- all that was put
 
 -- where the script stands after commands that were put from a new image on, or it is stuck
-abbrev Comes : Limits → List Wanted → List Command → Type 0
+abbrev pub Comes : Limits → List Wanted → List Command → Type 0
 Comes limits script put = ((done : List Wanted) × ((left : List Wanted) × Stands limits script put done left))
     ⊎ IsStuck limits script put
 
-comes : (limits : Limits) (script : List Wanted) (put : List Command) (earlier : List Command) (done left last : List
-    Wanted) (n : Contents) → Stands limits script earlier done left
+pub comes : (limits : Limits) (script : List Wanted) (put : List Command) (earlier : List Command)
+    (done left last : List Wanted) (n : Contents) → Stands limits script earlier done left
     → Leads (after (new_memory limits) earlier) (sums_of 0 done) left put last
     → accept_each (after (new_memory limits) earlier) put ≡ Some n → Comes limits script (earlier ++ put)
 comes limits script [] earlier done left last n it leads accepted = subst (Comes limits script) (sym (append-nil
@@ -482,8 +483,48 @@ comes limits script (Asks r ∷ put) earlier done (w ∷ left) last n it (is, in
     subst (λ (l : List Command). Comes limits script (earlier ++ Asks r ∷ l)) (sym nothing)
     (inr (stuck_then limits script earlier done left w r it one.0 is none))
 
+-- if all of them were put, the names stand for the bases of all blocks
+pub none_left : (w : Wanted) (left : List Wanted) → ◌≡◌ {A = List Wanted} [] (w ∷ left) → ⊥
+none_left w left e = cc
+
+pub names_all : (limits : Limits) (script : List Wanted) (put : List Command) (earlier : List Command) (done left : List
+    Wanted) (n : Contents) → Stands limits script earlier done left
+    → Leads (after (new_memory limits) earlier) (sums_of 0 done) left put []
+    → accept_each (after (new_memory limits) earlier) put ≡ Some n
+    → bases_after (after (new_memory limits) earlier) (sums_of 0 done) left put ≡ sums_of 0 (done ++ left)
+names_all limits script [] earlier done left n it leads accepted =
+    ap (sums_of 0) (sym (append-nil done) ∙ ap (λ (l : List Wanted). done ++ l) (sym leads))
+names_all limits script (Confirm element upto ∷ put) earlier done left n it leads accepted =
+    let m = after (new_memory limits) earlier in
+    let one = accepted_next m (Confirm element upto) put n accepted in
+    let now = after-append (new_memory limits) earlier (Confirm element upto ∷ []) in
+    ap (λ (x : Contents). bases_after x (sums_of 0 done) left put) (sym now)
+    ∙ names_all limits script put (earlier ++ Confirm element upto ∷ []) done left n
+    (stands_more limits script earlier done left element upto it one.0)
+    (subst (λ (x : Contents). Leads x (sums_of 0 done) left put []) (sym now) leads)
+    (subst (λ (x : Contents). accept_each x put ≡ Some n) (sym now) one.1)
+names_all limits script (Asks r ∷ put) earlier done [] n it leads accepted = absurd leads
+names_all limits script (Asks r ∷ put) earlier done (w ∷ left) n it (is, inl (more, (made, leads))) accepted =
+    let m = after (new_memory limits) earlier in
+    let one = accepted_next m (Asks r) put n accepted in
+    let now = after-append (new_memory limits) earlier (Asks r ∷ []) in
+    let stands = stands_then limits script earlier done left w r it one.0 is more made in
+    let bases : sums_of 0 done ++ more ≡ sums_of 0 (done ++ w ∷ []) = bases_then limits script earlier done left w r it
+    one.0 is more made in
+    ap (λ (o : Option (List ℕ)). bases_after (step m (Asks r)).contents
+    (sums_of 0 done ++ option_map_or (λ (x : List ℕ). x) o []) left put) made
+    ∙ ap (λ (b : List ℕ). bases_after (step m (Asks r)).contents b left put) bases
+    ∙ ap (λ (x : Contents). bases_after x (sums_of 0 (done ++ w ∷ [])) left put) (sym now)
+    ∙ names_all limits script put (earlier ++ Asks r ∷ []) (done ++ w ∷ []) left n stands
+    (subst (λ (x : Contents). Leads x (sums_of 0 (done ++ w ∷ [])) left put []) (sym now)
+    (subst (λ (b : List ℕ). Leads (step m (Asks r)).contents b left put []) bases leads))
+    (subst (λ (x : Contents). accept_each x put ≡ Some n) (sym now) one.1)
+    ∙ ap (sums_of 0) (append_assoc done (w ∷ []) left)
+names_all limits script (Asks r ∷ put) earlier done (w ∷ left) n it (is, inr (none, (nothing, same))) accepted =
+    absurd (none_left w left same)
+
 -- a run of the script that began on a new image
-run_comes : (limits : Limits) (script : List Wanted) (put : List Command) (m : Contents) → HasSetup script
+pub run_comes : (limits : Limits) (script : List Wanted) (put : List Command) (m : Contents) → HasSetup script
     → HasComeTo limits script put m → Comes limits script put
 run_comes limits script put m setup it = comes limits script put [] [] script it.left m (stands_new limits script setup)
     it.leads it.accepted

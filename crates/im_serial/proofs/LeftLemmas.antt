@@ -10,7 +10,7 @@ use Rattle.im_types.specs.Contents.{Window}
 use Rattle.im_types.specs.Window.{next_number}
 use Rattle.im_laws.proofs.GroupLemmas.{above_zero}
 use Rattle.im_serial.specs.Asked.{Wanted}
-use Rattle.im_serial.specs.Had.{bases_had, has_next, left_of, length_asked, met, news}
+use Rattle.im_serial.specs.Had.{bases_had, end_with, has_next, left_of, length_asked, met, news, sums_of}
 
 -- ---- what is left of an element's requests
 
@@ -166,19 +166,10 @@ news_left many (w ∷ done) left are = ap (λ (b : Bool). (if b then [] else w �
 
 -- ---- the bases of the blocks that were made
 
--- where the next block of the setup begins behind one
-abbrev pub end_with : ℕ → Wanted → ℕ
-end_with end w = if w.named then end + length_asked w.action else end
-
 -- and behind all of these
 abbrev pub end_of : ℕ → List Wanted → ℕ
 end_of end [] = end
 end_of end (w ∷ wanted) = end_of (end_with end w) wanted
-
--- the bases of the blocks of the setup: the sums of the lengths before them
-abbrev pub sums_of : ℕ → List Wanted → List ℕ
-sums_of end [] = []
-sums_of end (w ∷ wanted) = (if w.named then end ∷ [] else []) ++ sums_of (end_with end w) wanted
 
 bases_none : (many : List ℕ) (end : ℕ) (left : List Wanted) → AreLeft many [] → bases_had many end left ≡ []
 bases_none many end [] none = refl

@@ -51,7 +51,7 @@ few_with : (e : Entry) (behind n : ℕ) → behind ≤ n → settled_with e behi
 few_with Waiting behind n few = omega arith
 few_with (Answered reply) behind n few = omega arith
 
-settled_few : (kept : List Kept) → settled_in kept ≤ length kept
+pub settled_few : (kept : List Kept) → settled_in kept ≤ length kept
 settled_few [] = omega arith
 settled_few (k ∷ kept) = few_with k.entry (settled_in kept) (length kept) (settled_few kept)
 
@@ -126,7 +126,7 @@ module _ (windows : List Window) (element base next : ℕ) (there : bounds windo
 
 -- ---- of all elements
 
-count_at : (windows : List Window) (k : ℕ) → get_or (map (λ (w : Window). first_open w - 1) windows) k 0
+pub count_at : (windows : List Window) (k : ℕ) → get_or (map (λ (w : Window). first_open w - 1) windows) k 0
     ≡ option_map_or first_open (slice_get windows k) 0 - 1
 count_at [] k = refl
 count_at (w ∷ windows) zero = refl

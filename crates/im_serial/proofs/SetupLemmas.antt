@@ -165,6 +165,7 @@ allocated_alone cells kind n = by_test (n == 0)
 
 -- it makes a block of the setup
 pub record IsBlock (w : Wanted) : Type 0 where
+  pub element : w.element ≡ 0
   pub named : w.named ≡ true
   pub kind : Kind
   pub length : ℕ
@@ -314,7 +315,7 @@ setup_in (line ∷ lines) d = by_stage (setup_in lines) d.stage refl
     by_early behind s at never (Some (next, Begins element)) e = behind next
     by_early behind s at never (Some (next, Asks l)) e = absurd (never next l (says_at d s at line (next, Asks l) e))
     by_early behind s at never (Some (next, Block b)) e = inl (
-      record { named = refl; kind = b.kind; length = b.length; action = refl },
+      record { element = refl; named = refl; kind = b.kind; length = b.length; action = refl },
       behind next,
     )
 

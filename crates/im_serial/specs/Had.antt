@@ -91,6 +91,16 @@ abbrev pub bases_had : List ℕ → ℕ → List Wanted → List ℕ
 bases_had many end [] = []
 bases_had many end (w ∷ wanted) = base_had many end w ++ bases_had (met many w.element) (end_behind many end w) wanted
 
+-- where the next block of the setup begins, behind one that was made
+abbrev pub end_with : ℕ → Wanted → ℕ
+end_with end w = if w.named then end + length_asked w.action else end
+
+-- the bases of all blocks of the setup in a new image, the first of which begins there: each stands behind those before
+-- it
+abbrev pub sums_of : ℕ → List Wanted → List ℕ
+sums_of end [] = []
+sums_of end (w ∷ wanted) = (if w.named then end ∷ [] else []) ++ sums_of (end_with end w) wanted
+
 -- ---- their numbers
 
 -- the number of an element's next request in a memory, or 0 if it has no such element

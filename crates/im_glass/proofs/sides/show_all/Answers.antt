@@ -1,5 +1,5 @@
 use Rattle.std.proofs.Common.{◌∙◌, ap, sym, subst, length}
-use Rattle.im_glass.specs.Copies.{CopyState, IsKept}
+use Rattle.im_glass.specs.Copies.{CopyState, IsKeptCopy}
 use Rattle.im_glass.specs.Rule.{state_of}
 use Rattle.im_glass.proofs.CopyLemmas.{brought}
 use Rattle.im_glass.proofs.sides.show_all.Goals as goal
@@ -26,7 +26,7 @@ returns-clause-kept g c =
     let it = brought _ g.J.PaneName.book
     (state_of c.args.both.desk.shown.value) c.requires.kept.0 c.requires.kept.1 c.requires.goes_on in (
       ap (λ (s : CopyState). s.0.book) c.publish.ensures.state ∙ it.book_is,
-      subst (λ (s : CopyState). IsKept s) (sym c.publish.ensures.state) it.kept,
+      subst (λ (s : CopyState). IsKeptCopy s) (sym c.publish.ensures.state) it.kept,
     )
 
 pub returns-clause-cells : goal.returns-clause-cells

@@ -1,11 +1,11 @@
 use Rattle.std.proofs.Common.{◌∙◌, ap, sym, subst}
-use Rattle.im_glass.specs.Copies.{CopyState, IsKept}
+use Rattle.im_glass.specs.Copies.{CopyState, IsKeptCopy}
 use Rattle.im_glass.specs.Rule.{state_of}
 use Rattle.im_glass.proofs.CopyLemmas.{idle-all}
 use Rattle.im_glass.proofs.sides.show_nothing.Goals as goal
 
 pub publish-requires-clause-kept : goal.publish-requires-clause-kept
-publish-requires-clause-kept g c = subst (λ (s : CopyState). IsKept s)
+publish-requires-clause-kept g c = subst (λ (s : CopyState). IsKeptCopy s)
     (sym (idle-all _ (state_of c.args.both.desk.shown.value) c.requires.idle)) c.requires.kept
 
 pub publish-requires-clause-book : goal.publish-requires-clause-book

@@ -54,5 +54,5 @@ returns-in-Ok-set_up-clause-orders g c =
 
 pub returns-in-Ok-set_up-clause-whole : goal.returns-in-Ok-set_up-clause-whole
 returns-in-Ok-set_up-clause-whole g c = if_ok_map _ _ c.make_workload.result c.make_workload.ensures.whole
-    (λ work whole planned. subst (λ (b : List ℕ). IsOfAll c.args.asked.once b (script_heard c.args.asked.script.now)
-    (asks_in work.whole)) c.as_slice-bases.ensures.value (whole planned))
+    (λ work whole. subst (λ (b : List ℕ). IsOfAll c.args.asked.once b (script_heard c.args.asked.script.now)
+    (asks_in work.whole)) c.as_slice-bases.ensures.value whole)

@@ -1,6 +1,6 @@
 use Rattle.std.proofs.Common.{rules, ◌≡◌, ◌∙◌, ◌<◌, ◌≤◌, ap, sym, length, get_or, ℕ, List, Option, Bool, true, false}
 use Rattle.std.proofs.Common.{Some, None, arith}
-use Rattle.im_glass.specs.Cells.{cell_of}
+use Rattle.im_glass.specs.Cells.{cell_seen}
 use Rattle.im_glass.proofs.CellLemmas.{cells_get, cells_past}
 use Rattle.im_glass.proofs.cells.FullCells.get.Goals as goal
 
@@ -19,7 +19,7 @@ returns-then-index c =
     let full : get_or fulls c.args.a c.index.result.now ≡ true = search rules in
     let value : get_or values c.args.a c.index-then-index.result.now ≡ c.index-then-index.result.now = search rules in
     ap Some (sym value)
-    ∙ ap (λ (f : Bool). cell_of f (get_or values c.args.a c.index-then-index.result.now)) (sym full)
+    ∙ ap (λ (f : Bool). cell_seen f (get_or values c.args.a c.index-then-index.result.now)) (sym full)
     ∙ cells_get fulls values c.args.a c.index.result.now c.index-then-index.result.now c.self.invariant below
     ∙ ap (λ (cells : List (Option ℕ)). get_or cells c.args.a None) c.self.view_is
 
@@ -29,6 +29,6 @@ returns-else-index c =
     let values = c.self.inside.values.items in
     let below : c.args.a < length fulls = omega (arith, c.if-a-len.false, c.len.ensures, c.self.inside.full.ok.0) in
     let full : get_or fulls c.args.a c.index.result.now ≡ false = search rules in
-    ap (λ (f : Bool). cell_of f (get_or values c.args.a 0)) (sym full)
+    ap (λ (f : Bool). cell_seen f (get_or values c.args.a 0)) (sym full)
     ∙ cells_get fulls values c.args.a c.index.result.now 0 c.self.invariant below
     ∙ ap (λ (cells : List (Option ℕ)). get_or cells c.args.a None) c.self.view_is

@@ -1,5 +1,5 @@
 use Rattle.std.proofs.Common.{rules, ◌≡◌, ◌∙◌, ap, replicate, false, ℕ, List, Bool}
-use Rattle.im_glass.specs.Cells.{cells_of}
+use Rattle.im_glass.specs.Cells.{cells_seen}
 use Rattle.im_glass.proofs.CellLemmas.{cells_new}
 use Rattle.im_glass.proofs.cells.FullCells.new.Goals as goal
 
@@ -7,6 +7,6 @@ pub returns : goal.returns
 returns c =
     let fulls : c.in_ok-full.full.items ≡ replicate c.args.cells false = search rules in
     let values : c.in_ok-values.values.items ≡ replicate c.args.cells 0 = search rules in
-    ap (λ (fulls : List Bool). cells_of fulls c.in_ok-values.values.items) fulls
-    ∙ ap (λ (values : List ℕ). cells_of (replicate c.args.cells false) values) values
+    ap (λ (fulls : List Bool). cells_seen fulls c.in_ok-values.values.items) fulls
+    ∙ ap (λ (values : List ℕ). cells_seen (replicate c.args.cells false) values) values
     ∙ cells_new c.args.cells 0

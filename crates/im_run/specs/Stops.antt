@@ -1,0 +1,152 @@
+-- A script that is run once from a new image on, whatever stops it and however often. (Own.)
+use Rattle.std.specs.Prelude.{◌≡◌, ◌⊎◌, ◌==◌, ◌≤◌, ℕ, zero, suc, Bool, true, List, [], ◌∷◌, ◌++◌, length, Some, Ok}
+use Rattle.std.specs.Prelude.{if◌then◌else◌}
+use Rattle.im_types.specs.declared.commands.Command.{Command}
+use Rattle.im_types.specs.declared.commands.Command.TheVariants.{Request as Asks, Confirm}
+use Rattle.im_types.specs.declared.commands.Request.{Request}
+use Rattle.im_types.specs.declared.operations.Entry.{Entry}
+use Rattle.im_types.specs.declared.sizes.Limits.{Limits}
+use Rattle.im_types.specs.Contents.{Contents}
+use Rattle.im_types.specs.Meaning.{Means, accept_each}
+use Rattle.im_types.specs.Run.{after}
+use Rattle.im_types.specs.Step.{asker}
+use Rattle.im_types.specs.Window.{ask}
+use Rattle.im_disk.specs.declared.disk.Disk.{Ghosts}
+use Rattle.im_disk.specs.Moment.{Moment}
+use Rattle.im_disk.specs.Since.{LeavesNow}
+use Rattle.im_plans.specs.Runs.{HasServed, IsInPlan}
+use Rattle.im_plans.specs.UnderWay.{PlanGoesOn}
+use Rattle.im_controller.specs.Planned.{AreOnPlan}
+use Rattle.im_serial.specs.Asked.{Leads, Wanted}
+use Rattle.im_serial.specs.Begun.{new_memory}
+use Rattle.im_serial.specs.Had.{left_of, numbers_had, sums_of}
+use Rattle.im_run.specs.Orders.{AreAllOrders, Ask, blocks_of, script_heard}
+use Rattle.im_run.specs.Planned.{plan_of}
+
+-- ---- what a script asks for in a new image
+
+-- the blocks of its setup
+abbrev pub setup_blocks : List ℕ → List Wanted
+setup_blocks text = blocks_of [] (script_heard text)
+
+-- the bases that its names stand for there: each block stands behind those before it
+abbrev pub new_bases : List ℕ → List ℕ
+new_bases text = sums_of 0 (setup_blocks text)
+
+-- its own plan: all requests of its parts, as they are in a new image
+abbrev pub IsOwnPlan : List ℕ → List Request → Type 0
+IsOwnPlan text plan =
+    (whole : List Ask) × (AreAllOrders (new_bases text) (script_heard text) whole × (plan ≡ plan_of whole))
+
+-- ---- numbers
+
+-- the numbers of an element's requests among these commands, in their order
+abbrev pub numbers_of : ℕ → List Command → List ℕ
+numbers_of element [] = []
+numbers_of element (Confirm other upto ∷ put) = numbers_of element put
+numbers_of element (Asks r ∷ put) =
+    (if element == r.element then r.number ∷ [] else []) ++ numbers_of element put
+
+-- so many numbers, from this one on, each once
+abbrev pub numbers_from : ℕ → ℕ → List ℕ
+numbers_from first zero = []
+numbers_from first (suc many) = first ∷ numbers_from (suc first) many
+
+-- the numbers of an element's requests among these commands are 1, 2, 3 and so on, up to the last that it made
+abbrev pub ActInOrder : ℕ → List Command → Contents → Type 0
+ActInOrder element put m = numbers_of element put ≡ numbers_from 1 (left_of (numbers_had m) element)
+
+-- ---- runs by threads, whatever is done beside them
+
+-- if each file that is left at the one moment is so, each that is left at the other one is so too
+abbrev pub CarriesOver : Moment → (List ℕ → Type 0) → Moment → (List ℕ → Type 0) → Type 0
+CarriesOver old P new Q = LeavesNow old P → LeavesNow new Q
+
+-- the file means a memory to which accepted commands lead from a new image
+abbrev pub MeansAccepted : Limits → List ℕ → Type 0
+MeansAccepted limits file = (put : List Command) × ((m : Contents)
+    × ((accept_each (new_memory limits) put ≡ Some m) × Means m (length put) 0 file))
+
+-- Accepted commands lead from a new image to this memory, and it has all of a script: each block of the setup was asked
+-- for, and each request of the parts was served. The n-th request of an element has number n.
+pub record HasAll (limits : Limits) (text : List ℕ) (put : List Command) (m : Contents) : Type 0 where
+  pub accepted : accept_each (new_memory limits) put ≡ Some m
+  pub setup : length (setup_blocks text) ≤ left_of (numbers_had m) 0
+  -- the names stand for these bases, one for each block
+  pub bases : List ℕ
+  pub names : length bases ≡ length (setup_blocks text)
+  pub whole : List Ask
+  pub requests : AreAllOrders bases (script_heard text) whole
+  pub served : HasServed m.windows (plan_of whole)
+
+-- the file means a memory that has all of a script
+abbrev pub MeansServed : Limits → List ℕ → List ℕ → Type 0
+MeansServed limits text file = (put : List Command) × ((m : Contents)
+    × (HasAll limits text put m × Means m (length put) 0 file))
+
+-- ---- planned runs
+
+-- A plan is the script's own. It was under way in the memory behind this setup, and has each request among these
+-- commands.
+pub record IsByPlan (limits : Limits) (text : List ℕ) (setup others : List Command) : Type 0 where
+  pub plan : List Request
+  pub own : IsOwnPlan text plan
+  pub goes_on : PlanGoesOn (after (new_memory limits) setup) plan
+  pub on_plan : AreOnPlan (Some plan) others
+
+-- These commands lead from a new image to this memory, each accepted in its turn. They are, confirmations aside, the
+-- first blocks of the script's setup, in their order, and, once all of them are made, requests of its own plan. So a
+-- planned run of the script that was stopped, or done, has put them.
+pub record HasRunByPlan (limits : Limits) (text : List ℕ) (put : List Command) (m : Contents) : Type 0 where
+  pub setup : List Command
+  pub others : List Command
+  pub split : put ≡ setup ++ others
+  pub accepted : accept_each (new_memory limits) put ≡ Some m
+  pub left : List Wanted
+  pub blocks : Leads (new_memory limits) [] (setup_blocks text) setup left
+  pub parts : (others ≡ []) ⊎ ((left ≡ []) × IsByPlan limits text setup others)
+
+-- They are all blocks of the setup, and then requests of the plan, and each request of the plan was served.
+pub record HasDoneByPlan (limits : Limits) (text : List ℕ) (put : List Command) (m : Contents) : Type 0 where
+  pub setup : List Command
+  pub others : List Command
+  pub split : put ≡ setup ++ others
+  pub accepted : accept_each (new_memory limits) put ≡ Some m
+  pub blocks : Leads (new_memory limits) [] (setup_blocks text) setup []
+  pub parts : IsByPlan limits text setup others
+  pub served : HasServed m.windows parts.plan
+
+-- the file means a memory that a planned run of the script came to
+abbrev pub MeansPlanned : Limits → List ℕ → List ℕ → Type 0
+MeansPlanned limits text file = (put : List Command) × ((m : Contents)
+    × (HasRunByPlan limits text put m × Means m (length put) 0 file))
+
+-- the file means the memory at the end of the script's plan
+abbrev pub MeansPlanDone : Limits → List ℕ → List ℕ → Type 0
+MeansPlanDone limits text file = (put : List Command) × ((m : Contents)
+    × (HasDoneByPlan limits text put m × Means m (length put) 0 file))
+
+-- each entry that both memories keep for a request of the plan is the same
+abbrev pub HaveSameEntries : List Request → Contents → Contents → Type 0
+HaveSameEntries plan m n = (r : Request) (entry later : Entry) → IsInPlan plan r
+    → ask m.windows (asker r) ≡ Ok entry → ask n.windows (asker r) ≡ Ok later → entry ≡ later
+
+-- ---- one run more
+
+-- What a run of a script that is done once makes of the files that are left: if accepted commands led there from a new
+-- image, they do so behind it, and with status 0 all of the script is there. If it was planned, and planned runs led
+-- there, they do so behind it, and with status 0 the plan is at its end.
+pub record KeepsRun {D : Type 0} (disk : Ghosts D) (planned : Bool) (text : List ℕ) (old new : D)
+    (status : ℕ) : Type 0 where
+  pub accepted : (limits : Limits)
+      → CarriesOver (disk.now old) (MeansAccepted limits) (disk.now new) (MeansAccepted limits)
+  pub served : (limits : Limits) → status ≡ 0
+      → CarriesOver (disk.now old) (MeansAccepted limits) (disk.now new) (MeansServed limits text)
+  pub by_plan : (limits : Limits) → planned ≡ true
+      → CarriesOver (disk.now old) (MeansPlanned limits text) (disk.now new) (MeansPlanned limits text)
+  pub ended : (limits : Limits) → planned ≡ true → status ≡ 0
+      → CarriesOver (disk.now old) (MeansPlanned limits text) (disk.now new) (MeansPlanDone limits text)
+
+-- the same of a disk that is honest at the end
+abbrev pub KeepsRuns : {D : Type 0} → Ghosts D → Bool → List ℕ → D → D → ℕ → Type 0
+KeepsRuns disk planned text old new status = disk.honest new → KeepsRun disk planned text old new status
