@@ -13,7 +13,7 @@ use crate::context::RunContext;
 use crate::deeds::told_at;
 use crate::parts::{Parts, first_refusal, make_parts};
 use crate::sheet::Order;
-use im_controller::{Finished, Name, Opening, Port, finish};
+use im_controller::{Controller, Finished, Name, Opening, Port, finish};
 use im_disk::Disk;
 use im_engine::Engine;
 use im_serving::{Done, Gate, Host, Watcher, serve_elements};
@@ -192,6 +192,29 @@ fn note_all<K: Name>(
     }
 }
 
+// Serves what each element asks for, all at once, through a controller, and notes what became of it.
+fn serve_parts<
+    D: Disk + Drop + Send,
+    K: Name + Send + Sync,
+    G: Gate + Sync,
+    V: Watcher + Sync,
+    R: Host,
+>(context: &RunContext<'_, G, V, R>, controller: &Controller<D, K>, orders: Vec<Order>) -> Notes<K>
+    ensures told { (trace : List Line) → HaveSeen trace result.ports.items → AreAllTold K.origin.memory trace
+        (result.refused ≡ None) (map ask_of orders.items) result.did.items }
+{
+    let rt = context.rt;
+    let alloc = context.alloc;
+    let Parts {
+        parts,
+        elements,
+        refused: unmade,
+        ..
+    } = make_parts(rt, alloc, controller, orders);
+    let served = serve_elements(rt, alloc, controller, context.gate, context.watcher, parts);
+    note_all(alloc, elements, served, unmade)
+}
+
 /// Serves what each element asks for, all at once, through a controller over an engine, and gives the engine and the
 /// trace back. The thread that keeps checkpoints tells the watcher how things stand.
 ///
@@ -220,29 +243,14 @@ pub(crate) fn serve_orders<
     ensures told { AreAllTold K.origin.memory result.trace.items (result.refused ≡ None) (map ask_of orders.items)
         result.did.items }
 {
-    let rt = context.rt;
-    let alloc = context.alloc;
     let controller = opening.named::<K>();
-    let Parts {
-        parts,
-        elements,
-        refused: unmade,
-        ..
-    } = make_parts(rt, alloc, &controller, orders);
-    let served = serve_elements(rt, alloc, &controller, context.gate, context.watcher, parts);
     let Notes {
         ports,
         did,
         refused,
         ..
-    } = note_all(alloc, elements, served, unmade);
-    let Finished {
-        engine,
-        trace,
-        came: _,
-        left: _,
-        claimed: _,
-    } = finish(rt, controller, ports);
+    } = serve_parts(context, &controller, orders);
+    let Finished { engine, trace, .. } = finish(context.rt, controller, ports);
     Outcome {
         engine,
         did,
