@@ -5,23 +5,23 @@ use Rattle.im_program.proofs.serving.serve_file.Goals as goal
 pub returns-then-once-clause-served : goal.returns-then-once-clause-served
 returns-then-once-clause-served g c = λ honest. rw c.if-once.true (record {
   old = c.in_ok-disk.disk;
-  was = c.in_ok-disk.ensures.now;
+  begins = c.in_ok-disk.ensures.now;
   none = c.in_ok-disk.ensures.past;
   text = c.in_ok-script.script;
   read = text_as _ c.in_ok-text.text.items c.in_ok-script.script
       (c.in_ok-script.ensures.text ∙ c.as_slice.ensures.value)
-      (rw c.parts-rt.ensures at c.in_ok-text.ensures.text);
+      (rw c.parts-input.ensures at c.in_ok-text.ensures.text);
   served = c.serial_once_on.ensures.served honest;
 })
 
 pub returns-clause-served : goal.returns-clause-served
 returns-clause-served g c = λ honest. rw c.if-once.false (record {
   old = c.in_ok-disk.disk;
-  was = c.in_ok-disk.ensures.now;
+  begins = c.in_ok-disk.ensures.now;
   none = c.in_ok-disk.ensures.past;
   text = c.in_ok-script.script;
   read = text_as _ c.in_ok-text.text.items c.in_ok-script.script
       (c.in_ok-script.ensures.text ∙ c.as_slice.ensures.value)
-      (rw c.parts-rt.ensures at c.in_ok-text.ensures.text);
+      (rw c.parts-input.ensures at c.in_ok-text.ensures.text);
   served = c.serial_on.ensures.served honest;
 })
