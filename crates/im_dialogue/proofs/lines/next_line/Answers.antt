@@ -15,7 +15,9 @@ loop-part-preserved g c = record {
 }
 
 pub returns-in-Ok-Last-clause-read : goal.returns-in-Ok-Last-clause-read
-returns-in-Ok-Last-clause-read g c = read_last _ _ _ _ _ c.loop-part.invariant.read (rw c.in-Ok-Last.field-0-is at c.in-Ok-Last.ensures.read)
+returns-in-Ok-Last-clause-read g c = read_last _ _ _ _ _ c.loop-part.invariant.read
+    (rw c.in-Ok-Last.field-0-is at c.in-Ok-Last.ensures.read)
 
 pub returns-in-Ok-None-clause-read : goal.returns-in-Ok-None-clause-read
-returns-in-Ok-None-clause-read g c = read_end _ _ _ _ _ c.loop-part.invariant.read (rw c.in-Ok-None.field-0-is at c.in-Ok-None.ensures.read)
+returns-in-Ok-None-clause-read g c = read_end _ _ _ _ _ c.loop-part.invariant.read
+    (rw c.in-Ok-None.field-0-is at c.in-Ok-None.ensures.read)

@@ -18,4 +18,5 @@ returns-clause-loaded g c =
     (λ done. appends_kept was mid is line
     (done_at_zero c.print_counted-told.result c.end.result (Appends was mid line) c.end.ensures.refused done
     c.print_counted-told.ensures)
-    (done_at_zero c.print_counted-told.result c.end.result (Keeps mid is) c.end.ensures.refused done c.end.ensures.same))
+    (done_at_zero c.print_counted-told.result c.end.result (Keeps mid is) c.end.ensures.refused done
+    c.end.ensures.same))

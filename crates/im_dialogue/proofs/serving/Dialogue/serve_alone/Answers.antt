@@ -38,8 +38,10 @@ returns-in-Ok-true-serve_line-clause-talks g c =
     (same_left _ _ (left_one later))
     (from_left now past honest watch c.args.self.now.engine c.serve_line.new.self.engine was
     (with_left (left_behind true (option_map questions_in later)) is) (questions_left known)
-    (asking (asked_of line) (option_map questions_in later)) (asked_line known later line (rw c.in-Ok-true.field-0-test at c.in-Ok-true.ensures.read))
-    (rw c.in-Ok-true-serve_line.field-0-test at (c.in-Ok-true-serve_line.ensures.talks (option_map questions_in later))))
+    (asking (asked_of line) (option_map questions_in later))
+    (asked_line known later line (rw c.in-Ok-true.field-0-test at c.in-Ok-true.ensures.read))
+    (rw c.in-Ok-true-serve_line.field-0-test at
+    (c.in-Ok-true-serve_line.ensures.talks (option_map questions_in later))))
 
 pub returns-in-Ok-false-serve_line-clause-talks : goal.returns-in-Ok-false-serve_line-clause-talks
 returns-in-Ok-false-serve_line-clause-talks g c =
@@ -57,7 +59,8 @@ returns-in-Ok-false-serve_line-clause-talks g c =
     (same_left _ _ (left_zero later))
     (from_left now past honest watch c.args.self.now.engine c.serve_line.new.self.engine was
     (with_left (left_behind false (option_map questions_in later)) is) (questions_left known)
-    (asking (asked_of line) (option_map questions_in later)) (asked_line known later line (rw c.in-Ok-true.field-0-test at c.in-Ok-true.ensures.read))
+    (asking (asked_of line) (option_map questions_in later))
+    (asked_line known later line (rw c.in-Ok-true.field-0-test at c.in-Ok-true.ensures.read))
     (rw c.in-Ok-false-serve_line.field-0-test at
     (c.in-Ok-false-serve_line.ensures.talks (option_map questions_in later))))
 

@@ -25,7 +25,8 @@ returns-then-many-eq0-clause-talks g c =
     let is = outputs (g.W.Write.contents c.serve_alone.new.out) (g.B.Backups.kept c.serve_alone.new.backups) in
     let now = g.R.Read.remaining c.serve_alone.new.input in
     then_talks g.D.Disk.now g.D.Disk.past g.D.Disk.honest c.args.self.now.setting.watch c.args.self.now.engine
-    c.serve_together.new.self.engine c.serve_alone.new.self.engine was been (λ many. with_left (left_after many now) is)
+    c.serve_together.new.self.engine c.serve_alone.new.self.engine was been
+    (λ many. with_left (left_after many now) is)
     is c.serve_alone.result
     (on_after g.D.Disk.now g.D.Disk.past g.D.Disk.honest c.args.self.now.setting.watch c.args.self.now.engine
     c.turn_while_quiet.new.engine c.serve_together.new.self.engine was
