@@ -14,7 +14,7 @@ returns-clause-loaded g c =
     let line = counted_line (codes "loaded") c.in-Ok.loaded.count in
     loaded_from c.args.loading.now.asked c.in-Ok.loaded c.in_ok-resized.resized c.in_ok-resized.ensures.whole
     c.in_ok-resized.ensures.source g.S.Start c.in_ok-to.to c.in_ok-to.ensures.put _
-    (rw c.parts-input.ensures at c.in-Ok.ensures) was is c.end.result
+    (rw c.parts-input.ensures.input at c.in-Ok.ensures) was is c.end.result
     (λ done. appends_kept was mid is line
     (done_at_zero c.print_counted-told.result c.end.result (Appends was mid line) c.end.ensures.refused done
     c.print_counted-told.ensures)

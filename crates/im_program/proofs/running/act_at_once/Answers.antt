@@ -3,4 +3,4 @@ use Rattle.im_program.proofs.running.act_at_once.Goals as goal
 
 pub returns-clause-ran : goal.returns-clause-ran
 returns-clause-ran g c = with_some _ _ c.run_at_once-status.result.1 c.run_at_once-status.result.2
-    c.run_at_once-status.ensures.both (rw c.parts-input.ensures at c.run_at_once-status.ensures.ran)
+    c.run_at_once-status.ensures.both (rw c.parts-input.ensures.input at c.run_at_once-status.ensures.ran)

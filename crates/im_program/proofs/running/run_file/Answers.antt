@@ -24,7 +24,7 @@ returns-then-running-clause-ran g c = rw c.if-running.true (record {
   text = c.in_ok-script.script;
   read = text_as _ c.in_ok-text.text.items c.in_ok-script.script
       (c.in_ok-script.ensures.text ∙ c.as_slice.ensures.value)
-      (rw c.parts-input.ensures at c.in_ok-text.ensures.text);
+      (rw c.parts-input.ensures.input at c.in_ok-text.ensures.text);
   run = c.run_once_on.ensures.run;
   plan = rw c.mode_of-mode.ensures.planned at c.run_once_on.ensures.planned;
 })
@@ -37,7 +37,7 @@ returns-clause-ran g c = rw c.if-running.false (record {
   text = c.in_ok-script.script;
   read = text_as _ c.in_ok-text.text.items c.in_ok-script.script
       (c.in_ok-script.ensures.text ∙ c.as_slice.ensures.value)
-      (rw c.parts-input.ensures at c.in_ok-text.ensures.text);
+      (rw c.parts-input.ensures.input at c.in_ok-text.ensures.text);
   run = c.run_on-ended.ensures.run;
   plan = rw c.mode_of-mode.ensures.planned at c.run_on-ended.ensures.planned;
 })

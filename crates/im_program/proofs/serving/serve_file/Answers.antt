@@ -10,7 +10,7 @@ returns-then-once-clause-served g c = λ honest. rw c.if-once.true (record {
   text = c.in_ok-script.script;
   read = text_as _ c.in_ok-text.text.items c.in_ok-script.script
       (c.in_ok-script.ensures.text ∙ c.as_slice.ensures.value)
-      (rw c.parts-input.ensures at c.in_ok-text.ensures.text);
+      (rw c.parts-input.ensures.input at c.in_ok-text.ensures.text);
   served = c.serial_once_on.ensures.served honest;
 })
 
@@ -22,6 +22,6 @@ returns-clause-served g c = λ honest. rw c.if-once.false (record {
   text = c.in_ok-script.script;
   read = text_as _ c.in_ok-text.text.items c.in_ok-script.script
       (c.in_ok-script.ensures.text ∙ c.as_slice.ensures.value)
-      (rw c.parts-input.ensures at c.in_ok-text.ensures.text);
+      (rw c.parts-input.ensures.input at c.in_ok-text.ensures.text);
   served = c.serial_on.ensures.served honest;
 })
