@@ -1,6 +1,6 @@
 -- Commands that were accepted one after another: their numbers, and what blocks they made. (Own.)
-use Rattle.std.proofs.Common.{◌≡◌, ◌∙◌, ⊎_elim, inl, inr, ℕ, ◌+◌, ◌-◌, ◌<◌, ◌≤◌, zero, suc, Bool, true, false, List, []}
-use Rattle.std.proofs.Common.{◌∷◌, ◌++◌, length, length-append, replicate, take, refl, sym, ap, subst, arith}
+use Rattle.std.proofs.Common.{◌≡◌, ◌∙◌, ⊎_elim, inl, inr, ℕ, ◌+◌, ◌-◌, ◌<◌, zero, suc, Bool, true, false, List, []}
+use Rattle.std.proofs.Common.{◌∷◌, ◌++◌, length, length-append, replicate, refl, sym, ap, arith}
 use Rattle.std.specs.Prelude.{◌⊎◌, ◌==◌, Option, None, Some, Result, Ok, Err, slice_get, if◌then◌else◌}
 use Rattle.std.specs.Option.{option_map_or}
 use Rattle.std.proofs.lemmas.Bool.{cases_eq}
@@ -10,7 +10,6 @@ use Rattle.im_types.specs.declared.commands.Command.TheVariants.{Request as Asks
 use Rattle.im_types.specs.declared.commands.Outcome.{Outcome}
 use Rattle.im_types.specs.declared.commands.Outcome.TheVariants.{Entry as Tells, Confirmed}
 use Rattle.im_types.specs.declared.commands.Request.{Request}
-use Rattle.im_types.specs.declared.operations.Entry.{Entry}
 use Rattle.im_types.specs.declared.operations.Entry.TheVariants.{Waiting, Answered}
 use Rattle.im_types.specs.declared.operations.Reply.{Reply}
 use Rattle.im_types.specs.declared.operations.Reply.TheVariants.{Base, NoSpace, BadLength, Value, Stored, Clash, NoCell}
@@ -30,13 +29,12 @@ use Rattle.im_laws.proofs.MemoryLemmas.{after-memory}
 use Rattle.im_laws.proofs.Tests.{eq_by_test, some_same}
 use Rattle.im_script.specs.declared.places.Action.{Action}
 use Rattle.im_script.specs.declared.places.Action.TheVariants.{Alloc}
-use Rattle.im_serial.specs.Asked.{Leads, Wanted, base_told, bases_after, bases_by}
+use Rattle.im_serial.specs.Asked.{Leads, Wanted, base_told, bases_after}
 use Rattle.im_serial.specs.Begun.{new_memory}
 use Rattle.im_serial.specs.Had.{end_with, left_of, next_had, numbers_had, sums_of}
 use Rattle.im_serial.proofs.BegunLemmas.{accepted_next, asked_by, block_asked, cells_then, had_confirmed, had_here}
 use Rattle.im_serial.proofs.BegunLemmas.{had_there, next_bounds, none_left, nothing_had}
 use Rattle.im_serial.proofs.LeftLemmas.{had_at}
-use Rattle.im_serial.proofs.SetupLemmas.{IsBlock}
 use Rattle.im_run.specs.Stops.{numbers_from, numbers_of}
 use Rattle.im_run.proofs.SplitLemmas.{AreBlocks}
 

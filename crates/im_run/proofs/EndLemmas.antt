@@ -1,5 +1,5 @@
 -- The end of a script's plan, whatever stopped its runs. (Own.)
-use Rattle.std.proofs.Common.{◌≡◌, ◌∙◌, ℕ, List, [], ◌∷◌, ◌++◌, Ok, refl, sym, ap, subst}
+use Rattle.std.proofs.Common.{◌≡◌, ◌∙◌, ℕ, List, [], ◌∷◌, Ok, refl, sym, ap, subst}
 use Rattle.std.specs.Prelude.{Option, Some}
 use Rattle.im_types.specs.declared.commands.Call.TheVariants.{Command as Commands}
 use Rattle.im_types.specs.declared.commands.Command.{Command}
@@ -17,7 +17,7 @@ use Rattle.im_types.specs.Trace.{end_of}
 use Rattle.im_types.specs.Window.{ask}
 use Rattle.im_laws.proofs.RunLemmas.{after-append}
 use Rattle.im_plans.specs.Runs.{HasServed, IsInPlan, IsPlannedRun, entry_for}
-use Rattle.im_plans.specs.UnderWay.{AreRunsOf, HaveServed, IsKeptAfter, value_in_end}
+use Rattle.im_plans.specs.UnderWay.{AreRunsOf, HaveServed, value_in_end}
 use Rattle.im_plans.proofs.UnderWayLaws.{runs-served}
 use Rattle.im_plans.proofs.Values.{runs-value}
 use Rattle.im_controller.specs.Planned.{AreOnPlan}

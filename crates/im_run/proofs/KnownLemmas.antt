@@ -1,7 +1,7 @@
 -- What a run that is done once finds of a script's setup in the memory. (Own.)
-use Rattle.std.proofs.Common.{◌≡◌, ◌∙◌, ⊎_elim, inl, inr, ℕ, ◌+◌, ◌-◌, ◌<◌, ◌≤◌, zero, suc, Bool, true, false, List, []}
+use Rattle.std.proofs.Common.{◌≡◌, ◌∙◌, ⊎_elim, ℕ, ◌+◌, ◌-◌, ◌<◌, ◌≤◌, zero, suc, Bool, true, false, List, []}
 use Rattle.std.proofs.Common.{◌∷◌, ◌++◌, length, take, drop, refl, sym, ap, ap₂, subst, arith}
-use Rattle.std.specs.Prelude.{◌⊎◌, ◌&&◌, Option, None, Some, Ok, slice_get, if◌then◌else◌}
+use Rattle.std.specs.Prelude.{Option, None, Some, Ok, slice_get, if◌then◌else◌}
 use Rattle.std.specs.Option.{option_map_or}
 use Rattle.im_types.proofs.Tests.{and_both}
 use Rattle.im_types.specs.declared.operations.Entry.{Entry}
@@ -23,7 +23,7 @@ use Rattle.im_serial.specs.Asked.{Wanted, wanted_of}
 use Rattle.im_serial.specs.Fitting.{FitsScript, base_for, bases_with, end_behind_base, fits_as, fits_from, keeps_as}
 use Rattle.im_serial.specs.Fitting.{keeps_base, keeps_op}
 use Rattle.im_serial.specs.Had.{first_open, has_next, left_of, length_asked, met, next_had, numbers_had}
-use Rattle.im_serial.specs.Had.{numbers_settled, settled_in, still_waits, sums_of, who_next}
+use Rattle.im_serial.specs.Had.{numbers_settled, still_waits, sums_of, who_next}
 use Rattle.im_serial.proofs.LeftLemmas.{had_at, has_some, met_here}
 use Rattle.im_serial.proofs.SettledLemmas.{AreSettledTo, count_at, is_unsettled, settled_few, settled_first}
 use Rattle.im_serial.proofs.SettledLemmas.{settled_more}

@@ -1,5 +1,5 @@
 -- What runs of a script that is done once leave on a disk, whatever stopped them. (Own.)
-use Rattle.std.proofs.Common.{◌≡◌, ◌⊎◌, ◌∙◌, inl, inr, ⊎_elim, ℕ, ◌+◌, ◌≤◌, Bool, true, List, [], ◌++◌, length, take}
+use Rattle.std.proofs.Common.{◌≡◌, ◌∙◌, inl, inr, ⊎_elim, ℕ, ◌+◌, Bool, true, List, [], ◌++◌, length, take}
 use Rattle.std.proofs.Common.{refl, sym, ap, subst, append-nil, arith, length-append}
 use Rattle.std.specs.Prelude.{Option, Some}
 use Rattle.std.proofs.lemmas.List.{length-take-le}

@@ -10,7 +10,6 @@ use Rattle.std.proofs.lemmas.Option.{slice_get_past, slice_get_within}
 use mathlib.Core.List.{IsPrefix}
 use Rattle.im_types.specs.declared.operations.Op.{Op}
 use Rattle.im_types.specs.declared.operations.Op.TheVariants as op
-use Rattle.im_types.specs.Contents.{Contents}
 use Rattle.im_laws.proofs.Tests.{eq_by_test, some_same, test-self, true_false}
 use Rattle.im_script.specs.declared.places.Action.{Action}
 use Rattle.im_script.specs.declared.places.Action.TheVariants.{Alloc, Release, Fetch, Store, Take, Put, Reset}

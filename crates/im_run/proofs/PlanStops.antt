@@ -1,6 +1,6 @@
 -- One more run of a script by its plan: what all of them come to, from a new image on. (Own.)
-use Rattle.std.proofs.Common.{◌≡◌, ◌∙◌, ⊎_elim, inl, inr, ℕ, ◌+◌, ◌≤◌, Bool, true, List, [], ◌++◌}
-use Rattle.std.proofs.Common.{length, refl, sym, ap, subst, append_assoc, append-nil, arith}
+use Rattle.std.proofs.Common.{◌≡◌, ◌∙◌, ⊎_elim, inl, inr, ℕ, Bool, true, List, [], ◌++◌}
+use Rattle.std.proofs.Common.{refl, sym, ap, subst, append_assoc, append-nil, arith}
 use Rattle.std.specs.Prelude.{Option, None, Some}
 use Rattle.im_types.specs.declared.commands.Command.{Command}
 use Rattle.im_types.specs.declared.commands.Line.{Line}
@@ -26,7 +26,7 @@ use Rattle.im_run.specs.declared.served.Did.{Did}
 use Rattle.im_run.specs.Doing.{HasToldScript}
 use Rattle.im_run.specs.Orders.{AreAllOrders, Ask, IsOfAll, SetsUp, bases_made, script_heard}
 use Rattle.im_run.specs.Planned.{DidNotBegin, EndsOnPlan, HasServedWhole, RanByPlan, plan_of}
-use Rattle.im_run.specs.Running.{HasEndedSetup, TellsScript}
+use Rattle.im_run.specs.Running.{TellsScript}
 use Rattle.im_run.specs.Stops.{HasAll, HasDoneByPlan, HasRunByPlan, IsByPlan, IsOwnPlan, new_bases, setup_blocks}
 use Rattle.im_run.proofs.CountLemmas.{accept_split, had_more}
 use Rattle.im_run.proofs.StopsLemmas.{accepted_on, both_on, own_same, quiet_names, quiet_setup, setup_asked}

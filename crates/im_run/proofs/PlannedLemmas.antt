@@ -1,7 +1,7 @@
 -- A planned run whose requests were all told: each of them was served. (Own.)
-use Rattle.std.proofs.Common.{◌≡◌, ◌∙◌, ◌⊎◌, inl, inr, ⊎_elim, ℕ, zero, suc, List, [], ◌∷◌, ◌++◌, length, refl, sym}
+use Rattle.std.proofs.Common.{◌≡◌, ◌∙◌, inl, ⊎_elim, ℕ, zero, suc, List, [], ◌∷◌, ◌++◌, length, refl, sym}
 use Rattle.std.proofs.Common.{ap, subst, append_assoc, arith}
-use Rattle.std.specs.Prelude.{Option, None, Some, IfSome, map, slice_get}
+use Rattle.std.specs.Prelude.{Option, None, Some, IfSome, slice_get}
 use Rattle.im_types.specs.declared.operations.Entry.{Entry}
 use Rattle.im_types.specs.declared.operations.Waiter.{Waiter}
 use Rattle.im_types.specs.declared.commands.Call.{Call}
@@ -26,7 +26,7 @@ use Rattle.im_serving.specs.Serving.{StandIn, asked_line, asked_lines, ops_of}
 use Rattle.im_run.specs.declared.served.Did.{Did}
 use Rattle.im_run.specs.Doing.{AreAllTold}
 use Rattle.im_run.specs.declared.sheet.AllOrders.{AllOrders}
-use Rattle.im_run.specs.Orders.{Ask, ask_of, asks_in}
+use Rattle.im_run.specs.Orders.{Ask, asks_in}
 use Rattle.im_run.proofs.WholeLemmas.{all_served, in_either}
 use Rattle.im_run.specs.Planned.{AreServed, EndsOnPlan, FitsIfNew, HasServedWhole, plan_of, planned_orders}
 use Rattle.im_run.specs.Planned.{requests_from}

@@ -9,7 +9,6 @@ use Rattle.im_types.specs.declared.commands.Request.{Request}
 use Rattle.im_types.specs.declared.operations.Waiter.{Waiter}
 use Rattle.im_types.specs.Contents.{Contents}
 use Rattle.im_types.specs.Meaning.{Means, accept_each}
-use Rattle.im_types.specs.Memory.{IsMemory}
 use Rattle.im_types.specs.Run.{after}
 use Rattle.im_types.specs.Trace.{IsLegal}
 use Rattle.im_laws.proofs.RunLemmas.{after-append}
@@ -24,13 +23,12 @@ use Rattle.im_engine.proofs.Keeping.{accept_both}
 use Rattle.im_controller.specs.Kept.{MeansSome, begun_in, accepted_in}
 use Rattle.im_controller.proofs.KeptLemmas.{accepted-after, kept_start}
 use Rattle.im_text.specs.declared.lines.Lines.{Lines}
-use Rattle.im_text.specs.declared.replies.Waited.{Waited}
 use Rattle.im_text.specs.Printing.{Begins, IsLast, Prints, PrintsMore, replies}
 use Rattle.im_text.proofs.PrintingLemmas.{prints_begins, take-prefix}
 use Rattle.im_text.proofs.TextLemmas.{written_none}
-use Rattle.im_serial.specs.declared.waits.Mark.{Mark}
 use Rattle.im_serial.specs.Asked.{Wanted}
-use Rattle.im_serial.specs.Serving.{GoesWith, HaltsWith, HasPut, MeansAtLeast, NotOpened, server_of}
+use Rattle.im_serial.specs.Once.{HasServedNothing}
+use Rattle.im_serial.specs.Serving.{GoesWith, HaltsWith, HasPut, MeansAtLeast, NotOpened, ScriptServer}
 use Rattle.im_run.specs.Setup.{CanServe}
 use Rattle.im_run.specs.declared.run.TheConstants.{STALLED}
 use Rattle.im_run.specs.declared.served.Did.{Did}
@@ -38,8 +36,9 @@ use Rattle.im_run.specs.Tracing.{TraceState}
 use Rattle.im_run.specs.Doing.{AreAllTold}
 use Rattle.im_run.specs.Orders.{Ask, AreOrders, IsOfAll, SetsUp, bases_made, script_heard, settled_when}
 use Rattle.im_run.specs.Planned.{EndsOnPlan, HasServedWhole}
-use Rattle.im_run.specs.Running.{BeginsFinals, Closes, EndedOn, PrintsFinals, Puts, Ran, RanOn, RunOn, ServedOn}
-use Rattle.im_run.specs.Running.{Settles, final_line, finals}
+use Rattle.im_run.specs.Running.{BeginsFinals, Closes, EndedOn, PrintsFinals, Puts, Ran, RanOn, RunOn}
+use Rattle.im_run.specs.Running.{ServedOn, ServersEnded, Settles, final_line, finals}
+use Rattle.im_run.proofs.DoingLemmas.{told_weaker}
 
 -- ---- beginnings of lists
 
@@ -216,19 +215,36 @@ none_served {D} disk begun engine trace none same alive means =
     (subst (λ (t : List Line). ServedOn disk.now disk.past disk.failures here engine.memory None t engine) (sym none)
     all)
 
--- a server that was just made can serve
-pub ready_new : {D : Type 0} (disk : Ghosts D) (start engine : EngineState D) (held : Option (List ℕ))
-    (before lines : Lines) (waited : List Waited) (marks : List Mark) → start.failed ≡ false
-    → (disk.honest start.disk → LeavesNow (disk.now start.disk) (MeansState start))
-    → IsMemory (length start.memory.cells) (length start.memory.windows) start.memory → before.pending.items ≡ []
-    → waited ≡ [] → engine ≡ start → lines ≡ before → CanServe disk (server_of engine held lines waited marks)
-ready_new {D} disk start engine held before lines waited marks works means memory pending none same line = record {
-  works = ap (λ (e : EngineState D). e.failed) same ∙ works;
-  means = subst (λ (e : EngineState D). disk.honest e.disk → LeavesNow (disk.now e.disk) (MeansState e)) (sym same) means;
-  memory = subst (λ (e : EngineState D). IsMemory (length e.memory.cells) (length e.memory.windows) e.memory) (sym same)
-      memory;
-  pending = ap (λ (l : Lines). l.pending.items) line ∙ pending;
-  waited = none;
+-- servers that ended so, where it is known later that nothing was refused
+pub ended_weaker : {D : Type 0} (disk : Ghosts D) (planned : Bool) (whole : Option (List Ask)) (orders : List Ask)
+    (begun engine : EngineState D) (trace : List Line) (did : List Did) (none later : Type 0) → (later → none)
+    → ServersEnded disk planned whole orders begun engine trace did none
+    → ServersEnded disk planned whole orders begun engine trace did later
+ended_weaker disk planned whole orders begun engine trace did none later well it = record {
+  plan = it.plan;
+  served = it.served;
+  told = told_weaker begun.memory trace none later orders did well it.told;
+  all_served = λ is. it.all_served (well is);
+  as_planned = λ by. ⊎_elim
+      (λ ran. inl (record {
+        fits = ran.fits;
+        ended = ran.ended;
+        doubted = ran.doubted;
+        served = λ is. ran.served (well is);
+      }))
+      (λ n. inr (record { unserved = n.unserved; sure = n.sure; refused = λ is. n.refused (well is) }))
+      (it.as_planned by);
+}
+
+-- a server that has served nothing can serve
+pub can_serve : {D : Type 0} (disk : Ghosts D) (s : ScriptServer D) (bases : List ℕ) → HasServedNothing disk s bases
+    → CanServe disk s
+can_serve disk s bases it = record {
+  works = it.works;
+  means = it.means;
+  memory = it.memory;
+  pending = it.pending;
+  waited = it.waited;
 }
 
 -- ---- what was printed
@@ -294,65 +310,6 @@ module _ {D : Type 0} (now : D → Moment) (past : D → List Moment) (failures 
         tells = inr (record { left = left; began = set_up; put = whole; untold = none; refused = never });
       }
 
-  -- the elements' servers ended
-  pub ended_run : (once planned : Bool) (script bases : List ℕ) (whole : Option (List Ask)) (orders : List Ask) (start mid : EngineState D) (setup : List Command) (text : List ℕ) (names : List Waiter) (was held is : Option (List ℕ)) (lines : Lines) (disk : D) (calls : TraceState) (status : ℕ) → GoesWith now past failures start mid setup text names
-      → Prints was held lines text → EndedOn now past failures planned whole orders mid disk held lines is calls.served status
-      → AreOrders once mid.memory (settled_when once start.memory) bases (script_heard script) orders
-      → IsOfAll once bases (script_heard script) whole
-      → SetsUp once start.memory script setup [] → bases ≡ bases_made once start.memory script setup
-      → RunOn now past failures once planned script start disk was is calls status
-  unfolding puts_on
-  ended_run once planned script bases whole orders start mid setup text names was held is lines disk calls status it
-      prints ended of_script is_whole set_up named =
-      let served = ended.served in
-      let trace = calls.served in
-      let begun = it.has.memory it.works in
-      let put = accepted_in mid.memory trace in
-      let on = puts_on now past failures start mid ended.engine setup it.has it.works ended.plan trace served in
-      let closes = ended.printed was text prints in
-      let told_is : ended.engine.memory ≡ after start.memory on.told = sym served.ends
-      ∙ sym (accepted-after mid.memory trace) ∙ goes_on now past failures start mid ended.engine setup it.has it.works
-      ended.plan trace served (accepted_in mid.memory trace) in
-      record {
-        setup = setup;
-        told = on.told;
-        doubt = on.doubt;
-        puts = subst (λ (d : D). Puts now past failures start start.disk d setup on.told on.doubt) (sym ended.disk_is) on.puts;
-        settles = settled start ended.engine setup (put ++ served.kept.doubt) disk status on ended.works ended.means;
-        printed = record {
-          said = setup;
-          others = [];
-          split = sym (append-nil setup);
-          kept = subst (λ (d : D). LeavesNow (now d) (MeansAtLeast start (on.told ++ on.doubt) (length setup))) (sym ended.disk_is)
-              (λ file left. with_or_without start on.told on.doubt (length setup) file (omega (arith, length-append setup put)) (on.puts.last file left));
-          did = ended.did;
-          begins = subst (λ (m : Contents). BeginsFinals was is (replies start.memory setup) m ended.did) told_is (subst (λ (t : List ℕ). BeginsFinals was is t ended.engine.memory ended.did) it.lines closes.0);
-          whole = λ zero. subst (λ (m : Contents). Appends was is (replies start.memory setup ++ finals m ended.did (length ended.did))) told_is
-              (subst (λ (t : List ℕ). Appends was is (t ++ finals ended.engine.memory ended.did (length ended.did))) it.lines (closes.1 zero));
-        };
-        traced = record {
-          legal = subst (λ (m : Contents). IsLegal m trace) begun served.legal;
-          accepted = inr (ap (λ (m : Contents). setup ++ accepted_in m trace) begun);
-        };
-        tells = inl (record {
-          made = set_up;
-          put = ap (λ (m : Contents). setup ++ accepted_in m trace) begun;
-          orders = orders;
-          of_script = subst (λ (b : List ℕ). AreOrders once (after start.memory setup) (settled_when once start.memory) b
-              (script_heard script) orders) named
-              (subst (λ (m : Contents). AreOrders once m (settled_when once start.memory) bases (script_heard script)
-              orders) begun of_script);
-          all = subst (λ (m : Contents). AreAllTold m trace (status ≡ 0) orders ended.did) begun ended.told;
-          whole = whole;
-          is_whole = subst (λ (b : List ℕ). IsOfAll once b (script_heard script) whole) named is_whole;
-          all_served = λ zero. subst (λ (m : Contents). HasServedWhole m.windows whole) told_is (ended.all_served zero);
-          as_planned = λ by. subst (λ (m : Contents). EndsOnPlan m whole orders trace served.kept.doubt
-              (after start.memory on.told) (status ≡ 0)) begun
-              (subst (λ (end : Contents). EndsOnPlan mid.memory whole orders trace served.kept.doubt end (status ≡ 0))
-              told_is (ended.as_planned by));
-        });
-      }
-
   -- a run of which nothing is said of a plan
   pub unplanned : (once planned : Bool) (script : List ℕ) (start : EngineState D) (disk : D)
       (was is : Option (List ℕ)) (calls : TraceState) (status : ℕ)
@@ -380,6 +337,66 @@ module _ {D : Type 0} (now : D → Moment) (past : D → List Moment) (failures 
   }
 
 module _ {D : Type 0} (disk : Ghosts D) where
+  -- the elements' servers ended
+  pub ended_run : (once planned : Bool) (script bases : List ℕ) (whole : Option (List Ask)) (orders : List Ask) (start mid : EngineState D) (setup : List Command) (text : List ℕ) (names : List Waiter) (was held is : Option (List ℕ)) (lines : Lines) (new : D) (calls : TraceState) (status : ℕ) → GoesWith disk.now disk.past disk.failures start mid setup text names
+      → Prints was held lines text → EndedOn disk planned whole orders mid new held lines is calls.served status
+      → AreOrders once mid.memory (settled_when once start.memory) bases (script_heard script) orders
+      → IsOfAll once bases (script_heard script) whole
+      → SetsUp once start.memory script setup [] → bases ≡ bases_made once start.memory script setup
+      → RunOn disk.now disk.past disk.failures once planned script start new was is calls status
+  unfolding puts_on
+  ended_run once planned script bases whole orders start mid setup text names was held is lines new calls status it
+      prints ended of_script is_whole set_up named =
+      let served = ended.ended.served in
+      let trace = calls.served in
+      let begun = it.has.memory it.works in
+      let put = accepted_in mid.memory trace in
+      let on = puts_on disk.now disk.past disk.failures start mid ended.engine setup it.has it.works ended.ended.plan trace served in
+      let closes = ended.printed was text prints in
+      let told_is : ended.engine.memory ≡ after start.memory on.told = sym served.ends
+      ∙ sym (accepted-after mid.memory trace) ∙ goes_on disk.now disk.past disk.failures start mid ended.engine setup it.has it.works
+      ended.ended.plan trace served (accepted_in mid.memory trace) in
+      record {
+        setup = setup;
+        told = on.told;
+        doubt = on.doubt;
+        puts = subst (λ (d : D). Puts disk.now disk.past disk.failures start start.disk d setup on.told on.doubt) (sym ended.disk_is) on.puts;
+        settles = settled disk.now disk.past disk.failures start ended.engine setup (put ++ served.kept.doubt) new status
+            on ended.works ended.means;
+        printed = record {
+          said = setup;
+          others = [];
+          split = sym (append-nil setup);
+          kept = subst (λ (d : D). LeavesNow (disk.now d) (MeansAtLeast start (on.told ++ on.doubt) (length setup))) (sym ended.disk_is)
+              (λ file left. with_or_without start on.told on.doubt (length setup) file (omega (arith, length-append setup put)) (on.puts.last file left));
+          did = ended.did;
+          begins = subst (λ (m : Contents). BeginsFinals was is (replies start.memory setup) m ended.did) told_is (subst (λ (t : List ℕ). BeginsFinals was is t ended.engine.memory ended.did) it.lines closes.0);
+          whole = λ zero. subst (λ (m : Contents). Appends was is (replies start.memory setup ++ finals m ended.did (length ended.did))) told_is
+              (subst (λ (t : List ℕ). Appends was is (t ++ finals ended.engine.memory ended.did (length ended.did))) it.lines (closes.1 zero));
+        };
+        traced = record {
+          legal = subst (λ (m : Contents). IsLegal m trace) begun served.legal;
+          accepted = inr (ap (λ (m : Contents). setup ++ accepted_in m trace) begun);
+        };
+        tells = inl (record {
+          made = set_up;
+          put = ap (λ (m : Contents). setup ++ accepted_in m trace) begun;
+          orders = orders;
+          of_script = subst (λ (b : List ℕ). AreOrders once (after start.memory setup) (settled_when once start.memory) b
+              (script_heard script) orders) named
+              (subst (λ (m : Contents). AreOrders once m (settled_when once start.memory) bases (script_heard script)
+              orders) begun of_script);
+          all = subst (λ (m : Contents). AreAllTold m trace (status ≡ 0) orders ended.did) begun ended.ended.told;
+          whole = whole;
+          is_whole = subst (λ (b : List ℕ). IsOfAll once b (script_heard script) whole) named is_whole;
+          all_served = λ zero. subst (λ (m : Contents). HasServedWhole m.windows whole) told_is (ended.ended.all_served zero);
+          as_planned = λ by. subst (λ (m : Contents). EndsOnPlan m whole orders trace served.kept.doubt
+              (after start.memory on.told) (status ≡ 0)) begun
+              (subst (λ (end : Contents). EndsOnPlan mid.memory whole orders trace served.kept.doubt end (status ≡ 0))
+              told_is (ended.ended.as_planned by));
+        });
+      }
+
   -- an opening leaves nothing new, and what it found was there
   unfoldable pub ran_on : (once planned : Bool) (script : List ℕ) (old : D) (start : EngineState D) (new : D) (was is : Option (List ℕ)) (calls : TraceState) (status : ℕ) → Leaves (disk.now old) (disk.now start.disk) (disk.past old) (disk.past start.disk) (Left (disk.now old)) → LeavesNow (disk.now start.disk) (MeansState start) → disk.failures start.disk ≡ disk.failures old
       → RunOn disk.now disk.past disk.failures once planned script start new was is calls status

@@ -9,7 +9,7 @@ use Rattle.im_script.specs.declared.script.Heard.{Heard}
 use Rattle.im_script.specs.declared.script.Said.{Said}
 use Rattle.im_script.specs.Script.{Draft, heard, lines_of, new_draft}
 use Rattle.im_serial.specs.Asked.{Wanted, said_by, wanted_by, wanted_in, wanted_of}
-use Rattle.im_serial.specs.Had.{bases_had, end_with, has_next, left_of, length_asked, met, met_all, news, sums_of}
+use Rattle.im_serial.specs.Had.{bases_had, has_next, left_of, length_asked, met, met_all, news, sums_of}
 use Rattle.im_serial.specs.Once.{AreMade}
 use Rattle.im_serial.proofs.LeftLemmas.{count_of, met_here}
 use Rattle.im_serial.proofs.OnceLemmas.{news_append}

@@ -1,8 +1,8 @@
 -- Runs of a script that is done once, put together from a new image on. (Own.)
 use Rattle.std.proofs.Common.{◌≡◌, ◌∙◌, ⊎_elim, inl, inr, ℕ, ◌+◌, ◌-◌, ◌<◌, ◌≤◌, zero, suc, Bool, true, false, List, []}
-use Rattle.std.proofs.Common.{◌∷◌, ◌++◌, length, length-append, take, drop, refl, sym, ap, ap₂, subst, append_assoc}
+use Rattle.std.proofs.Common.{◌∷◌, ◌++◌, length, take, drop, refl, sym, ap, subst}
 use Rattle.std.proofs.Common.{append-nil, arith}
-use Rattle.std.specs.Prelude.{◌⊎◌, Option, None, Some, if◌then◌else◌}
+use Rattle.std.specs.Prelude.{Some, if◌then◌else◌}
 use Rattle.std.specs.List.{AllByRecursion}
 use Rattle.std.proofs.lemmas.List.{take_all, take-append-le}
 use Rattle.im_types.specs.declared.commands.Call.{Call}
@@ -17,12 +17,9 @@ use Rattle.im_types.specs.Meaning.{accept_each}
 use Rattle.im_types.specs.Memory.{IsMemory}
 use Rattle.im_types.specs.Run.{accepted, after}
 use Rattle.im_types.specs.Step.{is_accepted, step}
-use Rattle.im_engine.proofs.Keeping.{accept_both}
 use Rattle.im_laws.specs.Traces.{command_in, commands_of}
-use Rattle.im_laws.proofs.RunLemmas.{after-append}
-use Rattle.im_laws.proofs.Tests.{below_or_from, true_false}
-use Rattle.im_plans.specs.Runs.{HasServed, IsPlannedCall, IsPlannedRun}
-use Rattle.im_plans.specs.UnderWay.{PlanGoesOn}
+use Rattle.im_laws.proofs.Tests.{below_or_from}
+use Rattle.im_plans.specs.Runs.{IsPlannedCall, IsPlannedRun}
 use Rattle.im_controller.specs.Kept.{accepted_in}
 use Rattle.im_controller.specs.Planned.{AreOnPlan, IsOnPlan}
 use Rattle.im_script.specs.declared.script.Heard.{Heard}
@@ -34,13 +31,10 @@ use Rattle.im_serial.specs.Once.{AreMade, HasMade}
 use Rattle.im_serial.proofs.BegunLemmas.{IsStuck, Stands, accepted_after, accepted_first, is_memory, leads_first}
 use Rattle.im_serial.proofs.BegunLemmas.{names_all, run_comes}
 use Rattle.im_serving.specs.declared.intent.Intent.{Intent}
-use Rattle.im_run.specs.declared.served.Did.{Did}
-use Rattle.im_run.specs.Doing.{HasToldScript}
-use Rattle.im_run.specs.Orders.{AreAllOrders, AreOrdersFrom, Ask, IsOfAll, SetsUp, ask_if, asks_from, bases_first}
+use Rattle.im_run.specs.Orders.{AreAllOrders, Ask, SetsUp, ask_if, asks_from}
 use Rattle.im_run.specs.Orders.{bases_made, blocks_asked, script_heard}
-use Rattle.im_run.specs.Planned.{DidNotBegin, EndsOnPlan, HasServedWhole, RanByPlan, plan_of}
-use Rattle.im_run.specs.Running.{HasEndedSetup, TellsScript}
-use Rattle.im_run.specs.Stops.{HasAll, HasDoneByPlan, HasRunByPlan, IsByPlan, IsOwnPlan, new_bases, numbers_of}
+use Rattle.im_run.specs.Planned.{plan_of}
+use Rattle.im_run.specs.Stops.{HasRunByPlan, IsOwnPlan, new_bases}
 use Rattle.im_run.specs.Stops.{setup_blocks}
 use Rattle.im_run.proofs.CountLemmas.{accept_split, blocks_asked_all, had_more, names_count, nothing_made, sums_count}
 use Rattle.im_run.proofs.KnownLemmas.{Knows, drop_past, knows}

@@ -1,6 +1,6 @@
 -- The lines of a trace, as they are printed. (Own.)
 use Rattle.std.proofs.Common.{◌≡◌, ◌∙◌, ◌≤◌, ◌+◌, ◌-◌, ⊎_elim, ℕ, zero, suc, false, List, [], ◌∷◌, ◌++◌, length, refl}
-use Rattle.std.proofs.Common.{sym, ap, ap₂, subst, append_assoc, append-nil, arith, true}
+use Rattle.std.proofs.Common.{sym, ap, ap₂, subst, append_assoc, append-nil, arith}
 use Rattle.std.specs.Prelude.{Bool, Option, None, Some, Result, Ok, Err, OnOk, slice_get, if◌then◌else◌}
 use Rattle.std.specs.Io.KnownBytes.{Appends}
 use Rattle.std.proofs.KnownBytes.{Appends-nil}

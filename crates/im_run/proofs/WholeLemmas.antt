@@ -1,18 +1,15 @@
 -- All requests of a script, the settled ones too. (Own.)
-use Rattle.std.proofs.Common.{◌≡◌, ◌∙◌, ℕ, zero, suc, Bool, true, false, List, [], ◌∷◌, ◌++◌, map, refl, sym, ap}
-use Rattle.std.proofs.Common.{subst, append-nil, arith, ◌⊎◌, ⊎_elim, inl, inr}
-use Rattle.std.specs.Prelude.{◌<◌, ◌&&◌, nat_lt, Option, None, Some, slice_get}
+use Rattle.std.proofs.Common.{◌≡◌, ◌∙◌, ℕ, zero, suc, true, false, List, [], ◌∷◌, ◌++◌, map, refl, sym, ap}
+use Rattle.std.proofs.Common.{subst, arith, ◌⊎◌, ⊎_elim, inl, inr}
+use Rattle.std.specs.Prelude.{◌<◌, nat_lt, Option, None, Some, slice_get}
 use Rattle.std.specs.Option.{option_map_or}
 use Rattle.std.proofs.lemmas.Bool.Decides.{nat_tests}
-use mathlib.Core.List.{IsPrefix}
 use Rattle.im_types.proofs.Tests.{and_both}
 use Rattle.im_types.specs.declared.commands.Request.{Request}
-use Rattle.im_types.specs.Contents.{Contents, Window}
-use Rattle.im_types.specs.Step.{asker}
+use Rattle.im_types.specs.Contents.{Window}
 use Rattle.im_types.specs.Window.{next_number}
 use Rattle.im_laws.proofs.Tests.{some_same}
 use Rattle.im_plans.specs.Runs.{HasServed, IsInPlan, IsTaken}
-use Rattle.im_script.specs.declared.places.Place.{Place}
 use Rattle.im_script.specs.declared.script.Allocation.{Allocation}
 use Rattle.im_script.specs.declared.script.Heard.TheVariants.{Says}
 use Rattle.im_script.specs.declared.script.Said.{Said}

@@ -11,7 +11,6 @@ use Rattle.im_types.specs.Contents.{Contents}
 use Rattle.im_types.specs.Run.{after}
 use Rattle.im_controller.specs.Kept.{accepted_in}
 use Rattle.im_controller.specs.State.{PortState}
-use Rattle.im_script.specs.declared.script.Heard.{Heard}
 use Rattle.im_serving.specs.declared.intent.Intent.{Intent}
 use Rattle.im_serving.specs.declared.intent.Intent.TheVariants.{Request, Glance}
 use Rattle.im_serving.specs.declared.glances.Glanced.{Glanced}

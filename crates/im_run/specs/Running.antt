@@ -129,29 +129,41 @@ pub record ServedOn {D : Type 0} (now : D → Moment) (past : D → List Moment)
   pub ends : end_of m trace ≡ engine.memory
   pub kept : HasKept now past failures b m plan (accepted_in m trace) engine
 
--- An engine's servers of these orders ended with this trace, the engine was closed, and this status was given. If all
--- requests of the script are known, a plan is of them.
-pub record EndedOn {D : Type 0} (now : D → Moment) (past : D → List Moment) (failures : D → ℕ) (planned : Bool)
-    (whole : Option (List Ask)) (orders : List Ask) (begun : EngineState D) (disk : D) (was : Option (List ℕ))
-    (before : Lines) (is : Option (List ℕ)) (trace : List Line) (status : ℕ) : Type 0 where
-  pub engine : EngineState D
-  pub disk_is : disk ≡ engine.disk
+-- Servers of these orders began on an engine and ended on that one, with this trace, and this was done. It is all that
+-- the orders ask for if nothing was refused; and each request of the script was served then, if all are known. A plan
+-- is of all of them, if they are known.
+pub record ServersEnded {D : Type 0} (disk : Ghosts D) (planned : Bool) (whole : Option (List Ask)) (orders : List Ask)
+    (begun engine : EngineState D) (trace : List Line) (did : List Did) (none : Type 0) : Type 0 where
   pub plan : Option (List Requests)
-  pub served : ServedOn now past failures (begun_in now past failures begun) begun.memory plan trace engine
+  pub served : ServedOn disk.now disk.past disk.failures (begun_in disk.now disk.past disk.failures begun) begun.memory
+      plan trace engine
+  pub told : AreAllTold begun.memory trace none orders did
+  pub all_served : none → HasServedWhole engine.memory.windows whole
+  pub as_planned : planned ≡ true → EndsOnPlan begun.memory whole orders trace served.kept.doubt engine.memory none
+
+-- the same, of a disk that is honest at the end, and of an engine that works
+abbrev pub EndsServers : {D : Type 0} → Ghosts D → Bool → Option (List Ask) → List Ask → EngineState D → EngineState D
+    → List Line → List Did → Type 0 → Type 0
+EndsServers disk planned whole orders begun engine trace did none = disk.honest engine.disk → disk.honest begun.disk
+    × (begun.failed ≡ false → ServersEnded disk planned whole orders begun engine trace did none)
+
+-- An engine's servers of these orders ended with this trace, the engine was closed, and this status was given.
+pub record EndedOn {D : Type 0} (disk : Ghosts D) (planned : Bool) (whole : Option (List Ask)) (orders : List Ask)
+    (begun : EngineState D) (new : D) (was : Option (List ℕ)) (before : Lines) (is : Option (List ℕ))
+    (trace : List Line) (status : ℕ) : Type 0 where
+  pub engine : EngineState D
+  pub disk_is : new ≡ engine.disk
   pub works : (status ≡ 0) ⊎ (status ≡ STALLED) → engine.failed ≡ false
-  pub means : engine.failed ≡ false → LeavesNow (now disk) (MeansState engine)
+  pub means : engine.failed ≡ false → LeavesNow (disk.now new) (MeansState engine)
   pub did : List Did
-  pub told : AreAllTold begun.memory trace (status ≡ 0) orders did
-  pub all_served : status ≡ 0 → HasServedWhole engine.memory.windows whole
-  pub as_planned : planned ≡ true
-      → EndsOnPlan begun.memory whole orders trace served.kept.doubt engine.memory (status ≡ 0)
+  pub ended : ServersEnded disk planned whole orders begun engine trace did (status ≡ 0)
   pub printed : Closes was before is engine.memory did status
 
 -- the same of an engine that works, and of a disk that is honest at the end
 abbrev pub EndsServing : {D : Type 0} → Ghosts D → Bool → Option (List Ask) → List Ask → EngineState D → D
     → Option (List ℕ) → Lines → Option (List ℕ) → List Line → ℕ → Type 0
 EndsServing disk planned whole orders begun new was before is trace status = disk.honest new → begun.failed ≡ false
-    → EndedOn disk.now disk.past disk.failures planned whole orders begun new was before is trace status
+    → EndedOn disk planned whole orders begun new was before is trace status
 
 -- Since the image was opened these commands were put on it: those of the setup, then those of the elements' servers.
 -- Each was accepted in its turn. All were acknowledged but those in doubt. There are commands in doubt only if a call

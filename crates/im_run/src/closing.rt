@@ -86,23 +86,35 @@ fn status_of(failed: bool, stalled: bool, status: u8) -> u8
     }
 }
 
+/// How the servers of a run ended.
+#[derive(Drop)]
+pub struct Ending<D: Disk> {
+    /// The engine.
+    pub engine: Engine<D>,
+    /// What was done, by elements, and for each element in order.
+    pub did: Vec<Did>,
+    /// The refusal, if there is one.
+    pub done: Result<(), Reason>,
+}
+
 /// Prints the lines of what was done, and the refusal. Returns the status and the engine's disk.
 pub fn close<D: Disk, W: Write, N: Observer>(
     alloc: Global,
-    engine: Engine<D>,
-    did: Vec<Did>,
-    done: Result<(), Reason>,
+    ending: Ending<D>,
     mut paper: Paper,
     out: &mut W,
     observer: &mut N,
 ) -> (u8, D)
     ensures status { (result.0 ≤ 1) ⊎ (result.0 ≡ STALLED) }
-    ensures disk { result.1 ≡ engine.disk }
-    ensures works { (result.0 ≡ 0) ⊎ (result.0 ≡ STALLED) → engine.failed ≡ false }
-    ensures means { D.honest result.1 → engine.failed ≡ false → LeavesNow (D.now result.1) (MeansState engine) }
-    ensures done { result.0 ≡ 0 → IsOk done }
-    ensures printed { Closes (W.contents out.old) paper.lines (W.contents out.new) engine.memory did.items result.0 }
+    ensures disk { result.1 ≡ ending.engine.disk }
+    ensures works { (result.0 ≡ 0) ⊎ (result.0 ≡ STALLED) → ending.engine.failed ≡ false }
+    ensures means { D.honest result.1 → ending.engine.failed ≡ false
+        → LeavesNow (D.now result.1) (MeansState ending.engine) }
+    ensures done { result.0 ≡ 0 → IsOk ending.done }
+    ensures printed { Closes (W.contents out.old) paper.lines (W.contents out.new) ending.engine.memory
+        ending.did.items result.0 }
 {
+    let Ending { engine, did, done } = ending;
     let failed = engine.failed();
     let ended = with_disk(done, failed);
     let told = print_finals(

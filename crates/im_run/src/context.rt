@@ -15,3 +15,15 @@ pub struct RunContext<'a, G, V, R> {
     /// The watcher.
     pub watcher: &'a V,
 }
+
+impl<'a, G, V, R> RunContext<'a, G, V, R> {
+    /// Puts these together.
+    pub fn new(rt: &'a R, alloc: Global, gate: &'a G, watcher: &'a V) -> RunContext<'a, G, V, R> {
+        RunContext {
+            rt,
+            alloc,
+            gate,
+            watcher,
+        }
+    }
+}

@@ -11,6 +11,7 @@ mod deeds;
 mod noting;
 mod numbering;
 mod once;
+mod opening;
 mod orders;
 mod parts;
 mod planned;

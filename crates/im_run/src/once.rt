@@ -6,19 +6,17 @@ ghost use Rattle.im_serial.specs.Serving.{seen_by};
 ghost use Rattle.im_run.specs.Once.{EndsOnce, RunsOnceOn, RunsOnceOnPlan};
 
 use crate::context::RunContext;
+use crate::opening::open_server;
 use crate::run::{STALLED, run_server};
-use crate::sheet::{Commission, RunMode};
+use crate::sheet::{Assignment, Commission, RunMode};
 use crate::tracing::Trace;
 use im_disk::Disk;
-use im_engine::Engine;
 use im_script::Script;
-use im_serial::{Desk, Server};
-use im_serving::{Gate, Watcher};
-use im_text::{Observer, Reason, diagnose, end, finish};
+use im_serial::Server;
+use im_serving::{Gate, Host, Watcher};
+use im_text::{Observer, Reason, finish};
 use std::alloc::Global;
 use std::io::Write;
-use std::sync::Wait;
-use std::thread::Threads;
 
 // Prints a refusal behind the lines that are kept back. Returns the status and the engine's disk.
 fn refuse_rest<D: Disk, W: Write, N: Observer>(
@@ -53,31 +51,30 @@ fn run_rest<
     N: Observer,
     G: Gate + Sync,
     V: Watcher + Sync,
-    R: Threads + Wait + Sync,
+    R: Host,
 >(
     context: &RunContext<'_, G, V, R>,
     server: Server<D>,
-    script: &Script<'_>,
-    mode: RunMode,
+    asked: Assignment<'_, '_>,
     out: &mut W,
     observer: &mut N,
 ) -> (u8, D, Trace)
     requires ready { HasServedNothing D.Disk (seen_by server (W.contents out.old)) server.bases.items }
     ensures status { (result.0 ≤ 1) ⊎ (result.0 ≡ STALLED) }
-    ensures ends { EndsOnce D.Disk mode.planned script.now server.engine result.1 (W.contents out.old)
-        (W.contents out.new) result.2 result.0 }
-    ensures recorded { mode.recorded ≡ true → result.2.recorded ≡ true }
+    ensures ends { EndsOnce D.Disk asked.entry.mode.planned asked.entry.script.now server.engine result.1
+        (W.contents out.old) (W.contents out.new) result.2 result.0 }
+    ensures recorded { asked.entry.mode.recorded ≡ true → result.2.recorded ≡ true }
 {
     let alloc = context.alloc;
     let mut server = server;
-    match server.show_past(alloc, script, out) {
+    match server.show_past(alloc, asked.script, out) {
         Ok(()) => {
             let none = Vec::new(alloc);
             server.waited = none; // Those that wait are sent again.
             let asked = Commission {
-                script,
+                script: asked.script,
                 once: true,
-                mode,
+                mode: asked.mode,
             };
             run_server(context, server, asked, out, observer)
         }
@@ -119,7 +116,7 @@ pub fn run_once_on<
     N: Observer,
     G: Gate + Sync,
     V: Watcher + Sync,
-    R: Threads + Wait + Sync,
+    R: Host,
 >(
     rt: &R,
     alloc: Global,
@@ -138,25 +135,12 @@ pub fn run_once_on<
         (W.contents out.new) result.2 result.0 }
     ensures recorded { mode.recorded ≡ true → result.2.recorded ≡ true }
 {
-    let Ok(desk) = Desk::new(alloc) else {
-        let status = end(alloc, Err(Reason::Memory), out, observer);
-        return (status, disk, Trace::new(alloc));
-    };
-    match Engine::open(alloc, disk) {
-        Ok(engine) => {
-            let server = Server::new(alloc, engine, desk);
-            let context = RunContext {
-                rt,
-                alloc,
-                gate,
-                watcher,
-            };
-            run_rest(&context, server, script, mode, out, observer)
+    let context = RunContext::new(rt, alloc, gate, watcher);
+    match open_server(alloc, disk, out, observer) {
+        Ok(server) => {
+            let asked = Assignment { script, mode };
+            run_rest(&context, server, asked, out, observer)
         }
-        Err((refusal, mut disk)) => {
-            let reason = diagnose(alloc, &mut disk, refusal);
-            let status = end(alloc, Err(reason), out, observer);
-            (status, disk, Trace::new(alloc))
-        }
+        Err((status, disk)) => (status, disk, Trace::new(alloc)),
     }
 }

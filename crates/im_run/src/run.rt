@@ -1,31 +1,32 @@
 //! A script on the image of a disk, from opening to end.
-ghost use Rattle.std.specs.Prelude.{◌≡◌, ◌⊎◌, ◌≤◌, None, false, true, map, IsOk};
+ghost use Rattle.std.specs.Prelude.{◌≡◌, ◌⊎◌, ◌≤◌, [], None, Some, false, true, map, IsOk};
 ghost use Rattle.im_serial.specs.Serving.{seen_by};
 ghost use Rattle.im_run.specs.Orders.{ask_of, asks_in, bases_first};
-ghost use Rattle.im_run.specs.Running.{EndsRun, EndsServing, Ran, RunsOn, RunsOnPlan};
+ghost use Rattle.im_run.specs.Planned.{FitsIfNew, plan_of, planned_orders};
+ghost use Rattle.im_run.specs.Running.{EndsRun, EndsServers, EndsServing, Ran, RunsOn, RunsOnPlan};
 ghost use Rattle.im_run.specs.Setup.{CanServe};
 
 use crate::beginning::begin;
 use crate::calls::Calls;
-use crate::closing::close;
+use crate::closing::{Ending, close};
 use crate::context::RunContext;
+use crate::opening::open_server;
 use crate::orders::read_orders;
 use crate::served::{Outcome, serve_orders};
 use crate::sheet::{Commission, RunMode, Workload};
 use crate::tracing::Trace;
 use crate::unserved::with_whole;
+use im_controller::Opening;
 use im_disk::Disk;
 use im_engine::Engine;
 use im_script::Script;
-use im_serial::{Desk, Paper, Server};
-use im_serving::{Gate, Watcher};
-use im_text::{Observer, Reason, diagnose, end};
+use im_serial::Server;
+use im_serving::{Gate, Host, Watcher};
+use im_text::{Observer, Reason};
 use im_types::Refusal;
 use std::alloc::Global;
 use std::io::Write;
 use std::marker::Brand;
-use std::sync::Wait;
-use std::thread::Threads;
 
 /// The status of a run in which servers waited for each other and nothing else was refused.
 pub const STALLED: u8 = 3;
@@ -40,48 +41,79 @@ fn reason_of(refused: Option<(u16, Refusal)>) -> Result<(), Reason>
     }
 }
 
-// Serves what each element asks for on an engine. Returns the status, the engine's disk, and the calls in the order of
-// the lock.
+// Serves what each element asks for with a controller that was opened. Returns how that ended, and the calls in the
+// order of the lock.
+fn serve_opening<D: Disk + Drop + Send, G: Gate + Sync, V: Watcher + Sync, R: Host>(
+    context: &RunContext<'_, G, V, R>,
+    opening: Opening<D>,
+    work: Workload,
+) -> (Ending<D>, Calls)
+    requires plan { work.mode.planned ≡ true → opening.plan
+        ≡ Some (plan_of (planned_orders (asks_in work.whole) (map ask_of work.orders.items))) }
+    requires fits { work.mode.planned ≡ true → FitsIfNew (asks_in work.whole) opening.engine.memory
+        (plan_of (planned_orders (asks_in work.whole) (map ask_of work.orders.items))) }
+    ensures ended { EndsServers D.Disk work.mode.planned (asks_in work.whole) (map ask_of work.orders.items)
+        opening.engine result.0.engine result.1.items result.0.did.items (IsOk result.0.done) }
+    ensures recorded { result.1.recorded ≡ opening.book.recorded }
+{
+    let Workload { orders, whole, .. } = work;
+    let Outcome {
+        engine,
+        did,
+        trace,
+        refused,
+    } = serve_orders::<D, Brand, G, V, R>(context, opening, orders);
+    let done = with_whole(engine.memory(), &whole, reason_of(refused));
+    (Ending { engine, did, done }, trace)
+}
+
+// Returns the ending of a run in which no server began.
+fn no_server<D: Disk>(alloc: Global, engine: Engine<D>, reason: Reason) -> Ending<D>
+    ensures engine { result.engine ≡ engine }
+    ensures none { result.did.items ≡ [] }
+    ensures refused { IsOk result.done → ⊥ }
+{
+    Ending {
+        engine,
+        did: Vec::new(alloc),
+        done: Err(reason),
+    }
+}
+
+// Serves what each element asks for on the engine of a server. Returns the status, the engine's disk, and the calls in
+// the order of the lock.
 fn serve_on<
     D: Disk + Drop + Send,
     W: Write,
     N: Observer,
     G: Gate + Sync,
     V: Watcher + Sync,
-    R: Threads + Wait + Sync,
+    R: Host,
 >(
     context: &RunContext<'_, G, V, R>,
-    engine: Engine<D>,
+    server: Server<D>,
     work: Workload,
-    paper: Paper,
     out: &mut W,
     observer: &mut N,
 ) -> (u8, D, Calls)
     ensures status { (result.0 ≤ 1) ⊎ (result.0 ≡ STALLED) }
-    ensures ended { EndsServing D.Disk work.mode.planned (asks_in work.whole) (map ask_of work.orders.items) engine
-        result.1 (W.contents out.old) paper.lines (W.contents out.new) result.2.items result.0 }
+    ensures ended { EndsServing D.Disk work.mode.planned (asks_in work.whole) (map ask_of work.orders.items)
+        server.engine result.1 (W.contents out.old) server.lines (W.contents out.new) result.2.items result.0 }
     ensures recorded { work.mode.recorded ≡ true → result.2.recorded ≡ true }
-    ensures honest { D.honest result.1 → D.honest engine.disk }
+    ensures honest { D.honest result.1 → D.honest server.engine.disk }
 {
     let alloc = context.alloc;
-    let none = Vec::new(alloc);
+    let (engine, paper) = server.leave();
     match begin(context.rt, alloc, engine, &work) {
         Ok(opening) => {
-            let Workload { orders, whole, .. } = work;
-            let Outcome {
-                engine,
-                did,
-                trace,
-                refused,
-            } = serve_orders::<D, Brand, G, V, R>(context, opening, orders);
-            let reason = with_whole(engine.memory(), &whole, reason_of(refused));
-            let (status, disk) = close(alloc, engine, did, reason, paper, out, observer);
+            let (ending, trace) = serve_opening(context, opening, work);
+            let (status, disk) = close(alloc, ending, paper, out, observer);
             (status, disk, trace)
         }
         Err((reason, engine)) => {
-            let trace = Calls::new();
-            let (status, disk) = close(alloc, engine, none, Err(reason), paper, out, observer);
-            (status, disk, trace)
+            let ending = no_server(alloc, engine, reason);
+            let (status, disk) = close(alloc, ending, paper, out, observer);
+            (status, disk, Calls::new())
         }
     }
 }
@@ -93,7 +125,7 @@ pub(crate) fn run_server<
     N: Observer,
     G: Gate + Sync,
     V: Watcher + Sync,
-    R: Threads + Wait + Sync,
+    R: Host,
 >(
     context: &RunContext<'_, G, V, R>,
     server: Server<D>,
@@ -110,18 +142,18 @@ pub(crate) fn run_server<
     ensures honest { D.honest result.1 → D.honest server.engine.disk }
 {
     let alloc = context.alloc;
-    let none = Vec::new(alloc);
     let mut server = server;
     let (read, setup) = read_orders(alloc, &mut server, asked, out, observer);
-    let (engine, paper) = server.leave();
     match read {
         Ok(work) => {
-            let (status, disk, served) = serve_on(context, engine, work, paper, out, observer);
+            let (status, disk, served) = serve_on(context, server, work, out, observer);
             (status, disk, Trace { setup, served })
         }
         Err(reason) => {
+            let (engine, paper) = server.leave();
+            let ending = no_server(alloc, engine, reason);
+            let (status, disk) = close(alloc, ending, paper, out, observer);
             let served = Calls::new();
-            let (status, disk) = close(alloc, engine, none, Err(reason), paper, out, observer);
             (status, disk, Trace { setup, served })
         }
     }
@@ -192,7 +224,7 @@ pub fn run_on<
     N: Observer,
     G: Gate + Sync,
     V: Watcher + Sync,
-    R: Threads + Wait + Sync,
+    R: Host,
 >(
     rt: &R,
     alloc: Global,
@@ -213,30 +245,16 @@ pub fn run_on<
     ensures recorded { mode.recorded ≡ true → result.2.recorded ≡ true }
     ensures honest { D.honest result.1 → D.honest disk }
 {
-    let Ok(desk) = Desk::new(alloc) else {
-        let status = end(alloc, Err(Reason::Memory), out, observer);
-        return (status, disk, Trace::new(alloc));
-    };
-    match Engine::open(alloc, disk) {
-        Ok(engine) => {
-            let server = Server::new(alloc, engine, desk);
+    let context = RunContext::new(rt, alloc, gate, watcher);
+    match open_server(alloc, disk, out, observer) {
+        Ok(server) => {
             let asked = Commission {
                 script,
                 once: false,
                 mode,
             };
-            let context = RunContext {
-                rt,
-                alloc,
-                gate,
-                watcher,
-            };
             run_server(&context, server, asked, out, observer)
         }
-        Err((refusal, mut disk)) => {
-            let reason = diagnose(alloc, &mut disk, refusal);
-            let status = end(alloc, Err(reason), out, observer);
-            (status, disk, Trace::new(alloc))
-        }
+        Err((status, disk)) => (status, disk, Trace::new(alloc)),
     }
 }

@@ -4,8 +4,8 @@ use crate::blind::Blind;
 use crate::desk::{ImageDesk, all_bytes};
 use im_disk::Disk;
 use im_image::{
-    Header, PAGE, VERSION, area_at, area_pages, encode, inspect, new_image, read_header,
-    read_to_open,
+    Header, PAGE, VERSION, Versions, area_at, area_pages, encode, inspect, new_image, read_header,
+    read_image,
 };
 use im_memory::Memory;
 use im_story::{Call, Saying, old_image};
@@ -142,7 +142,7 @@ fn meant(disk: &mut Blind, call: &Call, said: &mut Saying) -> Result<Memory, Ref
         add_meaning(said, &report.header, report.run, report.room);
         return Ok(report.memory);
     }
-    let image = read_to_open(call.alloc(), disk)?;
+    let image = read_image(call.alloc(), disk, Versions::InUse)?;
     let run = image.journal.count().saturating_sub(image.header.count);
     add_meaning(said, &image.header, run, image.journal.room());
     Ok(image.memory)
@@ -196,7 +196,7 @@ pub fn tell(here: &mut ImageDesk, call: &Call, said: &mut Saying) -> bool {
         ("cut _", _) => cut(here, call, said),
         ("encode _", _) => put_pages(here, call, said),
         ("inspect" | "to open", _) => tell_meaning(here, call, said),
-        ("in force", Some(disk)) => add_header(said, read_header(disk)),
+        ("in force", Some(disk)) => add_header(said, read_header(disk, Versions::Any)),
         ("header at _", Some(disk)) => tell_header(disk, call, said),
         ("header _ _ _ _ _ _", Some(disk)) => put_header(disk, call, said),
         _ => return false,

@@ -17,7 +17,7 @@ returns-clause-printed g c =
     let was = g.W.Write.contents c.args.out.now in
     let is = g.W.Write.contents f.new.out in
     let before = c.args.paper.lines in
-    subst (λ (x : Contents). Closes was before is x c.args.did.items c.status_of.result) c.memory.ensures
+    subst (λ (x : Contents). Closes was before is x c.args.ending.did.items c.status_of.result) c.memory.ensures
     (subst (λ (d : List Did). Closes was before is m d c.status_of.result) c.as_slice.ensures.value
     (closed_by was (g.W.Write.contents t.new.out) is before t.new.lines f.new.lines m c.as_slice.result.now c.status_of.result t.ensures.some
     (λ zero. on_ok_by t.result _ t.ensures.all (c.both.ensures.told (f.ensures.whole (c.status_of.ensures.done zero)).0))

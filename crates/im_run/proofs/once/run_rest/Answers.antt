@@ -12,7 +12,7 @@ run_server-requires-clause-ready g c κs within =
     in
     let s = c.show_past.new.self in
     let mid = server_of s.engine (g.W.Write.contents c.show_past.new.out) s.lines s.waited.items s.places.marks.items in
-    ready_rest g.D.Disk (wanted_of c.args.script.now) old mid was.bases.items c.requires.ready s.bases.items
+    ready_rest g.D.Disk (wanted_of c.args.asked.script.now) old mid was.bases.items c.requires.ready s.bases.items
     c.in-Ok.ensures.shown c.new-none.result.items c.new-none.ensures.items
 
 pub run_server-requires-clause-bases : goal.run_server-requires-clause-bases
@@ -22,8 +22,8 @@ run_server-requires-clause-bases g c κs within =
     in
     let s = c.show_past.new.self in
     let mid = server_of s.engine (g.W.Write.contents c.show_past.new.out) s.lines s.waited.items s.places.marks.items in
-    bases_rest g.D.Disk (wanted_of c.args.script.now) old mid was.bases.items c.requires.ready s.bases.items
-    c.in-Ok.ensures.shown c.args.script.now refl
+    bases_rest g.D.Disk (wanted_of c.args.asked.script.now) old mid was.bases.items c.requires.ready s.bases.items
+    c.in-Ok.ensures.shown c.args.asked.script.now refl
 
 pub returns-in-Ok-clause-ends : goal.returns-in-Ok-clause-ends
 returns-in-Ok-clause-ends g c = λ honest.
@@ -35,8 +35,8 @@ returns-in-Ok-clause-ends g c = λ honest.
     let r = c.run_server in (
       subst (λ (e : EngineState g.row.D.Denot). g.D.Disk.honest e.disk) c.show_past.ensures.engine
           (r.ensures.honest honest),
-      inr (rest_by g.D.Disk (wanted_of c.args.script.now) old mid was.bases.items c.requires.ready s.bases.items
-          c.in-Ok.ensures.shown c.args.mode.planned c.args.script.now refl c.in-Ok.ensures.fit r.result.1
+      inr (rest_by g.D.Disk (wanted_of c.args.asked.script.now) old mid was.bases.items c.requires.ready s.bases.items
+          c.in-Ok.ensures.shown c.args.asked.mode.planned c.args.asked.script.now refl c.in-Ok.ensures.fit r.result.1
           (g.W.Write.contents r.new.out) r.result.2 r.result.0 (r.ensures.run honest)),
     )
 
@@ -50,7 +50,7 @@ returns-in-Err-clause-ends g c = λ honest.
     let k = c.refuse_rest-status in (
       subst g.D.Disk.honest (k.ensures.disk ∙ ap (λ (e : EngineState g.row.D.Denot). e.disk)
           c.show_past.ensures.engine) honest,
-      inl (unrun_by g.D.Disk (wanted_of c.args.script.now) old mid was.bases.items c.requires.ready
+      inl (unrun_by g.D.Disk (wanted_of c.args.asked.script.now) old mid was.bases.items c.requires.ready
           c.show_past.ensures.engine c.in-Err.ensures.shown c.in-Err.ensures.fit k.result.1
           (g.W.Write.contents k.new.out) c.new.result k.result.0 k.ensures.status k.ensures.disk k.ensures.last
           c.new.ensures),

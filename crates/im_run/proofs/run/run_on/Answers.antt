@@ -1,63 +1,78 @@
-use Rattle.std.proofs.Common.{Bool, false, inr, subst, true}
-use Rattle.im_engine.specs.State.{EngineState}
-use Rattle.im_run.specs.Running.{RunOn}
-use Rattle.im_run.proofs.RunningLemmas.{ran, ran_on, ready_new, unplanned}
+use Rattle.std.proofs.Common.{Bool, List, false, inl, inr, subst, true, ℕ}
+use Rattle.std.specs.Prelude.{Option}
+use Rattle.im_run.specs.Running.{Ran, RanOn, RunOn}
+use Rattle.im_run.proofs.RunningLemmas.{can_serve, ran, ran_on, unplanned}
 use Rattle.im_run.proofs.run.run_on.Goals as goal
 
 pub run_server-requires-clause-ready : goal.run_server-requires-clause-ready
 run_server-requires-clause-ready g c κs within =
-    let n = c.new-server in
-    let e = c.in-Ok-open.ensures in
-    ready_new g.D.Disk c.in-Ok-open.engine n.result.engine (g.W.Write.contents c.args.out.now) c.in-Ok.desk.lines
-    n.result.lines n.result.waited.items n.result.places.marks.items e.works e.means n.ensures.memory
-    c.in-Ok.ensures.pending n.ensures.waited n.ensures.engine n.ensures.lines
+    can_serve g.D.Disk _ c.in-Ok.server.bases.items c.in-Ok.ensures.opened.nothing
 
 pub run_server-requires-clause-bases : goal.run_server-requires-clause-bases
-run_server-requires-clause-bases g c κs within = c.new-server.ensures.bases
+run_server-requires-clause-bases g c κs within = c.in-Ok.ensures.opened.nothing.bases_is
 
-pub returns-in-Ok-open-clause-run : goal.returns-in-Ok-open-clause-run
-returns-in-Ok-open-clause-run g c = λ honest.
+pub returns-in-Ok-clause-run : goal.returns-in-Ok-clause-run
+returns-in-Ok-clause-run g c = λ honest.
     let d = g.D.Disk in
+    let o = c.in-Ok.ensures.opened in
+    let start = c.in-Ok.server.engine in
     let r = c.run_server in
-    let was = g.W.Write.contents c.args.out.now in
+    let was = g.W.Write.contents c.open_server.new.out in
     let is = g.W.Write.contents r.new.out in
-    let same = c.new-server.ensures.engine in
-    let before = subst (λ (x : EngineState g.row.D.Denot). d.honest x.disk) same (r.ensures.honest honest) in
-    let e = c.in-Ok-open.ensures in
-    let run = subst (λ (x : EngineState g.row.D.Denot). RunOn d.now d.past d.failures false c.args.mode.planned
-    c.args.script.now x r.result.1 was is r.result.2 r.result.0) same (r.ensures.run honest) in
-    inr (ran_on d false false c.args.script.now c.args.disk c.in-Ok-open.engine r.result.1 was is r.result.2 r.result.0
-    (e.leaves before) (e.means before) e.faults
-    (unplanned d.now d.past d.failures false c.args.mode.planned c.args.script.now c.in-Ok-open.engine r.result.1 was is
-    r.result.2 r.result.0 run))
+    let text = c.args.script.now in
+    let before = r.ensures.honest honest in
+    inr (subst (λ (w : Option (List ℕ)). RanOn d.now d.past d.failures false false text c.args.disk r.result.1 w is
+    r.result.2 r.result.0) c.in-Ok.ensures.same
+    (ran_on d false false text c.args.disk start r.result.1 was is r.result.2 r.result.0 (o.leaves before)
+    (o.nothing.means before) o.failures
+    (unplanned d.now d.past d.failures false c.args.mode.planned text start r.result.1 was is r.result.2 r.result.0
+    (r.ensures.run honest))))
 
-pub returns-in-Ok-open-clause-planned : goal.returns-in-Ok-open-clause-planned
-returns-in-Ok-open-clause-planned g c = λ planned honest.
+pub returns-in-Ok-clause-planned : goal.returns-in-Ok-clause-planned
+returns-in-Ok-clause-planned g c = λ planned honest.
     let d = g.D.Disk in
+    let o = c.in-Ok.ensures.opened in
+    let start = c.in-Ok.server.engine in
     let r = c.run_server in
-    let was = g.W.Write.contents c.args.out.now in
+    let was = g.W.Write.contents c.open_server.new.out in
     let is = g.W.Write.contents r.new.out in
-    let same = c.new-server.ensures.engine in
-    let before = subst (λ (x : EngineState g.row.D.Denot). d.honest x.disk) same (r.ensures.honest honest) in
-    let e = c.in-Ok-open.ensures in
-    let run = subst (λ (x : EngineState g.row.D.Denot). RunOn d.now d.past d.failures false c.args.mode.planned
-    c.args.script.now x r.result.1 was is r.result.2 r.result.0) same (r.ensures.run honest) in
-    inr (ran_on d false true c.args.script.now c.args.disk c.in-Ok-open.engine r.result.1 was is r.result.2 r.result.0
-    (e.leaves before) (e.means before) e.faults
-    (subst (λ (p : Bool). RunOn d.now d.past d.failures false p c.args.script.now c.in-Ok-open.engine r.result.1 was is
-    r.result.2 r.result.0) planned run))
+    let text = c.args.script.now in
+    let before = r.ensures.honest honest in
+    inr (subst (λ (w : Option (List ℕ)). RanOn d.now d.past d.failures false true text c.args.disk r.result.1 w is
+    r.result.2 r.result.0) c.in-Ok.ensures.same
+    (ran_on d false true text c.args.disk start r.result.1 was is r.result.2 r.result.0 (o.leaves before)
+    (o.nothing.means before) o.failures
+    (subst (λ (p : Bool). RunOn d.now d.past d.failures false p text start r.result.1 was is r.result.2 r.result.0)
+    planned (r.ensures.run honest))))
 
-pub returns-in-Ok-open-clause-ran : goal.returns-in-Ok-open-clause-ran
-returns-in-Ok-open-clause-ran g c = λ honest is.
+pub returns-in-Ok-clause-ran : goal.returns-in-Ok-clause-ran
+returns-in-Ok-clause-ran g c = λ honest is_end.
     let d = g.D.Disk in
+    let o = c.in-Ok.ensures.opened in
+    let start = c.in-Ok.server.engine in
     let r = c.run_server in
-    let same = c.new-server.ensures.engine in
-    let was = subst (λ (x : EngineState g.row.D.Denot). d.honest x.disk) same (r.ensures.honest honest) in
-    let e = c.in-Ok-open.ensures in
-    let run = subst (λ (x : EngineState g.row.D.Denot). RunOn d.now d.past d.failures false c.args.mode.planned
-    c.args.script.now x r.result.1
-    (g.W.Write.contents c.args.out.now) (g.W.Write.contents r.new.out) r.result.2 r.result.0) same
-    (r.ensures.run honest) in
-    ran d false c.args.mode.planned c.args.script.now c.args.disk r.result.1 _ _ r.result.2 r.result.0 is
-    (inr (ran_on d false c.args.mode.planned c.args.script.now c.args.disk c.in-Ok-open.engine r.result.1 _ _ r.result.2
-    r.result.0 (e.leaves was) (e.means was) e.faults run))
+    let was = g.W.Write.contents c.open_server.new.out in
+    let is = g.W.Write.contents r.new.out in
+    let text = c.args.script.now in
+    let planned = c.args.mode.planned in
+    let before = r.ensures.honest honest in
+    subst (λ (w : Option (List ℕ)). Ran d.now r.result.1 w is r.result.0) c.in-Ok.ensures.same
+    (ran d false planned text c.args.disk r.result.1 was is r.result.2 r.result.0 is_end
+    (inr (ran_on d false planned text c.args.disk start r.result.1 was is r.result.2 r.result.0 (o.leaves before)
+    (o.nothing.means before) o.failures (r.ensures.run honest))))
+
+pub returns-in-Ok-clause-honest : goal.returns-in-Ok-clause-honest
+returns-in-Ok-clause-honest g c = λ honest. c.in-Ok.ensures.opened.honest (c.run_server.ensures.honest honest)
+
+pub returns-in-Err-clause-ran : goal.returns-in-Err-clause-ran
+returns-in-Err-clause-ran g c = λ honest is_end.
+    let d = g.D.Disk in
+    ran d false c.args.mode.planned c.args.script.now c.args.disk c.in-Err.disk
+    (g.W.Write.contents c.args.out.now) (g.W.Write.contents c.open_server.new.out) c.new.result c.in-Err.status is_end
+    (inl (c.in-Err.ensures.refused.unopened honest))
+
+pub returns-in-Err-clause-run : goal.returns-in-Err-clause-run
+returns-in-Err-clause-run g c = λ honest. inl (c.in-Err.ensures.refused.unopened honest)
+
+pub returns-in-Err-clause-planned : goal.returns-in-Err-clause-planned
+returns-in-Err-clause-planned g c = λ planned honest. inl (c.in-Err.ensures.refused.unopened honest)

@@ -1,30 +1,14 @@
-use Rattle.std.proofs.Common.{◌≡◌, ◌∙◌, map, subst, sym}
+use Rattle.std.proofs.Common.{◌≡◌, map, subst, sym}
 use Rattle.std.specs.Prelude.{None}
 use Rattle.im_trace.specs.Ends.{RecordingState}
 use Rattle.im_run.specs.Doing.{AreAllTold}
 use Rattle.im_run.specs.Orders.{ask_of}
-use Rattle.im_run.proofs.DoingLemmas.{all_told_by, elements_end}
-use Rattle.im_run.proofs.OrdersLemmas.{if_ok_map}
 use Rattle.im_run.proofs.served.serve_orders.Goals as goal
-
-pub note_all-ports-requires : goal.note_all-ports-requires
-note_all-ports-requires g c =
-    let made = c.make_parts-parts in
-    let served = c.serve_elements-served in
-    if_ok_map _ _ served.result served.ensures.ends (λ all it. elements_end g.K.Name.memory made.result.parts.items
-    all.items it ∙ sym made.ensures.named)
 
 pub returns-clause-told : goal.returns-clause-told
 returns-clause-told g c =
-    let made = c.make_parts-parts in
-    let served = c.serve_elements-served in
-    let notes = c.note_all-ports in
+    let notes = c.serve_parts-ports in
     let end = c.finish-engine in
-    let trace = end.result.trace.items in
-    subst (λ (t : RecordingState). AreAllTold g.K.Name.memory t.items (notes.result.refused ≡ None)
+    subst (λ (t : RecordingState). AreAllTold g.K.Name.origin.memory t.items (notes.result.refused ≡ None)
     (map ask_of c.args.orders.items) notes.result.did.items) (sym c.of.ensures)
-    (all_told_by (λ all. all.items) served.result g.K.Name.memory trace (made.result.refused ≡ None)
-    (notes.result.refused ≡ None) (map ask_of c.args.orders.items) made.result.parts.items notes.result.did.items
-    made.ensures.made served.ensures.ends
-    (if_ok_map _ _ served.result notes.ensures.some (λ all it. (it.0, it.1 trace end.ensures.came.seen)))
-    notes.ensures.none)
+    (notes.ensures.told end.result.trace.items end.ensures.came.seen)

@@ -1,4 +1,4 @@
-use Rattle.std.proofs.Common.{◌≡◌, length, true}
+use Rattle.std.proofs.Common.{◌≡◌, length}
 use Rattle.im_run.specs.Planned.{all_below}
 use Rattle.im_run.proofs.unserved.are_below.Given as goal
 
