@@ -1,3 +1,5 @@
+use Rattle.im_disk.specs.declared.file.FileDisk.{FileDisk}
+use Rattle.im_disk.specs.contracts.file.FileDiskDisk.TheImpl.{ghosts}
 use Rattle.im_words.specs.Words.{task_of_job}
 use Rattle.im_program.proofs.OkLemmas.{some_then}
 use Rattle.im_program.proofs.SourceLemmas.{done_with}
@@ -5,7 +7,11 @@ use Rattle.im_program.proofs.jobs.act_alone.Goals as goal
 
 pub returns-clause-done : goal.returns-clause-done
 returns-clause-done g c =
-    let given = g.I.Read.remaining in
+    let d = ghosts g.row.S g.S.Start g.S.Start-dict g.S.Destruct-dict in
+    let was = g.W.Write.contents c.args.out.now in
+    let is = g.W.Write.contents c.work_alone-status.new.out in
     some_then _ _ c.work_alone-status.result.1
-    (λ disk done. rw c.parts-input.ensures.input at done_with _ _ given c.parts-input.result.2.now c.may_do.new.input
-    (task_of_job c.args.job.now) c.may_do.ensures _ _ _ disk done) c.work_alone-status.ensures.done
+    (λ disk done. rw c.parts-input.ensures.input at (done_with {D = FileDisk g.row.S.Denot g.S.Start}
+    {I = g.row.I.Denot} d g.S.Start.first (λ i. g.I.Read.remaining i) c.parts-input.result.2.now c.may_do.new.input
+    (task_of_job c.args.job.now) c.may_do.ensures was is c.work_alone-status.result.0 disk done))
+    c.work_alone-status.ensures.done
