@@ -1,7 +1,6 @@
 //! Requests through ports of one controller: with one thread alone, and with sixteen beside the thread that keeps
 //! checkpoints.
-ghost use Rattle.std.specs.Prelude.{◌≡◌};
-ghost use Rattle.im_controller.specs.Kept.{begun_in};
+ghost use Rattle.im_controller.specs.Kept.{IsOriginOf};
 
 use crate::errands::{Errand, Load, op};
 use crate::joining::join_all;
@@ -187,14 +186,7 @@ fn ask_named<D: Disk + Drop + Send, K: Name + Send + Sync, R: Threads + Wait + S
     opening: Opening<D>,
     errand: Errand,
 ) -> u64
-    requires memory { opening.engine.memory ≡ K.memory }
-    requires lines { opening.lines_name ≡ K.lines_name }
-    requires marked { opening.marked_name ≡ K.marked_name }
-    requires ports { opening.ports ≡ K.ports }
-    requires book { opening.book ≡ K.book }
-    requires plan { opening.plan ≡ K.plan }
-    requires begun { begun_in D.now D.past D.failures opening.engine ≡ K.begun }
-    requires honest { D.honest opening.engine.disk → K.honest }
+    requires origin { IsOriginOf D.Disk opening K.origin }
 {
     let controller = opening.named::<K>();
     let done = match errand.load {

@@ -6,7 +6,7 @@ ghost use Rattle.im_c.specs.Telling.{IsHeaderFlawOf, TellsHeaderFlaw};
 ghost use Rattle.im_c.specs.Sizes.{sizes_told};
 
 use crate::plain::LtLimits;
-use im_image::read_header;
+use im_image::{Versions, read_header};
 use im_listed::Listed;
 use im_types::{Limits, Refusal};
 use std::alloc::Global;
@@ -20,7 +20,7 @@ fn limits_of(alloc: Global, bytes: &[u8]) -> Result<Limits, Refusal>
         return Err(Refusal::NoMemory);
     };
     let mut disk = Listed::new(copy);
-    match read_header(&mut disk) {
+    match read_header(&mut disk, Versions::Any) {
         Ok(header) => Ok(header.limits),
         Err(refusal) => Err(refusal),
     }

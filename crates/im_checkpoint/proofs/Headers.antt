@@ -1,46 +1,18 @@
 -- The header in force, and the one that follows it.
 use Rattle.std.proofs.Common.{◌≡◌, ◌⊎◌, inl, inr, ℕ, zero, suc, ◌+◌, ◌-◌, ◌*◌, ◌<◌, ◌≤◌, ◌==◌, ◌&&◌, nat_le, Bool}
 use Rattle.std.proofs.Common.{true, List, refl, ◌∙◌, ap, subst, arith}
-use Rattle.std.proofs.lemmas.Bool.Decides.{nat_tests}
 use Rattle.im_types.proofs.Tests.{and_both}
-use Rattle.im_types.specs.declared.TheConstants.{LAST, MAX_CELLS, MAX_ELEMENTS, MIN_SLOTS, MAX_SLOTS}
-use Rattle.im_types.specs.Layout.{Sizes, layout_in_use, are_sizes}
+use Rattle.im_types.specs.declared.TheConstants.{LAST}
+use Rattle.im_types.specs.Layout.{layout_in_use, are_sizes}
 use Rattle.im_types.specs.Sizes.{AreLimits}
 use Rattle.im_types.specs.Header.{Header, header_in, header_place, is_header}
+use Rattle.im_laws.proofs.Tests.{eq_by_test}
+use Rattle.im_image.proofs.Headers.{le_is, le_true, same_itself, sizes_in_range}
 use Rattle.im_meaning.specs.Images.{InForce, Follows}
 use Rattle.im_checkpoint.specs.Turns.{next_header}
 
 joined : (a b : Bool) → a ≡ true → b ≡ true → (a && b) ≡ true
 joined a b first second = ap (λ (t : Bool). t && b) first ∙ second
-
-same_number : (m n : ℕ) → (m == n) ≡ true → m ≡ n
-same_number m n is = grind (arith, nat_tests)
-
-pub same_itself : (m n : ℕ) → m ≡ n → (m == n) ≡ true
-same_itself m n is = grind (arith, nat_tests, is)
-
-least : (m n : ℕ) → nat_le m n ≡ true → m ≤ n
-least m n is = grind (arith, nat_tests)
-
-is_least : (m n : ℕ) → m ≤ n → nat_le m n ≡ true
-is_least m n le = grind (arith, nat_tests)
-
--- sizes in their ranges
-pub limits_of : (s : Sizes) → are_sizes layout_in_use s ≡ true → AreLimits s.cells s.elements s.slots
-limits_of s are =
-    let e = and_both _ (nat_le s.slots MAX_SLOTS) are in
-    let d = and_both _ (nat_le MIN_SLOTS s.slots) e.0 in
-    let c = and_both _ (nat_le s.elements MAX_ELEMENTS) d.0 in
-    let b = and_both _ (nat_le 1 s.elements) c.0 in
-    let a = and_both (nat_le 1 s.cells) (nat_le s.cells MAX_CELLS) b.0 in
-    record {
-      some_cell = least _ _ a.0;
-      few_cells = least _ _ a.1;
-      some_element = least _ _ b.1;
-      few_elements = least _ _ c.1;
-      enough_slots = least _ _ d.1;
-      few_slots = least _ _ e.1;
-    }
 
 -- the numbers of a header in force
 pub record IsGood (h : Header) : Type 0 where
@@ -64,13 +36,13 @@ good h file it =
     let b = and_both _ (nat_le 1 h.generation) c.0 in
     let a = and_both (h.version == layout_in_use.version) (h.area == h.area) b.0 in
     record {
-      version = same_number _ _ a.0;
+      version = eq_by_test _ _ a.0;
       area = it.number;
-      from_one = least _ _ b.1;
-      to_last = least _ _ c.1;
-      count = least _ _ d.1;
+      from_one = le_true _ _ b.1;
+      to_last = le_true _ _ c.1;
+      count = le_true _ _ d.1;
       sizes = e.1;
-      limits = limits_of h.sizes e.1;
+      limits = sizes_in_range 2 h.sizes e.1;
     }
 
 -- the next header may take the place of the one in force
@@ -91,8 +63,8 @@ follows h count g later few = record {
   good = joined _ (are_sizes layout_in_use h.sizes)
       (joined _ (nat_le count LAST) (joined _ (nat_le (h.generation + 1) LAST) (joined _ (nat_le 1 (h.generation + 1))
       (joined (h.version == layout_in_use.version) (1 - h.area == 1 - h.area) (same_itself _ _ g.version)
-      (same_itself _ _ refl)) (is_least _ _ (omega arith))) (is_least _ _ (omega (arith, later))))
-      (is_least _ _ few)) g.sizes;
+      (same_itself _ _ refl)) (le_is _ _ (omega arith))) (le_is _ _ (omega (arith, later))))
+      (le_is _ _ few)) g.sizes;
 }
 
 -- where the other area lies

@@ -17,7 +17,8 @@ use Rattle.im_checkpoint.specs.Step.{Step, NoCheckpoint, PagesLeft, PagesDone, S
 use Rattle.im_checkpoint.specs.Turns.{next_header, begun_at}
 use Rattle.im_checkpoint.specs.Keeping.{Paged, MeansWith, IsWriting, KeepsStep, Keeps, IsCalm, IsKept}
 use Rattle.im_checkpoint.proofs.Bytes.{same_all, same_back, same_then, same_wider, same_overlaid}
-use Rattle.im_checkpoint.proofs.Headers.{same_itself, area_from, place_to}
+use Rattle.im_image.proofs.Headers.{same_itself}
+use Rattle.im_checkpoint.proofs.Headers.{area_from, place_to}
 use Rattle.im_checkpoint.proofs.Files.{Still, gate_is, still_means, keeps_at, still_in_area, still_gate, area_stays}
 use Rattle.im_checkpoint.proofs.Files.{size}
 use Rattle.im_checkpoint.proofs.Copies.{IsPageFor, page_written, writing_moved}

@@ -2,7 +2,6 @@
 use Rattle.std.proofs.Common.{◌≡◌, ◌≢◌, ℕ, ◌-◌, ◌*◌, ◌<◌, ◌≤◌, ◌==◌, true, false, List, [], ◌∷◌, length, get_or, take}
 use Rattle.std.proofs.Common.{drop, replicate, get_or-take, get_or-drop, refl, sym, ◌∙◌, ap, subst, arith}
 use Rattle.std.proofs.lemmas.List.{take_all}
-use Rattle.std.proofs.lemmas.Bool.Decides.{nat_tests}
 use Rattle.im_types.specs.declared.TheConstants.{LAST}
 use Rattle.im_types.specs.declared.commands.Command.{Command}
 use Rattle.im_types.specs.Bytes.{open_gate}
@@ -18,6 +17,7 @@ use Rattle.im_journal.specs.Holding.{JournalState, Holds}
 use Rattle.im_meaning.specs.Images.{other}
 use Rattle.im_pages.specs.PageSets.{union, pages_from}
 use Rattle.im_image.specs.Encoding.{AreCounted}
+use Rattle.im_image.proofs.Headers.{same_itself}
 use Rattle.im_checkpoint.specs.Step.{NoCheckpoint, Synced, CheckpointState, with_left}
 use Rattle.im_checkpoint.specs.Turns.{next_header, begun_at}
 use Rattle.im_checkpoint.specs.Keeping.{Paged, MeansWith, IsTakenAt, IsWriting, KeepsStep, IsKept}
@@ -28,9 +28,6 @@ use Rattle.im_checkpoint.proofs.Copies.{begins}
 use Rattle.im_checkpoint.proofs.Moments.{calm_left, next_closed, next_means, in_force_done}
 
 -- the gate that was read
-
-same_itself : (m n : ℕ) → m ≡ n → (m == n) ≡ true
-same_itself m n is = grind (arith, nat_tests, is)
 
 gate_byte : (k : ℕ) (file gate : List ℕ) → gate ≡ take 1 (drop (4096 * k) file) → get_or gate 0 0
     ≡ get_or file (4096 * k) 0

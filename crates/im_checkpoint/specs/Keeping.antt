@@ -53,7 +53,7 @@ pub record Fits (c : CheckpointState) (m : Contents) (j : JournalState) : Type 0
   pub step : StepFits c.header j c.step
 
 -- no checkpoint is under way, and the memory and the journal are those of the header
-pub record IsAtRest (c : CheckpointState) (m : Contents) (j : JournalState) : Type 0 where
+pub record FitsIdle (c : CheckpointState) (m : Contents) (j : JournalState) : Type 0 where
   pub step : c.step ≡ NoCheckpoint
   pub fits : Fits c m j
 

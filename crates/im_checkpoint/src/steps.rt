@@ -13,7 +13,7 @@ ghost use Rattle.im_pages.specs.PageSets.{pages_from, IsNext};
 ghost use Rattle.im_image.specs.Reading.{HasSizes};
 ghost use Rattle.im_checkpoint.specs.Step.{NoCheckpoint, with_left, step_by_phase, changed_in, IsPagesDone};
 ghost use Rattle.im_checkpoint.specs.Turns.{Turned, Moved, BeginsCheckpoint, is_due, MakesTurn};
-ghost use Rattle.im_checkpoint.specs.Keeping.{paged, IsKept, IsAtRest, HasPagesLeft, IsReady, TurnKeeps, TurnLeaves};
+ghost use Rattle.im_checkpoint.specs.Keeping.{paged, IsKept, FitsIdle, HasPagesLeft, IsReady, TurnKeeps, TurnLeaves};
 
 use crate::checkpoint::{Checkpoint, Phase, TurnDone};
 use crate::header::{close_other, next_header, open_next};
@@ -161,7 +161,7 @@ impl Checkpoint {
         memory: &Memory,
         journal: &mut Journal,
     ) -> Result<TurnDone, Refusal>
-        requires rests { IsAtRest self.old.state memory.now.contents journal.old }
+        requires rests { FitsIdle self.old.state memory.now.contents journal.old }
         requires kept { D.honest disk.old
             → IsKept self.old.state (paged self.old memory.now) memory.now.contents journal.old (D.now disk.old) }
         ensures turned { IfOk result (λ answer. Turned self.old.state journal.old answer self.new.state journal.new

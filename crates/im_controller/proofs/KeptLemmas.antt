@@ -2,10 +2,10 @@
 use Rattle.std.proofs.Common.{◌≡◌, ◌⊎◌, inl, inr, ⊎_elim, ℕ, zero, suc, ◌+◌, ◌≤◌, ◌<◌, Bool, true, false, ◌&&◌, List}
 use Rattle.std.proofs.Common.{[], ◌∷◌, ◌++◌, length, length-append, append_assoc, map, refl, sym, ap}
 use Rattle.std.proofs.Common.{◌∙◌, subst, arith}
-use Rattle.std.proofs.Common.{if◌then◌else◌, Result, Ok, Err}
+use Rattle.std.proofs.Common.{if◌then◌else◌, Result, Ok, Err, take, drop}
 use Rattle.std.specs.Prelude.{Option, Some, nat_lt, ◌==◌, IfErr}
 use Rattle.std.proofs.lemmas.Bool.Decides.{nat_tests}
-use Rattle.std.proofs.lemmas.List.{append-nil, length-map, take_all, take-append-le}
+use Rattle.std.proofs.lemmas.List.{append-nil, length-map, length-take-le, take_all, take-append-le, take-append-drop}
 use Rattle.im_types.specs.declared.commands.Command.{Command}
 use Rattle.im_types.specs.declared.commands.Outcome.{Outcome}
 use Rattle.im_types.specs.declared.commands.Call.TheVariants.{Command as Commands, Collect}
@@ -43,17 +43,24 @@ use Rattle.im_groups.specs.Commands.{commands_at, takes_place}
 use Rattle.im_groups.proofs.CommandLemmas.{at-after, at-accepted}
 use Rattle.im_engine.proofs.Keeping.{accept_both, accept_one}
 use Rattle.im_engine.proofs.Running.{Failures, failures_more, failures_turned}
-use Rattle.im_trace.specs.Lines.{leaves_line, line_of, lines_of, time_at, times_of}
+use Rattle.im_trace.specs.Lines.{leaves_line, line_of, lines_of, time_at, times_of, NeverGoBack}
 use Rattle.im_trace.specs.Log.{TimedLog, GoesOnAt}
-use Rattle.im_trace.proofs.TimeLemmas.{time-later, time-new}
+use Rattle.im_trace.proofs.TimeLemmas.{time-later, time-new, none-back, more-back}
 use Rattle.im_controller.specs.Groups.{answer_in, MembersAnswered}
 use Rattle.im_controller.specs.Lends.{IsTurnFault, told_turn}
 use Rattle.im_controller.specs.Kept.{Begun, begun_in, accepted_in, MeansSome, MeansAll, MeansFrom, HasKept}
-use Rattle.im_controller.specs.Kept.{IsLeftAt, KeepsSince}
+use Rattle.im_controller.specs.Kept.{IsLeftAt, KeepsSince, IsOriginOf}
+use Rattle.im_controller.specs.State.{OpeningState}
+use Rattle.im_trace.specs.Origin.{Origin}
 use Rattle.im_controller.specs.Planned.{IsOnPlan, AreOnPlan}
 use Rattle.im_controller.proofs.LendLemmas.{ok-leaves}
 use Rattle.im_controller.proofs.GroupLemmas.{answers_served}
 use Rattle.im_controller.proofs.PutLemmas.{lines_all, one-end, refused-lines}
+
+-- the origin of an opening, by what is known of its parts
+pub origin-by : {D : Type 0} (disk : Ghosts D) (o p : OpeningState D) (k : Origin) → o ≡ p → IsOriginOf disk p k
+    → IsOriginOf disk o k
+origin-by {D} disk o p k same is = subst (λ (x : OpeningState D). IsOriginOf disk x k) (sym same) is
 
 -- ---- what leaves the memory: a turn and a sweep
 
@@ -637,6 +644,9 @@ module _ (trace trace' more : List Line) (times times' : List ℕ) (time : ℕ) 
       }))
       (below_or_from (length trace) (length history))
 
+from_zero : (n : ℕ) → 0 ≤ n
+from_zero n = omega arith
+
 module _ {D : Type 0} (disk : Ghosts D) (b : Begun) (m : Contents) (plan : Option (List Request)) where
   pub since_of : (trace : List Line) (times : List ℕ) (e : EngineState D)
       → KeepsSince disk b m plan trace times e
@@ -652,9 +662,22 @@ module _ {D : Type 0} (disk : Ghosts D) (b : Begun) (m : Contents) (plan : Optio
 
   -- lines more are left now
   module _ (trace trace' more : List Line) (times times' : List ℕ) (f : EngineState D)
-      (whole : length times ≡ length trace) (lines : trace' ≡ trace ++ more)
+      (whole : length times ≡ length trace) (order : NeverGoBack times) (lines : trace' ≡ trace ++ more)
       (timed : times' ≡ times ++ times_of (length (disk.past f.disk)) more)
       (it : HasSince disk b m plan (held_of m trace times) (accepted_in m trace') f) where
+    -- no line before has a later time
+    until_now : (n : ℕ) → n ≤ length times → time_at times n ≤ length (disk.past f.disk)
+    until_now zero few = from_zero (length (disk.past f.disk))
+    until_now (suc n) few =
+        let history = take (suc n) trace in
+        let long : length history ≡ suc n = length-take-le (suc n) trace (omega (arith, whole, few)) in
+        let left : IsLeftAt trace times history (time_at times (suc n)) = record {
+          begins = (drop (suc n) trace, take-append-drop (suc n) trace);
+          some = omega (arith, long);
+          time_is = ap (λ (k : ℕ). time_at times k) (sym long);
+        } in
+        it.by (length (accepted_in m history)) (time_at times (suc n)) (history, left, refl)
+
     pub since_now : (history : List Line) → IsPrefix history trace' → (file : List ℕ) → Left (disk.now f.disk) file
         → MeansFrom m b.count (accepted_in m trace' ++ it.kept.doubt) (length (accepted_in m history)) file
     since_now history begins file left =
@@ -670,6 +693,8 @@ module _ {D : Type 0} (disk : Ghosts D) (b : Begun) (m : Contents) (plan : Optio
     keeps_more = record {
       kept = it.kept;
       whole = whole-more trace trace' more times times' (length (disk.past f.disk)) whole lines timed;
+      order = subst (λ (ts : List ℕ). NeverGoBack ts) (sym timed)
+          (more-back times (length (disk.past f.disk)) more order until_now);
       by = λ history time at. ⊎_elim
           (λ old. it.by (length (accepted_in m history)) time (history, old, refl))
           (λ new. omega (arith, new))
@@ -684,25 +709,25 @@ module _ {D : Type 0} (disk : Ghosts D) (b : Begun) (m : Contents) (plan : Optio
 
   -- the same of a log
   pub keeps_at : (time : ℕ) (old new : TimedLog) (f : EngineState D) → time ≡ length (disk.past f.disk)
-      → length old.times ≡ length old.state.trace → GoesOnAt time old new
+      → length old.times ≡ length old.state.trace → NeverGoBack old.times → GoesOnAt time old new
       → HasSince disk b m plan (held_of m old.state.trace old.times) (accepted_in m new.state.trace) f
       → KeepsSince disk b m plan new.state.trace new.times f
-  keeps_at time old new f is whole goes it = keeps_more old.state.trace new.state.trace goes.more old.times new.times f
-      whole goes.lines (goes.times ∙ ap (λ t. old.times ++ times_of t goes.more) is) it
+  keeps_at time old new f is whole order goes it = keeps_more old.state.trace new.state.trace goes.more old.times
+      new.times f whole order goes.lines (goes.times ∙ ap (λ t. old.times ++ times_of t goes.more) is) it
 
   -- no line more
   pub keeps_still : (trace : List Line) (times : List ℕ) (f : EngineState D) → length times ≡ length trace
-      → HasSince disk b m plan (held_of m trace times) (accepted_in m trace) f
+      → NeverGoBack times → HasSince disk b m plan (held_of m trace times) (accepted_in m trace) f
       → KeepsSince disk b m plan trace times f
-  keeps_still trace times f whole it = keeps_more trace trace [] times times f whole (sym (append-nil trace))
-      (sym (append-nil times)) it
+  keeps_still trace times f whole order it = keeps_more trace trace [] times times f whole order
+      (sym (append-nil trace)) (sym (append-nil times)) it
 
   -- before the first line
   pub keeps_first : (trace : List Line) (times : List ℕ) (e : EngineState D) → trace ≡ [] → times ≡ []
       → begun_in disk.now disk.past disk.failures e ≡ b → e.memory ≡ m → e.failed ≡ false
       → LeavesNow (disk.now e.disk) (MeansState e)
       → KeepsSince disk b m plan trace times e
-  keeps_first trace times e none no_times is same alive means = rw (none, no_times) (keeps_still [] [] e refl
+  keeps_first trace times e none no_times is same alive means = rw (none, no_times) (keeps_still [] [] e refl none-back
       (kept_start disk b m plan (held_of m [] []) e is same alive means
       (λ many time h. nothing h.0 h.1.begins h.1.some)))
     where

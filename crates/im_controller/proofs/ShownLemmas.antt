@@ -7,7 +7,6 @@ use Rattle.std.proofs.lemmas.Bool.Decides.{nat_tests}
 use mathlib.Core.List.{IsPrefix}
 use Rattle.im_types.specs.declared.changes.Change.{Change}
 use Rattle.im_types.specs.declared.commands.Command.{Command}
-use Rattle.im_types.specs.declared.commands.Request.{Request}
 use Rattle.im_types.specs.declared.commands.Outcome.{Outcome}
 use Rattle.im_types.specs.declared.commands.Call.{Call}
 use Rattle.im_types.specs.declared.commands.Call.TheVariants.{Command as Commands, Collect}
@@ -29,6 +28,7 @@ use Rattle.im_trace.specs.Log.{ReceiptState, IsToldOf, plain, receipt_for, with_
 use Rattle.im_trace.proofs.ToldLemmas.{shown-append, plain-receipt}
 use Rattle.im_controller.specs.Planned.{has_command}
 use Rattle.im_controller.specs.State.{SharedState}
+use Rattle.im_trace.specs.Origin.{Origin}
 use Rattle.im_controller.specs.Lends.{Lends, changes_put, shows}
 use Rattle.im_controller.proofs.LendLemmas.{ok-leaves}
 
@@ -176,16 +176,16 @@ pub told-all : (m : Contents) (trace : List Line) (told : List Change) → told 
 told-all m trace told is = ([], append-nil (shown_by m trace) ∙ sym is)
 
 -- a command that the engine was lent to
-module _ {D : Type 0} (disk : Ghosts D) (marks : Line → Bool) (plan : Option (List Request)) (s s' : SharedState D)
-    (t t' : Counts) (command : Command) (a : Result Outcome Refusal) (answer : Result ReceiptState Refusal) where
+module _ {D : Type 0} (disk : Ghosts D) (k : Origin) (s s' : SharedState D) (t t' : Counts) (command : Command)
+    (a : Result Outcome Refusal) (answer : Result ReceiptState Refusal) where
   abbrev time : ℕ
   time = length (disk.past s'.engine.disk)
 
   pub lends-served : answer ≡ receipt_for s'.log.trace time s'.shown command a → s.engine.failed ≡ false
-      → length s.log.trace < s.log.limit → has_command plan command ≡ true
+      → length s.log.trace < s.log.limit → has_command k.plan command ≡ true
       → Answered s.engine command a s'.engine → s'.log ≡ with_line s.log (Commands command) a → s'.servers ≡ s.servers
-      → t' ≡ counts_after marks t (lines_of (Commands command) a) → s'.shown
-      ≡ s.shown ++ shows s.engine.memory command a → Lends disk marks plan s t command answer s' t'
+      → t' ≡ counts_after k.marks t (lines_of (Commands command) a) → s'.shown
+      ≡ s.shown ++ shows s.engine.memory command a → Lends disk k s t command answer s' t'
   lends-served is alive room has answered log servers tally shown =
       let same : a ≡ plain answer = sym (ap plain is ∙ plain-receipt s'.log.trace time s'.shown command a) in record {
         dead = λ dead. absurd (true_false (sym dead ∙ alive));
@@ -195,7 +195,7 @@ module _ {D : Type 0} (disk : Ghosts D) (marks : Line → Bool) (plan : Option (
           subst (λ (x : Result Outcome Refusal). Answered s.engine command x s'.engine) same answered,
           record { log = log ∙ ap (with_line s.log (Commands command)) same; servers = servers },
         );
-        tally = tally ∙ ap (λ x. counts_after marks t (lines_of (Commands command) x)) same;
+        tally = tally ∙ ap (λ x. counts_after k.marks t (lines_of (Commands command) x)) same;
         shown = shown ∙ ap (λ x. s.shown ++ shows s.engine.memory command x) same;
         receipt = is ∙ ap (receipt_for s'.log.trace time s'.shown command) same;
       }

@@ -2,8 +2,7 @@
 use Rattle.std.specs.Prelude.{◌≡◌, ◌↔◌, ℕ, ◌+◌, Bool, List, IsTrue, length, sum_by}
 use Rattle.std.specs.List.{AllByRecursion}
 use mathlib.Core.List.{IsPrefix}
-use Rattle.im_types.specs.declared.commands.Line.{Line}
-use Rattle.im_trace.specs.Books.{BookNames}
+use Rattle.im_trace.specs.Origin.{Origin}
 use Rattle.im_trace.specs.Lines.{Counts}
 use Rattle.im_trace.specs.Ends.{IsCounted, RecordingState}
 use Rattle.im_controller.specs.State.{PortState}
@@ -12,15 +11,15 @@ use Rattle.im_controller.specs.State.{PortState}
 abbrev pub told_to_all : List PortState → Counts
 told_to_all ports = record { lines = sum_by (λ p. p.told.lines) ports; marked = sum_by (λ p. p.told.marked) ports }
 
--- Of so many ports these came back, and some weren't given out. Whether all came that were given out, and whether no
--- line of the trace waits for its port. The trace is of the book of lines.
-pub record HaveCome (marks : Line → Bool) (books : BookNames) (trace : RecordingState) (ports : ℕ)
-    (back : List PortState) (left : ℕ) (came claimed : Bool) : Type 0 where
-  pub book_is : trace.book ≡ books.lines
+-- Of a controller's ports these came back, and some weren't given out. Whether all came that were given out, and
+-- whether no line of the trace waits for its port. The trace is of the book of lines.
+pub record HaveCome (origin : Origin) (trace : RecordingState) (back : List PortState) (left : ℕ)
+    (came claimed : Bool) : Type 0 where
+  pub book_is : trace.book ≡ origin.book.lines
   -- each port has seen a prefix of the trace: so have all receipts that it was told
   pub seen : AllByRecursion (λ p. IsPrefix p.history trace.items) back
   -- all came exactly if both make all
-  pub exactly : IsTrue came ↔ (length back + left ≡ ports)
-  pub whole : length back ≡ ports → IsTrue came
+  pub exactly : IsTrue came ↔ (length back + left ≡ origin.ports)
+  pub whole : length back ≡ origin.ports → IsTrue came
   -- where all came, they were told all lines and all marked lines if no line waits, and fewer lines if one waits
-  pub counted : IsTrue came → IsCounted marks trace.items claimed (told_to_all back)
+  pub counted : IsTrue came → IsCounted origin.marks trace.items claimed (told_to_all back)

@@ -1,6 +1,6 @@
 -- What a crash leaves of an engine after a trace of its answers began. (Own.)
 use Rattle.std.specs.Prelude.{◌≡◌, ◌⊎◌, ℕ, ◌+◌, ◌<◌, ◌≤◌, true, false, List, [], ◌∷◌, ◌++◌, length, take, Option}
-use Rattle.std.specs.Prelude.{Some}
+use Rattle.std.specs.Prelude.{Bool, Some}
 use mathlib.Core.List.{IsPrefix}
 use Rattle.im_types.specs.declared.commands.Command.{Command}
 use Rattle.im_types.specs.declared.commands.Line.{Line}
@@ -14,13 +14,41 @@ use Rattle.im_disk.specs.Moment.{Moment, LeftSince, Rises}
 use Rattle.im_disk.specs.Since.{Leaves, LeavesNow}
 use Rattle.im_engine.specs.State.{EngineState}
 pub use Rattle.im_trace.specs.Begun.{Begun}
-use Rattle.im_trace.specs.Lines.{time_at}
+use Rattle.im_trace.specs.Lines.{time_at, NeverGoBack}
+use Rattle.im_trace.specs.Origin.{Origin}
 use Rattle.im_controller.specs.Planned.{AreOnPlan}
+use Rattle.im_controller.specs.State.{OpeningState}
 
 -- an engine when its trace begins, given what is known of its disk
 abbrev pub begun_in : {D : Type 0} → (D → Moment) → (D → List Moment) → (D → ℕ) → EngineState D → Begun
 begun_in now past failures e =
     record { now = now e.disk; past = past e.disk; failures = failures e.disk; count = e.count; failed = e.failed }
+
+-- A controller that is made of this opening begins there. Its disk is honest then only if what the origin has of that
+-- holds.
+pub record IsOriginOf {D : Type 0} (disk : Ghosts D) (opening : OpeningState D) (origin : Origin) : Type 0 where
+  pub memory : opening.engine.memory ≡ origin.memory
+  pub plan : opening.plan ≡ origin.plan
+  pub lines : opening.lines_name ≡ origin.lines_name
+  pub marked : opening.marked_name ≡ origin.marked_name
+  pub ports : opening.ports ≡ origin.ports
+  pub book : opening.book ≡ origin.book
+  pub begun : begun_in disk.now disk.past disk.failures opening.engine ≡ origin.begun
+  pub honest : disk.honest opening.engine.disk → origin.honest
+
+-- where a controller begins that is made of this opening, if these lines are marked
+abbrev pub origin_of : {D : Type 0} → Ghosts D → (Line → Bool) → OpeningState D → Origin
+origin_of disk marks opening = record {
+  memory = opening.engine.memory;
+  plan = opening.plan;
+  marks = marks;
+  lines_name = opening.lines_name;
+  marked_name = opening.marked_name;
+  ports = opening.ports;
+  book = opening.book;
+  begun = begun_in disk.now disk.past disk.failures opening.engine;
+  honest = disk.honest opening.engine.disk;
+}
 
 -- the accepted commands of a trace, in order
 abbrev pub accepted_in : Contents → List Line → List Command
@@ -72,21 +100,21 @@ MeansFrom m count commands least file =
 pub record KeepsSince {D : Type 0} (disk : Ghosts D) (b : Begun) (m : Contents) (plan : Option (List Request))
     (trace : List Line) (times : List ℕ) (engine : EngineState D) : Type 0 where
   pub kept : HasKept disk.now disk.past disk.failures b m plan (accepted_in m trace) engine
-  -- each line has a time, and none is later than now
+  -- each line has a time, which is no earlier than that of a line before it, and no later than now
   pub whole : length times ≡ length trace
+  pub order : NeverGoBack times
   pub by : (history : List Line) (time : ℕ) → IsLeftAt trace times history time → time ≤ length (disk.past engine.disk)
   pub since : (history : List Line) (time : ℕ) → IsLeftAt trace times history time → (file : List ℕ)
       → LeftSince (disk.now engine.disk ∷ disk.past engine.disk) time file
       → MeansFrom m b.count (accepted_in m trace ++ kept.doubt) (length (accepted_in m history)) file
 
 -- what was kept of this trace, if the disk is honest and the engine worked when its trace began
-abbrev pub KeptAll : {D : Type 0} → Ghosts D → Begun → Contents → Option (List Request) → List Line → EngineState D
-    → Type 0
-KeptAll disk b m plan trace engine = disk.honest engine.disk → b.failed ≡ false
-    → HasKept disk.now disk.past disk.failures b m plan (accepted_in m trace) engine
+abbrev pub KeptAll : {D : Type 0} → Ghosts D → Origin → List Line → EngineState D → Type 0
+KeptAll disk origin trace engine = disk.honest engine.disk → origin.begun.failed ≡ false
+    → HasKept disk.now disk.past disk.failures origin.begun origin.memory origin.plan (accepted_in origin.memory trace)
+    engine
 
 -- since when it was kept, with the same premises
-abbrev pub KeptSince : {D : Type 0} → Ghosts D → Begun → Contents → Option (List Request) → List Line → List ℕ
-    → EngineState D → Type 0
-KeptSince disk b m plan trace times engine =
-    disk.honest engine.disk → b.failed ≡ false → KeepsSince disk b m plan trace times engine
+abbrev pub KeptSince : {D : Type 0} → Ghosts D → Origin → List Line → List ℕ → EngineState D → Type 0
+KeptSince disk origin trace times engine = disk.honest engine.disk → origin.begun.failed ≡ false
+    → KeepsSince disk origin.begun origin.memory origin.plan trace times engine

@@ -1,10 +1,9 @@
 -- What is done under the lock. (Own.)
-use Rattle.std.specs.Prelude.{◌≡◌, ◌≢◌, ◌⊎◌, ℕ, ◌<◌, ◌≤◌, ◌++◌, ◌&&◌, Bool, true, false, Option, List, [], ◌∷◌, Some}
+use Rattle.std.specs.Prelude.{◌≡◌, ◌≢◌, ◌⊎◌, ℕ, ◌<◌, ◌≤◌, ◌++◌, ◌&&◌, Bool, true, false, List, [], ◌∷◌, Some}
 use Rattle.std.specs.Prelude.{Result, Ok, Err, length, count_by, nat_lt, slice_get, slice_set, if◌then◌else◌, ◌==◌}
 use Rattle.im_types.specs.declared.operations.Entry.{Entry}
 use Rattle.im_types.specs.declared.operations.Entry.TheVariants.{Waiting}
 use Rattle.im_types.specs.declared.commands.Command.{Command}
-use Rattle.im_types.specs.declared.commands.Request.{Request}
 use Rattle.im_types.specs.declared.commands.Outcome.{Outcome}
 use Rattle.im_types.specs.declared.commands.Call.{Call}
 use Rattle.im_types.specs.declared.commands.Call.TheVariants.{Command as Commands, Collect}
@@ -26,6 +25,7 @@ use Rattle.im_queue.specs.declared.servers.Ask.TheVariants.{Go, Wait}
 use Rattle.im_queue.specs.declared.servers.Server.{Server}
 use Rattle.im_queue.specs.declared.servers.Server.TheVariants.{Unmade, Active, Waits}
 use Rattle.im_controller.specs.declared.tellers.Standing.{Standing}
+use Rattle.im_trace.specs.Origin.{Origin}
 use Rattle.im_trace.specs.Lines.{Counts, lines_of, counts_after}
 use Rattle.im_trace.specs.Log.{ReceiptState, plain, receipt_for, with_line}
 use Rattle.im_queue.specs.Servers.{entry_at, is_answered, is_waiting, are_stuck, with_server}
@@ -60,21 +60,20 @@ pub record IsRoomless {D : Type 0} (s : SharedState D) (command : Command) (answ
 
 -- A command that is lent to the engine, with its answer. It is refused first if the engine has failed, and then if the
 -- trace is full.
-pub record Lends {D : Type 0} (disk : Ghosts D) (marks : Line → Bool) (plan : Option (List Request))
-    (s : SharedState D) (t : Counts) (command : Command) (answer : Result ReceiptState Refusal) (s' : SharedState D)
-    (t' : Counts) : Type 0 where
+pub record Lends {D : Type 0} (disk : Ghosts D) (origin : Origin) (s : SharedState D) (t : Counts) (command : Command)
+    (answer : Result ReceiptState Refusal) (s' : SharedState D) (t' : Counts) : Type 0 where
   pub dead : s.engine.failed ≡ true → (answer ≡ Err Failed) × (s' ≡ s)
   pub full : s.engine.failed ≡ false → s.log.limit ≤ length s.log.trace → (answer ≡ Err TraceFull) × (s' ≡ s)
   -- then if there is a plan that doesn't have its operation under its number
-  pub off : s.engine.failed ≡ false → length s.log.trace < s.log.limit → has_command plan command ≡ false
+  pub off : s.engine.failed ≡ false → length s.log.trace < s.log.limit → has_command origin.plan command ≡ false
       → (answer ≡ Err OffPlan) × (s' ≡ s)
   -- Else the engine answers it, and its line is left if the answer is an outcome or a refusal of numbers. Or the pane
   -- has no room for its change.
-  pub served : s.engine.failed ≡ false → length s.log.trace < s.log.limit → has_command plan command ≡ true →
+  pub served : s.engine.failed ≡ false → length s.log.trace < s.log.limit → has_command origin.plan command ≡ true →
       (Answered s.engine command (plain answer) s'.engine × Leaves s (Commands command) (plain answer) s')
       ⊎ IsRoomless s command answer s'
   -- its port has counted the line, if there is one; an outcome has the trace that ends in the line
-  pub tally : t' ≡ counts_after marks t (lines_of (Commands command) (plain answer))
+  pub tally : t' ≡ counts_after origin.marks t (lines_of (Commands command) (plain answer))
   -- The change of an accepted command is shown if it has an outcome. The outcome has what is shown then, and the time:
   -- how many moments the disk had had.
   pub shown : s'.shown ≡ s.shown ++ shows s.engine.memory command (plain answer)

@@ -76,9 +76,9 @@ pub(crate) fn admit<D: Disk, K: Name>(
     requires empty { lent.old.items ≡ [] }
     requires apart { AreOneOfEach members.now }
     requires free { AreFreeFor shared.old.log.places members.now }
-    ensures lent { lent.new.items ≡ admitted K.plan shared.old members.now }
-    ensures shared { shared.new ≡ with_refused_off K.plan shared.old members.now }
-    ensures starts { StartsBy K.memory K.plan }
+    ensures lent { lent.new.items ≡ admitted K.origin.plan shared.old members.now }
+    ensures shared { shared.new ≡ with_refused_off K.origin.plan shared.old members.now }
+    ensures starts { StartsBy K.origin.memory K.origin.plan }
 {
     let asked = is_asked(shared);
     let mut off = ArrayVec::new();

@@ -82,7 +82,7 @@ impl<D: Disk, K: Name> Controller<D, K> {
     /// Makes an element's glance, which has seen the full cells of the memory that was opened. A glance reads the full
     /// cells and waits for nobody. Returns `NoElement` if there is no such element or it already has its glance.
     pub fn glance<R: Wait>(&self, rt: &R, element: u16) -> Result<Glance<Shown<K>>, Refusal>
-        ensures found { IfOk result (λ g. IsPrefix (opening K.memory) g) }
+        ensures found { IfOk result (λ g. IsPrefix (opening K.origin.memory) g) }
         ensures refused { IfErr result (λ e. e ≡ NoElement) }
     {
         let mut guard = self.shared.lock(rt);
@@ -173,11 +173,11 @@ impl<D: Disk, K: Name> Controller<D, K> {
         command: &Command,
     ) -> Result<Receipt<K>, Refusal>
         ensures asked { IfOk result (λ r. r.command ≡ command.now) }
-        ensures planned { TellsOf K.memory K.plan result }
-        ensures legal { IfOk result (λ r. IsLegal K.memory r.history) }
+        ensures planned { TellsOf K.origin.memory K.origin.plan result }
+        ensures legal { IfOk result (λ r. IsLegal K.origin.memory r.history) }
         ensures last { IfOk result (λ r. EndsIn r.history (line_of (Commands r.command) (plain result))) }
         ensures counts { port.new.told
-            ≡ counts_after K.marks port.old.told (lines_of (Commands command.now) (plain result)) }
+            ≡ counts_after K.origin.marks port.old.told (lines_of (Commands command.now) (plain result)) }
         ensures order { SeesReceipt port.old.history command.now result port.new.history }
         ensures element { port.new.element ≡ port.old.element }
     {
@@ -198,8 +198,8 @@ impl<D: Disk, K: Name> Controller<D, K> {
         port: &mut Port<K>,
         command: &Command,
     ) -> Option<Result<Receipt<K>, Refusal>>
-        ensures holds { Holds K.marks port.old.told command.now result port.new.told }
-        ensures planned { IfSome result (TellsOf K.memory K.plan) }
+        ensures holds { Holds K.origin.marks port.old.told command.now result port.new.told }
+        ensures planned { IfSome result (TellsOf K.origin.memory K.origin.plan) }
         ensures order { SeesAnswer port.old.history command.now result port.new.history }
         ensures element { port.new.element ≡ port.old.element }
     {

@@ -44,8 +44,8 @@ pub struct Finished<D: Disk> {
 /// has failed, the commands that it left in doubt may be there too, all of them or none.
 ///
 /// Each file that a crash may have left at the time of a line or later has all accepted commands of the trace up to
-/// that line. So what a receipt tells is on the disk from then on: its history and its time are the trace's, as
-/// [`Recording::knows`] and [`Recording::times`] say.
+/// that line. No line has an earlier time than one before it. So what a receipt tells is on the disk from then on: its
+/// history and its time are the trace's, as [`Recording::knows`] and [`Recording::times`] say.
 ///
 /// Under a plan, an answered entry of a planned request has its result by the plan. Once the whole plan is served, the
 /// memory that was opened and the plan alone say what is kept, whatever the threads did. A plan that isn't served yet
@@ -56,14 +56,14 @@ pub fn finish<D: Disk, K: Name, R: Wait>(
     controller: Controller<D, K>,
     ports: Vec<Port<K>>,
 ) -> Finished<D>
-    ensures legal { IsLegal K.memory result.trace.items }
-    ensures end { end_of K.memory result.trace.items ≡ result.engine.memory }
-    ensures recorded { result.trace.recorded ≡ K.book.recorded }
-    ensures planned { EndsBy K.memory K.plan result.trace.items result.engine.memory }
-    ensures kept { KeptAll D.Disk K.begun K.memory K.plan result.trace.items result.engine }
-    ensures keeps { KeptSince D.Disk K.begun K.memory K.plan result.trace.items result.trace.times result.engine }
-    ensures honest { D.honest result.engine.disk → K.honest }
-    ensures came { HaveCome K.marks K.book result.trace K.ports ports.items result.left result.came result.claimed }
+    ensures legal { IsLegal K.origin.memory result.trace.items }
+    ensures end { end_of K.origin.memory result.trace.items ≡ result.engine.memory }
+    ensures recorded { result.trace.recorded ≡ K.origin.book.recorded }
+    ensures planned { EndsBy K.origin.memory K.origin.plan result.trace.items result.engine.memory }
+    ensures kept { KeptAll D.Disk K.origin result.trace.items result.engine }
+    ensures keeps { KeptSince D.Disk K.origin result.trace.items result.trace.times result.engine }
+    ensures honest { D.honest result.engine.disk → K.origin.honest }
+    ensures came { HaveCome K.origin result.trace ports.items result.left result.came result.claimed }
 {
     let Shared {
         engine,
@@ -94,11 +94,11 @@ pub fn finish<D: Disk, K: Name, R: Wait>(
 
 // Takes the shares of all ports back.
 fn take_all_back<K: Name>(log: &mut Ended<K>, ports: Vec<Port<K>>)
-    requires bound { log.old.back ≤ K.ports }
+    requires bound { log.old.back ≤ K.origin.ports }
     ensures back { log.new.back ≡ log.old.back + length ports.items }
     ensures lines { log.new.told.lines ≡ log.old.told.lines + sum_by (λ p. p.told.lines) ports.items }
     ensures marked { log.new.told.marked ≡ log.old.told.marked + sum_by (λ p. p.told.marked) ports.items }
-    ensures bound { log.new.back ≤ K.ports }
+    ensures bound { log.new.back ≤ K.origin.ports }
     ensures trace { (log.new.trace ≡ log.old.trace) × (log.new.times ≡ log.old.times) }
     ensures claimed { log.new.claimed ≡ log.old.claimed }
     ensures seen { AllByRecursion (λ p. IsPrefix p.history log.old.trace) ports.items }

@@ -70,7 +70,7 @@ fn lend_members<D: Disk, K: Name, R: Wait>(
     requires room { length shared.old.log.trace < shared.old.log.limit
         → length shared.old.log.trace + length members.now.items ≤ shared.old.log.limit }
     requires planned { shared.old.engine.failed ≡ false → length shared.old.log.trace < shared.old.log.limit
-        → AreOnPlan K.plan members.now.items }
+        → AreOnPlan K.origin.plan members.now.items }
     ensures lends { LendsGroup shared.old members.now.items result.items shared.new }
     ensures runs { LendsRuns D.Disk shared.old.engine shared.new.engine (those result.items members.now.items) }
 {
@@ -121,11 +121,11 @@ pub(crate) fn lend_group<D: Disk, K: Name, R: Wait>(
     requires free { AreFreeFor shared.old.log.places members.now.items }
     requires room { length shared.old.log.trace < shared.old.log.limit
         → length shared.old.log.trace + length members.now.items ≤ shared.old.log.limit }
-    ensures lends { LendsGroup (with_refused_off K.plan shared.old members.now.items)
-        (admitted K.plan shared.old members.now.items) result.items shared.new }
+    ensures lends { LendsGroup (with_refused_off K.origin.plan shared.old members.now.items)
+        (admitted K.origin.plan shared.old members.now.items) result.items shared.new }
     // What the disk is left with is as after the engine's own call.
     ensures runs { LendsRuns D.Disk shared.old.engine shared.new.engine
-        (those result.items (admitted K.plan shared.old members.now.items)) }
+        (those result.items (admitted K.origin.plan shared.old members.now.items)) }
 {
     let mut lent = ArrayVec::new();
     admit(shared, members.as_slice(), &mut lent);
@@ -175,8 +175,8 @@ fn claim<D: Disk, K: Name>(
     port: &mut Port<K>,
     command: &Command,
 ) -> Option<Result<Receipt<K>, Refusal>>
-    ensures holds { Holds K.marks port.old.told command.now result port.new.told }
-    ensures planned { IfSome result (TellsOf K.memory K.plan) }
+    ensures holds { Holds K.origin.marks port.old.told command.now result port.new.told }
+    ensures planned { IfSome result (TellsOf K.origin.memory K.origin.plan) }
     ensures order { SeesAnswer port.old.history command.now result port.new.history }
     ensures element { port.new.element ≡ port.old.element }
 {
@@ -195,8 +195,8 @@ pub(crate) fn hold<D: Disk, K: Name, R: Wait>(
     port: &mut Port<K>,
     command: &Command,
 ) -> Option<Result<Receipt<K>, Refusal>>
-    ensures holds { Holds K.marks port.old.told command.now result port.new.told }
-    ensures planned { IfSome result (TellsOf K.memory K.plan) }
+    ensures holds { Holds K.origin.marks port.old.told command.now result port.new.told }
+    ensures planned { IfSome result (TellsOf K.origin.memory K.origin.plan) }
     ensures order { SeesAnswer port.old.history command.now result port.new.history }
     ensures element { port.new.element ≡ port.old.element }
 {

@@ -51,7 +51,7 @@ pub fn look<D: Disk, K: Name>(
     element: u16,
     number: u64,
 ) -> Result<Entry, Refusal>
-    ensures looks { Looks K.marks shared.old tally.old element number result shared.new tally.new }
+    ensures looks { Looks K.origin.marks shared.old tally.old element number result shared.new tally.new }
     ensures last { IfOk result (λ entry. EndsIn shared.new.log.trace
         (line_of (Collect element number) (Ok (Tells entry)))) }
 {
@@ -115,9 +115,9 @@ pub(crate) fn find<D: Disk, K: Name>(
     element: u16,
     number: u64,
 ) -> Result<Found<K>, Refusal>
-    ensures looks { Looks K.marks shared.old tally.old element number (entry_of result) shared.new tally.new }
+    ensures looks { Looks K.origin.marks shared.old tally.old element number (entry_of result) shared.new tally.new }
     ensures found { IsFoundOf element number result }
-    ensures planned { TellsFound K.memory K.plan result }
+    ensures planned { TellsFound K.origin.memory K.origin.plan result }
     ensures own { IsFoundAt shared.new.log.trace result }
 {
     match look(shared, tally, element, number) {
@@ -134,9 +134,9 @@ pub(crate) fn find_seen<D: Disk, K: Name>(
     element: u16,
     number: u64,
 ) -> Result<Found<K>, Refusal>
-    ensures looks { Looks K.marks shared.old tally.old element number (entry_of result) shared.new tally.new }
+    ensures looks { Looks K.origin.marks shared.old tally.old element number (entry_of result) shared.new tally.new }
     ensures found { IsFoundOf element number result }
-    ensures planned { TellsFound K.memory K.plan result }
+    ensures planned { TellsFound K.origin.memory K.origin.plan result }
     ensures order { SeesEntry seen.old element number result seen.new }
 {
     know(shared, seen);
@@ -153,9 +153,9 @@ pub(crate) fn ask_once<D: Disk, K: Name>(
     element: u16,
     number: u64,
 ) -> Option<Result<Found<K>, Refusal>>
-    ensures awaits { Awaits K.marks tally.old element number result tally.new }
+    ensures awaits { Awaits K.origin.marks tally.old element number result tally.new }
     ensures told { IsTold shared.old element number result }
-    ensures planned { IfSome result (TellsFound K.memory K.plan) }
+    ensures planned { IfSome result (TellsFound K.origin.memory K.origin.plan) }
     ensures order { SeesFound seen.old element number result seen.new }
 {
     match begin_wait(shared, element, number) {

@@ -33,14 +33,14 @@ pub(crate) fn keep_all<D: Disk, K: Name>(
     disk: &D,
 )
     requires whole { length served.now ≡ length members.now }
-    requires are_so { AreAnswersTo (end_of K.memory log.old.state.trace) members.now (map answer_in served.now) }
+    requires are_so { AreAnswersTo (end_of K.origin.memory log.old.state.trace) members.now (map answer_in served.now) }
     requires apart { AreOneOfEach members.now }
     requires free { AreFreeFor log.old.state.places members.now }
     requires room { length log.old.state.trace + lines_left (map answer_in served.now) ≤ log.old.state.limit }
     ensures log { log.new.state ≡ with_all_unclaimed log.old.state members.now (map answer_in served.now) }
     ensures times { GoesOnAt (length (D.past disk.now)) log.old log.new }
-    ensures end { end_of K.memory log.new.state.trace
-        ≡ memory_after_all (end_of K.memory log.old.state.trace) members.now (map answer_in served.now) }
+    ensures end { end_of K.origin.memory log.new.state.trace
+        ≡ memory_after_all (end_of K.origin.memory log.old.state.trace) members.now (map answer_in served.now) }
 {
     for i in 0..members.len() {
         log.keep(&members[i], answer_in(served[i]), begins && i == 0, disk);

@@ -3,7 +3,7 @@ ghost use Rattle.std.specs.Prelude.{◌≡◌, ◌↔◌, ◌⊎◌, true, None,
 ghost use Rattle.im_types.specs.declared.refusals.Refusal.TheVariants.{NoMemory, BadPlan};
 ghost use Rattle.im_plans.specs.UnderWay.{PlanGoesOn};
 ghost use Rattle.im_types.specs.Changes.{opening};
-ghost use Rattle.im_controller.specs.Kept.{begun_in};
+ghost use Rattle.im_controller.specs.Kept.{IsOriginOf};
 ghost use Rattle.im_controller.specs.Planned.{MayStart};
 ghost use Rattle.im_controller.specs.State.{Begins, is_recorded, most_lines};
 ghost use Rattle.im_queue.specs.Servers.{is_unmade};
@@ -211,14 +211,7 @@ impl<D: Disk> Opening<D> {
 
     /// Makes the controller, under the name that its caller's functions have for it. It takes no memory.
     pub fn named<K: Name>(self) -> Controller<D, K>
-        requires memory { self.engine.memory ≡ K.memory }
-        requires lines { self.lines_name ≡ K.lines_name }
-        requires marked { self.marked_name ≡ K.marked_name }
-        requires ports { self.ports ≡ K.ports }
-        requires book { self.book ≡ K.book }
-        requires plan { self.plan ≡ K.plan }
-        requires begun { begun_in D.now D.past D.failures self.engine ≡ K.begun }
-        requires honest { D.honest self.engine.disk → K.honest }
+        requires origin { IsOriginOf D.Disk self K.origin }
     {
         let Opening {
             engine,

@@ -70,10 +70,10 @@ impl<K: Name> Port<K> {
     ) -> Result<Receipt<K>, Refusal>
         ensures asked { IfOk result (λ r. r.command
             ≡ Asks (record { element = self.old.element; number = number; op = op })) }
-        ensures planned { TellsOf K.memory K.plan result }
-        ensures legal { IfOk result (λ r. IsLegal K.memory r.history) }
+        ensures planned { TellsOf K.origin.memory K.origin.plan result }
+        ensures legal { IfOk result (λ r. IsLegal K.origin.memory r.history) }
         ensures last { IfOk result (λ r. EndsIn r.history (line_of (Commands r.command) (Ok r.outcome))) }
-        ensures counts { self.new.told ≡ counts_after K.marks self.old.told
+        ensures counts { self.new.told ≡ counts_after K.origin.marks self.old.told
             (lines_of (Commands (Asks (record { element = self.old.element; number = number; op = op })))
             (plain result)) }
         ensures element { self.new.element ≡ self.old.element }
@@ -99,9 +99,9 @@ impl<K: Name> Port<K> {
         upto: u64,
     ) -> Result<Receipt<K>, Refusal>
         ensures asked { IfOk result (λ r. r.command ≡ Confirm self.old.element upto) }
-        ensures legal { IfOk result (λ r. IsLegal K.memory r.history) }
+        ensures legal { IfOk result (λ r. IsLegal K.origin.memory r.history) }
         ensures last { IfOk result (λ r. EndsIn r.history (line_of (Commands r.command) (Ok r.outcome))) }
-        ensures counts { self.new.told ≡ counts_after K.marks self.old.told
+        ensures counts { self.new.told ≡ counts_after K.origin.marks self.old.told
             (lines_of (Commands (Confirm self.old.element upto)) (plain result)) }
         ensures element { self.new.element ≡ self.old.element }
         ensures order { SeesReceipt self.old.history (Confirm self.old.element upto) result self.new.history }
@@ -119,11 +119,11 @@ impl<K: Name> Port<K> {
         number: u64,
     ) -> Result<Found<K>, Refusal>
         ensures asked { IsFoundOf self.old.element number result }
-        ensures planned { TellsFound K.memory K.plan result }
-        ensures legal { IfOk result (λ f. IsLegal K.memory f.history) }
+        ensures planned { TellsFound K.origin.memory K.origin.plan result }
+        ensures legal { IfOk result (λ f. IsLegal K.origin.memory f.history) }
         ensures last { IfOk result (λ f. EndsIn f.history
             (line_of (Collect f.element f.number) (Ok (Tells f.entry)))) }
-        ensures counts { self.new.told ≡ counts_after K.marks self.old.told
+        ensures counts { self.new.told ≡ counts_after K.origin.marks self.old.told
             (lines_of (Collect self.old.element number) (told (entry_of result))) }
         ensures element { self.new.element ≡ self.old.element }
         ensures order { SeesEntry self.old.history self.old.element number result self.new.history }
@@ -156,12 +156,12 @@ impl<K: Name> Port<K> {
         number: u64,
     ) -> Result<Found<K>, Refusal>
         ensures asked { IsFoundOf self.old.element number result }
-        ensures planned { TellsFound K.memory K.plan result }
+        ensures planned { TellsFound K.origin.memory K.origin.plan result }
         ensures answered { IsAwaited result }
-        ensures legal { IfOk result (λ f. IsLegal K.memory f.history) }
+        ensures legal { IfOk result (λ f. IsLegal K.origin.memory f.history) }
         ensures last { IfOk result (λ f. EndsIn f.history
             (line_of (Collect f.element f.number) (Ok (Tells f.entry)))) }
-        ensures counts { self.new.told ≡ counts_after K.marks self.old.told
+        ensures counts { self.new.told ≡ counts_after K.origin.marks self.old.told
             (lines_of (Collect self.old.element number) (told (entry_of result))) }
         ensures element { self.new.element ≡ self.old.element }
         ensures order { SeesEntry self.old.history self.old.element number result self.new.history }

@@ -33,7 +33,7 @@ use std::sync::Wait;
 /// Each file that a crash may have left since then means the memory that was opened, after a prefix of the accepted
 /// commands. These are the trace's accepted commands and, if a call of the disk has failed, those that the failure left
 /// in doubt. Each file that a crash may leave now has all accepted commands of the trace. Each one that it may leave at
-/// the time of a line or later has those up to that line.
+/// the time of a line or later has those up to that line. No line has an earlier time than one before it.
 ///
 /// If there is a plan, it is under way in the memory that was opened, and it has each request of the trace, and each
 /// one that is in doubt.
@@ -67,14 +67,14 @@ impl<D: Disk, K: Name> Model for Shared<D, K> {
       shown = s.pane.shown;
     } };
 
-    ghost invariant = { λ s. (end_of K.memory s.log.state.trace ≡ s.engine.memory)
-        × (s.pane.shown ≡ shown_by K.memory s.log.state.trace)
-        × (s.pane.cells ≡ length K.memory.cells)
+    ghost invariant = { λ s. (end_of K.origin.memory s.log.state.trace ≡ s.engine.memory)
+        × (s.pane.shown ≡ shown_by K.origin.memory s.log.state.trace)
+        × (s.pane.cells ≡ length K.origin.memory.cells)
         × (s.engine.failed ≡ false → s.pane.ahead ≡ [])
-        × (D.honest s.engine.disk → K.honest)
-        × KeptSince D.Disk K.begun K.memory K.plan s.log.state.trace s.log.times s.engine
+        × (D.honest s.engine.disk → K.origin.honest)
+        × KeptSince D.Disk K.origin s.log.state.trace s.log.times s.engine
         × (s.reserve ≡ count_by is_unmade s.servers)
-        × (s.plan ≡ K.plan) × KeepsTo K.memory K.plan s.log.state.trace };
+        × (s.plan ≡ K.origin.plan) × KeepsTo K.origin.memory K.origin.plan s.log.state.trace };
 }
 
 /// Lends the engine to a command, for the port of this tally. If the answer is an outcome or a refusal of numbers, the
@@ -96,9 +96,9 @@ pub fn lend<D: Disk, K: Name, R: Wait>(
     tally: &mut Tally<K>,
     command: &Command,
 ) -> Result<Receipt<K>, Refusal>
-    ensures lends { Lends D.Disk K.marks K.plan shared.old tally.old command.now result shared.new tally.new }
-    ensures planned { TellsOf K.memory K.plan result }
-    ensures legal { IfOk result (λ r. IsLegal K.memory r.history) }
+    ensures lends { Lends D.Disk K.origin shared.old tally.old command.now result shared.new tally.new }
+    ensures planned { TellsOf K.origin.memory K.origin.plan result }
+    ensures legal { IfOk result (λ r. IsLegal K.origin.memory r.history) }
     ensures calls { D.honest shared.new.engine.disk → CallsBy D.past shared.old.engine.disk shared.new.engine.disk
         (calls_for shared.old.engine.memory command.now) result }
     ensures faults { Faults (λ e. Unit {0}) result (D.failures shared.old.engine.disk)

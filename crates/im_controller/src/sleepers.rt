@@ -106,7 +106,7 @@ pub(crate) fn make_glance<D: Disk, K: Name>(
     shared: &mut Shared<D, K>,
     element: u16,
 ) -> Option<Glance<Shown<K>>>
-    ensures { IfSome result (λ g. IsPrefix (opening K.memory) g) }
+    ensures { IfSome result (λ g. IsPrefix (opening K.origin.memory) g) }
 {
     if !mark_watched(&mut shared.watched, element) {
         return None;

@@ -7,7 +7,7 @@ use crate::damage::Damage;
 use crate::headers::{are_unmade, in_force, of_headers};
 use crate::slots::{Older, has_open_gate, older_slot};
 use im_disk::Disk;
-use im_image::{Header, PAGE, read_header};
+use im_image::{Header, PAGE, Versions, read_header};
 use im_types::layout::SLOT;
 use im_types::{MAX_SLOTS, Refusal};
 use std::alloc::Global;
@@ -140,7 +140,7 @@ fn read_pages<D: Disk>(alloc: Global, disk: &mut D, header: &Header) -> Option<V
 fn of_pages<D: Disk>(alloc: Global, disk: &mut D) -> Damage
     ensures reads { ReadsAlone D.Disk disk.old disk.new }
 {
-    let Ok(header) = read_header(disk) else {
+    let Ok(header) = read_header(disk, Versions::Any) else {
         return Damage::Unknown;
     };
     match read_pages(alloc, disk, &header) {
@@ -153,7 +153,7 @@ fn of_pages<D: Disk>(alloc: Global, disk: &mut D) -> Damage
 fn of_slots<D: Disk>(alloc: Global, disk: &mut D) -> Damage
     ensures reads { ReadsAlone D.Disk disk.old disk.new }
 {
-    let Ok(header) = read_header(disk) else {
+    let Ok(header) = read_header(disk, Versions::Any) else {
         return Damage::Unknown;
     };
     let Some(area) = read_pages(alloc, disk, &header) else {
@@ -190,7 +190,7 @@ fn read_ring<D: Disk>(alloc: Global, disk: &mut D, header: &Header) -> Option<Ve
 pub fn find_older<D: Disk>(alloc: Global, disk: &mut D) -> Option<Older>
     ensures reads { ReadsAlone D.Disk disk.old disk.new }
 {
-    let Ok(header) = read_header(disk) else {
+    let Ok(header) = read_header(disk, Versions::Any) else {
         return None;
     };
     match read_ring(alloc, disk, &header) {

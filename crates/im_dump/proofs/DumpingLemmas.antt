@@ -12,7 +12,7 @@ use Rattle.im_dump.specs.declared.loading.Loaded.{Loaded}
 use Rattle.im_types.specs.Contents.{Contents}
 use Rattle.im_types.specs.Memory.{IsMemory}
 use Rattle.im_image.specs.Reading.{AreParts}
-use Rattle.im_image.specs.declared.reading.Image.{Image}
+use Rattle.im_image.specs.declared.reading.ImageParts.{ImageParts}
 use Rattle.im_types.specs.Layout.{Sizes, sizes_of}
 
 -- the dump was written with the sizes of the header in force
@@ -60,7 +60,7 @@ loaded file text l one it is =
     record { sizes = same.0; reached = it.reached; reads = it.reads; counted = same.1; contents = same.2 }
 
 -- a memory that was dumped has numbers that fit, in an image whose parts fit each other
-pub fits_parts : (i : Image) (count : ℕ) → AreParts i → count < 2 ^ 64
+pub fits_parts : (i : ImageParts) (count : ℕ) → AreParts i → count < 2 ^ 64
     → IsMemory (length i.memory.contents.cells) (length i.memory.contents.windows) i.memory.contents
     → FitsContents i.memory.contents → FitsDump (sizes_of i.header.limits) count i.memory.contents
 fits_parts i count parts low memory fits = record {

@@ -10,13 +10,13 @@ ghost use Rattle.im_image.specs.Reading.{AreParts};
 
 use crate::writing::add_dump;
 use im_disk::Disk;
-use im_image::{Image, read_image};
+use im_image::{ImageParts, Versions, read_image};
 use im_text::{Reason, diagnose, put_through};
 use std::alloc::Global;
 use std::io::Write;
 
 // Writes the dump of an image that was read.
-fn write_dump<W: Write>(alloc: Global, image: &Image, out: &mut W) -> Result<(), Reason>
+fn write_dump<W: Write>(alloc: Global, image: &ImageParts, out: &mut W) -> Result<(), Reason>
     requires { AreParts image.now }
     ensures text { OnOk result (Appends (W.contents out.old) (W.contents out.new)
         (dump_text (sizes_of image.now.header.limits) image.now.journal.count image.now.memory.contents)) }
@@ -42,7 +42,7 @@ pub fn dump<D: Disk, W: Write>(alloc: Global, disk: &mut D, out: &mut W) -> Resu
         (W.contents out.old) (W.contents out.new)) }
     ensures reads { ReadsAlone D.Disk disk.old disk.new }
 {
-    match read_image(alloc, disk) {
+    match read_image(alloc, disk, Versions::Any) {
         Ok(image) => write_dump(alloc, &image, out),
         Err(refusal) => Err(diagnose(alloc, disk, refusal)),
     }

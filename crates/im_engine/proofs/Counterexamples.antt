@@ -31,15 +31,13 @@ use Rattle.im_checkpoint.proofs.Headers.{good, follows}
 use Rattle.im_types.specs.Meaning.{Means}
 use Rattle.im_engine.specs.State.{IsFirstFault}
 use Rattle.im_engine.proofs.Making.{length_new_image}
-use Rattle.im_image.proofs.ToOpen.{not_open_in, place_fault_first}
+use Rattle.im_image.proofs.VersionLemmas.{places_open}
 use Rattle.im_engine.proofs.FilesMean.{no_fault_and_meaning, new_image_is_one}
 
 -- In a new image whose gate is closed neither header is open: its first fault is that there is no header.
 a_closed_image_has_no_header : (s : Sizes) → IsFirstFault NoHeader (new_image 0 s)
 a_closed_image_has_no_header s =
-    let file : List ℕ = new_image 0 s in
-    not_open_in file NoHeader (omega (arith, length_new_image s))
-    (place_fault_first (length file) (header_place 0 file) (header_place 1 file) NoHeader refl)
+    places_open (new_image 0 s) NoHeader (omega (arith, length_new_image s)) refl
 
 -- `new_images_mean_the_empty_memory`: not with its gate closed.
 a_closed_image_means_no_memory :

@@ -23,7 +23,7 @@ use Rattle.im_image.proofs.Restored.{one-memory}
 use Rattle.im_journal.proofs.Tails.{tail_closed}
 use Rattle.im_laws.proofs.MemoryLemmas.{empty-memory}
 use Rattle.im_meaning.specs.Images.{InForce, IsImage, IsRead}
-use Rattle.im_image.proofs.ToOpen.{named_by, young_opens}
+use Rattle.im_image.proofs.VersionLemmas.{named_by, young_opens}
 use Rattle.im_meaning.proofs.Headers.{in_force, in_force_is}
 use Rattle.im_meaning.proofs.Meanings.{image_reads, read_image}
 use Rattle.im_checkpoint.proofs.Headers.{good}

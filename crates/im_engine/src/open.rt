@@ -12,12 +12,12 @@ ghost use Rattle.im_engine.specs.Leaving.{LeavesAsBefore};
 use crate::engine::Engine;
 use im_checkpoint::Checkpoint;
 use im_disk::Disk;
-use im_image::{Image, read_to_open};
+use im_image::{ImageParts, Versions, read_image};
 use im_types::Refusal;
 use std::alloc::Global;
 
 // Puts all that was written on the disk, and then reads the image. So each file that may be left means what was read.
-fn read_synced<D: Disk>(alloc: Global, disk: &mut D) -> Result<Image, Refusal>
+fn read_synced<D: Disk>(alloc: Global, disk: &mut D) -> Result<ImageParts, Refusal>
     ensures area { IfOk result (λ i. i.header.area ≤ 1) }
     ensures fits { IfOk result (λ i.
         Fits (record { header = seen i.header; step = NoCheckpoint }) i.memory.contents i.journal) }
@@ -37,7 +37,7 @@ fn read_synced<D: Disk>(alloc: Global, disk: &mut D) -> Result<Image, Refusal>
     if let Err(_) = disk.sync() {
         return Err(Refusal::Device);
     }
-    match read_to_open(alloc, disk) {
+    match read_image(alloc, disk, Versions::InUse) {
         Ok(image) => Ok(image),
         Err(refusal) => Err(refusal),
     }

@@ -1,9 +1,8 @@
 -- A new image has no fault in its length and its headers, and its area in force shows the empty memory.
 use Rattle.std.proofs.Common.{◌≡◌, ℕ, zero, suc, ◌+◌, ◌*◌, ◌-◌, ◌≤◌, ◌&&◌, ◌==◌, nat_lt, nat_le, not, Bool, true}
-use Rattle.std.proofs.Common.{false, List, ◌∷◌, ◌++◌, length, take, drop, slice_range, Option, None, Some, refl, sym}
+use Rattle.std.proofs.Common.{List, ◌∷◌, ◌++◌, length, take, drop, slice_range, Option, None, Some, refl, sym}
 use Rattle.std.proofs.Common.{ap, subst, ◌∙◌, arith, if◌then◌else◌}
 use Rattle.std.proofs.lemmas.List.{length-append, append_assoc, take_at, drop_at, drop-drop}
-use Rattle.std.proofs.lemmas.Bool.Decides.{nat_tests}
 use Rattle.im_types.specs.declared.TheConstants.{MAX_CELLS, MAX_ELEMENTS, MIN_SLOTS, MAX_SLOTS}
 use Rattle.im_types.specs.declared.refusals.Refusal.{Refusal}
 use Rattle.im_types.specs.declared.refusals.Refusal.TheVariants.{WrongLength, BadHeader}
@@ -20,6 +19,8 @@ use Rattle.im_formats.specs.Fitting.{FitsHeader}
 use Rattle.im_formats.proofs.Headers.{header_in-spelled, spells_header-spelled}
 use Rattle.im_image.specs.Fresh.{new_header, new_area, new_image}
 use Rattle.im_image.proofs.FreshArea.{length-area, length-zeros, new_area_shows}
+use Rattle.im_image.proofs.Headers.{le_is, same_itself}
+use Rattle.im_image.proofs.ImageStart.{long}
 
 abbrev first : Sizes → List ℕ
 first s = 0xA5 ∷ header_body (new_header s)
@@ -72,9 +73,6 @@ new_header_fits s limits = record {
   slots = omega (arith, limits.few_slots);
 }
 
-le_is : (m n : ℕ) → m ≤ n → nat_le m n ≡ true
-le_is m n le = grind (arith, nat_tests)
-
 pub sizes_are : (s : Sizes) → AreLimits s.cells s.elements s.slots → are_sizes layout_in_use s ≡ true
 sizes_are s limits =
     ap (λ (b : Bool). b && nat_le s.cells MAX_CELLS && nat_le 1 s.elements && nat_le s.elements MAX_ELEMENTS
@@ -108,12 +106,6 @@ length-image s = omega (
   length-zeros (area_bytes layout_in_use s + 64 * s.slots),
 )
 
-long : (n : ℕ) → 8192 ≤ n → nat_lt n 8192 ≡ false
-long n le = grind (arith, nat_tests)
-
-same : (m n : ℕ) → m ≡ n → (m == n) ≡ true
-same m n e = grind (arith, nat_tests)
-
 -- the image has its header in force
 pub new_header_of : (s : Sizes) → AreLimits s.cells s.elements s.slots → header_of (new_image 0xA5 s) ≡ new_header s
 new_header_of s limits =
@@ -142,7 +134,8 @@ new_image_good s limits =
     (if n == image_length layout_in_use (header_in (first s)).sizes then None else Some WrongLength))
     (new_places s limits)
     ∙ ap (λ (z : Sizes). if n == image_length layout_in_use z then None else Some WrongLength) is
-    ∙ ap (λ (b : Bool). if b then None else Some WrongLength) (same n (image_length layout_in_use s) (length-image s))
+    ∙ ap (λ (b : Bool). if b then None else Some WrongLength)
+    (same_itself n (image_length layout_in_use s) (length-image s))
 
 -- the area of the header in force is the new one
 pub area_in_place : (s : Sizes) → area_of layout_in_use s 0 (new_image 0xA5 s) ≡ new_area s

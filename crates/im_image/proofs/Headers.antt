@@ -2,6 +2,7 @@
 use Rattle.std.proofs.Common.{◌≡◌, ℕ, ◌≤◌, ◌&&◌, ◌==◌, nat_le, Bool, true, false, Option, None, IsSome, is_some, List}
 use Rattle.std.proofs.Common.{sym, ap, ◌∙◌, arith, slice_range, if◌then◌else◌}
 use Rattle.std.proofs.lemmas.Bool.Decides.{nat_tests}
+use Rattle.im_types.proofs.Tests.{false_true}
 use Rattle.im_types.specs.declared.TheConstants.{LAST, MAX_CELLS, MAX_ELEMENTS, MIN_SLOTS, MAX_SLOTS}
 use Rattle.im_types.specs.Sizes.{AreLimits}
 use Rattle.im_types.specs.Bytes.{same_bytes}
@@ -12,8 +13,14 @@ use Rattle.im_image.specs.Headers.{layout_at}
 use Rattle.im_formats.proofs.Same.{both_true}
 use Rattle.im_formats.proofs.Headers.{spells_header-only}
 
-le_true : (m n : ℕ) → nat_le m n ≡ true → m ≤ n
+pub le_true : (m n : ℕ) → nat_le m n ≡ true → m ≤ n
 le_true m n e = grind (arith, nat_tests)
+
+pub le_is : (m n : ℕ) → m ≤ n → nat_le m n ≡ true
+le_is m n le = grind (arith, nat_tests)
+
+pub same_itself : (m n : ℕ) → m ≡ n → (m == n) ≡ true
+same_itself m n is = grind (arith, nat_tests, is)
 
 -- no layout has more cells than the one in use
 few_cells_by : (b : Bool) → (if b then layout_1 else layout_2).most_cells ≤ MAX_CELLS
@@ -68,9 +75,6 @@ pub limits_of_spelled : (area : ℕ) (bytes : List ℕ)
     → AreLimits (header_in bytes).sizes.cells (header_in bytes).sizes.elements (header_in bytes).sizes.slots
 limits_of_spelled area bytes e = limits_of_header area (header_in bytes)
     (spells_header-only (layout_named (header_in bytes).version) area bytes e).1
-
-pub false_true : false ≡ true → ⊥
-false_true e = cc
 
 pub no_some : {X : Type 0} (o : Option X) → o ≡ None → IsSome o → ⊥
 no_some o e some = false_true (sym (ap is_some e) ∙ some)

@@ -1,41 +1,44 @@
 -- The first fault of an image is the one of its beginning.
-use Rattle.std.proofs.Common.{◌≡◌, ◌⊎◌, inr, ℕ, ◌≤◌, nat_lt, Bool, false, List, length, Some, None, Result, Ok, Err}
-use Rattle.std.proofs.Common.{OnOk, IfErr, sym, ap, ◌∙◌, arith, if◌then◌else◌}
+use Rattle.std.proofs.Common.{◌≡◌, ◌⊎◌, inr, ℕ, ◌≤◌, nat_lt, Bool, false, List, length, Some, None, Result}
+use Rattle.std.proofs.Common.{Ok, Err, OnOk, IfErr, sym, ap, ◌∙◌, arith, if◌then◌else◌}
 use Rattle.std.proofs.lemmas.Bool.Decides.{nat_tests}
 use Rattle.im_types.specs.declared.refusals.Refusal.{Refusal}
 use Rattle.im_types.specs.declared.refusals.Refusal.TheVariants.{WrongLength, Device}
-use Rattle.im_types.specs.Header.{header_place, header_fault, layout_in}
+use Rattle.im_types.specs.Header.{header_place}
 use Rattle.im_image.specs.declared.in_force.ImageStart.{ImageStart}
 use Rattle.im_image.specs.declared.header.Header.{Header}
-use Rattle.im_image.specs.Headers.{beginning_fault, layout_at}
+use Rattle.im_image.specs.declared.versions.Versions.{Versions}
+use Rattle.im_image.specs.Headers.{beginning_fault, first_fault}
 use Rattle.im_image.specs.ImageStart.{IsImageStart}
 
+-- a file with room for two header places isn't short
 pub long : (n : ℕ) → 8192 ≤ n → nat_lt n 8192 ≡ false
 long n le = grind (arith, nat_tests)
 
-pub fault_of_long : (file : List ℕ) → 8192 ≤ length file → header_fault (layout_in file) file
-    ≡ beginning_fault (layout_in file) (length file) (header_place 0 file) (header_place 1 file)
-fault_of_long file le = ap
-    (λ (b : Bool). if b then Some WrongLength else beginning_fault (layout_in file) (length file)
+pub fault_of_long : (versions : Versions) (file : List ℕ) → 8192 ≤ length file → first_fault versions file
+    ≡ beginning_fault versions (length file) (header_place 0 file) (header_place 1 file)
+fault_of_long versions file le = ap
+    (λ (b : Bool). if b then Some WrongLength else beginning_fault versions (length file)
     (header_place 0 file) (header_place 1 file)) (long (length file) le)
 
-pub fault-beginning : (b : ImageStart) (file : List ℕ) → IsImageStart b file
-    → beginning_fault (layout_at b.zero b.one) b.length b.zero b.one ≡ header_fault (layout_in file) file
-fault-beginning b file is =
-    ap (λ (n : ℕ). beginning_fault (layout_at b.zero b.one) n b.zero b.one) is.length_is
-    ∙ ap (λ (z : List ℕ). beginning_fault (layout_at z b.one) (length file) z b.one) is.zero_is
-    ∙ ap (λ (o : List ℕ). beginning_fault (layout_at (header_place 0 file) o) (length file)
-    (header_place 0 file) o) is.one_is
-    ∙ sym (fault_of_long file is.room)
+fault-beginning : (versions : Versions) (b : ImageStart) (file : List ℕ) → IsImageStart b file
+    → beginning_fault versions b.length b.zero b.one ≡ first_fault versions file
+fault-beginning versions b file is =
+    ap (λ (n : ℕ). beginning_fault versions n b.zero b.one) is.length_is
+    ∙ ap (λ (z : List ℕ). beginning_fault versions (length file) z b.one) is.zero_is
+    ∙ ap (λ (o : List ℕ). beginning_fault versions (length file) (header_place 0 file) o) is.one_is
+    ∙ sym (fault_of_long versions file is.room)
 
-pub good_beginning : {H : Type 0} (r : Result Header Refusal) (b : ImageStart) (file : List ℕ)
-    → (H → IsImageStart b file) → OnOk r (beginning_fault (layout_at b.zero b.one) b.length b.zero b.one ≡ None)
-    → OnOk r (H → header_fault (layout_in file) file ≡ None)
-good_beginning (Ok h) b file is good = λ honest. sym (fault-beginning b file (is honest)) ∙ good
-good_beginning (Err e) b file is good = tt
+pub good_beginning : {H : Type 0} (r : Result Header Refusal) (versions : Versions) (b : ImageStart) (file : List ℕ)
+    → (H → IsImageStart b file) → OnOk r (beginning_fault versions b.length b.zero b.one ≡ None)
+    → OnOk r (H → first_fault versions file ≡ None)
+good_beginning (Ok h) versions b file is good = λ honest. sym (fault-beginning versions b file (is honest)) ∙ good
+good_beginning (Err e) versions b file is good = tt
 
-pub fault_of_beginning : {H : Type 0} (r : Result Header Refusal) (b : ImageStart) (file : List ℕ)
-    → (H → IsImageStart b file) → IfErr r (λ e. beginning_fault (layout_at b.zero b.one) b.length b.zero b.one ≡ Some e)
-    → IfErr r (λ e. (e ≡ Device) ⊎ (H → header_fault (layout_in file) file ≡ Some e))
-fault_of_beginning (Ok h) b file is fault = tt
-fault_of_beginning (Err e) b file is fault = inr (λ honest. sym (fault-beginning b file (is honest)) ∙ fault)
+pub fault_of_beginning : {H : Type 0} (r : Result Header Refusal) (versions : Versions) (b : ImageStart)
+    (file : List ℕ) → (H → IsImageStart b file)
+    → IfErr r (λ e. beginning_fault versions b.length b.zero b.one ≡ Some e)
+    → IfErr r (λ e. (e ≡ Device) ⊎ (H → first_fault versions file ≡ Some e))
+fault_of_beginning (Ok h) versions b file is fault = tt
+fault_of_beginning (Err e) versions b file is fault = inr (λ honest. sym (fault-beginning versions b file (is honest))
+    ∙ fault)

@@ -10,5 +10,4 @@ pub mod Outcomes
 pub mod Counterexamples
 pub mod Outside
 pub mod AreaPages
-pub mod ToOpen
-pub mod OldImages
+pub mod VersionLemmas

@@ -8,11 +8,8 @@ use Rattle.im_types.specs.Layout.{Layout, Sizes, area_at, area_bytes, area_of, i
 use Rattle.im_types.specs.Header.{Header, header_of, header_fault, header_place, place_fault, or_else}
 use Rattle.im_types.specs.Pages.{Shows}
 use Rattle.im_types.specs.Meaning.{IsShown}
-use Rattle.std.proofs.lemmas.Bool.Decides.{nat_tests}
+use Rattle.im_laws.proofs.Tests.{eq_by_test}
 use Rattle.std.proofs.lemmas.List.{take-take, drop-take, drop-drop}
-
-eq_true : (m n : ℕ) → (m == n) ≡ true → m ≡ n
-eq_true m n is = grind (arith, nat_tests)
 
 -- what a file shows, the area of its header in force shows
 pub shown-in : (l : Layout) (h : Header) (file area : List ℕ) (m : Contents) → h ≡ header_of file → area
@@ -34,7 +31,7 @@ length_of_image l file good = by_length (nat_lt (length file) 8192) refl
 
     by_same : (b : Bool) → (length file == image_length l (header_of file).sizes) ≡ b → rest b ≡ None → length file
         ≡ image_length l (header_of file).sizes
-    by_same true is none = eq_true (length file) (image_length l (header_of file).sizes) is
+    by_same true is none = eq_by_test (length file) (image_length l (header_of file).sizes) is
     by_same false is none = absurd (none_some WrongLength none)
 
     by_places : (f : Option Refusal) → or_else f (rest (length file == image_length l (header_of file).sizes)) ≡ None

@@ -14,7 +14,9 @@ use Rattle.im_types.specs.Meaning.{Reached, IsShown, Reads, accept_in, can_stand
 use Rattle.im_types.specs.Meaning.{read_journal}
 use Rattle.im_types.specs.Step.{step, is_accepted}
 use Rattle.im_laws.proofs.MemoryLemmas.{step-cell_count, step-window_count}
+use Rattle.im_disk.specs.declared.disk.Disk.{Ghosts}
 use Rattle.im_disk.specs.Moment.{Moment}
+use Rattle.im_disk.specs.Runs.{ReadsOrRefuses}
 use Rattle.im_image.proofs.OpenArea.{length_of_image}
 
 -- the outcome of reading a file, by the fault of its headers
@@ -78,23 +80,34 @@ in-room l file h is good =
 
 -- what was read at one moment holds of another at which the bytes are the same
 pub read-ok : {T : Type 0} (r : Result T Refusal) (P : List ℕ → T → Type 0) (Q : T → Type 0) (old mid : Moment)
-    (Honest : Type 0) → (Honest → mid ≡ old) → ((x : T) → P old.bytes x → Q x)
+    (Honest : Type 0) → (Honest → mid ≡ old) → (Honest → (x : T) → P old.bytes x → Q x)
     → IfOk r (λ x. Honest → P mid.bytes x) → IfOk r (λ x. Honest → Q x)
-read-ok (Ok x) P Q old mid Honest same so means = λ h. so x (subst (λ (m : Moment). P m.bytes x) (same h) (means h))
+read-ok (Ok x) P Q old mid Honest same so means = λ h. so h x (subst (λ (m : Moment). P m.bytes x) (same h) (means h))
 read-ok (Err e) P Q old mid Honest same so means = means
 
-pub read-err : {T : Type 0} (r : Result T Refusal) (old mid : Moment) (Honest : Type 0) → (Honest → mid ≡ old)
+pub read-err : {T : Type 0} (r : Result T Refusal) (Q : Refusal → Type 0) (old mid : Moment) (Honest : Type 0)
+    → (Honest → mid ≡ old) → (Honest → (e : Refusal) → Reads (layout_in old.bytes) old.bytes (Err e) → Q e)
     → IfErr r (λ e. (e ≡ NoMemory) ⊎ (e ≡ Device) ⊎ (Honest → Reads (layout_in mid.bytes) mid.bytes (Err e)))
-    → IfErr r (λ e. (e ≡ NoMemory) ⊎ (e ≡ Device) ⊎ (Honest → Reads (layout_in old.bytes) old.bytes (Err e)))
-read-err (Ok x) old mid Honest same fault = fault
-read-err (Err e) old mid Honest same fault = ⊎_elim
+    → IfErr r (λ e. (e ≡ NoMemory) ⊎ (e ≡ Device) ⊎ (Honest → Q e))
+read-err (Ok x) Q old mid Honest same so fault = fault
+read-err (Err e) Q old mid Honest same so fault = ⊎_elim
     (λ (none : e ≡ NoMemory). inl none)
     (λ more. ⊎_elim
     (λ (device : e ≡ Device). inr (inl device))
     (λ (reads : Honest → Reads (layout_in mid.bytes) mid.bytes (Err e)). inr
-    (inr (λ h. subst (λ (m : Moment). Reads (layout_in m.bytes) m.bytes (Err e)) (same h) (reads h))))
+    (inr (λ h. so h e (subst (λ (m : Moment). Reads (layout_in m.bytes) m.bytes (Err e)) (same h) (reads h)))))
     more)
     fault
+
+-- what a run that was refused does to the disk, if it may be refused for more reasons
+pub reads-wider : {D S T : Type 0} (disk : Ghosts D) (old new : D) (e : Refusal) (first may : Refusal → Type 0)
+    → (first e → may e) → ReadsOrRefuses disk old new {T = S} (Err e) first
+    → ReadsOrRefuses disk old new {T = T} (Err e) may
+reads-wider disk old new e first may wider one = record {
+  honest = one.honest;
+  reads = one.reads;
+  faults = (wider one.faults.0, one.faults.1, one.faults.2);
+}
 
 pub reads-same : (file : List ℕ) (a b : Reached) → a.contents ≡ b.contents → a.count ≡ b.count → a.room ≡ b.room
     → Reads (layout_in file) file (Ok a) → Reads (layout_in file) file (Ok b)

@@ -1,11 +1,13 @@
 -- A header of the code, as the definitions see it. (Own.)
-use Rattle.std.specs.Prelude.{◌≡◌, ◌⊎◌, ℕ, List, true, false, ◌&&◌, is_none, Option, None, Some, ◌==◌, if◌then◌else◌}
+use Rattle.std.specs.Prelude.{◌≡◌, ◌⊎◌, ℕ, ◌+◌, nat_lt, List, length, Option, None, Some, ◌==◌, if◌then◌else◌}
 use Rattle.im_types.specs.declared.refusals.Refusal.{Refusal}
 use Rattle.im_types.specs.declared.refusals.Refusal.TheVariants.{WrongLength, NoHeader, BadHeader, BadPage, BadRecord}
 use Rattle.im_types.specs.declared.refusals.Refusal.TheVariants.{NoMemory, Device, OldVersion}
-use Rattle.im_types.specs.Header.{Header as Seen, header_in, place_in_force, place_fault, or_else}
-use Rattle.im_types.specs.Layout.{Layout, layout_named, sizes_of, image_length}
+use Rattle.im_types.specs.Header.{Header as Seen, header_in, header_place, place_in_force, place_fault, or_else}
+use Rattle.im_types.specs.Layout.{Layout, layout_1, layout_in_use, layout_named, sizes_of, image_length, page_bytes}
 use Rattle.im_image.specs.declared.header.Header.{Header}
+use Rattle.im_image.specs.declared.versions.Versions.{Versions}
+use Rattle.im_image.specs.declared.versions.Versions.TheVariants.{Any, InUse, First}
 
 -- a header, as the definitions see it
 abbrev pub seen : Header → Seen
@@ -37,21 +39,45 @@ MayRefuseImage e = (e ≡ NoMemory) ⊎ (e ≡ Device) ⊎ IsImageFault e
 abbrev pub MayRefuseOpening : Refusal → Type 0
 MayRefuseOpening e = (e ≡ OldVersion) ⊎ MayRefuseImage e
 
+-- the faults of a length and of headers, by the versions that are taken
+abbrev pub MayRefuseHeader : Versions → Refusal → Type 0
+MayRefuseHeader Any = IsHeaderFault
+MayRefuseHeader InUse = λ e. (e ≡ OldVersion) ⊎ IsHeaderFault e
+MayRefuseHeader First = IsHeaderFault
+
+-- why an image can't be read, by the versions that are taken
+abbrev pub MayRefuse : Versions → Refusal → Type 0
+MayRefuse Any = MayRefuseImage
+MayRefuse InUse = MayRefuseOpening
+MayRefuse First = MayRefuseImage
+
 -- the layout of an image with these header places
 abbrev pub layout_at : List ℕ → List ℕ → Layout
 layout_at zero one = layout_named (header_in (place_in_force zero one)).version
 
--- the first fault of a file of this length, which has room for two header places
-abbrev pub beginning_fault : Layout → ℕ → List ℕ → List ℕ → Option Refusal
-beginning_fault l length zero one =
-    or_else (place_fault l zero one)
-    (if length == image_length l (header_in (place_in_force zero one)).sizes then None else Some WrongLength)
+-- why a sound header with this number isn't taken
+abbrev pub version_fault : Versions → ℕ → Option Refusal
+version_fault Any number = None
+version_fault InUse number = if number == 1 then Some OldVersion else None
+version_fault First number = if number == 1 then None else Some BadHeader
 
--- why a file with this beginning isn't opened: a sound header of the first version is in force, or else this is the
--- beginning's fault
-abbrev pub MayNotOpen : ℕ → List ℕ → List ℕ → Refusal → Type 0
-MayNotOpen length zero one e =
-    (((header_in (place_in_force zero one)).version == 1) ≡ true)
-    × (place_fault (layout_at zero one) zero one ≡ None) × (e ≡ OldVersion)
-    ⊎ ((((header_in (place_in_force zero one)).version == 1) && is_none (place_fault (layout_at zero one) zero one))
-    ≡ false) × (beginning_fault (layout_at zero one) length zero one ≡ Some e)
+-- the layout by which an image with this number is read
+abbrev pub layout_read : Versions → ℕ → Layout
+layout_read Any number = layout_named number
+layout_read InUse number = layout_in_use
+layout_read First number = layout_1
+
+-- the first fault of a file of this length, which has room for two header places: that of the places, the version that
+-- isn't taken, or the length
+abbrev pub beginning_fault : Versions → ℕ → List ℕ → List ℕ → Option Refusal
+beginning_fault versions length zero one =
+    let h = header_in (place_in_force zero one) in
+    or_else (place_fault (layout_at zero one) zero one)
+    (or_else (version_fault versions h.version)
+    (if length == image_length (layout_at zero one) h.sizes then None else Some WrongLength))
+
+-- the first fault of a file's length and headers
+abbrev pub first_fault : Versions → List ℕ → Option Refusal
+first_fault versions file =
+    if nat_lt (length file) (page_bytes + page_bytes) then Some WrongLength
+    else beginning_fault versions (length file) (header_place 0 file) (header_place 1 file)

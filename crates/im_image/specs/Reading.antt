@@ -1,17 +1,21 @@
 -- What is read of an image: its header in force, the memory that its area shows, its journal, and the memory after the
 -- journal. (Own.)
-use Rattle.std.specs.Prelude.{◌≡◌, ℕ, ◌≤◌, List, length, None, Ok}
+use Rattle.std.specs.Prelude.{◌≡◌, ℕ, ◌≤◌, List, length, None, Result, Ok, Err}
 use Rattle.im_types.specs.declared.TheConstants.{LAST}
 use Rattle.im_types.specs.Contents.{Contents}
 use Rattle.im_types.specs.Header.{Header, header_of, header_fault, layout_in}
 use Rattle.im_types.specs.declared.records.CellRecord.{CellRecord}
-use Rattle.im_types.specs.Layout.{Layout, Sizes, layout_named, sizes_of, ring_of, area_of, image_length}
-use Rattle.im_types.specs.Meaning.{Reached, IsShown, Reads}
+use Rattle.im_types.specs.declared.refusals.Refusal.{Refusal}
+use Rattle.im_types.specs.Layout.{Layout, Sizes, layout_1, layout_in_use, layout_named, sizes_of, ring_of, area_of}
+use Rattle.im_types.specs.Layout.{image_length}
+use Rattle.im_types.specs.Meaning.{Reached, IsShown, Opens, Reads}
 use Rattle.im_types.specs.Pages.{Records, SpellsArea}
 use Rattle.im_records.specs.Rows.{AreFirstCells}
 use Rattle.im_journal.specs.Holding.{JournalState, Holds}
 use Rattle.im_image.specs.Headers.{seen}
-use Rattle.im_image.specs.declared.reading.Image.{Image}
+use Rattle.im_image.specs.declared.reading.ImageParts.{ImageParts}
+use Rattle.im_image.specs.declared.versions.Versions.{Versions}
+use Rattle.im_image.specs.declared.versions.Versions.TheVariants.{Any, InUse, First}
 
 -- the journal of this header: the header's version and sizes give its ring, and its run begins at the header's count
 pub record JournalOf (h : Header) (j : JournalState) : Type 0 where
@@ -63,7 +67,7 @@ pub record AreUnder (h : Header) (m : Contents) : Type 0 where
   pub sizes : HasSizes h.sizes m
 
 -- the parts of an image that was read fit each other
-pub record AreParts (i : Image) : Type 0 where
+pub record AreParts (i : ImageParts) : Type 0 where
   -- the header is of one of the two areas
   pub area : i.header.area ≤ 1
   -- the memory has as many cells and elements as the header says
@@ -72,14 +76,21 @@ pub record AreParts (i : Image) : Type 0 where
   pub journal : JournalOf (seen i.header) i.journal
 
 -- what an image that was read comes to
-abbrev pub reached : Image → Reached
+abbrev pub reached : ImageParts → Reached
 reached i = record { contents = i.memory.contents; count = i.journal.count; room = i.journal.room }
 
 -- the image is what this file is
-pub record IsImageOf (file : List ℕ) (i : Image) : Type 0 where
+pub record IsImageOf (file : List ℕ) (i : ImageParts) : Type 0 where
   -- its header is the one in force
   pub header : seen i.header ≡ header_of file
   -- the file holds its journal
   pub holds : Holds i.journal file
   -- reading the file comes to its memory, its count and its room
   pub means : Reads (layout_in file) file (Ok (reached i))
+
+-- the outcome of reading a file, by the versions that are taken: of one in use it is that of opening it
+abbrev pub ReadsBy : Versions → List ℕ → Result Reached Refusal → Type 0
+ReadsBy Any file outcome = Reads (layout_in file) file outcome
+ReadsBy InUse file (Ok r) = Reads layout_in_use file (Ok r)
+ReadsBy InUse file (Err e) = Opens file (Err e)
+ReadsBy First file outcome = Reads layout_1 file outcome

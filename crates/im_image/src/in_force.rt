@@ -1,20 +1,17 @@
 //! Finds the header in force.
-ghost use Rattle.std.specs.Prelude.{◌≡◌, ◌⊎◌, ◌↔◌, ◌≤◌, ◌||◌, ◌==◌, not, true, false, Some, None, Err, IfSome};
-ghost use Rattle.std.specs.Prelude.{IsSome, length, ◌<◌, IfOk};
-ghost use Rattle.std.specs.Prelude.{IfErr, OnOk, IsErrOf};
-ghost use Rattle.im_types.specs.declared.refusals.Refusal.TheVariants.{NoHeader, BadHeader, WrongLength, Device};
-ghost use Rattle.im_types.specs.declared.refusals.Refusal.TheVariants.{OldVersion};
-ghost use Rattle.im_types.specs.Layout.{image_length, layout_1};
-ghost use Rattle.im_types.specs.Header.{header_in, header_of, header_fault, layout_in, is_open_header, generation_in};
-ghost use Rattle.im_types.specs.Header.{is_second};
+ghost use Rattle.std.specs.Prelude.{◌≡◌, ◌⊎◌, ◌↔◌, ◌≤◌, ◌<◌, ◌||◌, not, true, Some, None, IfSome, IsSome};
+ghost use Rattle.std.specs.Prelude.{length, IfOk, IfErr, OnOk};
+ghost use Rattle.im_types.specs.declared.refusals.Refusal.TheVariants.{Device};
+ghost use Rattle.im_types.specs.Header.{header_in, header_of, is_open_header, generation_in, is_second};
 ghost use Rattle.im_types.specs.Header.{are_ambiguous, number_in_force, place_in_force, place_fault, spells_header};
-ghost use Rattle.im_types.specs.Meaning.{Opens};
 ghost use Rattle.im_disk.specs.Runs.{ReadsOrFails, ReadsOrRefuses};
-ghost use Rattle.im_image.specs.Headers.{seen, IsHeaderFault, MayNotOpen, beginning_fault, layout_at};
+ghost use Rattle.im_image.specs.Headers.{seen, IsHeaderFault, MayRefuseHeader, layout_at};
+ghost use Rattle.im_image.specs.Headers.{beginning_fault, first_fault, version_fault};
 ghost use Rattle.im_image.specs.ImageStart.{IsImageStart};
 ghost use Rattle.im_types.specs.declared.TheConstants.{LAST};
 
 use crate::header::Header;
+use crate::versions::Versions;
 use byteorder::{ByteOrder, LittleEndian};
 use im_disk::{DeviceFault, Disk};
 use im_types::Refusal;
@@ -95,27 +92,29 @@ fn header_of_places(zero: &[u8; 64], one: &[u8; 64]) -> Result<Header, Refusal>
     }
 }
 
-// The header in force of an image with this beginning, or the first fault.
-fn header_of(beginning: &ImageStart) -> Result<Header, Refusal>
+// The header in force of an image with this beginning, or the first fault. A version that isn't taken is a fault behind
+// those of the header places, and before the length's.
+fn header_of(beginning: &ImageStart, versions: Versions) -> Result<Header, Refusal>
     ensures found { IfOk result (λ h. seen h ≡ header_in (place_in_force beginning.now.zero beginning.now.one)) }
     ensures range { IfOk result (λ h. (h.area ≤ 1) × (h.count ≤ LAST)) }
-    ensures good { OnOk result (beginning_fault (layout_at beginning.now.zero beginning.now.one)
-        beginning.now.length beginning.now.zero beginning.now.one
-        ≡ None) }
+    ensures version { IfOk result (λ h. version_fault versions h.version ≡ None) }
+    ensures good { OnOk result
+        (beginning_fault versions beginning.now.length beginning.now.zero beginning.now.one ≡ None) }
     ensures fault { IfErr result
-        (λ e. beginning_fault (layout_at beginning.now.zero beginning.now.one)
-        beginning.now.length beginning.now.zero beginning.now.one ≡ Some e) }
-    ensures only { IfErr result (λ e. IsHeaderFault e) }
+        (λ e. beginning_fault versions beginning.now.length beginning.now.zero beginning.now.one ≡ Some e) }
+    ensures only { IfErr result (λ e. MayRefuseHeader versions e) }
 {
-    match header_of_places(&beginning.zero, &beginning.one) {
-        Ok(header) => {
-            if beginning.length == header.layout().image_length(header.limits) {
-                Ok(header)
-            } else {
-                Err(Refusal::WrongLength)
-            }
-        }
-        Err(refusal) => Err(refusal),
+    let header = match header_of_places(&beginning.zero, &beginning.one) {
+        Ok(header) => header,
+        Err(refusal) => return Err(refusal),
+    };
+    if let Some(refusal) = versions.refuse(&header) {
+        return Err(refusal);
+    }
+    if beginning.length == header.layout().image_length(header.limits) {
+        Ok(header)
+    } else {
+        Err(Refusal::WrongLength)
     }
 }
 
@@ -137,109 +136,22 @@ fn read_beginning<D: Disk>(disk: &mut D) -> Result<Option<ImageStart>, DeviceFau
     Ok(Some(ImageStart { length, zero, one }))
 }
 
-/// Returns the header in force of an image, or the first fault of its length and its headers.
+/// Returns the header in force of an image of one of these versions, or the first fault of its length and its headers.
 ///
-/// It reads only the length and the two header places, and takes no memory. The faults are `WrongLength`, `NoHeader`
-/// and `BadHeader`, in the order of the definition. Returns `Device` if a call failed.
-pub fn read_header<D: Disk>(disk: &mut D) -> Result<Header, Refusal>
+/// It reads only the length and the two header places, and takes no memory. The faults are `WrongLength`, `NoHeader`,
+/// `BadHeader` and `OldVersion`, in the order of the definition. A version that isn't taken is a fault before a wrong
+/// length for the header's sizes. Returns `Device` if a call failed.
+pub fn read_header<D: Disk>(disk: &mut D, versions: Versions) -> Result<Header, Refusal>
     ensures found { IfOk result (λ h. D.honest disk.new → seen h ≡ header_of (D.now disk.old).bytes) }
-    ensures good { OnOk result
-        (D.honest disk.new → header_fault (layout_in (D.now disk.old).bytes) (D.now disk.old).bytes ≡ None) }
+    ensures version { IfOk result (λ h. version_fault versions h.version ≡ None) }
+    ensures good { OnOk result (D.honest disk.new → first_fault versions (D.now disk.old).bytes ≡ None) }
     ensures fault { IfErr result (λ e. (e ≡ Device)
-        ⊎ (D.honest disk.new → header_fault (layout_in (D.now disk.old).bytes) (D.now disk.old).bytes ≡ Some e)) }
-    ensures reads { ReadsOrRefuses D.Disk disk.old disk.new result (λ e. (e ≡ Device) ⊎ IsHeaderFault e) }
+        ⊎ (D.honest disk.new → first_fault versions (D.now disk.old).bytes ≡ Some e)) }
+    ensures reads { ReadsOrRefuses D.Disk disk.old disk.new result (λ e. (e ≡ Device) ⊎ MayRefuseHeader versions e) }
     ensures range { IfOk result (λ h. (h.area ≤ 1) × (h.count ≤ LAST)) }
 {
     match read_beginning(disk) {
-        Ok(Some(beginning)) => header_of(&beginning),
-        Ok(None) => Err(Refusal::WrongLength),
-        Err(_) => Err(Refusal::Device),
-    }
-}
-
-// The header in force of an image with this beginning, or why the image isn't opened. A sound header of the first
-// version is refused before the length is compared.
-fn header_to_open(beginning: &ImageStart) -> Result<Header, Refusal>
-    ensures found { IfOk result (λ h. seen h ≡ header_in (place_in_force beginning.now.zero beginning.now.one)) }
-    ensures range { IfOk result (λ h. (h.area ≤ 1) × (h.count ≤ LAST)) }
-    ensures young { IfOk result (λ h. (h.version == 1) ≡ false) }
-    ensures good { OnOk result (beginning_fault (layout_at beginning.now.zero beginning.now.one)
-        beginning.now.length beginning.now.zero beginning.now.one ≡ None) }
-    ensures fault { IfErr result (λ e. MayNotOpen beginning.now.length beginning.now.zero beginning.now.one e) }
-    ensures only { IfErr result (λ e. (e ≡ OldVersion) ⊎ IsHeaderFault e) }
-{
-    match header_of_places(&beginning.zero, &beginning.one) {
-        Ok(header) => {
-            if header.is_old() {
-                Err(Refusal::OldVersion)
-            } else if beginning.length == header.layout().image_length(header.limits) {
-                Ok(header)
-            } else {
-                Err(Refusal::WrongLength)
-            }
-        }
-        Err(refusal) => Err(refusal),
-    }
-}
-
-/// Returns the header in force of an image that is to be opened. It is [`read_header`] with one difference: a sound
-/// header of the first version is refused with `OldVersion`, whatever the file's length is.
-pub(crate) fn read_header_to_open<D: Disk>(disk: &mut D) -> Result<Header, Refusal>
-    ensures found { IfOk result (λ h. D.honest disk.new → seen h ≡ header_of (D.now disk.old).bytes) }
-    ensures young { IfOk result (λ h. (h.version == 1) ≡ false) }
-    ensures good { OnOk result
-        (D.honest disk.new → header_fault (layout_in (D.now disk.old).bytes) (D.now disk.old).bytes ≡ None) }
-    ensures fault { IfErr result (λ e. (e ≡ Device) ⊎ (D.honest disk.new → Opens (D.now disk.old).bytes (Err e))) }
-    ensures reads { ReadsOrRefuses D.Disk disk.old disk.new result
-        (λ e. (e ≡ Device) ⊎ (e ≡ OldVersion) ⊎ IsHeaderFault e) }
-    ensures range { IfOk result (λ h. (h.area ≤ 1) × (h.count ≤ LAST)) }
-{
-    match read_beginning(disk) {
-        Ok(Some(beginning)) => header_to_open(&beginning),
-        Ok(None) => Err(Refusal::WrongLength),
-        Err(_) => Err(Refusal::Device),
-    }
-}
-
-// The header in force of an image with this beginning, by the rules of the first version. Any other version is a fault
-// of it, before the length is compared.
-fn old_header_of(beginning: &ImageStart) -> Result<Header, Refusal>
-    ensures found { IfOk result (λ h. seen h ≡ header_in (place_in_force beginning.now.zero beginning.now.one)) }
-    ensures range { IfOk result (λ h. (h.area ≤ 1) × (h.count ≤ LAST)) }
-    ensures old { IfOk result (λ h. (h.version == 1) ≡ true) }
-    ensures good { OnOk result
-        (beginning_fault layout_1 beginning.now.length beginning.now.zero beginning.now.one ≡ None) }
-    ensures fault { IfErr result
-        (λ e. beginning_fault layout_1 beginning.now.length beginning.now.zero beginning.now.one ≡ Some e) }
-    ensures only { IfErr result (λ e. IsHeaderFault e) }
-{
-    match header_of_places(&beginning.zero, &beginning.one) {
-        Ok(header) => {
-            if !header.is_old() {
-                Err(Refusal::BadHeader)
-            } else if beginning.length == header.layout().image_length(header.limits) {
-                Ok(header)
-            } else {
-                Err(Refusal::WrongLength)
-            }
-        }
-        Err(refusal) => Err(refusal),
-    }
-}
-
-/// Returns the header in force of an image of the first version. It is [`read_header`] with one difference: a header of
-/// any other version is `BadHeader`, whatever the file's length is.
-pub(crate) fn read_old_header<D: Disk>(disk: &mut D) -> Result<Header, Refusal>
-    ensures found { IfOk result (λ h. D.honest disk.new → seen h ≡ header_of (D.now disk.old).bytes) }
-    ensures old { IfOk result (λ h. (h.version == 1) ≡ true) }
-    ensures good { OnOk result (D.honest disk.new → header_fault layout_1 (D.now disk.old).bytes ≡ None) }
-    ensures fault { IfErr result (λ e. (e ≡ Device)
-        ⊎ (D.honest disk.new → header_fault layout_1 (D.now disk.old).bytes ≡ Some e)) }
-    ensures reads { ReadsOrRefuses D.Disk disk.old disk.new result (λ e. (e ≡ Device) ⊎ IsHeaderFault e) }
-    ensures range { IfOk result (λ h. (h.area ≤ 1) × (h.count ≤ LAST)) }
-{
-    match read_beginning(disk) {
-        Ok(Some(beginning)) => old_header_of(&beginning),
+        Ok(Some(beginning)) => header_of(&beginning, versions),
         Ok(None) => Err(Refusal::WrongLength),
         Err(_) => Err(Refusal::Device),
     }

@@ -12,6 +12,7 @@ mod in_force;
 mod open_area;
 mod pages;
 mod reading;
+mod versions;
 
 pub use area::{areas_show_one_memory, decode};
 pub use fresh::new_image;
@@ -26,4 +27,5 @@ pub use pages::{
     areas_show_the_memory, encode, encode_into, encode_page, pages_outside_stay,
     pages_show_the_memory,
 };
-pub use reading::{Image, Report, inspect, read_image, read_old, read_to_open, replay};
+pub use reading::{ImageParts, Report, inspect, read_image, replay};
+pub use versions::Versions;

@@ -4,19 +4,21 @@ ghost use Rattle.im_types.specs.declared.TheConstants.{LAST};
 ghost use Rattle.im_types.specs.declared.refusals.Refusal.TheVariants.{NoMemory, Device};
 ghost use Rattle.im_types.specs.Header.{header_of, layout_in};
 ghost use Rattle.std.specs.List.{list_all};
-ghost use Rattle.im_types.specs.Layout.{layout_1, layout_in_use, layout_named, layout_of};
+ghost use Rattle.im_types.specs.Layout.{layout_1, layout_named, layout_of};
 ghost use Rattle.im_types.specs.Records.{has_room_for};
-ghost use Rattle.im_types.specs.Meaning.{Opens, Reads, accept_in, can_stand};
+ghost use Rattle.im_types.specs.Meaning.{Reads, accept_in, can_stand};
 ghost use Rattle.im_types.specs.Step.{is_accepted};
 ghost use Rattle.im_disk.specs.Runs.{ReadsOrRefuses};
 ghost use Rattle.im_journal.specs.Holding.{Holds};
-ghost use Rattle.im_image.specs.Headers.{seen, MayRefuseImage, MayRefuseOpening};
-ghost use Rattle.im_image.specs.Reading.{JournalOf, HasHeader, HasArea, AreUnder, AreParts, IsImageOf, reached};
+ghost use Rattle.im_image.specs.Headers.{seen, MayRefuse, MayRefuseImage, layout_read};
+ghost use Rattle.im_image.specs.Reading.{JournalOf, HasHeader, HasArea, AreUnder, AreParts, IsImageOf};
+ghost use Rattle.im_image.specs.Reading.{ReadsBy, reached};
 
 use crate::header::Header;
-use crate::in_force::{read_header, read_header_to_open, read_old_header};
+use crate::in_force::read_header;
 use crate::open_area::read_memory;
 use crate::pages::window_at;
+use crate::versions::Versions;
 use im_disk::Disk;
 use im_journal::Journal;
 use im_memory::Memory;
@@ -27,7 +29,7 @@ use std::alloc::Global;
 
 /// What is read of an image: the header in force, the journal, and the memory after the journal's run.
 #[derive(Drop)]
-pub struct Image {
+pub struct ImageParts {
     /// The header in force.
     pub header: Header,
     /// The journal. The header's count is the number of its first command.
@@ -108,7 +110,7 @@ fn read_run<D: Disk>(
     disk: &mut D,
     header: Header,
     mut memory: Memory,
-) -> Result<Image, Refusal>
+) -> Result<ImageParts, Refusal>
     requires under { AreUnder (seen header) memory.contents }
     requires shown { D.honest disk.old → HasArea (seen header) memory.contents (D.now disk.old).bytes }
     ensures same { IfOk result (λ i. i.header ≡ header) }
@@ -130,7 +132,7 @@ fn read_run<D: Disk>(
         Err(refusal) => return Err(refusal),
     };
     if replay(version, &mut memory, &commands) {
-        Ok(Image {
+        Ok(ImageParts {
             header,
             journal,
             memory,
@@ -141,7 +143,7 @@ fn read_run<D: Disk>(
 }
 
 // Reads the rest of an image. Its header in force is known.
-fn read_behind<D: Disk>(alloc: Global, disk: &mut D, header: Header) -> Result<Image, Refusal>
+fn read_behind<D: Disk>(alloc: Global, disk: &mut D, header: Header) -> Result<ImageParts, Refusal>
     requires range { (header.area ≤ 1) × (header.count ≤ LAST) }
     requires sound { D.honest disk.old → HasHeader (seen header) (D.now disk.old).bytes }
     ensures same { IfOk result (λ i. i.header ≡ header) }
@@ -157,68 +159,36 @@ fn read_behind<D: Disk>(alloc: Global, disk: &mut D, header: Header) -> Result<I
     }
 }
 
-/// Returns what an image means, or its first fault. It only reads.
+/// Returns what an image of one of these versions means, or its first fault by their rules. It only reads.
 ///
 /// The faults come in this order: `WrongLength`, `NoHeader`, `BadHeader`, `BadPage`, `BadRecord`. `BadPage` says that
 /// the pages in force show no memory. `BadRecord` says that the journal's run is at fault, or that a command in it
-/// isn't accepted in its turn. Returns `NoMemory` if `alloc` refuses room for the memory or for what is read. Returns
-/// `Device` if a call of the disk failed.
-pub fn read_image<D: Disk>(alloc: Global, disk: &mut D) -> Result<Image, Refusal>
+/// isn't accepted in its turn. A sound header of a version that isn't taken is a fault before a wrong length for its
+/// sizes: `OldVersion` where the version in use is wanted, and `BadHeader` where the first one is. Returns `NoMemory`
+/// if `alloc` refuses room for the memory or for what is read. Returns `Device` if a call of the disk failed.
+pub fn read_image<D: Disk>(
+    alloc: Global,
+    disk: &mut D,
+    versions: Versions,
+) -> Result<ImageParts, Refusal>
     ensures parts { IfOk result (λ i. AreParts i) }
+    ensures version { IfOk result (λ i. layout_named i.header.version ≡ layout_read versions i.header.version) }
     ensures header { IfOk result (λ i. D.honest disk.new → seen i.header ≡ header_of (D.now disk.old).bytes) }
     ensures holds { IfOk result (λ i. D.honest disk.new → Holds i.journal (D.now disk.old).bytes) }
     ensures means { IfOk result (λ i. D.honest disk.new
-        → Reads (layout_in (D.now disk.old).bytes) (D.now disk.old).bytes (Ok (reached i))) }
+        → ReadsBy versions (D.now disk.old).bytes (Ok (reached i))) }
     ensures fault { IfErr result (λ e. (e ≡ NoMemory) ⊎ (e ≡ Device)
-        ⊎ (D.honest disk.new → Reads (layout_in (D.now disk.old).bytes) (D.now disk.old).bytes (Err e))) }
-    ensures reads { ReadsOrRefuses D.Disk disk.old disk.new result MayRefuseImage }
+        ⊎ (D.honest disk.new → ReadsBy versions (D.now disk.old).bytes (Err e))) }
+    ensures reads { ReadsOrRefuses D.Disk disk.old disk.new result (MayRefuse versions) }
 {
-    match read_header(disk) {
+    match read_header(disk, versions) {
         Ok(header) => read_behind(alloc, disk, header),
         Err(refusal) => Err(refusal),
     }
 }
 
-/// Returns what an image of the layout in use means, or why it isn't opened. It is [`read_image`] with one difference:
-/// an image with a sound header of the first version in force is refused with `OldVersion`, whatever else is wrong with
-/// it.
-pub fn read_to_open<D: Disk>(alloc: Global, disk: &mut D) -> Result<Image, Refusal>
-    ensures parts { IfOk result (λ i. AreParts i) }
-    ensures young { IfOk result (λ i. layout_named i.header.version ≡ layout_in_use) }
-    ensures header { IfOk result (λ i. D.honest disk.new → seen i.header ≡ header_of (D.now disk.old).bytes) }
-    ensures holds { IfOk result (λ i. D.honest disk.new → Holds i.journal (D.now disk.old).bytes) }
-    ensures means { IfOk result (λ i. D.honest disk.new
-        → Reads layout_in_use (D.now disk.old).bytes (Ok (reached i))) }
-    ensures fault { IfErr result (λ e. (e ≡ NoMemory) ⊎ (e ≡ Device)
-        ⊎ (D.honest disk.new → Opens (D.now disk.old).bytes (Err e))) }
-    ensures reads { ReadsOrRefuses D.Disk disk.old disk.new result MayRefuseOpening }
-{
-    match read_header_to_open(disk) {
-        Ok(header) => read_behind(alloc, disk, header),
-        Err(refusal) => Err(refusal),
-    }
-}
-
-/// Returns what an image of the first version means, or its first fault by the rules of that version. It is
-/// [`read_image`] with one difference: a header in force of any other version is `BadHeader`, whatever else is wrong
-/// with the image.
-pub fn read_old<D: Disk>(alloc: Global, disk: &mut D) -> Result<Image, Refusal>
-    ensures parts { IfOk result (λ i. AreParts i) }
-    ensures old { IfOk result (λ i. layout_named i.header.version ≡ layout_1) }
-    ensures header { IfOk result (λ i. D.honest disk.new → seen i.header ≡ header_of (D.now disk.old).bytes) }
-    ensures means { IfOk result (λ i. D.honest disk.new → Reads layout_1 (D.now disk.old).bytes (Ok (reached i))) }
-    ensures fault { IfErr result (λ e. (e ≡ NoMemory) ⊎ (e ≡ Device)
-        ⊎ (D.honest disk.new → Reads layout_1 (D.now disk.old).bytes (Err e))) }
-    ensures reads { ReadsOrRefuses D.Disk disk.old disk.new result MayRefuseImage }
-{
-    match read_old_header(disk) {
-        Ok(header) => read_behind(alloc, disk, header),
-        Err(refusal) => Err(refusal),
-    }
-}
-
-/// Returns a report of what an image means, or its first fault. It reads the bytes as they are now, and neither writes
-/// nor syncs. The refusals are those of [`read_image`].
+/// Returns a report of what an image of either version means, or its first fault. It reads the bytes as they are now,
+/// and neither writes nor syncs. The refusals are those of [`read_image`].
 pub fn inspect<D: Disk>(alloc: Global, disk: &mut D) -> Result<Report, Refusal>
     ensures header { IfOk result (λ r. D.honest disk.new → seen r.header ≡ header_of (D.now disk.old).bytes) }
     ensures means { IfOk result
@@ -228,14 +198,14 @@ pub fn inspect<D: Disk>(alloc: Global, disk: &mut D) -> Result<Report, Refusal>
         ⊎ (D.honest disk.new → Reads (layout_in (D.now disk.old).bytes) (D.now disk.old).bytes (Err e))) }
     ensures reads { ReadsOrRefuses D.Disk disk.old disk.new result MayRefuseImage }
 {
-    match read_image(alloc, disk) {
+    match read_image(alloc, disk, Versions::Any) {
         Ok(image) => Ok(report_of(image)),
         Err(refusal) => Err(refusal),
     }
 }
 
 // The report of an image that was read.
-fn report_of(image: Image) -> Report
+fn report_of(image: ImageParts) -> Report
     requires { JournalOf (seen image.header) image.journal }
     ensures header { result.header ≡ image.header }
     ensures memory { result.memory ≡ image.memory }

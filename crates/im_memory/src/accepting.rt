@@ -10,7 +10,6 @@ use im_types::{Command, Entry, Outcome, Refusal, Request};
 impl Memory {
     /// Serves one command that the memory accepts, as [`Memory::step`] does, and doesn't judge it again. The call takes
     /// no memory.
-    #[inline(always)]
     pub fn accept(&mut self, command: &Command) -> Result<Outcome, Refusal>
         requires accepted { is_accepted self.old.contents command.now ≡ true }
         ensures answer { result ≡ (step self.old.contents command.now).answer }
@@ -26,7 +25,6 @@ impl Memory {
     }
 
     // Serves a request that the memory accepts.
-    #[inline(always)]
     fn serve_new(&mut self, request: &Request) -> Entry
         requires accepted { is_accepted self.old.contents (Command.Request request.now) ≡ true }
         ensures answer { Ok (Outcome.Entry result)

@@ -14,11 +14,10 @@ use crate::acts::{act, resume};
 use im_arena::Arena;
 use im_cell::CellTable;
 use im_sessions::Sessions;
-use im_types::{Entry, Op, Request, Waiter};
+use im_types::{Entry, Request, Waiter};
 
-// Does the operation of a new request, keeps its entry, and answers the requests that it resumes.
-#[inline(always)]
-fn serve_any(
+/// Serves a new request: does its operation, keeps its entry, and answers the requests that it resumes.
+pub(crate) fn serve(
     table: &mut CellTable,
     arena: &mut Arena,
     sessions: &mut Sessions,
@@ -45,33 +44,4 @@ fn serve_any(
     sessions.note(&asked, acted.entry);
     resume(sessions, arena, acted.resumed);
     acted.entry
-}
-
-/// Serves a new request. Each operation on a cell has a way of its own, so that LLVM knows in each what may be
-/// answered, and who may be resumed.
-#[inline(always)]
-pub(crate) fn serve(
-    table: &mut CellTable,
-    arena: &mut Arena,
-    sessions: &mut Sessions,
-    request: &Request,
-) -> Entry
-    requires memory { MakesMemory table.old arena.old sessions.old }
-    requires fresh { judge sessions.old request.now ≡ Ok Fresh }
-    ensures answer { let m = contents_of table.old arena.old sessions.old in result
-        ≡ (act m.cells (asker request.now) request.now.op).entry }
-    ensures contents { let m = contents_of table.old arena.old sessions.old in
-        contents_of table.new arena.new sessions.new
-        ≡ (serve m request.now (act m.cells (asker request.now) request.now.op)).contents }
-    ensures memory { MakesMemory table.new arena.new sessions.new }
-    ensures changes { let m = state_of table.old arena.old sessions.old in
-        ChangesOnly (touched m (Command.Request request.now)) m.records (records_of table.new arena.new sessions.new) }
-{
-    match request.op {
-        Op::Fetch(_) => serve_any(table, arena, sessions, request),
-        Op::Store(_, _) => serve_any(table, arena, sessions, request),
-        Op::Take(_) => serve_any(table, arena, sessions, request),
-        Op::Put(_, _) => serve_any(table, arena, sessions, request),
-        _ => serve_any(table, arena, sessions, request),
-    }
 }

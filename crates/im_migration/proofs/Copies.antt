@@ -9,7 +9,7 @@ use Rattle.im_types.specs.Meaning.{Opens, Reads}
 use Rattle.im_disk.specs.Moment.{Moment}
 use Rattle.im_disk.specs.Since.{Leaves}
 use Rattle.im_disk.proofs.SinceLemmas.{leaves_weaker}
-use Rattle.im_image.specs.declared.reading.Image.{Image}
+use Rattle.im_image.specs.declared.reading.ImageParts.{ImageParts}
 use Rattle.im_image.specs.Headers.{seen}
 use Rattle.im_image.specs.Reading.{reached}
 use Rattle.im_migration.specs.declared.asked.Asked.{Asked}
@@ -18,7 +18,8 @@ use Rattle.im_migration.specs.Copying.{BlankOrCopy, IsNoSource, IsRefusedCopy, I
 use Rattle.im_migration.specs.Migration.{BlankOrLaid, IsLaidDown, IsNoPlace, moved_header}
 use Rattle.im_migration.specs.Resizing.{HasNoCopy, IsResized, sizes_asked}
 
-module _ (asked : Asked) (i : Image) (old : List ℕ) (H : Type 0) (means : H → Reads layout_in_use old (Ok (reached i)))
+module _ (asked : Asked) (i : ImageParts) (old : List ℕ) (H : Type 0)
+    (means : H → Reads layout_in_use old (Ok (reached i)))
     (header : H → seen i.header ≡ header_of old) where
   sizes-are : H → sizes_of i.header.limits ≡ (header_of old).sizes
   sizes-are honest = ap (λ (h : Header). h.sizes) (header honest)

@@ -8,13 +8,13 @@ use Rattle.im_types.specs.Meaning.{Reads}
 use Rattle.im_disk.specs.Moment.{Moment}
 use Rattle.im_disk.specs.Since.{Leaves}
 use Rattle.im_disk.proofs.SinceLemmas.{leaves_weaker}
-use Rattle.im_image.specs.declared.reading.Image.{Image}
+use Rattle.im_image.specs.declared.reading.ImageParts.{ImageParts}
 use Rattle.im_image.specs.Headers.{seen}
 use Rattle.im_image.specs.Reading.{reached}
 use Rattle.im_migration.specs.Migration.{BlankOrLaid, BlankOrSame, HasCount, IsLaidDown, IsNoPlace, IsMigrationFault}
 use Rattle.im_migration.specs.Migration.{MeansSame, moved_header}
 
-module _ (i : Image) (old : List ℕ) (H : Type 0) (means : H → Reads layout_1 old (Ok (reached i)))
+module _ (i : ImageParts) (old : List ℕ) (H : Type 0) (means : H → Reads layout_1 old (Ok (reached i)))
     (header : H → seen i.header ≡ header_of old) where
   -- the sizes of what was read
   pub same_sizes : (s : Sizes) → s ≡ sizes_of i.header.limits → H → s ≡ (header_of old).sizes

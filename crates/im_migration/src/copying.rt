@@ -14,13 +14,17 @@ use crate::preparing::{limits_asked, resized_to};
 use crate::putting::put_image;
 use crate::resized::Resized;
 use im_disk::Disk;
-use im_image::{Image, read_to_open};
+use im_image::{ImageParts, Versions, read_image};
 use im_types::layout::image_length;
 use im_types::{Limits, Refusal};
 use std::alloc::Global;
 
 // The limits of a copy of an image. The only refusal is `BadLimits`, and the follower is told why.
-fn limits_for<F: Follower>(image: &Image, asked: Asked, follower: &F) -> Result<Limits, Refusal>
+fn limits_for<F: Follower>(
+    image: &ImageParts,
+    asked: Asked,
+    follower: &F,
+) -> Result<Limits, Refusal>
     ensures sizes { IfOk result (λ l. sizes_of l ≡ sizes_asked asked (sizes_of image.now.header.limits)) }
     ensures fits { IfOk result (λ l. FitsSizes (sizes_of l) image.now.memory.contents) }
     ensures none { IfErr result (λ e. (e ≡ BadLimits)
@@ -30,7 +34,7 @@ fn limits_for<F: Follower>(image: &Image, asked: Asked, follower: &F) -> Result<
 }
 
 // The memory of an image in these sizes, with the header of its copy. The only refusal is `NoMemory`.
-fn resize_image(alloc: Global, image: &Image, limits: Limits) -> Result<Resized, Refusal>
+fn resize_image(alloc: Global, image: &ImageParts, limits: Limits) -> Result<Resized, Refusal>
     requires { FitsSizes (sizes_of limits) image.now.memory.contents }
     ensures whole { IfOk result (λ r. IsWhole r) }
     ensures sizes { IfOk result (λ r. r.header.limits ≡ limits) }
@@ -53,7 +57,7 @@ fn read_source<O: Disk, F: Follower>(
     ensures none { IfErr result (λ e. SourceFails asked (O.honest old.new) (O.now old.old).bytes e) }
     ensures reads { ReadsOrRefuses O.Disk old.old old.new result MayRefuseSource }
 {
-    match read_to_open(alloc, old) {
+    match read_image(alloc, old, Versions::InUse) {
         Ok(image) => match limits_for(&image, asked, follower) {
             Ok(limits) => resize_image(alloc, &image, limits),
             Err(refusal) => Err(refusal),
@@ -122,7 +126,7 @@ pub fn length_for_copy<O: Disk, F: Follower>(
     ensures none { IfErr result (λ e. SourceFails asked (O.honest old.new) (O.now old.old).bytes e) }
     ensures reads { ReadsOrRefuses O.Disk old.old old.new result MayRefuseSource }
 {
-    match read_to_open(alloc, old) {
+    match read_image(alloc, old, Versions::InUse) {
         Ok(image) => match limits_for(&image, asked, follower) {
             Ok(limits) => Ok(image_length(limits)),
             Err(refusal) => Err(refusal),

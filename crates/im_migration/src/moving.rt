@@ -14,7 +14,7 @@ ghost use Rattle.im_migration.specs.Migration.{MayRefuseMigration, UnwrittenOrDe
 use crate::follower::Follower;
 use crate::putting::put_image;
 use im_disk::Disk;
-use im_image::{Header, Image, VERSION, read_old};
+use im_image::{Header, VERSION, Versions, read_image};
 use im_types::layout::image_length;
 use im_types::{Limits, Refusal};
 use std::alloc::Global;
@@ -68,7 +68,7 @@ pub fn migrate<O: Disk, N: Disk, F: Follower>(
     ensures reads { ReadsAlone O.Disk old.old old.new }
     ensures honest { MatchResult result (λ r. N.honest r.0 → N.honest new) (λ e. N.honest e.1 → N.honest new) }
 {
-    match read_old(alloc, old) {
+    match read_image(alloc, old, Versions::First) {
         Ok(image) => {
             let count = image.journal.count();
             let header = header_for(image.header.limits, count);
@@ -90,7 +90,7 @@ pub fn length_for<O: Disk>(alloc: Global, old: &mut O) -> Result<usize, Refusal>
         ⊎ (O.honest old.new → Reads layout_1 (O.now old.old).bytes (Err e))) }
     ensures reads { ReadsOrRefuses O.Disk old.old old.new result MayRefuseImage }
 {
-    match read_old(alloc, old) {
+    match read_image(alloc, old, Versions::First) {
         Ok(image) => Ok(image_length(image.header.limits)),
         Err(refusal) => Err(refusal),
     }

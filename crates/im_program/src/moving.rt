@@ -13,7 +13,7 @@ use crate::hand::AtHand;
 use crate::opening::{is_one_file, reason_of, refusal_of, warn};
 use im_disk::{Disk, FileDisk, Start};
 use im_files::{FileFault, make_image, open_image, open_image_to_read};
-use im_image::read_header;
+use im_image::{Versions, read_header};
 use im_migration::{Follower, length_for, migrate};
 use im_text::{Observer, PathFault, Reason, diagnose, end, put_through};
 use im_types::Refusal;
@@ -84,7 +84,7 @@ pub fn migrate_on<O: Disk, N: Disk, W: Write, V: Observer + Follower>(
 fn is_current<O: Disk>(old: &mut O) -> bool
     ensures reads { ReadsAlone O.Disk old.old old.new }
 {
-    match read_header(old) {
+    match read_header(old, Versions::Any) {
         Ok(header) => !header.is_old(),
         Err(_) => false,
     }

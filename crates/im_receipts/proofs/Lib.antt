@@ -1,2 +1,3 @@
 pub mod Tellings
 pub mod DurableLemmas
+pub mod TimedLemmas

@@ -12,7 +12,7 @@ use im_promise::traces_tell_a_request_alike;
 /// Contracts alone see what the call says.
 pub fn told_alike<K: Name>(one: &Receipt<K>, two: &Receipt<K>)
     ensures alike { (r : Request) (first second : Entry) → GivesEntry one.now r first → GivesEntry two.now r second
-        → AreToldAlike K.memory r one.now.history first two.now.history second }
+        → AreToldAlike K.origin.memory r one.now.history first two.now.history second }
 {
     let _outcomes = (one.outcome(), two.outcome());
     one.history().order(two.history());

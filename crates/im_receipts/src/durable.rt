@@ -21,8 +21,8 @@ fn finish_with<D: Disk, K: Name, R: Wait>(
 ) -> Finished<D>
     ensures begins { IsPrefix history.now result.trace.items }
     ensures time { when.now.time ≡ time_at result.trace.times when.now.lines }
-    ensures keeps { KeptSince D.Disk K.begun K.memory K.plan result.trace.items result.trace.times result.engine }
-    ensures memory { IsOpened K.memory }
+    ensures keeps { KeptSince D.Disk K.origin result.trace.items result.trace.times result.engine }
+    ensures memory { IsOpened K.origin.memory }
 {
     let Finished {
         engine,
@@ -54,7 +54,8 @@ pub fn finish_with_receipt<D: Disk, K: Name, R: Wait>(
     ports: Vec<Port<K>>,
     receipt: &Receipt<K>,
 ) -> Finished<D>
-    ensures keeps { StaysDurable D.Disk K.begun K.memory result.trace.items receipt.now result.engine.disk }
+    ensures keeps { StaysDurable D.Disk K.origin.begun K.origin.memory result.trace.items receipt.now
+        result.engine.disk }
 {
     let _outcome = receipt.outcome();
     repeat_is_told_again();
@@ -71,7 +72,7 @@ pub fn finish_with_found<D: Disk, K: Name, R: Wait>(
     ports: Vec<Port<K>>,
     found: &Found<K>,
 ) -> Finished<D>
-    ensures keeps { StaysFound D.Disk K.begun K.memory result.trace.items found.now result.engine.disk }
+    ensures keeps { StaysFound D.Disk K.origin.begun K.origin.memory result.trace.items found.now result.engine.disk }
 {
     entry_lasts();
     let finished = finish_with(rt, controller, ports, found.history(), found.when());

@@ -13,12 +13,10 @@ use crate::tracing::Trace;
 use im_disk::Disk;
 use im_script::Script;
 use im_serial::Server;
-use im_serving::{Gate, Watcher};
+use im_serving::{Gate, Host, Watcher};
 use im_text::{Observer, Reason, finish};
 use std::alloc::Global;
 use std::io::Write;
-use std::sync::Wait;
-use std::thread::Threads;
 
 // Prints a refusal behind the lines that are kept back. Returns the status and the engine's disk.
 fn refuse_rest<D: Disk, W: Write, N: Observer>(
@@ -53,7 +51,7 @@ fn run_rest<
     N: Observer,
     G: Gate + Sync,
     V: Watcher + Sync,
-    R: Threads + Wait + Sync,
+    R: Host,
 >(
     context: &RunContext<'_, G, V, R>,
     server: Server<D>,
@@ -118,7 +116,7 @@ pub fn run_once_on<
     N: Observer,
     G: Gate + Sync,
     V: Watcher + Sync,
-    R: Threads + Wait + Sync,
+    R: Host,
 >(
     rt: &R,
     alloc: Global,

@@ -47,7 +47,7 @@ fn make_part<D: Disk, K: Name, R: Wait>(
     controller: &Controller<D, K>,
     order: Order,
 ) -> Result<Part<K>, Refusal>
-    ensures { IfOk result (λ part. IsPartOf K.memory (ask_of order) part) }
+    ensures { IfOk result (λ part. IsPartOf K.origin.memory (ask_of order) part) }
 {
     let Order {
         element,
@@ -80,7 +80,7 @@ impl<K: Name> Parts<K> {
     // Makes the part of an order. Its element is noted as refused if it doesn't exist or there is no room for its part.
     // No port is made for it, since others would wait for a port that nobody serves.
     fn make<D: Disk, R: Wait>(&mut self, rt: &R, controller: &Controller<D, K>, order: Order)
-        ensures made { MakesPart K.memory (ask_of order) self.old.parts.items self.new.parts.items
+        ensures made { MakesPart K.origin.memory (ask_of order) self.old.parts.items self.new.parts.items
             self.old.refused self.new.refused }
         ensures named { self.old.elements.items ≡ part_elements self.old.parts.items
             → self.new.elements.items ≡ part_elements self.new.parts.items }
@@ -111,7 +111,7 @@ pub fn make_parts<D: Disk, K: Name, R: Wait>(
     controller: &Controller<D, K>,
     orders: Vec<Order>,
 ) -> Parts<K>
-    ensures made { HaveAllParts K.memory (result.refused ≡ None) (map ask_of orders.items) result.parts.items }
+    ensures made { HaveAllParts K.origin.memory (result.refused ≡ None) (map ask_of orders.items) result.parts.items }
     ensures named { result.elements.items ≡ part_elements result.parts.items }
 {
     let mut parts = Parts {

@@ -21,14 +21,12 @@ use im_disk::Disk;
 use im_engine::Engine;
 use im_script::Script;
 use im_serial::Server;
-use im_serving::{Gate, Watcher};
+use im_serving::{Gate, Host, Watcher};
 use im_text::{Observer, Reason};
 use im_types::Refusal;
 use std::alloc::Global;
 use std::io::Write;
 use std::marker::Brand;
-use std::sync::Wait;
-use std::thread::Threads;
 
 /// The status of a run in which servers waited for each other and nothing else was refused.
 pub const STALLED: u8 = 3;
@@ -45,12 +43,11 @@ fn reason_of(refused: Option<(u16, Refusal)>) -> Result<(), Reason>
 
 // Serves what each element asks for with a controller that was opened. Returns how that ended, and the calls in the
 // order of the lock.
-fn serve_opening<
-    D: Disk + Drop + Send,
-    G: Gate + Sync,
-    V: Watcher + Sync,
-    R: Threads + Wait + Sync,
->(context: &RunContext<'_, G, V, R>, opening: Opening<D>, work: Workload) -> (Ending<D>, Calls)
+fn serve_opening<D: Disk + Drop + Send, G: Gate + Sync, V: Watcher + Sync, R: Host>(
+    context: &RunContext<'_, G, V, R>,
+    opening: Opening<D>,
+    work: Workload,
+) -> (Ending<D>, Calls)
     requires plan { work.mode.planned ≡ true → opening.plan
         ≡ Some (plan_of (planned_orders (asks_in work.whole) (map ask_of work.orders.items))) }
     requires fits { work.mode.planned ≡ true → FitsIfNew (asks_in work.whole) opening.engine.memory
@@ -91,7 +88,7 @@ fn serve_on<
     N: Observer,
     G: Gate + Sync,
     V: Watcher + Sync,
-    R: Threads + Wait + Sync,
+    R: Host,
 >(
     context: &RunContext<'_, G, V, R>,
     server: Server<D>,
@@ -128,7 +125,7 @@ pub(crate) fn run_server<
     N: Observer,
     G: Gate + Sync,
     V: Watcher + Sync,
-    R: Threads + Wait + Sync,
+    R: Host,
 >(
     context: &RunContext<'_, G, V, R>,
     server: Server<D>,
@@ -227,7 +224,7 @@ pub fn run_on<
     N: Observer,
     G: Gate + Sync,
     V: Watcher + Sync,
-    R: Threads + Wait + Sync,
+    R: Host,
 >(
     rt: &R,
     alloc: Global,

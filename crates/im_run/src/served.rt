@@ -2,7 +2,7 @@
 ghost use Rattle.std.specs.Prelude.{◌≡◌, ◌∷◌, [], ℕ, List, IfOk, IsOk, None, OnErr, false, map};
 ghost use Rattle.im_types.specs.Trace.{IsLegal, end_of};
 ghost use Rattle.im_types.specs.declared.commands.Line.{Line};
-ghost use Rattle.im_controller.specs.Kept.{begun_in};
+ghost use Rattle.im_controller.specs.Kept.{IsOriginOf};
 ghost use Rattle.im_controller.specs.Planned.{EndsBy};
 ghost use Rattle.im_run.specs.Doing.{AddsLines, AreAllNoted, AreAllTold, HaveSeen, NotesEnd, elements_at_end};
 ghost use Rattle.im_run.specs.Orders.{ask_of};
@@ -16,12 +16,10 @@ use crate::sheet::Order;
 use im_controller::{Controller, Finished, Name, Opening, Port, finish};
 use im_disk::Disk;
 use im_engine::Engine;
-use im_serving::{Done, Gate, Watcher, serve_elements};
+use im_serving::{Done, Gate, Host, Watcher, serve_elements};
 use im_text::Waited;
 use im_types::Refusal;
 use std::alloc::{AllocError, Global};
-use std::sync::Wait;
-use std::thread::Threads;
 
 /// What was done for an element.
 #[derive(Clone, Copy, Debug, PartialEq, Eq)]
@@ -200,9 +198,9 @@ fn serve_parts<
     K: Name + Send + Sync,
     G: Gate + Sync,
     V: Watcher + Sync,
-    R: Threads + Wait + Sync,
+    R: Host,
 >(context: &RunContext<'_, G, V, R>, controller: &Controller<D, K>, orders: Vec<Order>) -> Notes<K>
-    ensures told { (trace : List Line) → HaveSeen trace result.ports.items → AreAllTold K.memory trace
+    ensures told { (trace : List Line) → HaveSeen trace result.ports.items → AreAllTold K.origin.memory trace
         (result.refused ≡ None) (map ask_of orders.items) result.did.items }
 {
     let rt = context.rt;
@@ -231,24 +229,18 @@ pub(crate) fn serve_orders<
     K: Name + Send + Sync,
     G: Gate + Sync,
     V: Watcher + Sync,
-    R: Threads + Wait + Sync,
+    R: Host,
 >(context: &RunContext<'_, G, V, R>, opening: Opening<D>, orders: Vec<Order>) -> Outcome<D>
-    requires memory { opening.engine.memory ≡ K.memory }
-    requires lines { opening.lines_name ≡ K.lines_name }
-    requires marked { opening.marked_name ≡ K.marked_name }
-    requires ports { opening.ports ≡ K.ports }
-    requires book { opening.book ≡ K.book }
-    requires plan { opening.plan ≡ K.plan }
-    requires begun { begun_in D.now D.past D.failures opening.engine ≡ K.begun }
-    requires honest { D.honest opening.engine.disk → K.honest }
-    ensures legal { IsLegal K.memory result.trace.items }
-    ensures end { end_of K.memory result.trace.items ≡ result.engine.memory }
+    requires origin { IsOriginOf D.Disk opening K.origin }
+    ensures legal { IsLegal K.origin.memory result.trace.items }
+    ensures end { end_of K.origin.memory result.trace.items ≡ result.engine.memory }
     ensures recorded { result.trace.recorded ≡ opening.book.recorded }
-    ensures planned { EndsBy K.memory K.plan result.trace.items result.engine.memory }
-    ensures kept { D.honest result.engine.disk → K.begun.failed ≡ false
-        → ServedOn D.now D.past D.failures K.begun K.memory K.plan result.trace.items result.engine }
-    ensures honest { D.honest result.engine.disk → K.honest }
-    ensures told { AreAllTold K.memory result.trace.items (result.refused ≡ None) (map ask_of orders.items)
+    ensures planned { EndsBy K.origin.memory K.origin.plan result.trace.items result.engine.memory }
+    ensures kept { D.honest result.engine.disk → K.origin.begun.failed ≡ false
+        → ServedOn D.now D.past D.failures K.origin.begun K.origin.memory K.origin.plan result.trace.items
+        result.engine }
+    ensures honest { D.honest result.engine.disk → K.origin.honest }
+    ensures told { AreAllTold K.origin.memory result.trace.items (result.refused ≡ None) (map ask_of orders.items)
         result.did.items }
 {
     let controller = opening.named::<K>();

@@ -15,11 +15,9 @@ use crate::run::STALLED;
 use crate::sheet::Assignment;
 use im_disk::{Disk, FuseDisk, MemDisk};
 use im_serial::Interrupted;
-use im_serving::{Gate, Watcher};
+use im_serving::{Gate, Host, Watcher};
 use im_text::Observer;
 use std::io::Write;
-use std::sync::Wait;
-use std::thread::Threads;
 
 /// The numbers of an element's requests that were accepted from a new image on are 1, 2, 3 and so on, in this order. So
 /// each number acted once, however often its request was sent.
@@ -47,14 +45,7 @@ pub fn planned_scripts_have_one_end()
 {}
 
 // Runs a script once. Returns the status and the disk.
-fn run_in<
-    D: Disk + Drop + Send,
-    W: Write,
-    N: Observer,
-    G: Gate + Sync,
-    V: Watcher + Sync,
-    R: Threads + Wait + Sync,
->(
+fn run_in<D: Disk + Drop + Send, W: Write, N: Observer, G: Gate + Sync, V: Watcher + Sync, R: Host>(
     context: &RunContext<'_, G, V, R>,
     disk: D,
     asked: Assignment<'_, '_>,
@@ -90,13 +81,7 @@ fn run_in<
 /// so does each file in the end: the blocks of its setup were put, in their order, and then requests of its own plan,
 /// and no other. If the status is 0, all of them were. By [`planned_scripts_have_one_end`] the memory is then as if
 /// nothing had stopped.
-pub fn run_over_stops<
-    W: Write,
-    N: Observer,
-    G: Gate + Sync,
-    V: Watcher + Sync,
-    R: Threads + Wait + Sync,
->(
+pub fn run_over_stops<W: Write, N: Observer, G: Gate + Sync, V: Watcher + Sync, R: Host>(
     context: &RunContext<'_, G, V, R>,
     image: Interrupted,
     asked: Assignment<'_, '_>,

@@ -32,6 +32,12 @@ deeds_of port served glances = record {
   made = glances.made.items;
 }
 
+-- If the glances of a reader tell what the element had seen, those that were made since do so too.
+abbrev pub StayGlanced : {K : Type 0} → Contents → ℕ → Glances K → Glances K → Type 0
+StayGlanced m element glances later =
+    AreGlanced m element glances.last glances.glance glances.made.items
+    → AreGlanced m element later.last later.glance later.made.items
+
 -- a part as contracts see it: what was done for its element before, and what it asks for
 pub record Asked : Type 0 where
   pub deeds : Deeds

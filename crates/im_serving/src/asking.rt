@@ -5,7 +5,8 @@ ghost use Rattle.im_types.specs.Trace.{IsLegal};
 ghost use Rattle.im_types.specs.declared.commands.Call.TheVariants.{Command as Commands};
 ghost use Rattle.im_types.specs.declared.commands.Command.TheVariants.{Request as Asks};
 ghost use Rattle.im_controller.specs.Lines.{EndsIn, GoesOnTo, line_of};
-ghost use Rattle.im_serving.specs.Serving.{AreGlanced, IsAskedIn, asked_line};
+ghost use Rattle.im_serving.specs.Elements.{StayGlanced};
+ghost use Rattle.im_serving.specs.Serving.{IsAskedIn, asked_line};
 
 use crate::context::Context;
 use crate::gate::Gate;
@@ -55,7 +56,7 @@ fn submit<D: Disk, K: Name, R: Wait>(
     ensures element { port.new.element ≡ port.old.element }
     ensures asked { IfOk result (λ r. r.command
         ≡ Asks (record { element = port.old.element; number = number; op = op })) }
-    ensures legal { IfOk result (λ r. IsLegal K.memory r.history) }
+    ensures legal { IfOk result (λ r. IsLegal K.origin.memory r.history) }
     ensures last { IfOk result (λ r. EndsIn r.history (line_of (Commands r.command) (Ok r.outcome))) }
     ensures order { IfOk result (λ r. GoesOnTo port.old.history
         (line_of (Commands r.command) (Ok r.outcome) ∷ []) port.new.history) }
@@ -82,12 +83,11 @@ pub(crate) fn ask<D: Disk, K: Name, G: Gate, R: Wait>(
     op: Op,
 ) -> Result<Entry, Refusal>
     ensures element { port.new.element ≡ port.old.element }
-    ensures told { IfOk result (IsAskedIn K.memory port.old.element number op) }
+    ensures told { IfOk result (IsAskedIn K.origin.memory port.old.element number op) }
     ensures order { IfOk result (λ entry. GoesOnTo port.old.history
         (asked_line port.old.element number op entry ∷ []) port.new.history) }
     ensures longer { IsPrefix port.old.history port.new.history }
-    ensures seen { AreGlanced K.memory port.old.element glances.old.last glances.old.glance glances.old.made.items
-        → AreGlanced K.memory port.old.element glances.new.last glances.new.glance glances.new.made.items }
+    ensures seen { StayGlanced K.origin.memory port.old.element glances.old glances.new }
     ensures made { glances.new.made ≡ glances.old.made }
 {
     match submit(context.rt, context.controller, port, number, op) {

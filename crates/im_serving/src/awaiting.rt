@@ -1,6 +1,7 @@
 //! What a server waits for: an answer, a place in its window, and all that it still keeps.
 ghost use Rattle.std.specs.Prelude.{◌≡◌};
-ghost use Rattle.im_serving.specs.Serving.{AreGlanced, Looked};
+ghost use Rattle.im_serving.specs.Elements.{StayGlanced};
+ghost use Rattle.im_serving.specs.Serving.{Looked};
 
 use crate::asking::confirm;
 use crate::glances::Glances;
@@ -102,8 +103,7 @@ pub(crate) fn make_place<D: Disk, K: Name, R: Wait>(
     ensures first { served.new.first ≡ served.old.first }
     ensures looked { Looked port.old.history port.new.history port.old.element served.old.first
         served.old.entries.items served.new.entries.items }
-    ensures seen { AreGlanced K.memory port.old.element glances.old.last glances.old.glance glances.old.made.items
-        → AreGlanced K.memory port.old.element glances.new.last glances.new.glance glances.new.made.items }
+    ensures seen { StayGlanced K.origin.memory port.old.element glances.old glances.new }
     ensures made { glances.new.made ≡ glances.old.made }
 {
     if served.next().saturating_sub(served.base) < WINDOW {

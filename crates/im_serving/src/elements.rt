@@ -5,6 +5,7 @@ ghost use Rattle.im_serving.specs.Elements.{AreEnded};
 use crate::context::Context;
 use crate::ending::end_all;
 use crate::gate::Gate;
+use crate::host::Host;
 use crate::parts::{Done, Part};
 use crate::running::Running;
 use crate::starting::begin_all;
@@ -15,7 +16,7 @@ use im_types::Refusal;
 use std::alloc::{AllocError, Global};
 use std::sync::Wait;
 use std::thread;
-use std::thread::{JoinHandle, Scope, Threads};
+use std::thread::{JoinHandle, Scope};
 
 // Elements that are to be served, with room for those that run and for those that have ended.
 #[derive(Drop)]
@@ -36,14 +37,7 @@ fn keep_and_tell<D: Disk, K: Name, V: Watcher, R: Wait>(
 }
 
 // Starts the thread that keeps checkpoints, if it can be made.
-fn keep<
-    's,
-    E,
-    D: Disk + Drop + Send,
-    K: Name + Send + Sync,
-    V: Watcher + Sync,
-    R: Threads + Wait + Sync,
->(
+fn keep<'s, E, D: Disk + Drop + Send, K: Name + Send + Sync, V: Watcher + Sync, R: Host>(
     rt: &'s R,
     scope: &Scope<'s, E>,
     controller: &'s Controller<D, K>,
@@ -63,7 +57,7 @@ fn serve_within<
     K: Name + Send + Sync,
     G: Gate + Sync,
     V: Watcher + Sync,
-    R: Threads + Wait + Sync,
+    R: Host,
 >(
     context: &Context<'s, D, K, G, R>,
     alloc: Global,
@@ -73,7 +67,7 @@ fn serve_within<
 ) -> Vec<Done<K>>
     requires all { (length crew.parts.items ≤ vec_capacity crew.all) × (crew.all.items ≡ []) }
     requires done { (length crew.parts.items ≤ vec_capacity crew.done) × (crew.done.items ≡ []) }
-    ensures { AreEnded K.memory crew.parts.items result.items }
+    ensures { AreEnded K.origin.memory crew.parts.items result.items }
 {
     let Crew { parts, all, done } = crew;
     let keeper = keep(context.rt, scope, context.controller, watcher);
@@ -103,7 +97,7 @@ pub fn serve_elements<
     K: Name + Send + Sync,
     G: Gate + Sync,
     V: Watcher + Sync,
-    R: Threads + Wait + Sync,
+    R: Host,
 >(
     rt: &R,
     alloc: Global,
@@ -112,7 +106,7 @@ pub fn serve_elements<
     watcher: &V,
     parts: Vec<Part<K>>,
 ) -> Result<Vec<Done<K>>, AllocError>
-    ensures ends { IfOk result (λ all. AreEnded K.memory parts.items all.items) }
+    ensures ends { IfOk result (λ all. AreEnded K.origin.memory parts.items all.items) }
 {
     let all = Vec::with_capacity(alloc, parts.len())?;
     let done = Vec::with_capacity(alloc, parts.len())?;
@@ -123,7 +117,7 @@ pub fn serve_elements<
         move |scope| -> Vec<Done<K>>
             requires all { (length crew.parts.items ≤ vec_capacity crew.all) × (crew.all.items ≡ []) }
             requires done { (length crew.parts.items ≤ vec_capacity crew.done) × (crew.done.items ≡ []) }
-            ensures { AreEnded K.memory crew.parts.items result.items }
+            ensures { AreEnded K.origin.memory crew.parts.items result.items }
         {
             let context = Context {
                 rt,

@@ -43,7 +43,7 @@ impl<K: Name> Glances<K> {
         controller: &Controller<D, K>,
         element: u16,
     ) -> Result<Glances<K>, Refusal>
-        ensures found { IfOk result (λ g. (g.last ≡ None) × IsPrefix (opening K.memory) g.glance) }
+        ensures found { IfOk result (λ g. (g.last ≡ None) × IsPrefix (opening K.origin.memory) g.glance) }
         ensures none { IfOk result (λ g. g.made.items ≡ []) }
     {
         match controller.glance(rt, element) {
@@ -60,7 +60,7 @@ impl<K: Name> Glances<K> {
     pub(crate) fn learn(&mut self, receipt: &Receipt<K>) -> Outcome
         ensures found { result ≡ receipt.now.outcome }
         ensures kept { IsPrefix self.old.glance self.new.glance }
-        ensures shown { IsPrefix (shown_by K.memory receipt.now.history) self.new.glance }
+        ensures shown { IsPrefix (shown_by K.origin.memory receipt.now.history) self.new.glance }
         ensures same { (self.new.made ≡ self.old.made) × (self.new.last ≡ self.old.last) }
     {
         self.glance.learn(receipt.told());

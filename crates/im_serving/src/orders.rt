@@ -14,7 +14,7 @@ use std::sync::Wait;
 /// is a prefix of the other. Contracts alone see what it says.
 pub fn are_in_order<K: Name>(one: &Receipt<K>, two: &Receipt<K>)
     ensures order { AreInOrder one.now.history two.now.history }
-    ensures legal { IsLegal K.memory one.now.history × IsLegal K.memory two.now.history }
+    ensures legal { IsLegal K.origin.memory one.now.history × IsLegal K.origin.memory two.now.history }
 {
     let _outcomes = (one.outcome(), two.outcome());
     one.history().order(two.history());

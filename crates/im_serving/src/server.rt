@@ -1,8 +1,8 @@
 //! The thread that serves what an element asks for.
 ghost use Rattle.std.specs.Prelude.{◌≡◌, ◌≤◌, ◌+◌, ◌++◌, ◌∷◌, [], List, false, length, OnOk, OnErr};
 ghost use mathlib.Core.List.{IsPrefix};
-ghost use Rattle.im_serving.specs.Elements.{ServesOn, deeds_of};
-ghost use Rattle.im_serving.specs.Serving.{AreDone, AreGlanced, HasAsked, Looked};
+ghost use Rattle.im_serving.specs.Elements.{ServesOn, StayGlanced, deeds_of};
+ghost use Rattle.im_serving.specs.Serving.{AreDone, HasAsked, Looked};
 
 use crate::asking::ask;
 use crate::awaiting::{await_rest, make_place};
@@ -32,8 +32,7 @@ fn serve_one<D: Disk, K: Name, G: Gate, R: Wait>(
     ensures few { length served.new.entries.items ≤ length served.old.entries.items + 1 }
     ensures kept { OnErr result (Looked port.old.history port.new.history port.old.element served.old.first
         served.old.entries.items served.new.entries.items) }
-    ensures seen { AreGlanced K.memory port.old.element glances.old.last glances.old.glance glances.old.made.items
-        → AreGlanced K.memory port.old.element glances.new.last glances.new.glance glances.new.made.items }
+    ensures seen { StayGlanced K.origin.memory port.old.element glances.old glances.new }
     ensures made { glances.new.made ≡ glances.old.made }
 {
     match make_place(context.rt, context.controller, port, served, glances) {
@@ -75,8 +74,7 @@ fn serve_intent<D: Disk, K: Name, G: Gate, R: Wait>(
     ensures kept { OnErr result ((before : List Intent)
         → AreDone port.old served.old glances.old.made.items before
         → AreDone port.new served.new glances.new.made.items before) }
-    ensures seen { AreGlanced K.memory port.old.element glances.old.last glances.old.glance glances.old.made.items
-        → AreGlanced K.memory port.old.element glances.new.last glances.new.glance glances.new.made.items }
+    ensures seen { StayGlanced K.origin.memory port.old.element glances.old glances.new }
 {
     match intent {
         Intent::Request(op) => serve_one(context, port, served, glances, op),
@@ -93,7 +91,7 @@ fn serve_all<D: Disk, K: Name, G: Gate, R: Wait>(
     outlet: &mut Outlet<Intent>,
 ) -> Result<(), Refusal>
     requires { outlet.old.ended ≡ false }
-    ensures done { ServesOn K.memory (deeds_of port.old served.old glances.old)
+    ensures done { ServesOn K.origin.memory (deeds_of port.old served.old glances.old)
         (deeds_of port.new served.new glances.new) result outlet.old outlet.new }
     ensures open { OnErr result (outlet.new.ended ≡ false) }
 {
@@ -139,7 +137,7 @@ fn serve_to_end<D: Disk, K: Name, G: Gate, R: Wait>(
     outlet: &mut Outlet<Intent>,
 ) -> Result<(), Refusal>
     requires { outlet.old.ended ≡ false }
-    ensures done { ServesOn K.memory (deeds_of port.old served.old glances.old)
+    ensures done { ServesOn K.origin.memory (deeds_of port.old served.old glances.old)
         (deeds_of port.new served.new glances.new) result outlet.old outlet.new }
 {
     match serve_all(context, port, served, glances, outlet) {
@@ -180,7 +178,7 @@ pub fn serve_element<D: Disk, K: Name, G: Gate, R: Wait>(
     outlet: &mut Outlet<Intent>,
 ) -> Result<(), Refusal>
     requires { outlet.old.ended ≡ false }
-    ensures done { ServesOn K.memory (deeds_of port.old served.old glances.old)
+    ensures done { ServesOn K.origin.memory (deeds_of port.old served.old glances.old)
         (deeds_of port.new served.new glances.new) result outlet.old outlet.new }
 {
     let done = serve_to_end(context, port, served, glances, outlet);

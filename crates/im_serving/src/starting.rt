@@ -6,6 +6,7 @@ ghost use Rattle.im_serving.specs.Elements.{HasSent, HasStopped, IsUnserved};
 use crate::context::Context;
 use crate::ending::settle;
 use crate::gate::Gate;
+use crate::host::Host;
 use crate::intent::Intent;
 use crate::parts::{Done, Part, Server};
 use crate::running::{Pair, Running, Sends, Serves, Stopped};
@@ -19,7 +20,7 @@ use std::alloc::Global;
 use std::snapshot::Snapshot;
 use std::sync::atomic::{AtomicBool, Ordering};
 use std::sync::{Arc, Wait};
-use std::thread::{PromisedHandle, Scope, Threads};
+use std::thread::{PromisedHandle, Scope};
 
 /// How many messages a pipe holds.
 pub const PIPE: usize = 8;
@@ -35,7 +36,7 @@ fn serve_part<D: Disk, K: Name, G: Gate, R: Wait>(
     requires open { outlet.ended ≡ false }
     requires empty { outlet.items ≡ [] }
     ensures same { result.outlet.pipe ≡ outlet.pipe }
-    ensures stopped { HasStopped K.memory server result.done result.outlet }
+    ensures stopped { HasStopped K.origin.memory server result.done result.outlet }
 {
     let Server {
         mut port,
@@ -95,7 +96,7 @@ fn give_up<D: Disk, K: Name, R: Wait>(
     controller: &Controller<D, K>,
     server: Server<K>,
 ) -> Done<K>
-    ensures { IsUnserved K.memory server result }
+    ensures { IsUnserved K.origin.memory server result }
 {
     let Server {
         mut port,
@@ -112,7 +113,7 @@ fn give_up<D: Disk, K: Name, R: Wait>(
 }
 
 // Starts the thread that sends what an element asks for. If it can't be made, only the end mark is sent.
-fn begin_sending<'s, E, R: Threads + Wait + Sync>(
+fn begin_sending<'s, E, R: Host>(
     rt: &'s R,
     alloc: Global,
     scope: &Scope<'s, E>,
@@ -145,14 +146,7 @@ fn begin_sending<'s, E, R: Threads + Wait + Sync>(
 
 // Starts the thread that serves an element. If it can't be made, the pipe is ended; then the server runs here, finds
 // nothing to serve and retires.
-fn begin_serving<
-    's,
-    E,
-    D: Disk + Drop + Send,
-    K: Name + Send + Sync,
-    G: Gate + Sync,
-    R: Threads + Wait + Sync,
->(
+fn begin_serving<'s, E, D: Disk + Drop + Send, K: Name + Send + Sync, G: Gate + Sync, R: Host>(
     context: &Context<'s, D, K, G, R>,
     scope: &Scope<'s, E>,
     server: Server<K>,
@@ -162,7 +156,7 @@ fn begin_serving<
     requires { AreNewEnds inlet outlet }
     ensures ok { IfOk result (λ r. (r.0.promise.server.value ≡ server)
         × (r.0.promise.outlet.value.pipe ≡ inlet.pipe) × (r.1 ≡ inlet)) }
-    ensures err { IfErr result (λ done. IsUnserved K.memory server done) }
+    ensures err { IfErr result (λ done. IsUnserved K.origin.memory server done) }
 {
     let rt = context.rt;
     let controller = context.controller;
@@ -184,14 +178,7 @@ fn begin_serving<
 }
 
 // Starts to serve an element, with two threads.
-fn begin<
-    's,
-    E,
-    D: Disk + Drop + Send,
-    K: Name + Send + Sync,
-    G: Gate + Sync,
-    R: Threads + Wait + Sync,
->(
+fn begin<'s, E, D: Disk + Drop + Send, K: Name + Send + Sync, G: Gate + Sync, R: Host>(
     context: &Context<'s, D, K, G, R>,
     alloc: Global,
     scope: &Scope<'s, E>,
@@ -229,7 +216,7 @@ pub(crate) fn begin_all<
     D: Disk + Drop + Send,
     K: Name + Send + Sync,
     G: Gate + Sync,
-    R: Threads + Wait + Sync,
+    R: Host,
 >(
     context: &Context<'s, D, K, G, R>,
     alloc: Global,

@@ -1,7 +1,6 @@
 //! Gives a controller a name, and asks its ports.
 
-ghost use Rattle.std.specs.Prelude.{◌≡◌};
-ghost use Rattle.im_controller.specs.Kept.{begun_in};
+ghost use Rattle.im_controller.specs.Kept.{IsOriginOf};
 
 use crate::asked::State;
 use crate::ports::ask;
@@ -20,15 +19,7 @@ fn act_named<K: Name, R: Wait>(
     before: State,
     said: &mut Saying,
 )
-    requires memory { opening.engine.memory ≡ K.memory }
-    requires lines { opening.lines_name ≡ K.lines_name }
-    requires marked { opening.marked_name ≡ K.marked_name }
-    requires ports { opening.ports ≡ K.ports }
-    requires book { opening.book ≡ K.book }
-    requires plan { opening.plan ≡ K.plan }
-    requires begun { begun_in ⟦<FuseDisk as Disk>⟧.now ⟦<FuseDisk as Disk>⟧.past ⟦<FuseDisk as Disk>⟧.failures
-        opening.engine ≡ K.begun }
-    requires honest { ⟦<FuseDisk as Disk>⟧.honest opening.engine.disk → K.honest }
+    requires origin { IsOriginOf ⟦<FuseDisk as Disk>⟧ opening K.origin }
 {
     ask(rt, place, opening.named::<K>(), before, said)
 }

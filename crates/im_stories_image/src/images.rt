@@ -18,8 +18,8 @@ use crate::faults::tell_of_faults;
 use crate::place::Place;
 use im_disk::{Disk, MemDisk};
 use im_image::{
-    Header, PAGE, VERSION, area_at, area_pages, encode, inspect, new_image, read_header,
-    read_to_open,
+    Header, PAGE, VERSION, Versions, area_at, area_pages, encode, inspect, new_image, read_header,
+    read_image,
 };
 use im_memory::Memory;
 use im_story::{Call, Saying, old_image};
@@ -125,7 +125,7 @@ fn header_behind_gate(disk: &mut Blind, area: u8, said: &mut Saying) {
 }
 
 fn header_in_force(disk: &mut Blind, said: &mut Saying) {
-    match read_header(disk) {
+    match read_header(disk, Versions::Any) {
         Ok(header) => add_header(said, header),
         Err(refusal) => said.refusal(refusal),
     }
@@ -154,7 +154,7 @@ fn inspected(disk: &mut Blind, alloc: Global, said: &mut Saying) -> Option<Memor
 
 // Tells the same of an image that is to be opened.
 fn opened(disk: &mut Blind, alloc: Global, said: &mut Saying) -> Option<Memory> {
-    match read_to_open(alloc, disk) {
+    match read_image(alloc, disk, Versions::InUse) {
         Ok(image) => {
             let run = image.journal.count().saturating_sub(image.header.count);
             add_meaning(said, &image.header, run, image.journal.room());

@@ -6,6 +6,7 @@ use crate::scenes::Scene;
 use im_controller::{Controller, Name, Port, Shown, Standing, Teller};
 use im_disk::Disk;
 use im_glass::Glance;
+use im_serving::Host;
 use std::alloc::Global;
 use std::sync::{Mutex, Wait};
 use std::thread;
@@ -76,7 +77,7 @@ fn play_part<D: Disk, K: Name, R: Wait>(
 }
 
 // Starts a thread that plays a part. If none can be made, the port is gone, and the end tells that.
-fn begin<'s, E, D: Disk + Drop + Send, K: Name + Send + Sync, R: Threads + Wait + Sync>(
+fn begin<'s, E, D: Disk + Drop + Send, K: Name + Send + Sync, R: Host>(
     rt: &'s R,
     scope: &Scope<'s, E>,
     controller: &'s Controller<D, K>,
@@ -116,7 +117,7 @@ fn rest<R: Wait>(rt: &R, room: &Mutex<u32>, wanted: Option<u32>) -> bool {
 }
 
 // Starts the thread that keeps checkpoints, if it can be made.
-fn keep<'s, E, D: Disk + Drop + Send, K: Name + Send + Sync, R: Threads + Wait + Sync>(
+fn keep<'s, E, D: Disk + Drop + Send, K: Name + Send + Sync, R: Host>(
     rt: &'s R,
     scope: &Scope<'s, E>,
     controller: &'s Controller<D, K>,
@@ -164,7 +165,7 @@ fn watch_all<'s, E, K: Name + Send + Sync + 's>(
 }
 
 // Plays all parts to their ends: all at once, or each after the one before it has ended.
-fn play_tasks<'s, E, D: Disk + Drop + Send, K: Name + Send + Sync, R: Threads + Wait + Sync>(
+fn play_tasks<'s, E, D: Disk + Drop + Send, K: Name + Send + Sync, R: Host>(
     rt: &'s R,
     scope: &Scope<'s, E>,
     controller: &'s Controller<D, K>,
@@ -197,7 +198,7 @@ fn has_kept<R: Threads>(rt: &R, keeper: Option<JoinHandle<bool>>) -> bool {
 /// checkpoints until they have returned. The parts play all at once, or each after the one before it has ended. If the
 /// scene waits for room in the journal, the call then waits for that. A thread that can't be made or kept is missing in
 /// what is returned.
-pub fn play_all<D: Disk + Drop + Send, K: Name + Send + Sync, R: Threads + Wait + Sync>(
+pub fn play_all<D: Disk + Drop + Send, K: Name + Send + Sync, R: Host>(
     rt: &R,
     alloc: Global,
     controller: &Controller<D, K>,

@@ -26,12 +26,12 @@ use crate::scenes::Scene;
 use crate::stops::show_stops;
 use im_controller::Opening;
 use im_disk::FuseDisk;
+use im_serving::Host;
 use im_story::Saying;
 use im_types::Limits;
 use std::alloc::Global;
 use std::process::ExitCode;
 use std::sync::Wait;
-use std::thread::Threads;
 
 // Makes a new memory, and room for a scene's trace.
 fn opening<R: Wait>(
@@ -43,7 +43,7 @@ fn opening<R: Wait>(
     started(rt, alloc, new_memory(alloc, limits)?, scene.room())
 }
 
-fn show_scene<R: Threads + Wait + Sync>(rt: &R, alloc: Global, scene: Scene, said: &mut Saying) {
+fn show_scene<R: Host>(rt: &R, alloc: Global, scene: Scene, said: &mut Saying) {
     let Some(limits) = scene.limits() else {
         return said.text("these are no sizes\n");
     };

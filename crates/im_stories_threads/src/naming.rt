@@ -1,7 +1,6 @@
 //! Gives a controller a name, and does something under it.
 
-ghost use Rattle.std.specs.Prelude.{◌≡◌};
-ghost use Rattle.im_controller.specs.Kept.{begun_in};
+ghost use Rattle.im_controller.specs.Kept.{IsOriginOf};
 
 use crate::notes::Notes;
 use crate::plans::{Planned, play_planned, tell_planned};
@@ -9,12 +8,11 @@ use crate::scenes::{Scene, show, tell_scene};
 use crate::stops::{play_stopped, tell_stop};
 use im_controller::{Controller, Finished, Name, Opening, finish};
 use im_disk::{Crash, Disk, FuseDisk};
+use im_serving::Host;
 use im_story::Saying;
 use im_types::Limits;
 use std::alloc::Global;
 use std::marker::Brand;
-use std::sync::Wait;
-use std::thread::Threads;
 
 /// What is done under a name.
 #[derive(Clone, Copy)]
@@ -37,7 +35,7 @@ fn tell_end(act: Act, limits: Limits, finished: Finished<FuseDisk>, notes: &mut 
 }
 
 // Does an act with a controller, ends it, and tells of both.
-fn act_with<K: Name + Send + Sync, R: Threads + Wait + Sync>(
+fn act_with<K: Name + Send + Sync, R: Host>(
     rt: &R,
     alloc: Global,
     act: Act,
@@ -55,29 +53,21 @@ fn act_with<K: Name + Send + Sync, R: Threads + Wait + Sync>(
 }
 
 // Does an act with a controller that has a name.
-fn act_named<K: Name + Send + Sync, R: Threads + Wait + Sync>(
+fn act_named<K: Name + Send + Sync, R: Host>(
     rt: &R,
     alloc: Global,
     act: Act,
     limits: Limits,
     opening: Opening<FuseDisk>,
 ) -> Saying
-    requires memory { opening.engine.memory ≡ K.memory }
-    requires lines { opening.lines_name ≡ K.lines_name }
-    requires marked { opening.marked_name ≡ K.marked_name }
-    requires ports { opening.ports ≡ K.ports }
-    requires book { opening.book ≡ K.book }
-    requires plan { opening.plan ≡ K.plan }
-    requires begun { begun_in ⟦<FuseDisk as Disk>⟧.now ⟦<FuseDisk as Disk>⟧.past ⟦<FuseDisk as Disk>⟧.failures
-        opening.engine ≡ K.begun }
-    requires honest { ⟦<FuseDisk as Disk>⟧.honest opening.engine.disk → K.honest }
+    requires origin { IsOriginOf ⟦<FuseDisk as Disk>⟧ opening K.origin }
 {
     act_with(rt, alloc, act, limits, opening.named::<K>())
 }
 
 /// Does an act with a controller of its own, over the memory of these sizes that was opened. Returns what is told of
 /// it.
-pub fn act_on<R: Threads + Wait + Sync>(
+pub fn act_on<R: Host>(
     rt: &R,
     alloc: Global,
     act: Act,

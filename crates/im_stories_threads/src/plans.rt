@@ -10,11 +10,11 @@ use im_controller::{Controller, Finished, Name, Opening, Port, Traced, start_pla
 use im_disk::FuseDisk;
 use im_engine::Engine;
 use im_planning::Plan;
+use im_serving::Host;
 use im_story::Saying;
 use im_types::{Call, Command, Kind, Limits, Op, Refusal, Request};
 use std::alloc::Global;
 use std::sync::Wait;
-use std::thread::Threads;
 
 // Two cells that are stored to and that one or two other elements fetch, and a fetch where no block is.
 const REQUESTS: [Asked; 6] = [
@@ -62,7 +62,7 @@ fn stray<K: Name, R: Wait>(
 }
 
 /// Does an act under a plan. The ports come back.
-pub fn play_planned<K: Name + Send + Sync, R: Threads + Wait + Sync>(
+pub fn play_planned<K: Name + Send + Sync, R: Host>(
     rt: &R,
     controller: &Controller<FuseDisk, K>,
     planned: Planned,
@@ -177,7 +177,7 @@ fn memory_for(
 }
 
 // Does an act under a plan on a new memory, or adds that the plan is refused.
-fn show_planned<R: Threads + Wait + Sync>(
+fn show_planned<R: Host>(
     rt: &R,
     alloc: Global,
     limits: Limits,
@@ -201,7 +201,7 @@ fn show_planned<R: Threads + Wait + Sync>(
 }
 
 // Serves all that is planned in each order, and checks that the results are the same.
-fn show_orders<R: Threads + Wait + Sync>(rt: &R, alloc: Global, limits: Limits, said: &mut Saying) {
+fn show_orders<R: Host>(rt: &R, alloc: Global, limits: Limits, said: &mut Saying) {
     let mut first = Saying::new(alloc);
     let mut orders = 0u32;
     for number in 0..NUMBERS {
@@ -221,7 +221,7 @@ fn show_orders<R: Threads + Wait + Sync>(rt: &R, alloc: Global, limits: Limits, 
 }
 
 /// Shows the results of requests under a plan, and which requests are refused.
-pub fn show_plans<R: Threads + Wait + Sync>(rt: &R, alloc: Global, said: &mut Saying) {
+pub fn show_plans<R: Host>(rt: &R, alloc: Global, said: &mut Saying) {
     let Some(limits) = Limits::new(64, 4, 16) else {
         return said.text("these are no sizes\n");
     };

@@ -8,10 +8,10 @@ use crate::traces::{alike, fetches_of};
 use im_controller::{Controller, Finished, Name, Port, Shown, Traced};
 use im_disk::FuseDisk;
 use im_engine::Engine;
+use im_serving::Host;
 use im_story::Saying;
 use im_types::{Kind, Limits, Op, Outcome};
 use std::sync::Wait;
-use std::thread::Threads;
 
 // The slots of a short journal.
 const SLOTS: u32 = 16;
@@ -289,7 +289,7 @@ fn ask<K: Name, R: Wait>(
 }
 
 /// Plays a scene, and then asks the port of element 1. The ports come back.
-pub fn show<K: Name + Send + Sync, R: Threads + Wait + Sync>(
+pub fn show<K: Name + Send + Sync, R: Host>(
     rt: &R,
     controller: &Controller<FuseDisk, K>,
     scene: Scene,

@@ -4,12 +4,11 @@ use crate::gates::{InOrder, Order};
 use crate::notes::{Notes, keep};
 use im_controller::{Controller, Name, Port};
 use im_disk::FuseDisk;
-use im_serving::{Done, Glances, Intent, Part, Served, Unwatched, serve_elements};
+use im_serving::{Done, Glances, Host, Intent, Part, Served, Unwatched, serve_elements};
 use im_story::Saying;
 use im_types::{Entry, Op, Refusal};
 use std::alloc::Global;
 use std::sync::Wait;
-use std::thread::Threads;
 
 /// A request: its element, its number and its operation.
 pub type Asked = (u16, u64, Op);
@@ -101,7 +100,7 @@ fn note<K: Name>(done: &Done<K>, notes: &mut Notes) {
 
 /// Lets servers play, each of what its element asks for among these requests, in an order or freely. Their ports come
 /// back.
-pub fn serve<K: Name + Send + Sync, R: Threads + Wait + Sync>(
+pub fn serve<K: Name + Send + Sync, R: Host>(
     rt: &R,
     controller: &Controller<FuseDisk, K>,
     requests: &[Asked],

@@ -9,12 +9,12 @@ use crate::traces::alike;
 use im_controller::{Controller, Finished, Name, Opening, Port};
 use im_disk::{Crash, FuseDisk, Mode};
 use im_engine::Engine;
+use im_serving::Host;
 use im_story::Saying;
 use im_story_disk::Place;
 use im_types::{Entry, Kind, Limits, Op, Outcome, Refusal, Reply};
 use std::alloc::Global;
 use std::sync::Wait;
-use std::thread::Threads;
 
 // How many more calls than an opening makes a disk passes at most.
 const MOST_PASSED: u64 = 120;
@@ -49,7 +49,7 @@ fn note_made(made: Result<Outcome, Refusal>, notes: &mut Notes) {
 
 /// Makes a cell, and lets both servers play, each with its sender, beside the thread that keeps checkpoints. The ports
 /// come back.
-pub fn play_stopped<K: Name + Send + Sync, R: Threads + Wait + Sync>(
+pub fn play_stopped<K: Name + Send + Sync, R: Host>(
     rt: &R,
     controller: &Controller<FuseDisk, K>,
     ports: &mut Vec<Port<K>>,
@@ -111,13 +111,7 @@ pub fn tell_stop(crash: Crash, limits: Limits, finished: Finished<FuseDisk>, not
 }
 
 // Stops a disk after this number of calls, with each crash after it. Returns how many runs there were.
-fn stop_at<R: Threads + Wait + Sync>(
-    rt: &R,
-    image: &Place,
-    passes: u64,
-    limits: Limits,
-    said: &mut Saying,
-) -> u64 {
+fn stop_at<R: Host>(rt: &R, image: &Place, passes: u64, limits: Limits, said: &mut Saying) -> u64 {
     let mut runs = 0u64;
     for crash in CRASHES {
         if let Some(opening) = opening_of(rt, image, passes) {
@@ -133,12 +127,7 @@ fn stop_at<R: Threads + Wait + Sync>(
 }
 
 // Stops a disk after each number of calls past those of an opening. Returns how many runs there were.
-fn stop_each<R: Threads + Wait + Sync>(
-    rt: &R,
-    alloc: Global,
-    limits: Limits,
-    said: &mut Saying,
-) -> u64 {
+fn stop_each<R: Host>(rt: &R, alloc: Global, limits: Limits, said: &mut Saying) -> u64 {
     let mut image = Place::new(alloc);
     let is_opened = image.renew(limits) && image.found(None).is_ok();
     said.so(is_opened, "");
@@ -152,7 +141,7 @@ fn stop_each<R: Threads + Wait + Sync>(
 }
 
 /// Shows that servers that their disk stops all end, and that what they were answered is kept.
-pub fn show_stops<R: Threads + Wait + Sync>(rt: &R, alloc: Global, said: &mut Saying) {
+pub fn show_stops<R: Host>(rt: &R, alloc: Global, said: &mut Saying) {
     writeln!(
         said,
         "threads_stop: a disk that stops behind 0 to {MOST_PASSED} calls past an opening, and three crashes"

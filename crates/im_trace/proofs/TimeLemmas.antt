@@ -2,13 +2,14 @@
 use Rattle.std.proofs.Common.{◌≡◌, ◌⊎◌, inl, inr, ⊎_elim, ℕ, zero, suc, ◌+◌, ◌<◌, ◌≤◌, Bool, true, false, List, [], ◌∷◌}
 use Rattle.std.proofs.Common.{◌++◌, length, length-append, map, refl, sym, ap, ◌∙◌, subst, arith, Result, Ok, Err}
 use Rattle.std.proofs.Common.{if◌then◌else◌, append_assoc}
-use Rattle.std.proofs.lemmas.List.{map-append}
+use Rattle.std.proofs.lemmas.List.{length-map, map-append}
 use mathlib.Core.List.{IsPrefix}
 use Rattle.im_types.specs.declared.commands.Outcome.{Outcome}
 use Rattle.im_types.specs.declared.commands.Call.{Call}
 use Rattle.im_types.specs.declared.commands.Line.{Line}
 use Rattle.im_types.specs.declared.refusals.Refusal.{Refusal}
-use Rattle.im_trace.specs.Lines.{leaves_line, line_of, lines_of, times_of, time_at}
+use Rattle.im_laws.proofs.Tests.{below_or_from}
+use Rattle.im_trace.specs.Lines.{leaves_line, line_of, lines_of, times_of, time_at, NeverGoBack}
 use Rattle.im_types.specs.declared.changes.Change.{Change}
 use Rattle.im_types.specs.declared.commands.Command.{Command}
 use Rattle.im_trace.specs.Log.{TimedLog, GoesOnAt, receipt_for}
@@ -52,6 +53,48 @@ pub time-last : (call : Call) (answer : Result Outcome Refusal) (trace trace' : 
     → time_at times' (length trace') ≡ time
 time-last call answer trace trace' times times' time is lines timed whole =
     last-by (leaves_line answer) call answer trace trace' times times' time is lines timed whole
+
+-- ---- the times never go back
+
+at-self : (n : ℕ) → n ≤ n
+at-self n = omega arith
+
+-- nor do those of no line
+pub none-back : NeverGoBack []
+none-back = λ few more less none.
+    let same : few ≡ more = omega (arith, less, none) in
+    subst (λ (n : ℕ). time_at [] few ≤ time_at [] n) same (at-self (time_at [] few))
+
+pub both-at : (a b c d : ℕ) → a ≡ c → b ≡ d → c ≤ d → a ≤ b
+both-at a b c d one two less = omega (arith, one, two, less)
+
+-- lines more, at a time that is no earlier than any before
+module _ (times : List ℕ) (time : ℕ) (more : List Line) (order : NeverGoBack times)
+    (until : (n : ℕ) → n ≤ length times → time_at times n ≤ time) where
+  abbrev all : List ℕ
+  all = times ++ times_of time more
+
+  at-old : (n : ℕ) → n ≤ length times → time_at all n ≡ time_at times n
+  at-old n old = sym (time-later times all n (times_of time more, refl) old)
+
+  at-new : (n : ℕ) → length times < n → n ≤ length all → time_at all n ≡ time
+  at-new n new within = time-new times time more n new
+      (omega (arith, within, length-append times (times_of time more), length-map more (λ (l : Line). time)))
+
+  new-back : (few most : ℕ) → length times < most → few ≤ most → most ≤ length all → time_at all few ≤ time_at all most
+  new-back few most new less within = ⊎_elim
+      (λ late. both-at (time_at all few) (time_at all most) time time
+      (at-new few late (omega (arith, less, within))) (at-new most new within) (at-self time))
+      (λ old. both-at (time_at all few) (time_at all most) (time_at times few) time (at-old few old)
+      (at-new most new within) (until few old))
+      (below_or_from (length times) few)
+
+  pub more-back : NeverGoBack (times ++ times_of time more)
+  more-back = λ few most less within. ⊎_elim
+      (λ new. new-back few most new less within)
+      (λ old. both-at (time_at all few) (time_at all most) (time_at times few) (time_at times most)
+      (at-old few (omega (arith, less, old))) (at-old most old) (order few most less old))
+      (below_or_from (length times) most)
 
 -- lines more, and others behind them
 pub goes-on-at : (time : ℕ) (old mid new : TimedLog) → GoesOnAt time old mid → GoesOnAt time mid new

@@ -1,5 +1,6 @@
 -- The lines that calls leave in a trace, and how many of them a port was told. (Own.)
-use Rattle.std.specs.Prelude.{ℕ, ◌≡◌, ◌+◌, ◌++◌, List, [], ◌∷◌, Bool, true, false, Result, Ok, Err, length, count_by}
+use Rattle.std.specs.Prelude.{ℕ, ◌≡◌, ◌+◌, ◌++◌, ◌≤◌, List, [], ◌∷◌, Bool, true, false, Result, Ok, Err, length}
+use Rattle.std.specs.Prelude.{count_by}
 use Rattle.std.specs.Prelude.{map, slice_index, nat_lt, if◌then◌else◌, ◌⊎◌}
 use mathlib.Core.List.{IsPrefix}
 use Rattle.im_types.specs.declared.commands.Outcome.{Outcome}
@@ -59,6 +60,10 @@ times_of time lines = map (λ _. time) lines
 -- the time of the last of so many first lines
 abbrev pub time_at : List ℕ → ℕ → ℕ
 time_at times count = slice_index (0 ∷ times) count
+
+-- no line has an earlier time than one before it: so it is with any two numbers of first lines
+abbrev pub NeverGoBack : List ℕ → Type 0
+NeverGoBack times = (few more : ℕ) → few ≤ more → more ≤ length times → time_at times few ≤ time_at times more
 
 -- how many first lines of a trace, and the time of the last of them
 pub record WhenState : Type 0 where

@@ -59,7 +59,7 @@ impl<K: Name> Model for Reserve<K> {
     ghost view = { λ r. r.left };
 
     ghost invariant = { λ r. (r.lines.parts ≡ r.left) × (r.marked.parts ≡ r.left) × (r.lines.amount ≡ 0)
-        × (r.marked.amount ≡ 0) × (r.ports ≡ K.ports) × (r.left ≤ r.ports) };
+        × (r.marked.amount ≡ 0) × (r.ports ≡ K.origin.ports) × (r.left ≤ r.ports) };
 }
 
 impl<K: Name> Reserve<K> {
@@ -84,14 +84,14 @@ impl<K: Name> Reserve<K> {
     /// Returns how many shares are left.
     pub fn left(&self) -> u64
         ensures left { result ≡ self.now }
-        ensures few { self.now ≤ K.ports }
+        ensures few { self.now ≤ K.origin.ports }
     {
         self.left
     }
 
     /// Returns how many ports there are.
     pub fn ports(&self) -> u64
-        ensures { result ≡ K.ports }
+        ensures { result ≡ K.origin.ports }
     {
         self.ports
     }
@@ -110,9 +110,9 @@ fn note<L: Ledger>(book: &mut Book<L>, share: &mut Share<L>)
 fn note_line<K: Name>(book: &mut Book<Marked<K>>, share: &mut Share<Marked<K>>, line: &Line)
     ghost plus: { ℕ }
     requires part { 0 < share.old.parts }
-    requires plus { plus ≡ count_by K.marks (line.now ∷ []) }
-    ensures total { book.new.total ≡ book.old.total + count_by K.marks (line.now ∷ []) }
-    ensures amount { share.new.amount ≡ share.old.amount + count_by K.marks (line.now ∷ []) }
+    requires plus { plus ≡ count_by K.origin.marks (line.now ∷ []) }
+    ensures total { book.new.total ≡ book.old.total + count_by K.origin.marks (line.now ∷ []) }
+    ensures amount { share.new.amount ≡ share.old.amount + count_by K.origin.marks (line.now ∷ []) }
     ensures parts { share.new.parts ≡ share.old.parts }
 {
     let _line = line;
@@ -122,8 +122,8 @@ fn note_line<K: Name>(book: &mut Book<Marked<K>>, share: &mut Share<Marked<K>>, 
 impl<K: Name> Books<K> {
     /// Counts a line that the port of this tally was told.
     pub(crate) fn count(&mut self, tally: &mut Tally<K>, line: &Line)
-        ensures books { self.new ≡ counts_after K.marks self.old (line.now ∷ []) }
-        ensures tally { tally.new ≡ counts_after K.marks tally.old (line.now ∷ []) }
+        ensures books { self.new ≡ counts_after K.origin.marks self.old (line.now ∷ []) }
+        ensures tally { tally.new ≡ counts_after K.origin.marks tally.old (line.now ∷ []) }
     {
         let Tally { lines, marked } = tally;
         self.lines.add(lines, 1);
@@ -138,8 +138,8 @@ pub(crate) fn count_line<K: Name>(
     call: Call,
     answer: Result<Outcome, Refusal>,
 )
-    ensures books { books.new ≡ counts_after K.marks books.old (lines_of call answer) }
-    ensures tally { tally.new ≡ counts_after K.marks tally.old (lines_of call answer) }
+    ensures books { books.new ≡ counts_after K.origin.marks books.old (lines_of call answer) }
+    ensures tally { tally.new ≡ counts_after K.origin.marks tally.old (lines_of call answer) }
 {
     if leaves_line(answer) {
         books.count(tally, &Line { call, answer });

@@ -89,8 +89,8 @@ impl NewChain {
 
     // Returns the book under a name.
     pub(crate) fn named<K: Name>(self) -> Chain<K>
-        requires book { self ≡ K.book.lines }
-        requires memory { IsOpened K.memory }
+        requires book { self ≡ K.origin.book.lines }
+        requires memory { IsOpened K.origin.memory }
         ensures { result ≡ record { lines = []; times = [] } }
     {
         let NewChain {
@@ -127,14 +127,14 @@ impl<K: Name> Model for Chain<K> {
     ghost Value = { ChainState };
 
     ghost view = { λ c. record {
-      lines = lines_from K.book.lines.root c.seen.log;
-      times = times_from K.book.lines.root c.seen.log;
+      lines = lines_from K.origin.book.lines.root c.seen.log;
+      times = times_from K.origin.book.lines.root c.seen.log;
     } };
 
-    ghost invariant = { λ c. (c.head ≡ first_of K.book.lines.book) × (c.seen.book ≡ K.book.lines.book)
-        × (c.pen.book ≡ K.book.lines.book) × (c.pen.nib.right ≡ may_write)
-        × (tip_from K.book.lines.root c.seen.log ≡ c.pen.nib.key) × IsOpened K.memory
-        × (c.first.value.nib.key ≡ K.book.lines.root) };
+    ghost invariant = { λ c. (c.head ≡ first_of K.origin.book.lines.book) × (c.seen.book ≡ K.origin.book.lines.book)
+        × (c.pen.book ≡ K.origin.book.lines.book) × (c.pen.nib.right ≡ may_write)
+        × (tip_from K.origin.book.lines.root c.seen.log ≡ c.pen.nib.key) × IsOpened K.origin.memory
+        × (c.first.value.nib.key ≡ K.origin.book.lines.root) };
 }
 
 impl<K: Name> Chain<K> {
@@ -184,7 +184,7 @@ impl<K: Name> Chain<K> {
 
     // Returns the book without its name.
     pub(crate) fn end(self) -> Written
-        ensures { result ≡ record { lines = self.lines; times = self.times; book = K.book.lines } }
+        ensures { result ≡ record { lines = self.lines; times = self.times; book = K.origin.book.lines } }
     {
         let Chain {
             head,
@@ -217,10 +217,10 @@ impl<K: Name> Model for Prefix<K> {
 
     ghost Value = { List Line };
 
-    ghost view = { λ p. take p.count (lines_from K.book.lines.root p.seen.log) };
+    ghost view = { λ p. take p.count (lines_from K.origin.book.lines.root p.seen.log) };
 
-    ghost invariant = { λ p. (p.count ≤ length (lines_from K.book.lines.root p.seen.log))
-        × (p.seen.book ≡ K.book.lines.book) × IsOpened K.memory };
+    ghost invariant = { λ p. (p.count ≤ length (lines_from K.origin.book.lines.root p.seen.log))
+        × (p.seen.book ≡ K.origin.book.lines.book) × IsOpened K.origin.memory };
 }
 
 // Returns what two have seen together.
@@ -262,7 +262,7 @@ impl<K: Name> Prefix<K> {
     /// alone see what it says.
     pub fn order(&self, other: &Prefix<K>)
         ensures order { AreInOrder self.now other.now }
-        ensures memory { IsOpened K.memory }
+        ensures memory { IsOpened K.origin.memory }
     {
         let _both = both_of(&self.seen, &other.seen);
     }

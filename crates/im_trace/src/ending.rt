@@ -38,15 +38,15 @@ impl<K: Name> Model for Ended<K> {
       told = record { lines = e.lines.amount; marked = e.marked.amount };
     } };
 
-    ghost invariant = { λ e. IsCounted K.marks e.record.lines e.claimed e.books × (e.marked.parts ≡ e.lines.parts)
-        × (e.lines.parts ≤ K.ports) };
+    ghost invariant = { λ e. IsCounted K.origin.marks e.record.lines e.claimed e.books
+        × (e.marked.parts ≡ e.lines.parts) × (e.lines.parts ≤ K.origin.ports) };
 }
 
 impl<K: Name> Ended<K> {
     /// Ends a log. The shares that weren't given out are back at once.
     pub fn of(log: Log<K>, reserve: Reserve<K>) -> Ended<K>
         ensures trace { (result.trace ≡ log.state.trace) × (result.times ≡ log.times) }
-        ensures legal { IsLegal K.memory log.state.trace }
+        ensures legal { IsLegal K.origin.memory log.state.trace }
         ensures back { result.back ≡ reserve }
         ensures told { result.told ≡ record { lines = 0; marked = 0 } }
     {
@@ -74,7 +74,7 @@ impl<K: Name> Ended<K> {
     /// Takes the share of a port back. What the port has seen is a prefix of the trace.
     pub fn take_back(&mut self, tally: Tally<K>, seen: &Prefix<K>)
         ensures state { self.new ≡ with_share_back self.old tally }
-        ensures few { self.new.back ≤ K.ports }
+        ensures few { self.new.back ≤ K.origin.ports }
         ensures known { IsPrefix seen.now self.old.trace }
     {
         self.record.knows(seen);
@@ -89,11 +89,11 @@ impl<K: Name> Ended<K> {
         ensures trace { result.0 ≡ record {
           items = self.trace;
           times = self.times;
-          recorded = K.book.recorded;
-          book = K.book.lines;
+          recorded = K.origin.book.recorded;
+          book = K.origin.book.lines;
         } }
         ensures claimed { result.1 ≡ self.claimed }
-        ensures counted { self.back ≡ K.ports → IsCounted K.marks self.trace self.claimed self.told }
+        ensures counted { self.back ≡ K.origin.ports → IsCounted K.origin.marks self.trace self.claimed self.told }
     {
         let Ended {
             record,

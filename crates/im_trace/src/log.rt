@@ -67,7 +67,7 @@ impl<K: Name> Model for Log<K> {
       times = l.record.times;
     } };
 
-    ghost invariant = { λ l. IsLog K.memory K.marks
+    ghost invariant = { λ l. IsLog K.origin.memory K.origin.marks
         (record { trace = l.record.lines; limit = l.record.limit; places = l.places.items }) l.books };
 }
 
@@ -119,7 +119,7 @@ impl<K: Name> Log<K> {
     /// Returns the whole trace, as a prefix that may go out of the lock.
     pub fn prefix(&self) -> Prefix<K>
         ensures same { result ≡ self.now.state.trace }
-        ensures legal { IsLegal K.memory self.now.state.trace }
+        ensures legal { IsLegal K.origin.memory self.now.state.trace }
     {
         self.record.first(self.record.len())
     }
@@ -159,14 +159,15 @@ impl<K: Name> Log<K> {
         disk: &D,
     )
         requires room { length self.old.state.trace < self.old.state.limit }
-        requires is_so { leaves_line answer ≡ true → answer ≡ answer_to (end_of K.memory self.old.state.trace) call }
+        requires is_so { leaves_line answer ≡ true
+            → answer ≡ answer_to (end_of K.origin.memory self.old.state.trace) call }
         ensures log { self.new.state ≡ with_line self.old.state call answer }
         ensures times { GoesOnAt (length (D.past disk.now)) self.old self.new }
         ensures time { leaves_line answer ≡ true
             → time_at self.new.times (length self.new.state.trace) ≡ length (D.past disk.now) }
-        ensures tally { tally.new ≡ counts_after K.marks tally.old (lines_of call answer) }
-        ensures end { end_of K.memory self.new.state.trace
-            ≡ memory_after (end_of K.memory self.old.state.trace) call answer }
+        ensures tally { tally.new ≡ counts_after K.origin.marks tally.old (lines_of call answer) }
+        ensures end { end_of K.origin.memory self.new.state.trace
+            ≡ memory_after (end_of K.origin.memory self.old.state.trace) call answer }
     {
         count_line(&mut self.books, tally, call, answer);
         self.record.push(call, answer, true, disk);
@@ -180,10 +181,10 @@ impl<K: Name> Log<K> {
         answer: Result<Outcome, Refusal>,
     ) -> Result<Receipt<K>, Refusal>
         requires ends { EndsInAll self.now.state.trace (lines_of (Commands command.now) answer) }
-        requires told { IsToldOf K.memory self.now.state.trace told }
+        requires told { IsToldOf K.origin.memory self.now.state.trace told }
         ensures receipt { result ≡ receipt_for self.now.state.trace
             (time_at self.now.times (length self.now.state.trace)) told command.now answer }
-        ensures proof { IsOfTrace K.memory self.now.state.trace result }
+        ensures proof { IsOfTrace K.origin.memory self.now.state.trace result }
     {
         receipt_of(self.prefix(), self.last(), told, command, answer)
     }
@@ -191,7 +192,7 @@ impl<K: Name> Log<K> {
     /// Returns what is kept under a number, with the trace that ends in this collect's line, and with what is shown.
     pub fn found(&self, told: Told<Shown<K>>, element: u16, number: u64, entry: Entry) -> Found<K>
         requires ends { EndsIn self.now.state.trace (line_of (Collect element number) (Ok (Tells entry))) }
-        requires told { IsToldOf K.memory self.now.state.trace told }
+        requires told { IsToldOf K.origin.memory self.now.state.trace told }
         ensures found { result ≡ record {
           element = element;
           number = number;
@@ -200,7 +201,7 @@ impl<K: Name> Log<K> {
           time = time_at self.now.times (length self.now.state.trace);
           told = told;
         } }
-        ensures proof { IsProof K.memory (Collect element number) (Ok (Tells entry)) self.now.state.trace }
+        ensures proof { IsProof K.origin.memory (Collect element number) (Ok (Tells entry)) self.now.state.trace }
     {
         Found {
             entry,
@@ -224,11 +225,11 @@ impl<K: Name> Log<K> {
         requires free { slice_get self.old.state.places (sender_of command.now) ≡ Some None }
         requires room { leaves_line answer ≡ true → length self.old.state.trace < self.old.state.limit }
         requires is_so { leaves_line answer ≡ true
-            → answer ≡ answer_to (end_of K.memory self.old.state.trace) (Commands command.now) }
+            → answer ≡ answer_to (end_of K.origin.memory self.old.state.trace) (Commands command.now) }
         ensures log { self.new.state ≡ with_unclaimed self.old.state command.now answer }
         ensures times { GoesOnAt (length (D.past disk.now)) self.old self.new }
-        ensures end { end_of K.memory self.new.state.trace
-            ≡ memory_after (end_of K.memory self.old.state.trace) (Commands command.now) answer }
+        ensures end { end_of K.origin.memory self.new.state.trace
+            ≡ memory_after (end_of K.origin.memory self.old.state.trace) (Commands command.now) answer }
     {
         let before = self.record.len();
         self.record
@@ -253,10 +254,10 @@ impl<K: Name> Log<K> {
         seen: &mut Prefix<K>,
         command: &Command,
     ) -> Option<Result<Receipt<K>, Refusal>>
-        requires told { IsToldOf K.memory self.old.state.trace told }
-        ensures claims { Claims K.marks self.old.state tally.old (sender_of command.now) command.now result
+        requires told { IsToldOf K.origin.memory self.old.state.trace told }
+        ensures claims { Claims K.origin.marks self.old.state tally.old (sender_of command.now) command.now result
             self.new.state tally.new }
-        ensures proof { IfSome result (IsOfTrace K.memory self.old.state.trace) }
+        ensures proof { IfSome result (IsOfTrace K.origin.memory self.old.state.trace) }
         ensures trace { (self.new.state.trace ≡ self.old.state.trace) × (self.new.times ≡ self.old.times) }
         ensures time { IfSome result (IsTimed self.old.times) }
         ensures order { SeesAnswer seen.old command.now result seen.new }

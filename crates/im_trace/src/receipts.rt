@@ -40,15 +40,15 @@ impl<K: Name> Model for Receipt<K> {
       told = r.told;
     } };
 
-    ghost invariant = { λ r. IsProof K.memory (Commands r.command.value) (Ok r.outcome) r.history
-        × IsToldOf K.memory r.history r.told × (r.when.lines ≡ length r.history) };
+    ghost invariant = { λ r. IsProof K.origin.memory (Commands r.command.value) (Ok r.outcome) r.history
+        × IsToldOf K.origin.memory r.history r.told × (r.when.lines ≡ length r.history) };
 }
 
 impl<K: Name> Receipt<K> {
     /// Returns the outcome of the command.
     pub fn outcome(&self) -> Outcome
         ensures outcome { result ≡ self.now.outcome }
-        ensures legal { IsLegal K.memory self.now.history }
+        ensures legal { IsLegal K.origin.memory self.now.history }
         ensures last { EndsIn self.now.history (line_of (Commands self.now.command) (Ok self.now.outcome)) }
     {
         self.outcome
@@ -58,7 +58,7 @@ impl<K: Name> Receipt<K> {
     /// changes of the accepted commands of its trace, in order. There may be more after these.
     pub fn told(&self) -> &Told<Shown<K>>
         ensures told { result.now ≡ self.now.told }
-        ensures holds { IsToldOf K.memory self.now.history result.now }
+        ensures holds { IsToldOf K.origin.memory self.now.history result.now }
     {
         &self.told
     }
@@ -110,15 +110,15 @@ impl<K: Name> Model for Found<K> {
       told = f.told;
     } };
 
-    ghost invariant = { λ f. IsProof K.memory (Collect f.element f.number) (Ok (Tells f.entry)) f.history
-        × IsToldOf K.memory f.history f.told × (f.when.lines ≡ length f.history) };
+    ghost invariant = { λ f. IsProof K.origin.memory (Collect f.element f.number) (Ok (Tells f.entry)) f.history
+        × IsToldOf K.origin.memory f.history f.told × (f.when.lines ≡ length f.history) };
 }
 
 impl<K: Name> Found<K> {
     /// Returns the entry that is kept.
     pub fn entry(&self) -> Entry
         ensures entry { result ≡ self.now.entry }
-        ensures legal { IsLegal K.memory self.now.history }
+        ensures legal { IsLegal K.origin.memory self.now.history }
         ensures last { EndsIn self.now.history
             (line_of (Collect self.now.element self.now.number) (Ok (Tells self.now.entry))) }
     {
@@ -128,7 +128,7 @@ impl<K: Name> Found<K> {
     /// Returns what was shown when the entry was found: what [`Receipt::told`] says of a receipt, for this trace.
     pub fn told(&self) -> &Told<Shown<K>>
         ensures told { result.now ≡ self.now.told }
-        ensures holds { IsToldOf K.memory self.now.history result.now }
+        ensures holds { IsToldOf K.origin.memory self.now.history result.now }
     {
         &self.told
     }
@@ -158,8 +158,8 @@ pub(crate) fn receipt_of<K: Name>(
     command: &Command,
     answer: Result<Outcome, Refusal>,
 ) -> Result<Receipt<K>, Refusal>
-    requires proof { IsProof K.memory (Commands command.now) answer history }
-    requires told { IsToldOf K.memory history told }
+    requires proof { IsProof K.origin.memory (Commands command.now) answer history }
+    requires told { IsToldOf K.origin.memory history told }
     requires lines { when.lines ≡ length history }
     ensures { result ≡ receipt_for history when.time told command.now answer }
 {

@@ -34,7 +34,7 @@ impl<K: Name> Model for Record<K> {
 
     ghost invariant = { λ r. (r.count ≡ length r.chain.lines) × (length r.chain.times ≡ length r.chain.lines)
         × (r.lines.items ≡ (if r.recorded then r.chain.lines else []))
-        × (r.recorded ≡ true → r.limit ≤ vec_capacity r.lines) × (r.recorded ≡ K.book.recorded) };
+        × (r.recorded ≡ true → r.limit ≤ vec_capacity r.lines) × (r.recorded ≡ K.origin.book.recorded) };
 }
 
 // Returns whether an answer leaves a line.
@@ -68,9 +68,9 @@ impl<K: Name> Record<K> {
     ) -> Record<K>
         requires empty { lines.items ≡ [] }
         requires room { recorded ≡ true → limit ≤ vec_capacity lines }
-        requires recorded { recorded ≡ K.book.recorded }
-        requires book { chain ≡ K.book.lines }
-        requires memory { IsOpened K.memory }
+        requires recorded { recorded ≡ K.origin.book.recorded }
+        requires book { chain ≡ K.origin.book.lines }
+        requires memory { IsOpened K.origin.memory }
         ensures { result ≡ record { lines = []; times = []; limit = limit } }
     {
         Record {
@@ -181,8 +181,8 @@ impl<K: Name> Record<K> {
         ensures { result ≡ record {
           items = self.lines;
           times = self.times;
-          recorded = K.book.recorded;
-          book = K.book.lines;
+          recorded = K.origin.book.recorded;
+          book = K.origin.book.lines;
         } }
     {
         let Record {
@@ -256,7 +256,7 @@ impl Recording {
     /// What a port or a receipt of this trace's controller has seen is a prefix of the trace. The call does nothing at
     /// run time. Contracts alone see what it says.
     pub fn knows<K: Name>(&mut self, history: &Prefix<K>)
-        requires book { self.old.book ≡ K.book.lines }
+        requires book { self.old.book ≡ K.origin.book.lines }
         ensures same { self.new ≡ self.old }
         ensures known { IsPrefix history.now self.old.items }
     {
@@ -266,7 +266,7 @@ impl Recording {
     /// The time of a receipt of this trace's controller is that of its line. The call does nothing at run time.
     /// Contracts alone see what it says.
     pub fn times<K: Name>(&mut self, when: &When<K>)
-        requires book { self.old.book ≡ K.book.lines }
+        requires book { self.old.book ≡ K.origin.book.lines }
         ensures same { self.new ≡ self.old }
         ensures time { when.now.time ≡ time_at self.old.times when.now.lines }
     {

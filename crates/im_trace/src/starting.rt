@@ -100,14 +100,14 @@ impl NewLog {
     /// Begins the log, under the name that its caller's functions have for it. It takes no memory. Beside the log it
     /// returns the shares of all ports.
     pub fn named<K: Name>(self) -> (Log<K>, Reserve<K>)
-        requires memory { IsOpened K.memory }
-        requires lines { self.lines_name ≡ K.lines_name }
-        requires marked { self.marked_name ≡ K.marked_name }
-        requires ports { self.ports ≡ K.ports }
-        requires book { (self.book ≡ K.book.lines) × (self.recorded ≡ K.book.recorded) }
+        requires memory { IsOpened K.origin.memory }
+        requires lines { self.lines_name ≡ K.origin.lines_name }
+        requires marked { self.marked_name ≡ K.origin.marked_name }
+        requires ports { self.ports ≡ K.origin.ports }
+        requires book { (self.book ≡ K.origin.book.lines) × (self.recorded ≡ K.origin.book.recorded) }
         ensures trace { (result.0.state.trace ≡ []) × (result.0.times ≡ []) }
         ensures limit { result.0.state.limit ≡ self.limit }
-        ensures reserve { result.1 ≡ K.ports }
+        ensures reserve { result.1 ≡ K.origin.ports }
     {
         let NewLog {
             trace,
@@ -131,10 +131,10 @@ impl NewLog {
 
 // Opens the ledgers under their names. Beside the books it returns the shares of all ports.
 fn open_books<K: Name>(lines: Blank, marked: Blank, ports: u64) -> (Books<K>, Reserve<K>)
-    requires names { (lines.name ≡ K.lines_name) × (marked.name ≡ K.marked_name) }
-    requires parts { (lines.parts ≡ ports) × (marked.parts ≡ ports) × (ports ≡ K.ports) }
+    requires names { (lines.name ≡ K.origin.lines_name) × (marked.name ≡ K.origin.marked_name) }
+    requires parts { (lines.parts ≡ ports) × (marked.parts ≡ ports) × (ports ≡ K.origin.ports) }
     ensures books { result.0 ≡ record { lines = 0; marked = 0 } }
-    ensures reserve { result.1 ≡ K.ports }
+    ensures reserve { result.1 ≡ K.origin.ports }
 {
     let (lines_book, lines) = lines.open::<Lines<K>>();
     let (marked_book, marked) = marked.open::<Marked<K>>();

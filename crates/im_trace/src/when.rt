@@ -28,11 +28,11 @@ impl<K: Name> Model for When<K> {
 
     ghost view = { λ w. record {
       lines = w.lines.value;
-      time = time_at (times_from K.book.lines.root w.seen.log) w.lines.value;
+      time = time_at (times_from K.origin.book.lines.root w.seen.log) w.lines.value;
     } };
 
-    ghost invariant = { λ w. (w.lines.value ≤ length (times_from K.book.lines.root w.seen.log))
-        × (w.seen.book ≡ K.book.lines.book) };
+    ghost invariant = { λ w. (w.lines.value ≤ length (times_from K.origin.book.lines.root w.seen.log))
+        × (w.seen.book ≡ K.origin.book.lines.book) };
 }
 
 // The book at its end, without its name. Contracts see its lines, their times, and which book it is.
@@ -64,7 +64,7 @@ impl Model for Written {
 impl Written {
     // A prefix that anyone has seen is a prefix of these lines.
     pub(crate) fn knows<K: Name>(&mut self, prefix: &Prefix<K>)
-        requires book { self.old.book ≡ K.book.lines }
+        requires book { self.old.book ≡ K.origin.book.lines }
         ensures same { self.new ≡ self.old }
         ensures known { IsPrefix prefix.now self.old.lines }
     {
@@ -73,7 +73,7 @@ impl Written {
 
     // A time that anyone has seen is that of one of these lines.
     pub(crate) fn times<K: Name>(&mut self, when: &When<K>)
-        requires book { self.old.book ≡ K.book.lines }
+        requires book { self.old.book ≡ K.origin.book.lines }
         ensures same { self.new ≡ self.old }
         ensures time { when.now.time ≡ time_at self.old.times when.now.lines }
     {

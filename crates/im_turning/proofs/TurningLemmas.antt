@@ -19,7 +19,8 @@ use Rattle.im_checkpoint.proofs.Fitting.{none_or_some, turns_with}
 use Rattle.im_types.specs.declared.refusals.Refusal.{Refusal}
 use Rattle.im_engine.specs.State.{EngineState}
 use Rattle.im_engine.specs.Run.{TurnAnswered, TurnTaken}
-use Rattle.im_turning.specs.Turning.{Point, point_of, checkpoint_at, journal_at, Leads, TurnsLead, IsAtRest, due_turns}
+use Rattle.im_turning.specs.Turning.{Point, point_of, checkpoint_at, point_journal, Leads, TurnsLead, IsAtRest}
+use Rattle.im_turning.specs.Turning.{due_turns}
 use Rattle.im_turning.specs.Turning.{later_turns}
 use Rattle.im_turning.specs.Turning.{checkpoint_turns, enough_turns, HasPageLeft, HasMadeRoom, HasTurned, IsSpent}
 
@@ -71,21 +72,21 @@ module _ (least : ℕ) (p : Point) (done : TurnDone) (q : Point) (leads : Leads 
   step_is : (c : CheckpointState) → checkpoint_at q ≡ c → q.step ≡ c.step
   step_is c e = ap (λ (x : CheckpointState). x.step) e
 
-  count_is : (k : JournalState) → journal_at q ≡ k → q.count ≡ k.count
+  count_is : (k : JournalState) → point_journal q ≡ k → q.count ≡ k.count
   count_is k e = ap (λ (x : JournalState). x.count) e
 
-  room_is : (k : JournalState) → journal_at q ≡ k → q.room ≡ k.room
+  room_is : (k : JournalState) → point_journal q ≡ k → q.room ≡ k.room
   room_is k e = ap (λ (x : JournalState). x.room) e
 
   module _ (is : p.step ≡ NoCheckpoint) where
-    swept : 0 < to_sweep (journal_at p) → Steps least p q
+    swept : 0 < to_sweep (point_journal p) → Steps least p q
     swept some =
         let row = leads.swept is some in
         let eh = header_is _ row.1 in
         let es : q.step ≡ NoCheckpoint = step_is _ row.1 ∙ is in
         let en = count_is _ row.2 in
-        let er : q.room ≡ p.room + min 3 (to_sweep (journal_at p)) = room_is _ row.2 in
-        let now = measured p.header NoCheckpoint p.count (p.room + min 3 (to_sweep (journal_at p))) eh es en er in
+        let er : q.room ≡ p.room + min 3 (to_sweep (point_journal p)) = room_is _ row.2 in
+        let now = measured p.header NoCheckpoint p.count (p.room + min 3 (to_sweep (point_journal p))) eh es en er in
         let then_was = was NoCheckpoint is in
         record {
           page = subst HasPageLeft (sym es) tt;
@@ -94,7 +95,7 @@ module _ (least : ℕ) (p : Point) (done : TurnDone) (q : Point) (leads : Leads 
               (at_most_or_above least q.room);
         }
 
-    began : to_sweep (journal_at p) ≡ 0 → is_due p.header (journal_at p) ≡ true → Steps least p q
+    began : to_sweep (point_journal p) ≡ 0 → is_due p.header (point_journal p) ≡ true → Steps least p q
     began none due =
         let row = leads.began is none due in
         let b = row.1 in
@@ -117,13 +118,14 @@ module _ (least : ℕ) (p : Point) (done : TurnDone) (q : Point) (leads : Leads 
           near = inr (inr (omega (arith, now, by_left, none_later_is, few, due_is, then_was)));
         }
 
-    pub idle : to_sweep (journal_at p) ≡ 0 → is_due p.header (journal_at p) ≡ false → IsAtRest q × (q.room ≡ p.room)
+    pub idle : to_sweep (point_journal p) ≡ 0 → is_due p.header (point_journal p) ≡ false
+        → IsAtRest q × (q.room ≡ p.room)
     idle none not =
         let row = leads.idle is none not in (
           record {
             step = step_is _ row.1 ∙ is;
             swept = ap (λ (k : JournalState). to_sweep k) row.2 ∙ none;
-            due = ap (λ (c : CheckpointState). is_due c.header (journal_at q)) row.1
+            due = ap (λ (c : CheckpointState). is_due c.header (point_journal q)) row.1
                 ∙ ap (λ (k : JournalState). is_due p.header k) row.2 ∙ not;
           },
           room_is _ row.2,
@@ -139,8 +141,8 @@ module _ (least : ℕ) (p : Point) (done : TurnDone) (q : Point) (leads : Leads 
           more = omega (arith, more_is);
           near = inr (inl rest.0);
         })
-        (true_or_false (is_due p.header (journal_at p))))
-        swept (none_or_some (to_sweep (journal_at p)))
+        (true_or_false (is_due p.header (point_journal p))))
+        swept (none_or_some (to_sweep (point_journal p)))
 
   module _ (from : ℕ) where
     page : (i : ℕ) (left : List ℕ) → p.step ≡ PagesLeft from (i ∷ left) → Steps least p q
@@ -203,9 +205,9 @@ rests : (p q : Point) (s : Step) → p.step ≡ s → HasPageLeft s → Leads p 
 rests p q NoCheckpoint is some leads = ⊎_elim
     (λ none. ⊎_elim (λ due. let began = (leads.began is none due).0 in absurd (cc))
     (λ not. (idle 0 p Idle q leads is none not).0)
-    (true_or_false (is_due p.header (journal_at p))))
+    (true_or_false (is_due p.header (point_journal p))))
     (λ some. let swept = (leads.swept is some).0 in absurd (cc))
-    (none_or_some (to_sweep (journal_at p)))
+    (none_or_some (to_sweep (point_journal p)))
 rests p q (PagesLeft from []) is some leads = absurd some
 rests p q (PagesLeft from (i ∷ left)) is some leads = let page = (leads.page from i left is).0 in absurd (cc)
 rests p q (PagesDone from) is some leads = let synced = (leads.synced from is).0 in absurd (cc)
@@ -325,7 +327,7 @@ swept_below n slots run room low none = sym (ap (λ (b : Bool). if b then 0 else
     below : (n == LAST) ≡ false
     below = grind (arith, nat_tests, low)
 
-pub all_room : (p : Point) → IsAtRest p → IsJournal (journal_at p) → p.count < LAST → p.header.generation < LAST
+pub all_room : (p : Point) → IsAtRest p → IsJournal (point_journal p) → p.count < LAST → p.header.generation < LAST
     → p.room ≡ p.header.sizes.slots
 all_room p rest j low possible =
     let since = none_since p.header.count p.count p.header.generation rest.due possible in

@@ -27,8 +27,8 @@ abbrev pub checkpoint_at : Point → CheckpointState
 checkpoint_at p = record { header = p.header; step = p.step }
 
 -- the journal there
-abbrev pub journal_at : Point → JournalState
-journal_at p = journal_of p.header p.count p.room
+abbrev pub point_journal : Point → JournalState
+point_journal p = journal_of p.header p.count p.room
 
 -- the point behind a command that is put on the disk
 abbrev pub with_one : Point → Point
@@ -36,7 +36,7 @@ with_one p = record p { count = p.count + 1; room = room_after p.count 1 p.room 
 
 -- a turn that does this leads from one point to the other
 abbrev pub Leads : Point → TurnDone → Point → Type 0
-Leads p done q = Turned (checkpoint_at p) (journal_at p) done (checkpoint_at q) (journal_at q)
+Leads p done q = Turned (checkpoint_at p) (point_journal p) done (checkpoint_at q) (point_journal q)
 
 -- these turns, the last first, lead from one point to the other
 abbrev pub TurnsLead : List TurnDone → Point → Point → Type 0
@@ -46,8 +46,8 @@ TurnsLead (done ∷ before) p q = (mid : Point) × (TurnsLead before p mid × Le
 -- no checkpoint is under way, no slot is to be swept, and no checkpoint is due
 pub record IsAtRest (p : Point) : Type 0 where
   pub step : p.step ≡ NoCheckpoint
-  pub swept : to_sweep (journal_at p) ≡ 0
-  pub due : is_due p.header (journal_at p) ≡ false
+  pub swept : to_sweep (point_journal p) ≡ 0
+  pub due : is_due p.header (point_journal p) ≡ false
 
 -- this many turns lead from one point to the other
 abbrev pub HasTurned : ℕ → Point → Point → Type 0

@@ -10,7 +10,7 @@ ghost use Rattle.im_checkpoint.specs.declared.checkpoint.TurnDone.{TurnDone};
 ghost use Rattle.im_checkpoint.specs.declared.checkpoint.TurnDone.TheVariants.{Idle};
 ghost use Rattle.im_checkpoint.specs.Step.{turns_left};
 ghost use Rattle.im_turning.specs.Turning.{HasPageLeft, IsAtRest, Leads, Point, TurnsLead, enough_turns};
-ghost use Rattle.im_turning.specs.Turning.{journal_at};
+ghost use Rattle.im_turning.specs.Turning.{point_journal};
 
 use im_types::layout::MOST_AREA_PAGES;
 
@@ -21,7 +21,7 @@ pub const MOST_TURNS: usize = 2 * (MOST_AREA_PAGES + 4);
 /// Where nothing is left to do, all slots of the journal are room, unless the count of commands or the generation of
 /// the header is the last one that there is. So a full journal is emptied by turns until they have nothing to do.
 pub fn rest_leaves_all_room()
-    ensures room { (p : Point) → IsAtRest p → IsJournal (journal_at p) → p.count < LAST → p.header.generation < LAST
+    ensures room { (p : Point) → IsAtRest p → IsJournal (point_journal p) → p.count < LAST → p.header.generation < LAST
         → p.room ≡ p.header.sizes.slots }
 {}
 

@@ -29,7 +29,7 @@ keep_all-requires g c =
       c.as_slice.ensures.value,
       c.pick-2.ensures.picked,
     )
-    (let it = off-fits g.K.Name.memory c.shared.inside.log.state
+    (let it = off-fits g.K.Name.origin.memory c.shared.inside.log.state
     (is_picked c.shared.inside.plan c.is_asked-asked.result false) rs c.requires.apart free in
     record {
       whole = it.whole;
@@ -42,7 +42,7 @@ keep_all-requires g c =
 
 pub invariant_of-shared : goal.invariant_of-shared
 invariant_of-shared g c =
-    let m = g.K.Name.memory in let e = c.shared.inside.engine in
+    let m = g.K.Name.origin.memory in let e = c.shared.inside.engine in
     let log = off-log c.shared.inside.log.state c.keep_all.new.log.state c.pick-2.new.chosen.items
     c.as_slice-2.result.now c.as_slice-3.result.now c.keep_all.ensures.log c.as_slice-2.ensures.value
     (c.as_slice-3.ensures.value ∙ c.refuse_alike.ensures ∙ ap (each_refused OffPlan) c.as_slice.ensures.value) in
@@ -54,31 +54,33 @@ invariant_of-shared g c =
       c.shared.invariant.3,
       c.shared.invariant.4,
       (λ honest began.
-          let old = c.shared.inside.log in let plan = g.K.Name.plan in let held = held_of m old.state.trace old.times in
+          let old = c.shared.inside.log in let plan = g.K.Name.origin.plan in
+          let held = held_of m old.state.trace old.times in
           let before = c.shared.invariant.5 honest began in
-          keeps_at g.D.Disk g.K.Name.begun m plan (length (g.D.Disk.past c.disk.result.now)) old c.keep_all.new.log e
-          (ap (λ d. length (g.D.Disk.past d)) c.disk.ensures) before.whole c.keep_all.ensures.times
-          (subst (λ (ls : List Line). HasSince g.D.Disk g.K.Name.begun m plan held
+          keeps_at g.D.Disk g.K.Name.origin.begun m plan
+          (length (g.D.Disk.past c.disk.result.now)) old c.keep_all.new.log e
+          (ap (λ d. length (g.D.Disk.past d)) c.disk.ensures) before.whole before.order c.keep_all.ensures.times
+          (subst (λ (ls : List Line). HasSince g.D.Disk g.K.Name.origin.begun m plan held
           (accepted_in m ls) e) same
-          (since_of g.D.Disk g.K.Name.begun m plan old.state.trace old.times e before))),
+          (since_of g.D.Disk g.K.Name.origin.begun m plan old.state.trace old.times e before))),
       c.shared.invariant.6,
       c.shared.invariant.7,
-      subst (λ (ls : List Line). KeepsTo m g.K.Name.plan ls) same c.shared.invariant.8,
+      subst (λ (ls : List Line). KeepsTo m g.K.Name.origin.plan ls) same c.shared.invariant.8,
     )
 
 pub returns-clause-lent : goal.returns-clause-lent
 returns-clause-lent g c =
     let rs = c.args.members.now in let asked = c.is_asked-asked.result in
     c.pick.ensures.picked ∙ ap (λ p. picked (is_picked p asked true) rs) c.shared.invariant.7
-    ∙ ap (λ a. picked (is_picked g.K.Name.plan a true) rs) c.is_asked-asked.ensures.asked
-    ∙ admitted-is c.args.shared.now rs g.K.Name.plan
+    ∙ ap (λ a. picked (is_picked g.K.Name.origin.plan a true) rs) c.is_asked-asked.ensures.asked
+    ∙ admitted-is c.args.shared.now rs g.K.Name.origin.plan
 
 pub returns-clause-shared : goal.returns-clause-shared
 returns-clause-shared g c =
     let rs = c.args.members.now in let asked = c.is_asked-asked.result in
     let off = c.pick-2.ensures.picked ∙ ap (λ p. picked (is_picked p asked false) rs) c.shared.invariant.7
-    ∙ ap (λ a. picked (is_picked g.K.Name.plan a false) rs) c.is_asked-asked.ensures.asked
-    ∙ refused-is c.args.shared.now rs g.K.Name.plan in
+    ∙ ap (λ a. picked (is_picked g.K.Name.origin.plan a false) rs) c.is_asked-asked.ensures.asked
+    ∙ refused-is c.args.shared.now rs g.K.Name.origin.plan in
     let log = off-log c.shared.inside.log.state c.keep_all.new.log.state _ c.as_slice-2.result.now
     c.as_slice-3.result.now c.keep_all.ensures.log (c.as_slice-2.ensures.value ∙ off)
     (c.as_slice-3.ensures.value ∙ c.refuse_alike.ensures ∙ ap (each_refused OffPlan)
@@ -89,8 +91,8 @@ returns-clause-shared g c =
       servers = c.shared.inside.servers;
       shown = c.shared.inside.pane.shown;
     } in
-    off-shared s c.args.shared.now c.shared.view_is c.keep_all.new.log.state g.K.Name.plan rs log
+    off-shared s c.args.shared.now c.shared.view_is c.keep_all.new.log.state g.K.Name.origin.plan rs log
 
 pub returns-clause-starts : goal.returns-clause-starts
-returns-clause-starts g c = keeps-starts g.K.Name.memory g.K.Name.plan c.shared.inside.log.state.trace
+returns-clause-starts g c = keeps-starts g.K.Name.origin.memory g.K.Name.origin.plan c.shared.inside.log.state.trace
     c.shared.invariant.8

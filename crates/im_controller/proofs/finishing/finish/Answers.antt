@@ -55,7 +55,7 @@ returns-clause-came g c =
           let lines = ap (λ (b : Counts). b.lines) c.of-log.ensures.told in
           let marked = ap (λ (b : Counts). b.marked) c.of-log.ensures.told in
           let long = ap (λ (r : RecordingState). length r.items) e.trace in
-          let all = ap (λ (r : RecordingState). count_by g.K.Name.marks r.items) e.trace in record {
+          let all = ap (λ (r : RecordingState). count_by g.K.Name.origin.marks r.items) e.trace in record {
             lines = λ claimed. omega (arith, counted.lines (sym e.claimed ∙ claimed), m.lines, lines, long);
             marked = λ claimed. omega (arith, counted.marked (sym e.claimed ∙ claimed), m.marked, marked, all);
             fewer = λ waits. omega (arith, counted.fewer (sym e.claimed ∙ waits), m.lines, lines, long);
@@ -67,8 +67,10 @@ returns-clause-kept g c = λ honest began.
     let s = c.engine.inside in
     let items = ap (λ (r : RecordingState). r.items) c.close-trace.ensures.trace ∙ c.take_all_back.ensures.trace.0
     ∙ c.of-log.ensures.trace.0 in
-    subst (λ (ls : List Line). HasKept g.D.Disk.now g.D.Disk.past g.D.Disk.failures g.K.Name.begun g.K.Name.memory
-    g.K.Name.plan (accepted_in g.K.Name.memory ls) s.engine) (sym items) (c.engine.invariant.5 honest began).kept
+    subst (λ (ls : List Line). HasKept g.D.Disk.now g.D.Disk.past g.D.Disk.failures g.K.Name.origin.begun
+    g.K.Name.origin.memory
+    g.K.Name.origin.plan (accepted_in g.K.Name.origin.memory ls) s.engine) (sym items)
+    (c.engine.invariant.5 honest began).kept
 
 pub returns-clause-keeps : goal.returns-clause-keeps
 returns-clause-keeps g c = λ honest began.
@@ -77,15 +79,15 @@ returns-clause-keeps g c = λ honest began.
     ∙ c.of-log.ensures.trace.0 in
     let times = ap (λ (r : RecordingState). r.times) c.close-trace.ensures.trace ∙ c.take_all_back.ensures.trace.1
     ∙ c.of-log.ensures.trace.1 in
-    subst (λ (ls : List Line). KeepsSince g.D.Disk g.K.Name.begun g.K.Name.memory
-    g.K.Name.plan ls c.close-trace.result.0.times s.engine) (sym items)
-    (subst (λ (ts : List ℕ). KeepsSince g.D.Disk g.K.Name.begun g.K.Name.memory
-    g.K.Name.plan s.log.state.trace ts s.engine) (sym times) (c.engine.invariant.5 honest began))
+    subst (λ (ls : List Line). KeepsSince g.D.Disk g.K.Name.origin.begun g.K.Name.origin.memory
+    g.K.Name.origin.plan ls c.close-trace.result.0.times s.engine) (sym items)
+    (subst (λ (ts : List ℕ). KeepsSince g.D.Disk g.K.Name.origin.begun g.K.Name.origin.memory
+    g.K.Name.origin.plan s.log.state.trace ts s.engine) (sym times) (c.engine.invariant.5 honest began))
 
 pub returns-clause-planned : goal.returns-clause-planned
 returns-clause-planned g c =
     let s = c.engine.inside in let i = c.engine.invariant in
     let same = ap (λ (r : RecordingState). r.items) c.close-trace.ensures.trace ∙ c.take_all_back.ensures.trace.0
     ∙ c.of-log.ensures.trace.0 in
-    subst (λ (ls : List Line). EndsBy g.K.Name.memory g.K.Name.plan ls s.engine.memory) (sym same)
-    (ends-by g.K.Name.memory g.K.Name.plan s.log.state.trace s.engine.memory i.8 i.0)
+    subst (λ (ls : List Line). EndsBy g.K.Name.origin.memory g.K.Name.origin.plan ls s.engine.memory) (sym same)
+    (ends-by g.K.Name.origin.memory g.K.Name.origin.plan s.log.state.trace s.engine.memory i.8 i.0)

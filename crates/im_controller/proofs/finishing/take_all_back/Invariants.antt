@@ -10,7 +10,7 @@ invariant-loop-port g l =
     ≡ l.fn.log.told.lines + sum_by (λ p. p.told.lines) l.fn.ports.items)
     × (l.log.told.marked + sum_by (λ p. p.told.marked) l.port-iterator.rest.items
     ≡ l.fn.log.told.marked + sum_by (λ p. p.told.marked) l.fn.ports.items)
-    × (l.log.back ≤ g.K.Name.ports)
+    × (l.log.back ≤ g.K.Name.origin.ports)
     × ((l.log.trace ≡ l.fn.log.trace) × (l.log.times ≡ l.fn.log.times))
     × (l.log.claimed ≡ l.fn.log.claimed)
     × (AllByRecursion (λ p. IsPrefix p.history l.fn.log.trace) l.port-iterator.rest.items

@@ -23,7 +23,7 @@ use Rattle.im_controller.proofs.groups.lend_members.Goals as goal
 
 pub choose-roomy-requires : goal.choose-roomy-requires
 choose-roomy-requires g c = record {
-  cells = c.shared.invariant.2 ∙ sym (end-cells g.K.Name.memory c.shared.inside.log.state.trace)
+  cells = c.shared.invariant.2 ∙ sym (end-cells g.K.Name.origin.memory c.shared.inside.log.state.trace)
       ∙ ap (λ (m : Contents). length m.cells) (c.shared.invariant.0 ∙ sym c.memory-memory.ensures);
   fits = c.as_slice.ensures.fits;
 }
@@ -72,7 +72,7 @@ invariant_of-shared g c =
     c.as_slice.ensures.value c.choose-roomy.ensures.roomless c.choose-roomy.ensures.lent c.serve_members.ensures.answered c.as_slice-2.ensures.value c.as_slice-3.ensures.value c.spread.ensures in
     let fits = group-fits c.shared.inside.engine c.serve_members.new.engine c.room-room.result c.args.members.now.items c.choose-roomy.result.roomy.items c.choose-roomy.result.lent.items c.serve_members.new.served.items c.spread.new.answers.items it in
     let pane = group-pane c.shared.inside.engine c.serve_members.new.engine c.room-room.result c.args.members.now.items c.choose-roomy.result.roomy.items c.choose-roomy.result.lent.items c.serve_members.new.served.items c.spread.new.answers.items it (subst WaitingAgrees c.memory-memory.ensures c.cells-cells.ensures.memory.agrees) c.requires.cut c.requires.apart (subst (λ (s : SharedState g.row.D.Denot). AreSureBehind s.engine.memory c.args.members.now.items) (sym c.shared.view_is) c.requires.sure)
-    g.K.Name.memory c.memory-memory.result.now.contents c.shared.inside.log.state c.shared.inside.pane c.choose-roomy.new.pane c.show_put-told.new.pane c.places_with-places.result c.failed.result
+    g.K.Name.origin.memory c.memory-memory.result.now.contents c.shared.inside.log.state c.shared.inside.pane c.choose-roomy.new.pane c.show_put-told.new.pane c.places_with-places.result c.failed.result
     c.memory-memory.ensures c.places_with-places.ensures c.shared.invariant.0 c.shared.invariant.1 c.shared.invariant.3 c.choose-roomy.ensures.ahead c.failed.ensures.failed c.show_put-told.ensures.shown c.show_put-told.ensures.hidden in
     let log = c.keep_all.ensures.log
     ∙ ap (λ rs. with_all_unclaimed c.shared.inside.log.state rs
@@ -82,33 +82,33 @@ invariant_of-shared g c =
     let ends = c.keep_all.ensures.end
     ∙ rw (c.as_slice-4.ensures.value, c.as_slice-5.ensures.value)
     (ap (λ m. memory_after_all m rs (map answer_in xs)) c.shared.invariant.0 ∙ fits.ends) in
-    let e = c.shared.inside.engine in let f = c.serve_members.new.engine in let m = g.K.Name.memory in
+    let e = c.shared.inside.engine in let f = c.serve_members.new.engine in let m = g.K.Name.origin.memory in
     let trace = c.shared.inside.log.state.trace in
     let lent = c.choose-roomy.result.lent.items in let ss = c.serve_members.new.served.items in
     let same = lines-same e f c.room-room.result rs c.choose-roomy.result.roomy.items lent ss xs it (subst WaitingAgrees c.memory-memory.ensures c.cells-cells.ensures.memory.agrees) c.requires.cut c.requires.apart (subst (λ (s : SharedState g.row.D.Denot). AreSureBehind s.engine.memory c.args.members.now.items) (sym c.shared.view_is) c.requires.sure) in
     let lines = ap (λ (l : LogState). l.trace) log ∙ all-trace c.shared.inside.log.state rs (map answer_in xs)
     ∙ ap (λ ls. trace ++ ls) same in
-    let on : e.failed ≡ false → 0 < c.room-room.result → AreOnPlan g.K.Name.plan rs = λ alive some.
+    let on : e.failed ≡ false → 0 < c.room-room.result → AreOnPlan g.K.Name.origin.plan rs = λ alive some.
     subst (λ (s : SharedState g.row.D.Denot). s.engine.failed ≡ false → length s.log.trace < s.log.limit
-    → AreOnPlan g.K.Name.plan rs) (sym c.shared.view_is) c.requires.planned alive
+    → AreOnPlan g.K.Name.origin.plan rs) (sym c.shared.view_is) c.requires.planned alive
     (omega (arith, some, c.room-room.ensures.room)) in
     let these = c.choose-roomy.ensures.lent ∙ ap (those c.choose-roomy.result.roomy.items) c.as_slice.ensures.value in
-    let lent_on : e.failed ≡ false → 0 < c.room-room.result → AreOnPlan g.K.Name.plan lent = λ alive some.
-    subst (λ (qs : List Command). AreOnPlan g.K.Name.plan qs) (sym these)
-    (those-all (λ (r : Command). IsOnPlan g.K.Name.plan (Commands r)) c.choose-roomy.result.roomy.items rs (on alive some)) in (
+    let lent_on : e.failed ≡ false → 0 < c.room-room.result → AreOnPlan g.K.Name.origin.plan lent = λ alive some.
+    subst (λ (qs : List Command). AreOnPlan g.K.Name.origin.plan qs) (sym these)
+    (those-all (λ (r : Command). IsOnPlan g.K.Name.origin.plan (Commands r)) c.choose-roomy.result.roomy.items rs (on alive some)) in (
       ends,
-      pane.shown_is ∙ ap (λ (l : LogState). shown_by g.K.Name.memory l.trace) (sym log),
+      pane.shown_is ∙ ap (λ (l : LogState). shown_by g.K.Name.origin.memory l.trace) (sym log),
       pane.cells ∙ c.shared.invariant.2,
       pane.ahead,
       (λ honest. c.shared.invariant.4 (c.serve_members.ensures.runs.honest honest)),
       (λ honest began.
-          let old = c.shared.inside.log in let held = held_of m trace old.times in let plan = g.K.Name.plan in
+          let old = c.shared.inside.log in let held = held_of m trace old.times in let plan = g.K.Name.origin.plan in
           let before = c.shared.invariant.5 (c.serve_members.ensures.runs.honest honest) began in
-          keeps_at g.D.Disk g.K.Name.begun m plan (length (g.D.Disk.past c.disk.result.now)) old c.keep_all.new.log f (ap (λ d. length (g.D.Disk.past d)) c.disk.ensures) before.whole c.keep_all.ensures.times
-          (kept_on g.D.Disk g.K.Name.begun m plan held e f trace c.keep_all.new.log.state.trace
+          keeps_at g.D.Disk g.K.Name.origin.begun m plan (length (g.D.Disk.past c.disk.result.now)) old c.keep_all.new.log f (ap (λ d. length (g.D.Disk.past d)) c.disk.ensures) before.whole before.order c.keep_all.ensures.times
+          (kept_on g.D.Disk g.K.Name.origin.begun m plan held e f trace c.keep_all.new.log.state.trace
           (lines_all lent (map answer_in ss)) lines c.shared.invariant.0
-          (kept_members g.D.Disk g.K.Name.begun m plan held e f (accepted_in m trace)
-          (since_of g.D.Disk g.K.Name.begun m plan trace old.times e before)
+          (kept_members g.D.Disk g.K.Name.origin.begun m plan held e f (accepted_in m trace)
+          (since_of g.D.Disk g.K.Name.origin.begun m plan trace old.times e before)
           (sym (accepted-after m trace ∙ c.shared.invariant.0)) lent ss c.serve_members.ensures.runs.faults
           (λ alive. (c.serve_members.ensures.runs.leaves honest alive).within)
           (λ alive. (c.serve_members.ensures.runs.leaves honest alive).after)
@@ -116,8 +116,8 @@ invariant_of-shared g c =
           c.room-room.result c.serve_members.ensures.answered lent_on))),
       c.shared.invariant.6,
       c.shared.invariant.7,
-      subst (λ (ls : List Line). KeepsTo m g.K.Name.plan ls) (sym lines)
-          (keeps-members m g.K.Name.plan e f rs lent
+      subst (λ (ls : List Line). KeepsTo m g.K.Name.origin.plan ls) (sym lines)
+          (keeps-members m g.K.Name.origin.plan e f rs lent
           (map answer_in xs) ss same trace c.shared.invariant.8 c.room-room.result c.serve_members.ensures.answered on),
     )
 
@@ -127,7 +127,7 @@ returns-clause-lends g c =
     c.serve_members.new.served.items c.as_slice-3.result.now c.spread.new.answers.items c.memory-memory.result.now.contents c.places_with-places.result c.memory-memory.ensures c.places_with-places.ensures
     c.as_slice.ensures.value c.choose-roomy.ensures.roomless c.choose-roomy.ensures.lent c.serve_members.ensures.answered c.as_slice-2.ensures.value c.as_slice-3.ensures.value c.spread.ensures in
     let pane = group-pane c.shared.inside.engine c.serve_members.new.engine c.room-room.result c.args.members.now.items c.choose-roomy.result.roomy.items c.choose-roomy.result.lent.items c.serve_members.new.served.items c.spread.new.answers.items it (subst WaitingAgrees c.memory-memory.ensures c.cells-cells.ensures.memory.agrees) c.requires.cut c.requires.apart (subst (λ (s : SharedState g.row.D.Denot). AreSureBehind s.engine.memory c.args.members.now.items) (sym c.shared.view_is) c.requires.sure)
-    g.K.Name.memory c.memory-memory.result.now.contents c.shared.inside.log.state c.shared.inside.pane c.choose-roomy.new.pane c.show_put-told.new.pane c.places_with-places.result c.failed.result
+    g.K.Name.origin.memory c.memory-memory.result.now.contents c.shared.inside.log.state c.shared.inside.pane c.choose-roomy.new.pane c.show_put-told.new.pane c.places_with-places.result c.failed.result
     c.memory-memory.ensures c.places_with-places.ensures c.shared.invariant.0 c.shared.invariant.1 c.shared.invariant.3 c.choose-roomy.ensures.ahead c.failed.ensures.failed c.show_put-told.ensures.shown c.show_put-told.ensures.hidden in
     let log = c.keep_all.ensures.log
     ∙ ap (λ rs. with_all_unclaimed c.shared.inside.log.state rs

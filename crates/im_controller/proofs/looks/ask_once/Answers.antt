@@ -8,12 +8,12 @@ use Rattle.im_controller.proofs.looks.ask_once.Goals as goal
 pub returns-in-Ok-Go-clause-told : goal.returns-in-Ok-Go-clause-told
 returns-in-Ok-Go-clause-told g c =
     let begins = rw c.in-Ok-Go.field-0-is at c.in-Ok-Go.ensures.begins in
-    finds-told g.K.Name.marks c.args.shared.now c.begin_wait.new.shared c.find_seen.new.shared c.args.element c.args.number c.args.tally.now c.find_seen.new.tally c.find_seen.result c.find_seen.ensures.looks
+    finds-told g.K.Name.origin.marks c.args.shared.now c.begin_wait.new.shared c.find_seen.new.shared c.args.element c.args.number c.args.tally.now c.find_seen.new.tally c.find_seen.result c.find_seen.ensures.looks
     (Ok Go) begins go-waits go-stalled
 
 pub returns-else-eq-clause-told : goal.returns-else-eq-clause-told
 returns-else-eq-clause-told g c =
-    finds-told g.K.Name.marks c.args.shared.now c.begin_wait.new.shared c.find_seen-in-Err.new.shared c.args.element c.args.number c.args.tally.now c.find_seen-in-Err.new.tally c.find_seen-in-Err.result c.find_seen-in-Err.ensures.looks
+    finds-told g.K.Name.origin.marks c.args.shared.now c.begin_wait.new.shared c.find_seen-in-Err.new.shared c.args.element c.args.number c.args.tally.now c.find_seen-in-Err.new.tally c.find_seen-in-Err.result c.find_seen-in-Err.ensures.looks
     (Err c.in-Err.refusal) c.in-Err.ensures.begins (err-waits c.in-Err.refusal)
     (other-stalled c.in-Err.refusal (λ same. let e = c.eq.ensures in let f = c.if-eq.false in search rules))
 

@@ -13,11 +13,12 @@ use Rattle.im_controller.proofs.looks.find.Goals.{in-Ok, in-Err}
 
 pub found-requires-clause-told : goal.found-requires-clause-told
 found-requires-clause-told g c =
-    told-all g.K.Name.memory c.shared.inside.log.state.trace c.told.result (c.told.ensures ∙ c.shared.invariant.1)
+    told-all g.K.Name.origin.memory c.shared.inside.log.state.trace c.told.result
+    (c.told.ensures ∙ c.shared.invariant.1)
 
 pub returns-clause-planned : goal.returns-clause-planned
 returns-clause-planned g c =
-    let m = g.K.Name.memory in let plan = g.K.Name.plan in
+    let m = g.K.Name.origin.memory in let plan = g.K.Name.origin.plan in
     elim c.match-look.branch [
       | in-Ok w ↦ subst (λ (a : Result FoundState Refusal). TellsFound m plan a) (sym w.result-is)
           (subst (λ (f : FoundState). TellsBy m plan (Collect f.element f.number) (Tells f.entry))

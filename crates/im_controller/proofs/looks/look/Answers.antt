@@ -27,28 +27,29 @@ invariant_of-shared g c =
     ap (λ (l : LogState). l.trace) c.leave.ensures.log
     ∙ ap (λ a. c.shared.inside.log.state.trace ++ lines_of call a) c.as_outcome.ensures in
     let shown = c.shared.invariant.1
-    ∙ looked-shown g.K.Name.memory c.shared.inside.log.state.trace c.args.element c.args.number
-    (told c.collect-answer.result) ∙ ap (shown_by g.K.Name.memory) (sym is) in (
+    ∙ looked-shown g.K.Name.origin.memory c.shared.inside.log.state.trace c.args.element c.args.number
+    (told c.collect-answer.result) ∙ ap (shown_by g.K.Name.origin.memory) (sym is) in (
       c.leave.ensures.end
-          ∙ memory-same (end_of g.K.Name.memory c.shared.inside.log.state.trace) c.args.element c.args.number
+          ∙ memory-same (end_of g.K.Name.origin.memory c.shared.inside.log.state.trace) c.args.element c.args.number
           c.as_outcome.result ∙ c.shared.invariant.0,
       shown,
       c.shared.invariant.2,
       c.shared.invariant.3,
       c.shared.invariant.4,
       (λ honest began.
-          let old = c.shared.inside.log in let e = c.shared.inside.engine in let m = g.K.Name.memory in
-          let plan = g.K.Name.plan in
+          let old = c.shared.inside.log in let e = c.shared.inside.engine in let m = g.K.Name.origin.memory in
+          let plan = g.K.Name.origin.plan in
           let before = c.shared.invariant.5 honest began in
-          keeps_at g.D.Disk g.K.Name.begun m plan (length (g.D.Disk.past c.disk.result.now)) old c.leave.new.self e
-          (ap (λ d. length (g.D.Disk.past d)) c.disk.ensures) before.whole c.leave.ensures.times
-          (kept_looked g.D.Disk g.K.Name.begun m plan (held_of m old.state.trace old.times) e old.state.trace
+          keeps_at g.D.Disk g.K.Name.origin.begun m plan
+          (length (g.D.Disk.past c.disk.result.now)) old c.leave.new.self e
+          (ap (λ d. length (g.D.Disk.past d)) c.disk.ensures) before.whole before.order c.leave.ensures.times
+          (kept_looked g.D.Disk g.K.Name.origin.begun m plan (held_of m old.state.trace old.times) e old.state.trace
           c.leave.new.self.state.trace c.args.element c.args.number (told c.collect-answer.result) is
-          (since_of g.D.Disk g.K.Name.begun m plan old.state.trace old.times e before))),
+          (since_of g.D.Disk g.K.Name.origin.begun m plan old.state.trace old.times e before))),
       c.shared.invariant.6,
       c.shared.invariant.7,
-      subst (λ (ls : List Line). KeepsTo g.K.Name.memory g.K.Name.plan ls) (sym is)
-          (keeps-line g.K.Name.memory c.shared.inside.log.state.trace call
-          (told c.collect-answer.result) g.K.Name.plan c.shared.invariant.8
-          (question-on g.K.Name.plan c.args.element c.args.number)),
+      subst (λ (ls : List Line). KeepsTo g.K.Name.origin.memory g.K.Name.origin.plan ls) (sym is)
+          (keeps-line g.K.Name.origin.memory c.shared.inside.log.state.trace call
+          (told c.collect-answer.result) g.K.Name.origin.plan c.shared.invariant.8
+          (question-on g.K.Name.origin.plan c.args.element c.args.number)),
     )

@@ -11,7 +11,7 @@ use Rattle.im_controller.proofs.members.keep_all.Goals as goal
 
 pub loop-i-preserved : goal.loop-i-preserved
 loop-i-preserved g c =
-    let m = g.K.Name.memory in
+    let m = g.K.Name.origin.memory in
     let l0 = c.args.log.now.state in let rs = c.args.members.now in let ss = c.args.served.now in let xs = map answer_in ss in
     let i = c.loop-i.i in let first = Asks (record { element = 0; number = 0; op = Alloc I 0 }) in
     let k = keeps_cons m l0 rs xs answer_in c.loop-i.log.state rs ss i first Unserved (omega arith)

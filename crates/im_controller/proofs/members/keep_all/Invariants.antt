@@ -5,6 +5,6 @@ use Rattle.im_controller.proofs.Keeping.{Keeps}
 use Rattle.im_controller.proofs.members.keep_all.Given as goal
 
 abbrev pub invariant-loop-i : goal.invariant-loop-i
-invariant-loop-i g l = Keeps g.K.Name.memory l.fn.log.state l.fn.members (map answer_in l.fn.served) l.log.state
+invariant-loop-i g l = Keeps g.K.Name.origin.memory l.fn.log.state l.fn.members (map answer_in l.fn.served) l.log.state
     (drop l.i l.members) (map answer_in (drop l.i l.served))
     × GoesOnAt (length (g.D.Disk.past l.fn.disk)) l.fn.log l.log

@@ -42,13 +42,13 @@ leave-requires-clause-is_so g c = λ told.
 
 pub put_ahead-requires : goal.put_ahead-requires
 put_ahead-requires g c = record {
-  cells = c.shared.invariant.2 ∙ sym (end-cells g.K.Name.memory c.shared.inside.log.state.trace)
+  cells = c.shared.invariant.2 ∙ sym (end-cells g.K.Name.origin.memory c.shared.inside.log.state.trace)
       ∙ ap (λ (m : Contents). length m.cells) (c.shared.invariant.0 ∙ sym c.memory.ensures);
 }
 
 pub receipt-requires : goal.receipt-requires
 receipt-requires g c =
-    let shown = lend-shown g.K.Name.memory c.shared.inside.engine c.serve-answer.new.self c.args.command.now
+    let shown = lend-shown g.K.Name.origin.memory c.shared.inside.engine c.serve-answer.new.self c.args.command.now
     c.serve-answer.result c.serve-answer.ensures.answered (sym c.failed.ensures.failed ∙ c.if-failed.false)
     c.memory.result.now.contents c.from-places.result c.memory.ensures (c.from-places.ensures ∙ c.room-2.ensures)
     c.shared.inside.pane c.put_ahead.new.pane c.show_put-told.new.pane
@@ -58,7 +58,7 @@ receipt-requires g c =
     (ap (λ (l : LogState). l.trace) c.leave.ensures.log) in
     record {
       ends = (c.shared.inside.log.state.trace, ap (λ (l : LogState). l.trace) c.leave.ensures.log);
-      told = told-all g.K.Name.memory c.leave.new.self.state.trace c.show_put-told.result
+      told = told-all g.K.Name.origin.memory c.leave.new.self.state.trace c.show_put-told.result
           (c.show_put-told.ensures.told ∙ shown.ends);
     }
 
@@ -68,7 +68,7 @@ invariant_of-shared g c =
     ∙ ap (λ (m : Contents). memory_after m (Commands c.args.command.now) c.serve-answer.result) c.shared.invariant.0
     ∙ sym (answered-memory c.shared.inside.engine c.serve-answer.new.self c.args.command.now c.serve-answer.result
     c.serve-answer.ensures.answered (sym c.failed.ensures.failed ∙ c.if-failed.false)) in
-    let shown = lend-shown g.K.Name.memory c.shared.inside.engine c.serve-answer.new.self c.args.command.now
+    let shown = lend-shown g.K.Name.origin.memory c.shared.inside.engine c.serve-answer.new.self c.args.command.now
     c.serve-answer.result c.serve-answer.ensures.answered (sym c.failed.ensures.failed ∙ c.if-failed.false)
     c.memory.result.now.contents c.from-places.result c.memory.ensures (c.from-places.ensures ∙ c.room-2.ensures)
     c.shared.inside.pane c.put_ahead.new.pane c.show_put-told.new.pane
@@ -77,8 +77,8 @@ invariant_of-shared g c =
     c.shared.inside.log.state.trace c.leave.new.self.state.trace c.shared.invariant.0 c.shared.invariant.1
     (ap (λ (l : LogState). l.trace) c.leave.ensures.log) in
     let alive = sym c.failed.ensures.failed ∙ c.if-failed.false in
-    let e = c.shared.inside.engine in let m = g.K.Name.memory in let trace = c.shared.inside.log.state.trace in
-    let plan = g.K.Name.plan in
+    let e = c.shared.inside.engine in let m = g.K.Name.origin.memory in let trace = c.shared.inside.log.state.trace in
+    let plan = g.K.Name.origin.plan in
     let on = on-command m plan c.args.command.now (keeps-starts m plan trace c.shared.invariant.8)
     (ap (λ (p : Option (List Request)). has_command p c.args.command.now) (sym c.shared.invariant.7)
     ∙ sym c.has_command.ensures ∙ c.if-not-has_command.false) in (
@@ -91,13 +91,14 @@ invariant_of-shared g c =
           let old = c.shared.inside.log in let f = c.serve-answer.new.self in
           let held = held_of m trace old.times in
           let before = c.shared.invariant.5 (c.serve-answer.ensures.honest honest) began in
-          keeps_at g.D.Disk g.K.Name.begun m plan (length (g.D.Disk.past c.disk.result.now)) old c.leave.new.self f
-          (ap (λ d. length (g.D.Disk.past d)) c.disk.ensures) before.whole c.leave.ensures.times
-          (kept_on g.D.Disk g.K.Name.begun m plan held e f trace c.leave.new.self.state.trace _
+          keeps_at g.D.Disk g.K.Name.origin.begun m plan
+          (length (g.D.Disk.past c.disk.result.now)) old c.leave.new.self f
+          (ap (λ d. length (g.D.Disk.past d)) c.disk.ensures) before.whole before.order c.leave.ensures.times
+          (kept_on g.D.Disk g.K.Name.origin.begun m plan held e f trace c.leave.new.self.state.trace _
           (ap (λ (l : LogState). l.trace) c.leave.ensures.log) c.shared.invariant.0
-          (kept_lent g.D.Disk g.K.Name.begun m plan held e f alive
+          (kept_lent g.D.Disk g.K.Name.origin.begun m plan held e f alive
           (accepted_in m trace)
-          (since_of g.D.Disk g.K.Name.begun m plan trace old.times e before)
+          (since_of g.D.Disk g.K.Name.origin.begun m plan trace old.times e before)
           (sym (accepted-after m trace ∙ c.shared.invariant.0))
           c.args.command.now c.serve-answer.result c.serve-answer.ensures.answered c.serve-answer.ensures.faults
           (c.serve-answer.ensures.leaves honest alive) (c.serve-answer.ensures.doubt honest alive)
@@ -119,7 +120,7 @@ returns-in-Ok-clause-lends g c =
     c.serve-answer.result
     (λ left. c.leave.ensures.time left ∙ ap (λ d. length (g.D.Disk.past d)) c.disk.ensures) in
     let room = some_room c.room.result _ _ c.if-room-eq0.false c.room.ensures.room in
-    let shown = lend-shown g.K.Name.memory c.shared.inside.engine c.serve-answer.new.self c.args.command.now
+    let shown = lend-shown g.K.Name.origin.memory c.shared.inside.engine c.serve-answer.new.self c.args.command.now
     c.serve-answer.result c.serve-answer.ensures.answered (sym c.failed.ensures.failed ∙ c.if-failed.false)
     c.memory.result.now.contents c.from-places.result c.memory.ensures (c.from-places.ensures ∙ c.room-2.ensures)
     c.shared.inside.pane c.put_ahead.new.pane c.show_put-told.new.pane
@@ -133,9 +134,9 @@ returns-in-Ok-clause-lends g c =
       servers = c.shared.inside.servers;
       shown = c.show_put-told.new.pane.shown;
     } in
-    subst (λ (s : SharedState g.row.D.Denot). Lends g.D.Disk g.K.Name.marks g.K.Name.plan s c.args.tally.now
+    subst (λ (s : SharedState g.row.D.Denot). Lends g.D.Disk g.K.Name.origin s c.args.tally.now
     c.args.command.now c.receipt.result s' c.leave.new.tally) c.shared.view_is
-    (lends-served g.D.Disk g.K.Name.marks g.K.Name.plan _ s' c.args.tally.now c.leave.new.tally c.args.command.now
+    (lends-served g.D.Disk g.K.Name.origin _ s' c.args.tally.now c.leave.new.tally c.args.command.now
     c.serve-answer.result c.receipt.result is (sym c.failed.ensures.failed ∙ c.if-failed.false) room
     (ap (λ (p : Option (List Request)). has_command p c.args.command.now) (sym c.shared.invariant.7)
     ∙ sym c.has_command.ensures ∙ c.if-not-has_command.false)
@@ -161,11 +162,13 @@ returns-in-Err-clause-leaves g c = λ honest. let e = c.shared.inside.engine in
 
 pub returns-in-Ok-clause-planned : goal.returns-in-Ok-clause-planned
 returns-in-Ok-clause-planned g c =
-    let m = g.K.Name.memory in let trace = c.shared.inside.log.state.trace in
-    tells-of m g.K.Name.plan c.leave.new.self.state.trace c.receipt.result
-    (subst (λ (ls : List Line). KeepsTo m g.K.Name.plan ls) (sym (ap (λ (l : LogState). l.trace) c.leave.ensures.log))
-    (keeps-line m trace (Commands c.args.command.now) c.serve-answer.result g.K.Name.plan c.shared.invariant.8
-    (on-command m g.K.Name.plan c.args.command.now (keeps-starts m g.K.Name.plan trace c.shared.invariant.8)
+    let m = g.K.Name.origin.memory in let trace = c.shared.inside.log.state.trace in
+    tells-of m g.K.Name.origin.plan c.leave.new.self.state.trace c.receipt.result
+    (subst (λ (ls : List Line). KeepsTo m g.K.Name.origin.plan ls)
+    (sym (ap (λ (l : LogState). l.trace) c.leave.ensures.log))
+    (keeps-line m trace (Commands c.args.command.now) c.serve-answer.result g.K.Name.origin.plan c.shared.invariant.8
+    (on-command m g.K.Name.origin.plan c.args.command.now
+    (keeps-starts m g.K.Name.origin.plan trace c.shared.invariant.8)
     (ap (λ (p : Option (List Request)). has_command p c.args.command.now) (sym c.shared.invariant.7)
     ∙ sym c.has_command.ensures ∙ c.if-not-has_command.false))))
     c.receipt.ensures.proof

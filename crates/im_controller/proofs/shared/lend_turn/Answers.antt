@@ -21,7 +21,7 @@ returns-clause-leaves g c = λ honest. let f = c.turn-done.new.self in
 
 pub invariant_of-shared : goal.invariant_of-shared
 invariant_of-shared g c =
-    let e = c.shared.inside.engine in let f = c.turn-done.new.self in let m = g.K.Name.memory in
+    let e = c.shared.inside.engine in let f = c.turn-done.new.self in let m = g.K.Name.origin.memory in
     let trace = c.shared.inside.log.state.trace in
     let quiet = turn_quiet g.D.Disk.failures e f c.turn-done.result c.turn-done.ensures.answered c.turn-done.ensures.faults in rw c.note_turn.ensures (
       c.shared.invariant.0 ∙ sym quiet.stays.0,
@@ -32,9 +32,10 @@ invariant_of-shared g c =
       (λ honest began.
           let times = c.shared.inside.log.times in
           let before = c.shared.invariant.5 (c.turn-done.ensures.honest honest) began in
-          keeps_still g.D.Disk g.K.Name.begun m g.K.Name.plan trace times f before.whole
-          (kept_quiet g.D.Disk g.K.Name.begun m g.K.Name.plan (held_of m trace times) e f (accepted_in m trace)
-          (since_of g.D.Disk g.K.Name.begun m g.K.Name.plan trace times e before)
+          keeps_still g.D.Disk g.K.Name.origin.begun m g.K.Name.origin.plan trace times f before.whole before.order
+          (kept_quiet g.D.Disk g.K.Name.origin.begun m g.K.Name.origin.plan (held_of m trace times) e f
+          (accepted_in m trace)
+          (since_of g.D.Disk g.K.Name.origin.begun m g.K.Name.origin.plan trace times e before)
           (sym (accepted-after m trace ∙ c.shared.invariant.0)) quiet
           (c.turn-done.ensures.leaves honest) (c.turn-done.ensures.now honest) (c.turn-done.ensures.means honest))),
       c.shared.invariant.6,

@@ -2,4 +2,4 @@ use Rattle.im_controller.proofs.ShownLemmas.{opened-glance}
 use Rattle.im_controller.proofs.sleepers.make_glance.Goals as goal
 
 pub returns : goal.returns
-returns g c = opened-glance g.K.Name.memory c.shared.inside.log.state.trace c.shared.inside.pane.shown c.glance.result c.shared.invariant.1 c.glance.ensures.found
+returns g c = opened-glance g.K.Name.origin.memory c.shared.inside.log.state.trace c.shared.inside.pane.shown c.glance.result c.shared.invariant.1 c.glance.ensures.found

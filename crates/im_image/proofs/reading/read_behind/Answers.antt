@@ -20,13 +20,15 @@ returns-in-Ok-clause-means g c =
     read-ok c.read_run.result IsImageOf (λ i. IsImageOf (g.D.Disk.now c.args.disk.now).bytes i)
     (g.D.Disk.now c.args.disk.now) (g.D.Disk.now c.read_memory.new.disk) (g.D.Disk.honest c.read_run.new.disk)
     (λ h. (c.read_memory.ensures.reads.reads (c.read_run.ensures.reads.honest h)).now)
-    (λ i it. it) c.read_run.ensures.means
+    (λ h i it. it) c.read_run.ensures.means
 
 pub returns-in-Ok-clause-fault : goal.returns-in-Ok-clause-fault
 returns-in-Ok-clause-fault g c =
-    read-err c.read_run.result (g.D.Disk.now c.args.disk.now) (g.D.Disk.now c.read_memory.new.disk)
-    (g.D.Disk.honest c.read_run.new.disk)
-    (λ h. (c.read_memory.ensures.reads.reads (c.read_run.ensures.reads.honest h)).now) c.read_run.ensures.fault
+    let file = (g.D.Disk.now c.args.disk.now).bytes in
+    read-err c.read_run.result (λ e. Reads (layout_in file) file (Err e)) (g.D.Disk.now c.args.disk.now)
+    (g.D.Disk.now c.read_memory.new.disk) (g.D.Disk.honest c.read_run.new.disk)
+    (λ h. (c.read_memory.ensures.reads.reads (c.read_run.ensures.reads.honest h)).now) (λ h e it. it)
+    c.read_run.ensures.fault
 
 pub returns-in-Ok-clause-reads : goal.returns-in-Ok-clause-reads
 returns-in-Ok-clause-reads g c = reads-on g.D.Disk _ _ _ _ _ _ _ _ (λ e why. why)

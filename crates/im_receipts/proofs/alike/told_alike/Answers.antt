@@ -4,7 +4,7 @@ use Rattle.im_receipts.proofs.alike.told_alike.Goals as goal
 pub returns : goal.returns
 returns g c = record {
   alike = λ r first second gives gives'.
-      let m = g.K.Name.memory in
+      let m = g.K.Name.origin.memory in
       let one = c.args.one.now in
       let two = c.args.two.now in
       let law = c.traces_tell_a_request_alike.ensures in

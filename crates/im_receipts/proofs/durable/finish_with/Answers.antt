@@ -16,6 +16,6 @@ returns-clause-time g c = c.times.ensures.time
 
 pub returns-clause-keeps : goal.returns-clause-keeps
 returns-clause-keeps g c =
-    subst (λ (r : RecordingState). KeptSince _ g.K.Name.begun g.K.Name.memory g.K.Name.plan r.items r.times
+    subst (λ (r : RecordingState). KeptSince _ g.K.Name.origin r.items r.times
     c.finish-engine.result.engine)
     (sym (c.times.ensures.same ∙ c.knows.ensures.same)) c.finish-engine.ensures.keeps

@@ -8,7 +8,7 @@ use Rattle.im_receipts.proofs.durable.finish_with_found.Goals as goal
 pub returns : goal.returns
 returns g c = record {
   keeps = λ honest began.
-      let m = g.K.Name.memory in
+      let m = g.K.Name.origin.memory in
       let found = c.args.found.now in
       let trace = c.finish_with-finished.result.trace in
       let it = c.entry-entry.ensures in
@@ -21,7 +21,7 @@ returns g c = record {
         begins = begins;
         by = kept.by found.history found.time left;
         since = λ file since.
-            let past = means_past m g.K.Name.begun.count found.history trace.items kept.kept.doubt file begins
+            let past = means_past m g.K.Name.origin.begun.count found.history trace.items kept.kept.doubt file begins
             (kept.since found.history found.time left file since) in
             record {
               later = past.later;

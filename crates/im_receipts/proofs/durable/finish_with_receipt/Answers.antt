@@ -8,7 +8,7 @@ use Rattle.im_receipts.proofs.durable.finish_with_receipt.Goals as goal
 pub returns : goal.returns
 returns g c = record {
   keeps = λ honest began.
-      let m = g.K.Name.memory in
+      let m = g.K.Name.origin.memory in
       let receipt = c.args.receipt.now in
       let trace = c.finish_with.result.trace in
       let it = c.outcome-outcome.ensures in
@@ -21,7 +21,7 @@ returns g c = record {
         begins = begins;
         by = kept.by receipt.history receipt.time left;
         since = λ file since.
-            let past = means_past m g.K.Name.begun.count receipt.history trace.items kept.kept.doubt file begins
+            let past = means_past m g.K.Name.origin.begun.count receipt.history trace.items kept.kept.doubt file begins
             (kept.since receipt.history receipt.time left file since) in
             record {
               later = past.later;

@@ -9,6 +9,6 @@ pub returns-clause-told : goal.returns-clause-told
 returns-clause-told g c =
     let notes = c.serve_parts-ports in
     let end = c.finish-engine in
-    subst (λ (t : RecordingState). AreAllTold g.K.Name.memory t.items (notes.result.refused ≡ None)
+    subst (λ (t : RecordingState). AreAllTold g.K.Name.origin.memory t.items (notes.result.refused ≡ None)
     (map ask_of c.args.orders.items) notes.result.did.items) (sym c.of.ensures)
     (notes.ensures.told end.result.trace.items end.ensures.came.seen)

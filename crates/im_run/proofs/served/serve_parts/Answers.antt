@@ -9,7 +9,8 @@ pub note_all-requires : goal.note_all-requires
 note_all-requires g c =
     let made = c.make_parts-parts in
     let served = c.serve_elements-served in
-    if_ok_map _ _ served.result served.ensures.ends (λ all it. elements_end g.K.Name.memory made.result.parts.items
+    if_ok_map _ _ served.result served.ensures.ends
+    (λ all it. elements_end g.K.Name.origin.memory made.result.parts.items
     all.items it ∙ sym made.ensures.named)
 
 pub returns : goal.returns
@@ -18,7 +19,7 @@ returns g c =
     let served = c.serve_elements-served in
     let notes = c.note_all in
     record {
-      told = λ trace seen. all_told_by (λ all. all.items) served.result g.K.Name.memory trace
+      told = λ trace seen. all_told_by (λ all. all.items) served.result g.K.Name.origin.memory trace
           (made.result.refused ≡ None) (notes.result.refused ≡ None) (map ask_of c.args.orders.items)
           made.result.parts.items notes.result.did.items made.ensures.made served.ensures.ends
           (if_ok_map _ _ served.result notes.ensures.some (λ all it. (it.0, it.1 trace seen))) notes.ensures.none;

@@ -5,7 +5,7 @@ use Rattle.im_serving.proofs.asking.ask.Goals as goal
 
 pub returns-in-Ok-entry_of-clause-seen : goal.returns-in-Ok-entry_of-clause-seen
 returns-in-Ok-entry_of-clause-seen g c =
-    glanced_asked g.K.Name.memory c.args.port.now.element c.args.number c.args.op c.in-Ok-entry_of.entry
+    glanced_asked g.K.Name.origin.memory c.args.port.now.element c.args.number c.args.op c.in-Ok-entry_of.entry
     c.args.glances.now.last c.args.glances.now.glance c.learn.new.self.glance
     c.args.glances.now.made.items c.learn.new.self.made.items c.in-Ok.receipt.command c.in-Ok.receipt.outcome
     c.in-Ok.receipt.history
@@ -14,7 +14,7 @@ returns-in-Ok-entry_of-clause-seen g c =
 
 pub returns-in-Ok-clause-seen : goal.returns-in-Ok-clause-seen
 returns-in-Ok-clause-seen g c =
-    glanced_more g.K.Name.memory c.args.port.now.element c.args.glances.now.last c.learn.new.self.last
+    glanced_more g.K.Name.origin.memory c.args.port.now.element c.args.glances.now.last c.learn.new.self.last
     c.args.glances.now.glance c.learn.new.self.glance
     c.args.glances.now.made.items c.learn.new.self.made.items c.learn.ensures.kept
     (search rules) c.learn.ensures.same.1

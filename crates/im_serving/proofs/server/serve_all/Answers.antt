@@ -19,8 +19,8 @@ loop-preserved g c = (
       c.in-Ok.ensures.done (search rules),
   counted_then _ _ _ _ c.loop.outlet.items c.receive.new.self.items c.in-Item.intent c.in-Ok.ensures.count
       c.loop.invariant.7 (search rules),
-  glanced_then g.K.Name.memory c.args.port.now.element c.loop.port.element c.args.glances.now.last c.loop.glances.last
-      c.serve_intent.new.glances.last
+  glanced_then g.K.Name.origin.memory c.args.port.now.element c.loop.port.element c.args.glances.now.last
+      c.loop.glances.last c.serve_intent.new.glances.last
       c.args.glances.now.glance c.loop.glances.glance c.serve_intent.new.glances.glance
       c.args.glances.now.made.items c.loop.glances.made.items c.serve_intent.new.glances.made.items c.loop.invariant.2
       c.loop.invariant.8 c.serve_intent.ensures.seen,
@@ -42,7 +42,7 @@ returns-in-Err-clause-done g c =
       done = tt;
       count = tt;
       few = few_then _ _ _ _ l.outlet.items c.receive.new.self.items c.in-Item.intent s.ensures.few l.invariant.7 items;
-      seen = glanced_then g.K.Name.memory c.args.port.now.element l.port.element c.args.glances.now.last
+      seen = glanced_then g.K.Name.origin.memory c.args.port.now.element l.port.element c.args.glances.now.last
           l.glances.last s.new.glances.last c.args.glances.now.glance l.glances.glance s.new.glances.glance
           c.args.glances.now.made.items l.glances.made.items s.new.glances.made.items l.invariant.2 l.invariant.8
           s.ensures.seen;

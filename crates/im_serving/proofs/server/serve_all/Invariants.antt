@@ -11,5 +11,5 @@ invariant-loop g l =
     → AreDone l.port l.served l.glances.made.items l.outlet.items)
     × (length l.served.entries.items + length l.glances.made.items + length l.fn.outlet.items
     ≡ length l.fn.served.entries.items + length l.fn.glances.made.items + length l.outlet.items)
-    × (AreGlanced g.K.Name.memory l.fn.port.element l.fn.glances.last l.fn.glances.glance l.fn.glances.made.items
-    → AreGlanced g.K.Name.memory l.fn.port.element l.glances.last l.glances.glance l.glances.made.items)
+    × (AreGlanced g.K.Name.origin.memory l.fn.port.element l.fn.glances.last l.fn.glances.glance l.fn.glances.made.items
+    → AreGlanced g.K.Name.origin.memory l.fn.port.element l.glances.last l.glances.glance l.glances.made.items)

@@ -7,7 +7,7 @@ pub returns : goal.returns
 returns g c =
     let s = c.serve_to_end-done in
     record {
-      done = subst (λ (p : PortState). ServesOn g.K.Name.memory
+      done = subst (λ (p : PortState). ServesOn g.K.Name.origin.memory
           (deeds_of c.args.port.now c.args.served.now c.args.glances.now) (deeds_of p s.new.served s.new.glances)
           s.result c.args.outlet.now s.new.outlet) (sym c.retire.ensures.same) s.ensures.done;
     }

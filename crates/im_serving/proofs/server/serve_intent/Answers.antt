@@ -25,7 +25,8 @@ returns-in-Glance-clause-kept g c =
 
 pub returns-in-Glance-clause-seen : goal.returns-in-Glance-clause-seen
 returns-in-Glance-clause-seen g c =
-    glanced_by c.read.result g.K.Name.memory c.args.port.now.element _ _ c.args.glances.now.last c.read.new.self.last
+    glanced_by c.read.result g.K.Name.origin.memory c.args.port.now.element _ _ c.args.glances.now.last
+    c.read.new.self.last
     c.args.glances.now.glance c.read.new.self.glance
     c.args.glances.now.made.items c.read.new.self.made.items c.read.ensures.kept c.read.ensures.made
     c.read.ensures.last c.read.ensures.same

@@ -19,7 +19,7 @@ compare_exchange-zero-requires g c =
 pub invariant_of-self : goal.invariant_of-self
 invariant_of-self g c =
     let h = c.self.invariant in let z = c.compare_exchange-zero.ensures in let it = z.7 in
-    let all = added (λ l. l.line) g.K.Name.book.lines.root c.self.inside.pen.nib.key c.self.inside.seen.log it.0
+    let all = added (λ l. l.line) g.K.Name.origin.book.lines.root c.self.inside.pen.nib.key c.self.inside.seen.log it.0
     c.compare_exchange-zero.new.seen.log _ it.1 it.2 h.4 refl it.3 in (
       h.0,
       z.0 ∙ h.1,
@@ -33,7 +33,7 @@ invariant_of-self g c =
 pub returns-clause-lines : goal.returns-clause-lines
 returns-clause-lines g c =
     let h = c.self.invariant in let z = c.compare_exchange-zero.ensures in let it = z.7 in
-    let all = added (λ l. l.line) g.K.Name.book.lines.root c.self.inside.pen.nib.key c.self.inside.seen.log it.0
+    let all = added (λ l. l.line) g.K.Name.origin.book.lines.root c.self.inside.pen.nib.key c.self.inside.seen.log it.0
     c.compare_exchange-zero.new.seen.log _ it.1 it.2 h.4 refl it.3 in
     all.0 ∙ ap (λ (ls : List Line). ls ++ c.plain-offer.result.ask.line ∷ []) (ap (λ s. s.lines) c.self.view_is)
     ∙ ap (λ (l : Link). c.args.self.now.lines ++ l.line ∷ []) c.plain-offer.ensures.1
@@ -42,7 +42,7 @@ returns-clause-lines g c =
 pub returns-clause-times : goal.returns-clause-times
 returns-clause-times g c =
     let h = c.self.invariant in let z = c.compare_exchange-zero.ensures in let it = z.7 in
-    let all = added (λ l. l.time) g.K.Name.book.lines.root c.self.inside.pen.nib.key c.self.inside.seen.log it.0
+    let all = added (λ l. l.time) g.K.Name.origin.book.lines.root c.self.inside.pen.nib.key c.self.inside.seen.log it.0
     c.compare_exchange-zero.new.seen.log _ it.1 it.2 h.4 refl it.3 in
     all.0 ∙ ap (λ (ls : List ℕ). ls ++ c.plain-offer.result.ask.time ∷ []) (ap (λ s. s.times) c.self.view_is)
     ∙ ap (λ (l : Link). c.args.self.now.times ++ l.time ∷ []) c.plain-offer.ensures.1

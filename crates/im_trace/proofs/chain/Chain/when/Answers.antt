@@ -5,7 +5,7 @@ use Rattle.im_trace.proofs.chain.Chain.when.Goals as goal
 
 pub invariant_of-result : goal.invariant_of-result
 invariant_of-result g c =
-    let root = g.K.Name.book.lines.root in let log = c.self.inside.seen.log in
+    let root = g.K.Name.origin.book.lines.root in let log = c.self.inside.seen.log in
     let few : c.args.count ≤ length (lines_from root log) =
     subst (λ (s : ChainState). c.args.count ≤ length s.lines) (sym c.self.view_is) c.requires.few in
     rw (c.of.ensures, c.again.ensures) (omega (arith, few, times-length root log), c.self.invariant.1)

@@ -4,7 +4,7 @@ use Rattle.im_trace.proofs.chain.Prefix.order.Goals as goal
 
 pub returns-clause-order : goal.returns-clause-order
 returns-clause-order g c =
-    let root = g.K.Name.book.lines.root in
+    let root = g.K.Name.origin.book.lines.root in
     rw (← c.self.view_is, ← c.other.view_is)
     (ordered root c.self.inside.seen.log c.other.inside.seen.log c.both_of-both.result.log _ _
     c.both_of-both.ensures.one c.both_of-both.ensures.two

@@ -9,8 +9,8 @@ invariant_of-result g c =
     let is = c.log.invariant in
     let same = c.as_slice.ensures.value in
     let told = c.are_claimed-claimed.ensures in
-    let m = g.K.Name.memory in
-    let marks = g.K.Name.marks in (
+    let m = g.K.Name.origin.memory in
+    let marks = g.K.Name.origin.marks in (
       record {
         lines = λ claimed. (log-claimed m marks _ _ is (subst AreClaimed same (told.claimed claimed))).0;
         marked = λ claimed. (log-claimed m marks _ _ is (subst AreClaimed same (told.claimed claimed))).1;

@@ -54,7 +54,7 @@ first-requires g c =
 
 pub receipt_of-requires : goal.receipt_of-requires
 receipt_of-requires g c =
-    let m = g.K.Name.memory in let trace = c.self.inside.record.lines in
+    let m = g.K.Name.origin.memory in let trace = c.self.inside.record.lines in
     let w : UnclaimedState = record {
       command = c.found.inside.command;
       answer = c.found.inside.answer;
@@ -74,17 +74,18 @@ receipt_of-requires g c =
 
 pub invariant_of-self-2 : goal.invariant_of-self-2
 invariant_of-self-2 g c =
-    let marks = g.K.Name.marks in
+    let marks = g.K.Name.origin.marks in
     let counted = c.count_line.ensures.books
     ∙ ap (λ (w : UnclaimedState). counts_after marks c.self.inside.books
     (unclaimed_lines (Some w))) c.found.view_is in
     rw (c.in_ok-found.ensures.takes.2, counted) (
-    log-claims g.K.Name.memory marks _ c.self.inside.books c.self.invariant c.element_of.result c.in_ok-found.found
+    log-claims g.K.Name.origin.memory marks _ c.self.inside.books c.self.invariant c.element_of.result
+    c.in_ok-found.found
     c.in_ok-found.ensures.takes.0)
 
 pub returns-clause-proof : goal.returns-clause-proof
 returns-clause-proof g c =
-    let m = g.K.Name.memory in let trace = c.self.inside.record.lines in
+    let m = g.K.Name.origin.memory in let trace = c.self.inside.record.lines in
     let w : UnclaimedState = record {
       command = c.found.inside.command;
       answer = c.found.inside.answer;

@@ -9,18 +9,18 @@ use Rattle.im_trace.proofs.log.Log.keep.Goals as goal
 
 pub invariant_of-self : goal.invariant_of-self
 invariant_of-self g c =
-    let m = g.K.Name.memory in let r = c.args.command.now in let answer = c.args.answer
+    let m = g.K.Name.origin.memory in let r = c.args.command.now in let answer = c.args.answer
     in let v = sym (ap (λ (t : TimedLog). t.state) c.self.view_is) in
     let so = subst (λ (l : LogState). leaves_line answer ≡ true → answer
     ≡ answer_to (end_of m l.trace) (Commands r)) v c.requires.is_so in
     let room = subst (λ (l : LogState). leaves_line answer ≡ true → length l.trace < l.limit) v c.requires.room in
     let free = subst (λ (l : LogState). slice_get l.places (sender_of r) ≡ Some None) v c.requires.free in
     rw (c.put_in.ensures, c.len-before.ensures, c.push.ensures.lines)
-    (log-keeps m g.K.Name.marks _ c.self.inside.books c.self.invariant r answer free room so)
+    (log-keeps m g.K.Name.origin.marks _ c.self.inside.books c.self.invariant r answer free room so)
 
 pub returns-clause-end : goal.returns-clause-end
 returns-clause-end g c =
-    let m = g.K.Name.memory in let call = Commands c.args.command.now in
+    let m = g.K.Name.origin.memory in let call = Commands c.args.command.now in
     rw c.push.ensures.lines (
     end-lines m c.self.inside.record.lines call c.args.answer
     ∙ ap (λ (l : LogState). memory_after (end_of m l.trace) call c.args.answer)

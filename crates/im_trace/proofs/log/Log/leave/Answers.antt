@@ -9,17 +9,17 @@ use Rattle.im_trace.proofs.log.Log.leave.Goals as goal
 
 pub invariant_of-self : goal.invariant_of-self
 invariant_of-self g c =
-    let m = g.K.Name.memory in let call = c.args.call in let answer = c.args.answer in
+    let m = g.K.Name.origin.memory in let call = c.args.call in let answer = c.args.answer in
     let so = subst (λ (l : LogState). leaves_line answer ≡ true → answer ≡ answer_to (end_of m l.trace) call)
     (sym (ap (λ (t : TimedLog). t.state) c.self.view_is)) c.requires.is_so in
     let room = subst (λ (l : LogState). length l.trace < l.limit)
     (sym (ap (λ (t : TimedLog). t.state) c.self.view_is)) c.requires.room in
     rw (c.push.ensures.lines, c.count_line.ensures.books)
-    (log-leaves m g.K.Name.marks _ c.self.inside.books c.self.invariant call answer (λ _. room) so)
+    (log-leaves m g.K.Name.origin.marks _ c.self.inside.books c.self.invariant call answer (λ _. room) so)
 
 pub returns-clause-end : goal.returns-clause-end
 returns-clause-end g c =
-    let m = g.K.Name.memory in
+    let m = g.K.Name.origin.memory in
     rw c.push.ensures.lines (
     end-lines m c.self.inside.record.lines c.args.call c.args.answer
     ∙ ap (λ (l : LogState). memory_after (end_of m l.trace) c.args.call c.args.answer)

@@ -5,4 +5,4 @@ use Rattle.im_trace.proofs.log.Log.prefix.Goals as goal
 
 pub returns-clause-legal : goal.returns-clause-legal
 returns-clause-legal g c =
-    subst (λ (l : TimedLog). IsLegal g.K.Name.memory l.state.trace) c.self.view_is c.self.invariant.legal
+    subst (λ (l : TimedLog). IsLegal g.K.Name.origin.memory l.state.trace) c.self.view_is c.self.invariant.legal

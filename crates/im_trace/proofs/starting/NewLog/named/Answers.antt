@@ -7,5 +7,6 @@ pub invariant_of-log : goal.invariant_of-log
 invariant_of-log g c =
     let i = c.self.invariant in
     let books = c.open_books-books.ensures.books in
-    rw c.begun.ensures (log-starts g.K.Name.memory g.K.Name.marks _ _ _ _ refl i.4 (ap (λ (b : Counts). b.lines) books)
+    rw c.begun.ensures (log-starts g.K.Name.origin.memory g.K.Name.origin.marks _ _ _ _ refl i.4
+    (ap (λ (b : Counts). b.lines) books)
     (ap (λ (b : Counts). b.marked) books))

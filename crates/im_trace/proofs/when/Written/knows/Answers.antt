@@ -7,7 +7,7 @@ use Rattle.im_trace.proofs.when.Written.knows.Goals as goal
 
 pub returns-clause-known : goal.returns-clause-known
 returns-clause-known g c =
-    let mine = c.self.inside.first.value.nib.key in let root = g.K.Name.book.lines.root in
+    let mine = c.self.inside.first.value.nib.key in let root = g.K.Name.origin.book.lines.root in
     let log = c.self.inside.seen.log in let other = c.prefix.inside.seen.log in
     let same : mine ≡ root = ap (λ (s : WrittenState). s.book.root) c.self.view_is
     ∙ ap (λ (b : LinesBook). b.root) c.requires.book in

@@ -8,7 +8,7 @@ use Rattle.im_trace.proofs.when.Written.times.Goals as goal
 
 pub returns-clause-time : goal.returns-clause-time
 returns-clause-time g c =
-    let mine = c.self.inside.first.value.nib.key in let root = g.K.Name.book.lines.root in
+    let mine = c.self.inside.first.value.nib.key in let root = g.K.Name.origin.book.lines.root in
     let log = c.self.inside.seen.log in let other = c.when.inside.seen.log in
     let same : mine ≡ root = ap (λ (s : WrittenState). s.book.root) c.self.view_is
     ∙ ap (λ (b : LinesBook). b.root) c.requires.book in

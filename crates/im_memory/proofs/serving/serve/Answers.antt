@@ -4,7 +4,7 @@ use Rattle.im_memory.specs.Resuming.{replies_of, AreAwaited}
 use Rattle.im_memory.proofs.RoomLemmas.{room-fresh}
 use Rattle.im_memory.proofs.MakesLemmas.{resumed-awaited, makes-served}
 use Rattle.im_memory.proofs.TouchLemmas.{resumed-change, served-change}
-use Rattle.im_memory.proofs.serving.serve_any.Goals as goal
+use Rattle.im_memory.proofs.serving.serve.Goals as goal
 
 pub act-acted-requires-clause-room : goal.act-acted-requires-clause-room
 act-acted-requires-clause-room c = room-fresh c.args.table.now c.args.arena.now c.args.sessions.now c.requires.memory c.args.request.now c.requires.fresh

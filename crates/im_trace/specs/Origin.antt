@@ -1,0 +1,24 @@
+-- Where a controller begins, which all its parts agree on. (Own.)
+use Rattle.std.specs.Prelude.{ℕ, Bool, List, Option}
+use Rattle.im_types.specs.declared.commands.Request.{Request}
+use Rattle.im_types.specs.declared.commands.Line.{Line}
+use Rattle.im_types.specs.Contents.{Contents}
+use Rattle.im_trace.specs.Books.{BookNames}
+use Rattle.im_trace.specs.Begun.{Begun}
+
+-- where a controller begins, which its ports, its receipts and what lies under its lock agree on
+pub record Origin : Type 1 where
+  -- the memory that the trace begins with, and the plan that all requests keep to, if there is one
+  pub memory : Contents
+  pub plan : Option (List Request)
+  -- Which lines are counted apart. Any test will do, so the trace can be asked for any line.
+  pub marks : Line → Bool
+  -- the ledgers that count the lines and the marked lines, and how many ports share in them
+  pub lines_name : ℕ
+  pub marked_name : ℕ
+  pub ports : ℕ
+  -- the book of the changes that are shown, the book of the lines, and whether lines are recorded
+  pub book : BookNames
+  -- what was known of the engine when the trace began, and what holds if its disk was honest then
+  pub begun : Begun
+  pub honest : Type 0
