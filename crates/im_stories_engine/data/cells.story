@@ -1,3 +1,26 @@
+-- The words of all these stories, besides the commands, those of a file (crates/im_story_disk/src/calls.rt), and
+-- `count`, `room`, `failed`, `window`, `collect`, `cell` and `waiting` of the engine, are:
+-- format 4096 16 256 = formatted  a new image of these cells, elements and slots; or in a file of a given length
+-- 16 times 1.1 fetch 0 = nocell x16   sixteen requests, 1.1 to 1.16
+-- together 0.1 alloc i 2 with 1.1 fetch 0 = base 0, waiting    requests of different elements as one group
+-- commands confirm 0 2 with 1.2 fetch 0 = confirmed, waiting   any commands as one group, which may end early
+-- turns 3 = began, page 0..1; room 0 x3
+-- sweep 64 = 16; room 16          closes at most 64 slots with one sync
+-- plan 1.1 fetch 0 = 1 events     what the next run does: commands, groups, turns, sweeps, or all commands as told
+-- run = 1 answers
+-- answers 0 to 0 = nocell
+-- close = closed                  leaves the file
+-- slot 0 = 00*64                  a slot of its journal
+-- open = opened
+-- with 16:05 = count 5 room 256   the result of opening a copy with this byte
+-- length 8191 = refused ..        or a copy of this length
+-- each 0 to 3 as 00 ff = ..       the same for each of these bytes at each of these places
+-- in each length to 9 = ..        the result of opening a copy of each length; equal ones in a row once
+-- in each value of 0 to 3 = ..    the same for each value of each of these bytes
+-- in each serve stop kept = ..    a stop in each call of each serve, a crash, and all is sent again; so of an opening, of
+--                                 a reopening after a stop, of the script as a group, of each turn, of a call on the
+--                                 closed file, and of the run that was planned
+
 # A fetch comes before its store
 -- An I cell is written at most once. A fetch that comes too early is deferred, and the store answers it.
 format 4096 16 256 in 450560 bytes = formatted
@@ -8,12 +31,12 @@ format 4096 16 256 in 450560 bytes = formatted
 collect 1.1 = value 42
 close = closed
 -- Each command stands in a slot of the journal: gate, group, code, element; sequence number; request; address; value.
-slot 0 = a501010000000000 0000000000000000 0100000000000000 0200000000000000 and 32 zeros
-slot 1 = a501040001000000 0100000000000000 0100000000000000 and 40 zeros
-slot 2 = a501050002000000 0200000000000000 0100000000000000 0000000000000000 2a00000000000000 and 24 zeros
-slot 3 = a501040001000000 0300000000000000 0200000000000000 and 40 zeros
-slot 4 = 64 zeros
-bytes 434176 8 = a501010000000000
+slot 0 = a5 01 01 00*13 01 00 00 00 00 00 00 00 02 00*39
+slot 1 = a5 01 04 00 01 00 00 00 01 00 00 00 00 00 00 00 01 00*47
+slot 2 = a5 01 05 00 02 00 00 00 02 00 00 00 00 00 00 00 01 00*15 2a 00*31
+slot 3 = a5 01 04 00 01 00 00 00 03 00 00 00 00 00 00 00 02 00*47
+slot 4 = 00*64
+bytes 434176 8 = a5 01 01 00 00 00 00 00
 
 # Readers wait in their order, and one store answers them all
 format 4096 16 256 = formatted
@@ -115,13 +138,13 @@ count = 8
 cell 0 = full 6 in block 0 of 2 i
 count = 8
 close = closed
-slot 3 = a501090000000000 0300000000000000 0200000000000000 and 40 zeros
+slot 3 = a5 01 09 00 00 00 00 00 03 00 00 00 00 00 00 00 02 00*47
 open = opened
 count = 8
 collect 0.2 = cleared
 cell 0 = full 6 in block 0 of 2 i
 -- And so it is on the pages.
-turns 60 = began, page 0 to 51, synced, in force, 3 swept, 2 idle; room 55x248 251 254 3x256
+turns 60 = began, page 0..51, synced, in force, swept x3, idle x2; room 248 x55, 251, 254, 256 x3
 close = closed
 open = opened
 count = 8

@@ -56,9 +56,9 @@ damage pages at 8192 = done
 damage 16:04 = done
 with = count 4 room 256
 -- The first and the last node of cell 0 are 0 and 2, and the last leads to none. Nodes stand behind 32 pages of cells.
-bytes 8204 4 = 00000000
-bytes 8208 4 = 02000000
-bytes 139296 4 = ffffffff
+bytes 8204 4 = 00 00 00 00
+bytes 8208 4 = 02 00 00 00
+bytes 139296 4 = ff ff ff ff
 with 139296:00 139297:00 139298:00 139299:00 = refused 15 BadPage
 
 # A list that leads back to its first node is a bad page of the area that a checkpoint brought into force
@@ -67,15 +67,15 @@ format 4096 16 256 = formatted
 1.1 fetch 0 = waiting
 2.1 fetch 0 = waiting
 1.2 fetch 0 = waiting
-turns 58 = began, page 0 to 51, synced, in force, 2 swept, idle; room 55x252 255 2x256
+turns 58 = began, page 0..51, synced, in force, swept x2, idle; room 252 x55, 255, 256 x2
 close = closed
-bytes 4096 2 = a501
+bytes 4096 2 = a5 01
 with = count 4 room 256
 -- Area 1 stands behind the 52 pages of area 0. The first and the last node of cell 0 are 0 and 2, and the last leads to
 -- none.
-bytes 221196 4 = 00000000
-bytes 221200 4 = 02000000
-bytes 352288 4 = ffffffff
+bytes 221196 4 = 00 00 00 00
+bytes 221200 4 = 02 00 00 00
+bytes 352288 4 = ff ff ff ff
 with 352288:00 352289:00 352290:00 352291:00 = refused 15 BadPage
 -- The same bytes of area 0, which isn't in force any more.
 with 139296:00 139297:00 139298:00 139299:00 = count 4 room 256
@@ -119,12 +119,12 @@ with 4096:a5 4097:01 4098:01 4100:49 4101:4d 4102:45 4103:4d 4104:02 4120:01 412
 length 8191 = refused 12 WrongLength
 
 # An image of the first version isn't opened, and nothing is written to it
-old image 4096 16 256 in 327680 bytes = closed
-bytes 0 8 = a5000100494d454d
+old image 4096 16 256 = 327680 bytes
+bytes 0 8 = a5 00 01 00 49 4d 45 4d
 open = refused 21 OldVersion
 -- A sync and the two headers.
 calls = 3
-bytes 0 8 = a5000100494d454d
+bytes 0 8 = a5 00 01 00 49 4d 45 4d
 bytes 4096 1 = 00
 length 312320 = refused 21 OldVersion
 length 450560 = refused 21 OldVersion
@@ -307,12 +307,12 @@ room = 0
 -- All sixteen slots are swept, three by a turn: the stale one is the first.
 turn = swept
 room = 3
-turns 6 = 5 swept, idle; room 6 9 12 15 2x16
+turns 6 = swept x5, idle; room 6, 9, 12, 15, 16 x2
 0.1 fetch 0 = nocell
 count = 22
 room = 15
 close = closed
-bytes 33088 2 = a501
+bytes 33088 2 = a5 01
 bytes 33096 1 = 15
 
 # There is room again behind the first turn that sweeps
@@ -324,12 +324,12 @@ open = opened
 0.1 fetch 0 = refused 7 JournalFull
 turn = swept
 room = 3
-3 times 0.1 fetch 0 = 3 nocell
+3 times 0.1 fetch 0 = nocell x3
 room = 0
 0.4 fetch 0 = refused 7 JournalFull
 turn = swept
 room = 3
-2 times 0.4 fetch 0 = 2 nocell
+2 times 0.4 fetch 0 = nocell x2
 count = 26
 room = 1
 close = closed

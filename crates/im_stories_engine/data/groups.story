@@ -7,10 +7,10 @@ room = 253
 collect 1.1 = value 42
 close = closed
 -- A format makes four calls, and the group six: three writes, a sync, the gate, a sync.
-slot 0 = a503010000000000 0000000000000000 0100000000000000 0200000000000000 and 32 zeros
-slot 1 = 0000040001000000 0100000000000000 0100000000000000 and 40 zeros
-slot 2 = 0000050002000000 0200000000000000 0100000000000000 0000000000000000 2a00000000000000 and 24 zeros
-slot 3 = 64 zeros
+slot 0 = a5 03 01 00*13 01 00 00 00 00 00 00 00 02 00*39
+slot 1 = 00 00 04 00 01 00 00 00 01 00 00 00 00 00 00 00 01 00*47
+slot 2 = 00 00 05 00 02 00 00 00 02 00 00 00 00 00 00 00 01 00*15 2a 00*31
+slot 3 = 00*64
 open = opened
 count = 3
 room = 253
@@ -147,9 +147,9 @@ room = 252
 close = closed
 -- A format of four calls, two commands of four, and a group of two: five.
 calls = 17
-slot 2 = a502050002000000 0200000000000000 0100000000000000 0000000000000000 2a00000000000000 and 24 zeros
-slot 3 = 0000040004000000 0300000000000000 0100000000000000 and 40 zeros
-slot 4 = 64 zeros
+slot 2 = a5 02 05 00 02 00 00 00 02 00 00 00 00 00 00 00 01 00*15 2a 00*31
+slot 3 = 00 00 04 00 04 00 00 00 03 00 00 00 00 00 00 00 01 00*47
+slot 4 = 00*64
 
 # A group of repeats makes no call of the disk
 format 4096 16 256 = formatted
@@ -163,7 +163,7 @@ calls = 16
 
 # Where the room ends, later members are answered on the memory without the refused ones
 format 4096 16 16 = formatted
-14 times 1.1 fetch 9 = 14 nocell
+14 times 1.1 fetch 9 = nocell x14
 room = 2
 -- Of four that are new two have room; the repeat and the gap among them are answered as ever.
 together 0.1 alloc i 1 with 2.1 store 0 5 with 3.1 fetch 0 with 1.14 fetch 9 with 4.1 store 0 6 with 5.3 fetch 0 = base 0, stored, refused 7 JournalFull, nocell, refused 7 JournalFull, refused 1 Gap
@@ -225,14 +225,14 @@ format 3 6 32 = formatted
 1.1 fetch 0 = value 42
 count = 3
 room = 29
-in each group stop kept = 5x0 3
-in each group stop lost = 6x0
-in each group stop a5 = 4x0 2x3
-in each group stop 00 = 6x0
+in each group stop kept = 0 x5, 3
+in each group stop lost = 0 x6
+in each group stop a5 = 0 x4, 3 x2
+in each group stop 00 = 0 x6
 -- One fault, with no crash: the same disk is opened again.
-in each group once = 5x0 3
-in each group scar:00 = 5x0 3
-in each group scar:a5 = 4x0 2x3
+in each group once = 0 x5, 3
+in each group scar:00 = 0 x5, 3
+in each group scar:a5 = 0 x4, 3 x2
 
 # A group of sixteen that fills the journal is stopped at each of its nineteen calls, or fails there once
 format 4 16 16 = formatted
@@ -257,10 +257,10 @@ format 4 16 16 = formatted
 9.1 fetch 2 = value 5
 count = 16
 room = 0
-in each group stop kept = 18x0 16
-in each group stop lost = 19x0
-in each group stop a5 = 17x0 2x16
-in each group stop 00 = 19x0
-in each group once = 18x0 16
-in each group scar:00 = 18x0 16
-in each group scar:a5 = 17x0 2x16
+in each group stop kept = 0 x18, 16
+in each group stop lost = 0 x19
+in each group stop a5 = 0 x17, 16 x2
+in each group stop 00 = 0 x19
+in each group once = 0 x18, 16
+in each group scar:00 = 0 x18, 16
+in each group scar:a5 = 0 x17, 16 x2

@@ -36,7 +36,7 @@ calls = 16
 # A full window takes no more until it is confirmed
 format 4096 16 256 = formatted
 0.1 alloc i 1 = base 0
-64 times 1.1 fetch 0 = 64 waiting
+64 times 1.1 fetch 0 = waiting x64
 1.65 fetch 0 = refused 3 WindowFull
 -- Nothing that waits can be confirmed, and nothing that wasn't asked.
 confirm 1 2 = refused 6 NotAnswered
@@ -57,17 +57,17 @@ collect 1.65 = value 8
 
 # A confirmation stands in its slot
 format 4096 16 256 = formatted
-64 times 1.1 fetch 5 = 64 nocell
+64 times 1.1 fetch 5 = nocell x64
 confirm 1 65 = confirmed
 1.65 fetch 5 = nocell
 count = 66
 close = closed
 -- The gate, a group of one, operation 8, element 1; sequence number 64; up to 65.
-slot 64 = a501080001000000 4000000000000000 4100000000000000 and 40 zeros
+slot 64 = a5 01 08 00 01 00 00 00 40 00 00 00 00 00 00 00 41 00*47
 
 # A full journal refuses what it would accept
 format 4096 16 16 = formatted
-16 times 1.1 fetch 0 = 16 nocell
+16 times 1.1 fetch 0 = nocell x16
 room = 0
 2.1 fetch 0 = refused 7 JournalFull
 collect 2.1 = refused 1 Gap

@@ -131,28 +131,28 @@ in each serve scar:5a = 0 0 0 20 of 20
 in each serve scar:00 = 0 0 0 20 of 20
 -- An opening makes five calls: a sync, the two headers, the pages, the journal. A stop or a fault in any of them, and
 -- a crash behind it, changes nothing: all twenty are found.
-in each opening stop kept = 5x20
-in each opening stop lost = 5x20
-in each opening stop a5 = 5x20
-in each opening stop 00 = 5x20
-in each opening once kept = 5x20
-in each opening once lost = 5x20
-in each opening once a5 = 5x20
-in each opening once 00 = 5x20
-in each opening scar:a5 kept = 5x20
-in each opening scar:a5 lost = 5x20
-in each opening scar:a5 a5 = 5x20
-in each opening scar:a5 00 = 5x20
+in each opening stop kept = 20 x5
+in each opening stop lost = 20 x5
+in each opening stop a5 = 20 x5
+in each opening stop 00 = 20 x5
+in each opening once kept = 20 x5
+in each opening once lost = 20 x5
+in each opening once a5 = 20 x5
+in each opening once 00 = 20 x5
+in each opening scar:a5 kept = 20 x5
+in each opening scar:a5 lost = 20 x5
+in each opening scar:a5 a5 = 20 x5
+in each opening scar:a5 00 = 20 x5
 -- With no crash behind it the same disk is opened a second time.
-in each opening once = 5x20
-in each opening scar:a5 = 5x20
-in each opening scar:00 = 5x20
+in each opening once = 20 x5
+in each opening scar:a5 = 20 x5
+in each opening scar:00 = 20 x5
 -- The gate of the twentieth command is written, and its sync fails. The first call of an opening settles what was in
 -- doubt.
-in each reopening stop kept = 5x20
-in each reopening stop lost = 19 4x20
-in each reopening stop a5 = 5x20
-in each reopening stop 00 = 19 4x20
-in each reopening once = 5x20
-in each reopening once lost = 19 4x20
-in each reopening scar:a5 = 5x20
+in each reopening stop kept = 20 x5
+in each reopening stop lost = 19, 20 x4
+in each reopening stop a5 = 20 x5
+in each reopening stop 00 = 19, 20 x4
+in each reopening once = 20 x5
+in each reopening once lost = 19, 20 x4
+in each reopening scar:a5 = 20 x5

@@ -20,13 +20,13 @@ calls = 29
 
 # A full journal is emptied by 61 turns
 format 4096 16 16 in 435200 bytes = formatted
-16 times 1.1 fetch 0 = 16 nocell
+16 times 1.1 fetch 0 = nocell x16
 room = 0
 2.1 fetch 0 = refused 7 JournalFull
 collect 2.1 = refused 1 Gap
 count = 16
 -- There is no room before the first sweep. An area has 52 pages.
-turns 62 = began, page 0 to 51, synced, in force, 6 swept, idle; room 55x0 3 6 9 12 15 2x16
+turns 62 = began, page 0..51, synced, in force, swept x6, idle; room 0 x55, 3, 6, 9, 12, 15, 16 x2
 count = 16
 close = closed
 -- The format, sixteen commands, and the turns: 52, 2, 4, five times 4, and 2.
@@ -45,29 +45,29 @@ plan 12 turns = 134 events
 plan 4.1 fetch 0 = 135 events
 plan 4.2 fetch 0 = 136 events
 run = 136 answers
-answers 0 to 77 = 16 nocell, began, page 0 to 51, synced, in force, 6 swept, idle
-answers 78 to 105 = 16 nocell, began, page 37 to 38, synced, in force, 6 swept, idle
-answers 106 to 133 = 16 nocell, began, page 38 to 39, synced, in force, 6 swept, idle
-answers 134 to 135 = 2 nocell
+answers 0 to 77 = nocell x16, began, page 0..51, synced, in force, swept x6, idle
+answers 78 to 105 = nocell x16, began, page 37..38, synced, in force, swept x6, idle
+answers 106 to 133 = nocell x16, began, page 38..39, synced, in force, swept x6, idle
+answers 134 to 135 = nocell x2
 close = closed
 open = opened
 count = 50
 room = 14
 -- After an opening every page of both areas counts as changed.
-turns 60 = began, page 0 to 51, synced, in force, swept, 4 idle; room 55x14 5x16
+turns 60 = began, page 0..51, synced, in force, swept, idle x4; room 14 x55, 16 x5
 
 # The third header is in force after three checkpoints
 format 4096 16 16 = formatted
-16 times 1.1 fetch 0 = 16 nocell
-turns 61 = began, page 0 to 51, synced, in force, 6 swept; room 55x0 3 6 9 12 15 16
-16 times 2.1 fetch 0 = 16 nocell
-turns 11 = began, page 37 to 38, synced, in force, 6 swept; room 5x0 3 6 9 12 15 16
-16 times 3.1 fetch 0 = 16 nocell
-turns 11 = began, page 38 to 39, synced, in force, 6 swept; room 5x0 3 6 9 12 15 16
+16 times 1.1 fetch 0 = nocell x16
+turns 61 = began, page 0..51, synced, in force, swept x6; room 0 x55, 3, 6, 9, 12, 15, 16
+16 times 2.1 fetch 0 = nocell x16
+turns 11 = began, page 37..38, synced, in force, swept x6; room 0 x5, 3, 6, 9, 12, 15, 16
+16 times 3.1 fetch 0 = nocell x16
+turns 11 = began, page 38..39, synced, in force, swept x6; room 0 x5, 3, 6, 9, 12, 15, 16
 4.1 fetch 0 = nocell
 close = closed
 -- The gate and the area of the other header, its generation and its count.
-bytes 4096 2 = a501
+bytes 4096 2 = a5 01
 bytes 4104 1 = 04
 bytes 4112 1 = 30
 -- The gate of the first slot, and its sequence number.
@@ -82,11 +82,11 @@ format 4096 16 256 = formatted
 1.1 fetch 0 = waiting
 turn = began
 2.1 store 0 7 = stored
-turns 54 = page 0 to 51, synced, in force; room 54x253
+turns 54 = page 0..51, synced, in force; room 253 x54
 close = closed
 crash lost = crashed
 -- The header in force: its gate and area, its generation and its count.
-bytes 4096 2 = a501
+bytes 4096 2 = a5 01
 bytes 4104 1 = 02
 bytes 4112 1 = 02
 open = opened
@@ -120,8 +120,8 @@ confirm 1 4 = confirmed
 plan as told = 20 events
 format 3 6 32 = formatted
 run = 20 answers
-answers 0 to 8 = base 0, 3 waiting, stored, base 1, 3 waiting
-answers 9 to 15 = 3 stored, confirmed, value 7, clash, wrongkind
+answers 0 to 8 = base 0, waiting x3, stored, base 1, waiting x3
+answers 9 to 15 = stored x3, confirmed, value 7, clash, wrongkind
 answers 16 to 19 = released, base 1, stored, value 9
 count = 20
 room = 12
@@ -140,7 +140,7 @@ plan 1.1 fetch 0 = 7 events
 plan 1.2 fetch 0 = 8 events
 run = 8 answers
 answers 0 to 3 = base 0, refused 1 Gap, waiting, refused 4 Mismatch
-answers 4 to 7 = waiting, refused 8 Device, 2 refused 9 Failed
+answers 4 to 7 = waiting, refused 8 Device, refused 9 Failed x2
 count = 2
 room = 30
 
@@ -156,7 +156,7 @@ format 20000 2 16 = formatted
 1.5 store 16384 5 = stored
 1.6 store 19999 6 = stored
 1.7 fetch 12000 = waiting
-turns 167 = began, page 0 to 159, synced, in force, 3 swept, idle; room 163x8 11 14 2x16
+turns 167 = began, page 0..159, synced, in force, swept x3, idle; room 8 x163, 11, 14, 16 x2
 close = closed
 crash lost = crashed
 open = opened
@@ -175,10 +175,10 @@ collect 1.7 = value 7
 
 # A full journal is emptied by two sweeps
 format 4096 16 16 = formatted
-16 times 1.1 fetch 0 = 16 nocell
+16 times 1.1 fetch 0 = nocell x16
 -- Nothing is swept before an area has the commands, nor while a checkpoint is under way.
 sweep 64 = 0; room 0
-turns 54 = began, page 0 to 51, synced; room 54x0
+turns 54 = began, page 0..51, synced; room 0 x54
 sweep 64 = 0; room 0
 turn = in force
 sweep 5 = 5; room 5
@@ -203,8 +203,8 @@ plan sweep 64 = 27 events
 plan turn = 28 events
 plan 0.1 fetch 0 = 29 events
 run = 29 answers
-answers 0 to 16 = 16 nocell, swept 0
-answers 17 to 24 = began, page 0 to 3, synced, swept 0, in force
+answers 0 to 16 = nocell x16, swept 0
+answers 17 to 24 = began, page 0..3, synced, swept 0, in force
 answers 25 to 28 = swept 5, swept 11, idle, nocell
 count = 17
 room = 15

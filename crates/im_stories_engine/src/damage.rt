@@ -2,126 +2,81 @@
 
 use crate::engines::Engines;
 use im_image::{PAGE, area_pages, encode};
-use im_story::{Call, Saying, hex};
-use im_story_disk::{Place, changes};
-use im_types::{Limits, Refusal};
+use im_story::{Call, Cases, Saying, changes, hex};
+use im_story_disk::StoryFile;
+use im_types::Limits;
 
-// The results of openings. Those that follow one another and are alike are told once, from the first of them on.
-#[derive(Clone, Copy)]
-struct Rows {
-    last: Option<Option<Refusal>>,
-}
-
-impl Rows {
-    // Opens the disk, and adds the result, and what it is of.
-    fn add(&mut self, of: usize, place: &mut Place, said: &mut Saying) {
-        let opening = place.start(None);
-        let refusal = opening.err();
-        if self.last == Some(refusal) {
-            return;
-        }
-        if self.last.is_some() {
-            said.text(", ")
-        }
-        said.done(opening, "opened");
-        write!(said, " from {of}");
-        self.last = Some(refusal);
-    }
-}
-
-// Lays down a copy of a file of this length, with a byte at a place. A longer copy ends in zeros.
-fn lay_with(place: &mut Place, bytes: &[u8], at: usize, byte: u8, said: &mut Saying) {
-    said.so(place.lay(bytes, bytes.len()) && place.put(at, &[byte]), "")
-}
-
-// Tells the results for copies with a byte at one place, for each of the bytes that the call names.
-fn tell_at(place: &mut Place, bytes: &[u8], at: usize, words: &[&str], said: &mut Saying) {
+// Tells the results for copies of a file with each of the bytes that these words name at a place.
+fn tell_at(copy: &mut StoryFile, bytes: &[u8], at: usize, words: &[&str], said: &mut Saying) {
     for word in words {
-        if !said.is_empty() {
-            said.text(", ")
-        }
-        lay_with(place, bytes, at, hex(word).unwrap_or(0), said);
-        said.so(hex(word).is_some(), "");
-        place.tell_opening(said);
+        said.either(said.is_empty(), "", ", ");
+        let byte = hex(word);
+        let is_laid = copy.lay(bytes, bytes.len()) && copy.put(at, &[byte.unwrap_or(0)]);
+        said.so(byte.is_some() && is_laid, "");
+        copy.tell_opening(said);
     }
+}
+
+// Tells the result of opening a copy, as it is left open; equal ones in a row once.
+fn tell_case(copy: &mut StoryFile, case: usize, cases: &mut Cases, said: &mut Saying) {
+    let mut one = Saying::new(said.alloc());
+    one.done(copy.start(None), "opened");
+    cases.next(case as u64, &one, said);
 }
 
 // Tells the results for copies with each value of the byte at a place.
-fn tell_values(place: &mut Place, bytes: &[u8], at: usize, said: &mut Saying) {
-    let mut rows = Rows { last: None };
+fn tell_values(copy: &mut StoryFile, bytes: &[u8], at: usize, said: &mut Saying) {
+    let mut cases = Cases::none(said.alloc());
     for value in 0..=255u8 {
-        lay_with(place, bytes, at, value, said);
-        rows.add(value as usize, place, said);
+        said.so(copy.lay(bytes, bytes.len()) && copy.put(at, &[value]), "");
+        tell_case(copy, value as usize, &mut cases, said);
     }
+    cases.end(said)
 }
 
-// Tells the result for a file of this many zeros.
-fn tell_zeros(place: &mut Place, length: usize, said: &mut Saying) {
-    said.so(place.lay(&[], length), "");
-    place.tell_opening(said)
-}
-
-// Tells the results at one of the places that the call names, or of one of the lengths.
-fn tell_one(place: &mut Place, bytes: &[u8], at: usize, call: &Call, said: &mut Saying) {
-    match call.word(0) {
-        "zeros" => tell_zeros(place, at, said),
-        "each" => tell_at(place, bytes, at, call.rest(5), said),
-        _ => tell_values(place, bytes, at, said),
-    }
-}
-
-/// Tells the results at each place, or of each length, from one to another. They have to be the same.
-pub fn tell_same(engines: &Engines, call: &Call, said: &mut Saying) {
-    let mut place = Place::new(call.alloc());
-    let (from, to) = (call.place(0), call.place(1));
-    tell_one(&mut place, engines.place.bytes(), from, call, said);
-    for before in from..to {
-        let mut next = Saying::new(call.alloc());
-        tell_one(
-            &mut place,
-            engines.place.bytes(),
-            before + 1,
-            call,
-            &mut next,
-        );
-        if next.said() != said.said() {
-            said.fail("not the same at ");
-            return said.number(before as u64 + 1);
+// Tells the results at each place, or of files of each number of zeros, from one to another. They have to be the same.
+fn tell_same(engines: &Engines, copy: &mut StoryFile, call: &Call, said: &mut Saying) {
+    let bytes = engines.file.bytes();
+    for at in call.place(0)..=call.place(1) {
+        let mut one = Saying::new(call.alloc());
+        match call.word(0) {
+            "zeros" => tell_length(copy, &[], at, &mut one),
+            "each" => tell_at(copy, bytes, at, call.rest(5), &mut one),
+            _ => tell_values(copy, bytes, at, &mut one),
         }
+        said.same(&one, at as u64);
     }
 }
 
-/// Tells the results for copies of each length up to one. Longer copies end in zeros.
-pub fn tell_lengths(engines: &Engines, upto: usize, said: &mut Saying) {
-    let mut place = Place::new(engines.place.alloc);
-    let mut rows = Rows { last: None };
-    for length in 0..upto.saturating_add(1) {
-        said.so(place.lay(engines.place.bytes(), length), "");
-        rows.add(length, &mut place, said);
+// Tells the results for copies of each length up to one. Longer copies end in zeros.
+fn tell_lengths(copy: &mut StoryFile, bytes: &[u8], upto: usize, said: &mut Saying) {
+    let mut cases = Cases::none(said.alloc());
+    for length in 0..=upto {
+        said.so(copy.lay(bytes, length), "");
+        tell_case(copy, length, &mut cases, said);
     }
+    cases.end(said)
 }
 
-/// Tells the result for a copy of this length.
-pub fn tell_length(engines: &Engines, length: usize, said: &mut Saying) {
-    let mut place = Place::new(engines.place.alloc);
-    said.so(place.lay(engines.place.bytes(), length), "");
-    place.tell_opening(said)
+// Tells the result for a copy of this length.
+fn tell_length(copy: &mut StoryFile, bytes: &[u8], length: usize, said: &mut Saying) {
+    said.so(copy.lay(bytes, length), "");
+    copy.tell_opening(said)
 }
 
-/// Tells the result for a copy with the bytes that the call names.
-pub fn tell_with(engines: &Engines, call: &Call, said: &mut Saying) {
+// Tells the result for a copy with the bytes that the call names.
+fn tell_with(engines: &Engines, call: &Call, said: &mut Saying) {
     let Some(changes) = changes(call.alloc(), call.rest(1)) else {
         return said.fail("these are no bytes at places");
     };
-    let mut place = Place::new(call.alloc());
-    let is_laid = place.lay(engines.place.bytes(), engines.place.bytes().len());
-    said.so(is_laid && place.put_each(changes.as_slice()), "");
-    place.tell_opening(said)
+    let mut copy = engines.file.copy();
+    said.so(copy.put_each(changes.as_slice()), "");
+    copy.tell_opening(said)
 }
 
-/// Keeps the pages that show the engine's memory. Tells how many they are.
-pub fn keep_pages(engines: &mut Engines, call: &Call, said: &mut Saying) {
-    let Some(engine) = &engines.place.engine else {
+// Keeps the pages that show the engine's memory. Tells how many they are.
+fn keep_pages(engines: &mut Engines, call: &Call, said: &mut Saying) {
+    let Some(engine) = &engines.file.engine else {
         return said.fail("no engine");
     };
     let memory = engine.memory();
@@ -137,14 +92,22 @@ pub fn keep_pages(engines: &mut Engines, call: &Call, said: &mut Saying) {
     write!(said, "{pages}")
 }
 
-/// Puts the bytes that the call names into the closed file, or the pages that were kept.
-pub fn damage(engines: &mut Engines, call: &Call, said: &mut Saying) {
-    if let "damage pages at _" = call.form() {
-        let is_put = engines.place.put(call.place(0), engines.pages.as_slice());
-        return said.so(is_put, "done");
+/// Opens copies of the closed file, or puts pages of a memory into it. Returns whether the call is one of these.
+pub fn tell(engines: &mut Engines, call: &Call, said: &mut Saying) -> bool {
+    let (mut copy, at) = (StoryFile::new(call.alloc()), call.place(0));
+    match (call.word(0), call.form()) {
+        (_, "pages") => keep_pages(engines, call, said),
+        (_, "damage pages at _") => {
+            let is_put = engines.file.put(at, engines.pages.as_slice());
+            said.so(is_put, "done")
+        }
+        (_, "in each length to _") => tell_lengths(&mut copy, engines.file.bytes(), at, said),
+        (_, "length _") => tell_length(&mut copy, engines.file.bytes(), at, said),
+        (_, "zeros _ to _" | "in each value of _ to _") | ("each", _) => {
+            tell_same(engines, &mut copy, call, said)
+        }
+        ("with", _) => tell_with(engines, call, said),
+        _ => return false,
     }
-    match changes(call.alloc(), call.rest(1)) {
-        Some(changes) => said.so(engines.place.put_each(changes.as_slice()), "done"),
-        None => said.fail("these are no bytes at places"),
-    }
+    true
 }

@@ -1,16 +1,16 @@
 //! What a story is about.
 
-use crate::scripts::Script;
+use crate::scripts::StoryScript;
 use im_engine::{Answer, Event};
-use im_story_disk::Place;
+use im_story_disk::StoryFile;
 use std::alloc::Global;
 
 /// An engine and its disk, and what a story has told of them.
 pub struct Engines {
-    /// The engine, or the disk that it left.
-    pub place: Place,
+    /// The engine, or the file that it left.
+    pub file: StoryFile,
     /// The commands that were told of the image.
-    pub script: Option<Script>,
+    pub script: Option<StoryScript>,
     /// What the next run does.
     pub events: Vec<Event>,
     /// The answers of the last run.
@@ -23,7 +23,7 @@ pub struct Engines {
 impl Drop for Engines {
     fn drop(self) {
         let Engines {
-            place: _,
+            file: _,
             script: _,
             events: _,
             answers: _,
@@ -36,7 +36,7 @@ impl Engines {
     /// Starts with nothing.
     pub fn none(alloc: Global) -> Engines {
         Engines {
-            place: Place::new(alloc),
+            file: StoryFile::new(alloc),
             script: None,
             events: Vec::new(alloc),
             answers: Vec::new(alloc),

@@ -1,22 +1,18 @@
 //! What is known of an engine: the plain memory, which has what was answered, and what is in doubt.
 
 use crate::alike::are_alike;
-use crate::groups::{are_refused, is_answer};
-use crate::scripts::Said;
+use crate::commands::{answer_of, are_refused};
+use crate::scripts::{Said, StoryScript};
 use arrayvec::ArrayVec;
-use im_disk::FuseDisk;
-use im_engine::Engine;
 use im_plain::PlainMemory;
 use im_story::Saying;
-use im_story_disk::Place;
+use im_story_disk::StoryFile;
 use im_types::{Command, Limits, Refusal, Served};
 use std::alloc::Global;
 
 /// What was answered: the memory after it, and how many commands that is. It also has the commands of the last call,
 /// which are in doubt, and the room for them: all that are accepted and have room are on the disk, or none.
-pub struct Known {
-    /// The sizes of the memory.
-    pub limits: Limits,
+pub struct KnownMemory {
     /// The memory.
     pub plain: PlainMemory,
     /// How many commands were answered.
@@ -26,10 +22,9 @@ pub struct Known {
 }
 
 // By one call, wherever its owner may end.
-impl Drop for Known {
+impl Drop for KnownMemory {
     fn drop(self) {
-        let Known {
-            limits: _,
+        let KnownMemory {
             plain: _,
             count: _,
             doubt: _,
@@ -61,41 +56,15 @@ fn ends_well(members: &[Command], count: usize) -> bool {
     }
 }
 
-impl Known {
+impl KnownMemory {
     /// Starts with nothing answered.
-    pub fn nothing(alloc: Global, limits: Limits) -> Option<Known> {
-        Some(Known {
-            limits,
+    pub fn nothing(alloc: Global, limits: Limits) -> Option<KnownMemory> {
+        Some(KnownMemory {
             plain: PlainMemory::new(alloc, limits).ok()?,
             count: 0,
             doubt: ArrayVec::new(),
             room: 0,
         })
-    }
-
-    /// Takes in the answer to a command, which has to be that of the plain memory. If the journal is full, a command
-    /// that would be accepted is refused. Returns whether the disk still works.
-    pub fn hears(
-        &mut self,
-        command: Command,
-        answer: Said,
-        is_full: bool,
-        said: &mut Saying,
-    ) -> bool {
-        let is_accepted = self.plain.judge(&command) == Ok(true);
-        if is_accepted && answer == Err(Refusal::Device) {
-            let mut doubt = ArrayVec::new();
-            doubt.push(command);
-            self.doubt = doubt;
-            self.room = 1;
-            return false;
-        }
-        if is_accepted && is_full && answer == Err(Refusal::JournalFull) {
-            return true;
-        }
-        said.so(answer == self.plain.step(&command), "");
-        self.count = self.count.saturating_add(u64::from(is_accepted));
-        true
     }
 
     // Returns what a member of a group has to be answered, given how many may still be accepted. The plain memory has
@@ -113,16 +82,17 @@ impl Known {
 
     // Returns whether one of these commands is accepted if they act one after another.
     fn accepts_one(&self, members: &[Command]) -> bool {
-        let mut found = false;
         for member in members {
-            found = found || self.plain.judge(member) == Ok(true);
+            if self.plain.judge(member) == Ok(true) {
+                return true;
+            }
         }
-        found
+        false
     }
 
     /// Takes in the answers to a group that found this room. They have to be those of the plain memory one after
     /// another; the members behind the group's end are dropped. Returns whether the disk still works.
-    pub fn hears_group(
+    pub fn hears(
         &mut self,
         members: &ArrayVec<Command, 16>,
         served: &ArrayVec<Served, 16>,
@@ -139,34 +109,58 @@ impl Known {
         let mut left = room;
         for (member, answer) in taken.as_slice().iter().zip(served.as_slice()) {
             let expected = self.expected(*member, &mut left);
-            said.so(is_answer(*answer, expected), "");
+            said.so(answer_of(*answer) == Some(expected), "");
         }
         said.so(ends_well(members.as_slice(), served.len()), "");
         true
     }
 
-    /// Checks that an engine has what was answered, and no more.
-    pub fn is_all(&self, place: &Place, said: &mut Saying) {
-        match &place.engine {
-            Some(engine) => said.so(self.is_alike(engine), ""),
-            None => said.fail("no engine"),
+    /// Takes in the answer to one command in the same way.
+    pub fn hears_one(
+        &mut self,
+        command: Command,
+        answer: Said,
+        room: usize,
+        said: &mut Saying,
+    ) -> bool {
+        let mut members = ArrayVec::new();
+        members.push(command);
+        let mut served = ArrayVec::new();
+        served.push(match answer {
+            Ok(outcome) => Served::Done(outcome),
+            Err(refusal) => Served::Refused(refusal),
+        });
+        self.hears(&members, &served, room, said)
+    }
+
+    /// Takes in what the commands of a script were answered.
+    pub fn hears_script(&mut self, script: &StoryScript, said: &mut Saying) {
+        for (command, answer) in script.accepted.iter() {
+            let _works = self.hears_one(*command, *answer, usize::MAX, said);
         }
     }
 
-    fn is_alike(&self, engine: &Engine<FuseDisk>) -> bool {
-        engine.count() == self.count && are_alike(engine.memory(), &self.plain, self.limits)
+    /// Checks that an engine has what was answered, and no more.
+    pub fn is_all(&self, file: &StoryFile, said: &mut Saying) {
+        let is_alike = match &file.engine {
+            Some(engine) => {
+                engine.count() == self.count && are_alike(engine.memory(), &self.plain)
+            }
+            None => false,
+        };
+        said.so(is_alike, "")
     }
 
     /// Checks that an opening found all that was answered, or that and all commands in doubt. What it found is known
     /// from then on.
-    pub fn has_all(&mut self, place: &Place, said: &mut Saying) {
-        if place.count() != self.count {
+    pub fn has_all(&mut self, file: &StoryFile, said: &mut Saying) {
+        if file.count() != self.count {
             let mut left = self.room;
             for command in first(&self.doubt, 16).as_slice() {
                 let _answer = self.expected(*command, &mut left);
             }
         }
         self.doubt = ArrayVec::new();
-        self.is_all(place, said)
+        self.is_all(file, said)
     }
 }

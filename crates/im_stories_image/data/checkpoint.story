@@ -1,5 +1,9 @@
 -- A checkpoint brings the memory to the area that isn't in force, a turn at a time, and then puts that area in force.
 -- Bytes are two hex digits each, and `00*31` are 31 zeros.
+-- Its words, besides those of an image (image.story), are:
+-- checkpoint CELLS ELEMENTS SLOTS    an empty memory, a new journal, and no checkpoint yet
+-- serve COMMAND                  puts the command on the disk; then it acts
+-- turn                           a turn of the checkpoint
 
 # The least memory goes to the disk in these turns
 disk 33792 = blank
@@ -58,6 +62,6 @@ serve 0.3 store 0 0 = stored
 turn = began
 -- A disk whose first call fails.
 disk 33792 = blank
-fuse once 0 = so
+fuse 0 once = so
 turn = refused 8 Device
 turn = page 0

@@ -2,6 +2,16 @@
 -- call would answer after a crash here: `kept` leaves the bytes as they were written, `lost` those of the last sync
 -- that succeeded, and a byte puts itself wherever a range was written since. The story goes on as if there had been
 -- none.
+-- Its words are:
+-- disk N                         a new disk, of N zero bytes
+-- fuse N stop                    from now on it passes N calls, and then fails: stop, once, scar:BYTE
+-- read AT N, write AT BYTE.., sync, length
+-- fail write AT N [BYTE], fail sync      a call that fails, and may leave a byte all over its range
+-- gate AT a5 BYTE..              writes the bytes, the first of which is an open gate, behind it
+-- gate AT                        opens a gate
+-- six calls                      a dot for each that passed, and an x for each that failed
+-- crash KIND                     a crash: kept, lost, or a byte
+-- bytes, calls                   all bytes, with no call, and no fuse from then on; how many calls there were
 
 # A crash leaves a disk alone that nothing was written to
 disk 6 = blank
@@ -113,49 +123,49 @@ disk 4611686018427387904 = refused 10 NoMemory
 
 # A fuse that stops passes so many calls, and fails each later one
 disk 2 = blank
-fuse stop 0 = so
+fuse 0 stop = so
 length = 2
 six calls = xxxxxx
 calls = 6
 if kept bytes = 00 00
 if lost bytes = 00 00
 disk 2 = blank
-fuse stop 1 = so
+fuse 1 stop = so
 length = 2
 six calls = .xxxxx
 calls = 6
 if kept bytes = 01 00
 if lost bytes = 00 00
 disk 2 = blank
-fuse stop 2 = so
+fuse 2 stop = so
 length = 2
 six calls = ..xxxx
 calls = 6
 if kept bytes = 01 00
 if lost bytes = 00 00
 disk 2 = blank
-fuse stop 3 = so
+fuse 3 stop = so
 length = 2
 six calls = ...xxx
 calls = 6
 if kept bytes = 01 00
 if lost bytes = 01 00
 disk 2 = blank
-fuse stop 4 = so
+fuse 4 stop = so
 length = 2
 six calls = ....xx
 calls = 6
 if kept bytes = 01 02
 if lost bytes = 01 00
 disk 2 = blank
-fuse stop 5 = so
+fuse 5 stop = so
 length = 2
 six calls = .....x
 calls = 6
 if kept bytes = 01 02
 if lost bytes = 01 00
 disk 2 = blank
-fuse stop 6 = so
+fuse 6 stop = so
 length = 2
 six calls = ......
 calls = 6
@@ -164,49 +174,49 @@ if lost bytes = 01 02
 
 # A fuse may fail one call alone: a write then leaves its range's bytes
 disk 2 = blank
-fuse once 0 = so
+fuse 0 once = so
 length = 2
 six calls = x.....
 calls = 6
 if kept bytes = 00 02
 if lost bytes = 00 02
 disk 2 = blank
-fuse once 1 = so
+fuse 1 once = so
 length = 2
 six calls = .x....
 calls = 6
 if kept bytes = 01 02
 if lost bytes = 01 02
 disk 2 = blank
-fuse once 2 = so
+fuse 2 once = so
 length = 2
 six calls = ..x...
 calls = 6
 if kept bytes = 01 02
 if lost bytes = 01 02
 disk 2 = blank
-fuse once 3 = so
+fuse 3 once = so
 length = 2
 six calls = ...x..
 calls = 6
 if kept bytes = 01 00
 if lost bytes = 01 00
 disk 2 = blank
-fuse once 4 = so
+fuse 4 once = so
 length = 2
 six calls = ....x.
 calls = 6
 if kept bytes = 01 02
 if lost bytes = 01 02
 disk 2 = blank
-fuse once 5 = so
+fuse 5 once = so
 length = 2
 six calls = .....x
 calls = 6
 if kept bytes = 01 02
 if lost bytes = 01 00
 disk 2 = blank
-fuse once 6 = so
+fuse 6 once = so
 length = 2
 six calls = ......
 calls = 6
@@ -215,49 +225,49 @@ if lost bytes = 01 02
 
 # A fuse may fail one write and leave a scar all over its range
 disk 2 = blank
-fuse scar 0 09 = so
+fuse 0 scar:09 = so
 length = 2
 six calls = x.....
 calls = 6
 if kept bytes = 09 02
 if lost bytes = 09 02
 disk 2 = blank
-fuse scar 1 09 = so
+fuse 1 scar:09 = so
 length = 2
 six calls = .x....
 calls = 6
 if kept bytes = 01 02
 if lost bytes = 01 02
 disk 2 = blank
-fuse scar 2 09 = so
+fuse 2 scar:09 = so
 length = 2
 six calls = ..x...
 calls = 6
 if kept bytes = 01 02
 if lost bytes = 01 02
 disk 2 = blank
-fuse scar 3 09 = so
+fuse 3 scar:09 = so
 length = 2
 six calls = ...x..
 calls = 6
 if kept bytes = 01 09
 if lost bytes = 01 09
 disk 2 = blank
-fuse scar 4 09 = so
+fuse 4 scar:09 = so
 length = 2
 six calls = ....x.
 calls = 6
 if kept bytes = 01 02
 if lost bytes = 01 02
 disk 2 = blank
-fuse scar 5 09 = so
+fuse 5 scar:09 = so
 length = 2
 six calls = .....x
 calls = 6
 if kept bytes = 01 02
 if lost bytes = 01 00
 disk 2 = blank
-fuse scar 6 09 = so
+fuse 6 scar:09 = so
 length = 2
 six calls = ......
 calls = 6
@@ -266,7 +276,7 @@ if lost bytes = 01 02
 
 # A gate stays shut where the write of the body fails
 disk 4 = blank
-fuse stop 0 = so
+fuse 0 stop = so
 gate 0 a5 05 06 = fault
 if kept bytes = 00 00 00 00
 if lost bytes = 00 00 00 00
@@ -274,7 +284,7 @@ if 01 bytes = 00 01 01 00
 
 # A gate stays shut where the sync of the body fails
 disk 4 = blank
-fuse stop 1 = so
+fuse 1 stop = so
 gate 0 a5 05 06 = fault
 if kept bytes = 00 05 06 00
 if lost bytes = 00 00 00 00
@@ -282,7 +292,7 @@ if 01 bytes = 00 01 01 00
 
 # A gate opens or not where its write fails, over the whole body
 disk 4 = blank
-fuse stop 2 = so
+fuse 2 stop = so
 gate 0 a5 05 06 = fault
 if kept bytes = 00 05 06 00
 if lost bytes = 00 05 06 00
@@ -290,7 +300,7 @@ if 01 bytes = 01 05 06 00
 
 # A gate is open or not where its sync fails, over the whole body
 disk 4 = blank
-fuse stop 3 = so
+fuse 3 stop = so
 gate 0 a5 05 06 = fault
 if kept bytes = a5 05 06 00
 if lost bytes = 00 05 06 00
@@ -298,7 +308,7 @@ if 01 bytes = 01 05 06 00
 
 # A gate that was opened is open over the whole body
 disk 4 = blank
-fuse stop 4 = so
+fuse 4 stop = so
 gate 0 a5 05 06 = ok
 if kept bytes = a5 05 06 00
 if lost bytes = a5 05 06 00
@@ -316,7 +326,7 @@ if 01 bytes = a5 05 06 00 00 07 00 00
 # A gate is closed where the sync before it fails, whatever is left behind it
 disk 4 = blank
 write 1 05 06 = ok
-fuse stop 0 = so
+fuse 0 stop = so
 gate 0 = fault
 if kept bytes = 00 05 06 00
 if lost bytes = 00 00 00 00
@@ -325,7 +335,7 @@ if 01 bytes = 00 01 01 00
 # A gate is open or not where its own sync fails, and what is behind it stays
 disk 4 = blank
 write 1 05 06 = ok
-fuse stop 2 = so
+fuse 2 stop = so
 gate 0 = fault
 if kept bytes = a5 05 06 00
 if lost bytes = 00 05 06 00

@@ -1,4 +1,13 @@
 -- A file of the folder that the program runs in, as a disk. Bytes are two hex digits each.
+-- Its words are:
+-- folder NAME, remove NAME       an empty folder, also if there was one; removes it with all that is in it
+-- put PATH TEXT..                a file with this text, by other hands
+-- create PATH N                  makes a file of N zero bytes, and opens it
+-- create new PATH N              the same, if nothing has that name
+-- open PATH, open PATH to read   opens a file
+-- file read AT N, file write AT BYTE.., file sync, file length, file close
+-- file failure                   what is said to have failed first
+-- file gone PATH                 takes the file's name away, and closes it
 
 # A file is made over an older one, written, and opened again
 folder image_story = so

@@ -1,5 +1,23 @@
 -- An image: two headers, two areas of pages, and a journal. Bytes are two hex digits each, and `00*8` are eight zeros.
 -- A line `with AT:BYTE .. CALL` has these bytes on the disk for its call alone.
+-- Its words, besides those of a disk and of a journal, are:
+-- layout CELLS ELEMENTS SLOTS    the pages of an area, where the journal begins, and the length
+-- image CELLS ELEMENTS SLOTS     a new image on a disk of its own
+-- old layout .., old image ..    the same by the first version of the layout; the image's header is in force
+-- cut N                          a disk with the first N bytes of the disk
+-- header AREA GENERATION COUNT CELLS ELEMENTS SLOTS    spells a header in its place
+-- header at AREA                 the header that stands there behind its gate
+-- in force                       the header in force, or the first fault of the length and the headers
+-- inspect                        what the image means, or its first fault
+-- to open                        the same, or that it is of the first version
+-- encode AREA                    puts the pages of the memory there
+-- values AT, values AT to AT     each of the 256 values of a byte, the same for each of these bytes
+-- lengths to N                   each length from 0 on, cut from the image, or made longer by zeros
+-- memory CELLS ELEMENTS SLOTS    an empty one
+-- step COMMAND                   its answer
+-- block A, waiting A             the block that a cell lies in, and who waits at it
+-- collect NAME, window ELEMENT   what is kept
+-- walk STEPS from SEED reading each N    random commands; after each N-th the pages are made, and read again
 
 # A new image has the header of the format, behind a closed gate
 image 4096 16 256 = 450560 bytes
@@ -114,37 +132,37 @@ with 33088:a5 33096:05 16:15 33224:c8 inspect = refused 16 BadRecord
 -- Each length in turn: the image cut short, as it is, and longer by a zero.
 image 1 1 16 = 33792 bytes
 write 0 a5 = ok
-lengths to 33793 = 0-33791 WrongLength, 33792 told, 33793 WrongLength
+lengths to 33793 = WrongLength 0..33791, told 33792, WrongLength 33793
 
 # Each value of each byte of a header counts
--- What an inspection answers for each of the 256 values.
+-- What an inspection answers for each of the 256 values, which are decimal here.
 image 1 1 16 = 33792 bytes
 write 0 a5 = ok
 -- Gate, area, version, IMEM.
-values 0 = 00-a4 NoHeader, a5 told, a6-ff NoHeader
-values 1 = 00 told, 01-ff BadHeader
-values 2 = 00 BadHeader, 01 BadPage, 02 told, 03-ff BadHeader
-values 3 = 00 told, 01-ff BadHeader
-values 4 = 00-48 BadHeader, 49 told, 4a-ff BadHeader
-values 5 = 00-4c BadHeader, 4d told, 4e-ff BadHeader
-values 6 = 00-44 BadHeader, 45 told, 46-ff BadHeader
-values 7 = 00-4c BadHeader, 4d told, 4e-ff BadHeader
+values 0 = NoHeader 0..164, told 165, NoHeader 166..255
+values 1 = told 0, BadHeader 1..255
+values 2 = BadHeader 0, BadPage 1, told 2, BadHeader 3..255
+values 3 = told 0, BadHeader 1..255
+values 4 = BadHeader 0..72, told 73, BadHeader 74..255
+values 5 = BadHeader 0..76, told 77, BadHeader 78..255
+values 6 = BadHeader 0..68, told 69, BadHeader 70..255
+values 7 = BadHeader 0..76, told 77, BadHeader 78..255
 -- Generation, and count.
-values 8 = 00 BadHeader, 01-ff told
-values 9 to 14 = 00-ff told
-values 15 = 00-3f told, 40-ff BadHeader
-values 16 to 22 = 00-ff told
-values 23 = 00-40 told, 41-ff BadHeader
+values 8 = BadHeader 0, told 1..255
+values 9 to 14 = told 0..255
+values 15 = told 0..63, BadHeader 64..255
+values 16 to 22 = told 0..255
+values 23 = told 0..64, BadHeader 65..255
 -- Cells, elements, slots. A cell more is on the same page, and a page more makes the image longer.
-values 24 = 00 BadHeader, 01 told, 02-80 BadPage, 81-ff WrongLength
-values 25 = 00 told, 01-ff WrongLength
-values 26 = 00 told, 01-0f WrongLength, 10-ff BadHeader
-values 27 = 00 told, 01-ff BadHeader
-values 28 = 00 BadHeader, 01 told, 02-40 WrongLength, 41-ff BadHeader
-values 29 to 31 = 00 told, 01-ff BadHeader
-values 32 = 00-0f BadHeader, 10 told, 11-ff WrongLength
-values 33 = 00 told, 01-0f WrongLength, 10-ff BadHeader
-values 34 to 63 = 00 told, 01-ff BadHeader
+values 24 = BadHeader 0, told 1, BadPage 2..128, WrongLength 129..255
+values 25 = told 0, WrongLength 1..255
+values 26 = told 0, WrongLength 1..15, BadHeader 16..255
+values 27 = told 0, BadHeader 1..255
+values 28 = BadHeader 0, told 1, WrongLength 2..64, BadHeader 65..255
+values 29 to 31 = told 0, BadHeader 1..255
+values 32 = BadHeader 0..15, told 16, WrongLength 17..255
+values 33 = told 0, WrongLength 1..15, BadHeader 16..255
+values 34 to 63 = told 0, BadHeader 1..255
 
 # Three readers of a cell are on the pages, and are told again in their order
 memory 4096 16 256 = empty
@@ -240,12 +258,12 @@ with 2:02 12544:01 inspect = generation 1, count 0, run 0, room 16
 -- Behind the session, and seventeen entries.
 with 17408:01 inspect = refused 15 BadPage
 with 16392:11 inspect = refused 15 BadPage
-values 2 = 00 BadHeader, 01-02 told, 03-ff BadHeader
-values 24 = 00 BadHeader, 01 told, 02-80 BadPage, 81-ff WrongLength
-values 25 = 00 told, 01-ff WrongLength
-values 26 to 27 = 00 told, 01-ff BadHeader
-values 28 = 00 BadHeader, 01 told, 02-04 BadPage, 05-40 WrongLength, 41-ff BadHeader
-values 33 = 00 told, 01-0f WrongLength, 10-ff BadHeader
+values 2 = BadHeader 0, told 1..2, BadHeader 3..255
+values 24 = BadHeader 0, told 1, BadPage 2..128, WrongLength 129..255
+values 25 = told 0, WrongLength 1..255
+values 26 to 27 = told 0, BadHeader 1..255
+values 28 = BadHeader 0, told 1, BadPage 2..4, WrongLength 5..64, BadHeader 65..255
+values 33 = told 0, WrongLength 1..15, BadHeader 16..255
 
 # The first version knows no reset in its run, and no seventeenth entry
 old image 1 1 32 = 34816 bytes
@@ -370,18 +388,18 @@ with 2:02 inspect = refused 12 WrongLength
 image 1 1 16 = 33792 bytes
 write 0 a5 = ok
 -- Two header places, the area in force, and the journal are read.
-fuse stop 0 = so
+fuse 0 stop = so
 inspect = refused 8 Device
-fuse stop 1 = so
+fuse 1 stop = so
 inspect = refused 8 Device
-fuse stop 2 = so
+fuse 2 stop = so
 inspect = refused 8 Device
-fuse stop 3 = so
+fuse 3 stop = so
 inspect = refused 8 Device
-fuse stop 4 = so
+fuse 4 stop = so
 inspect = generation 1, count 0, run 0, room 16
 
 # The memories of a random walk are read again as they were
 memory 8 4 16 = empty
 -- 600 commands drawn by lot; after the first of each seven the pages are made and read.
-walk 600 7 = 86 alike, 0 not, more than 100 accepted
+walk 600 from 1 reading each 7 = 600 steps agree, more than 100 accepted

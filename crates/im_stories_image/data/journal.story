@@ -1,6 +1,18 @@
 -- A journal is a ring of slots on a disk, and a command is in it from the moment on when its slot's gate is open. Bytes
 -- are two hex digits each, and `00*47` are 47 zeros. A line `with AT:BYTE .. CALL` has these bytes on the disk for its
 -- call alone, and `if KIND CALL` tells what the call would answer after a crash here.
+-- Its words, besides those of a disk (disk.story), are:
+-- journal CELLS ELEMENTS SLOTS   a new journal, of an image of these sizes
+-- append COMMAND, append fetches 1 to N    the second: element 0 fetches cell 0, by its requests 1 to N
+-- group COMMAND and COMMAND ..   appends them as one group
+-- tail FROM, old tail FROM       reads the run from this count on; the second, of an image of the first version
+-- command I                      the command at this place of the run that was read
+-- first, count, room, to sweep   of the journal
+-- begin later FROM               the run begins at this count
+-- sweep                          a turn of the sweep: how many gates it closed
+-- slot S COMMAND, body S COMMAND puts the slot of a command in its place by hand, or all of it but the gate
+-- old slot S COMMAND             the same in an image of the first version
+-- spell S COMMAND                its code, and whether the same command is read from it
 
 # Commands stand one behind another, in slots of 64 bytes
 disk 450560 = blank
@@ -135,7 +147,7 @@ command 0 = 3.1 fetch 0
 
 # An append that is stopped at its first call isn't on the disk
 disk 33792 = blank
-fuse stop 0 = so
+fuse 0 stop = so
 journal 1 1 16 = fresh
 append 0.1 fetch 0 = refused 8 Device
 calls = 1
@@ -147,7 +159,7 @@ if a5 tail 0 = 0 commands, room 16
 
 # An append that is stopped at the sync of its body isn't on the disk
 disk 33792 = blank
-fuse stop 1 = so
+fuse 1 stop = so
 journal 1 1 16 = fresh
 append 0.1 fetch 0 = refused 8 Device
 calls = 2
@@ -159,7 +171,7 @@ if a5 tail 0 = 0 commands, room 16
 
 # An append that is stopped at the write of its gate is on the disk or not
 disk 33792 = blank
-fuse stop 2 = so
+fuse 2 stop = so
 journal 1 1 16 = fresh
 append 0.1 fetch 0 = refused 8 Device
 calls = 3
@@ -171,7 +183,7 @@ if a5 tail 0 = 1 commands, room 15
 
 # An append that is stopped at the sync of its gate is on the disk or not
 disk 33792 = blank
-fuse stop 3 = so
+fuse 3 stop = so
 journal 1 1 16 = fresh
 append 0.1 fetch 0 = refused 8 Device
 calls = 4
@@ -183,7 +195,7 @@ if a5 tail 0 = 1 commands, room 15
 
 # An append that was answered is on the disk for good
 disk 33792 = blank
-fuse stop 4 = so
+fuse 4 stop = so
 journal 1 1 16 = fresh
 append 0.1 fetch 0 = ok
 count = 1
@@ -194,7 +206,7 @@ if 00 tail 0 = 1 commands, room 15
 
 # A read that fails is told, and the next one passes
 disk 33792 = blank
-fuse once 0 = so
+fuse 0 once = so
 journal 1 1 16 = fresh
 tail 0 = refused 8 Device
 tail 0 = 0 commands, room 16
@@ -252,7 +264,7 @@ tail 14 = 3 commands, room 2
 # A sweep that is stopped keeps the run: at its first write
 -- The appends make 64 calls. The run is the last two of the sixteen commands.
 disk 33792 = blank
-fuse stop 64 = so
+fuse 64 stop = so
 journal 1 1 16 = fresh
 append fetches 1 to 16 = ok
 begin later 14 = ok
@@ -261,7 +273,7 @@ if kept tail 14 = 2 commands, room 0
 
 # A sweep that is stopped keeps the run: at its second write
 disk 33792 = blank
-fuse stop 65 = so
+fuse 65 stop = so
 journal 1 1 16 = fresh
 append fetches 1 to 16 = ok
 begin later 14 = ok
@@ -272,7 +284,7 @@ if a5 tail 14 = 2 commands, room 0
 
 # A sweep that is stopped keeps the run: at its sync
 disk 33792 = blank
-fuse stop 67 = so
+fuse 67 stop = so
 journal 1 1 16 = fresh
 append fetches 1 to 16 = ok
 begin later 14 = ok
@@ -283,7 +295,7 @@ if 07 tail 14 = 2 commands, room 3
 
 # A sweep that was answered has made its room
 disk 33792 = blank
-fuse stop 68 = so
+fuse 68 stop = so
 journal 1 1 16 = fresh
 append fetches 1 to 16 = ok
 begin later 14 = ok
@@ -365,7 +377,7 @@ tail 4611686018427387902 = 2 commands, room 0
 
 # A group that is stopped at the write of its first body isn't on the disk
 disk 450560 = blank
-fuse stop 0 = so
+fuse 0 stop = so
 journal 4096 16 256 = fresh
 group 0.1 alloc i 2 and 1.1 fetch 0 and 2.1 store 0 42 = refused 8 Device
 calls = 1
@@ -377,7 +389,7 @@ if a5 tail 0 = 0 commands, room 256
 
 # A group that is stopped at the write of its second body isn't on the disk
 disk 450560 = blank
-fuse stop 1 = so
+fuse 1 stop = so
 journal 4096 16 256 = fresh
 group 0.1 alloc i 2 and 1.1 fetch 0 and 2.1 store 0 42 = refused 8 Device
 calls = 2
@@ -389,7 +401,7 @@ if a5 tail 0 = 0 commands, room 256
 
 # A group that is stopped at the write of its last body isn't on the disk
 disk 450560 = blank
-fuse stop 2 = so
+fuse 2 stop = so
 journal 4096 16 256 = fresh
 group 0.1 alloc i 2 and 1.1 fetch 0 and 2.1 store 0 42 = refused 8 Device
 calls = 3
@@ -401,7 +413,7 @@ if a5 tail 0 = 0 commands, room 256
 
 # A group that is stopped at the sync of its bodies isn't on the disk
 disk 450560 = blank
-fuse stop 3 = so
+fuse 3 stop = so
 journal 4096 16 256 = fresh
 group 0.1 alloc i 2 and 1.1 fetch 0 and 2.1 store 0 42 = refused 8 Device
 calls = 4
@@ -413,7 +425,7 @@ if a5 tail 0 = 0 commands, room 256
 
 # A group that is stopped at the write of its gate is on the disk or not, whole
 disk 450560 = blank
-fuse stop 4 = so
+fuse 4 stop = so
 journal 4096 16 256 = fresh
 group 0.1 alloc i 2 and 1.1 fetch 0 and 2.1 store 0 42 = refused 8 Device
 calls = 5
@@ -425,7 +437,7 @@ if a5 tail 0 = 3 commands, room 253
 
 # A group that is stopped at the sync of its gate is on the disk or not, whole
 disk 450560 = blank
-fuse stop 5 = so
+fuse 5 stop = so
 journal 4096 16 256 = fresh
 group 0.1 alloc i 2 and 1.1 fetch 0 and 2.1 store 0 42 = refused 8 Device
 calls = 6
@@ -437,7 +449,7 @@ if a5 tail 0 = 3 commands, room 253
 
 # A group that was answered is on the disk for good
 disk 450560 = blank
-fuse stop 6 = so
+fuse 6 stop = so
 journal 4096 16 256 = fresh
 group 0.1 alloc i 2 and 1.1 fetch 0 and 2.1 store 0 42 = ok
 count = 3

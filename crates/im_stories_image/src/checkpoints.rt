@@ -1,15 +1,8 @@
 //! Calls on a memory with its journal and its checkpoint.
-//!
-//! ```text
-//! checkpoint CELLS ELEMENTS SLOTS    an empty memory, a new journal, and no checkpoint yet
-//! serve COMMAND                  puts the command on the disk; then it acts
-//! turn                           a turn of the checkpoint
-//! ```
 ghost use Rattle.std.specs.Prelude.{◌≡◌};
 
 use crate::blind::Blind;
-use crate::commands::keep;
-use crate::place::Place;
+use crate::desk::ImageDesk;
 use im_checkpoint::{Checkpoint, TurnDone};
 use im_image::{Header, VERSION};
 use im_journal::Journal;
@@ -21,13 +14,13 @@ use std::marker::Model;
 
 /// A memory with its journal and its checkpoint, of one image.
 #[derive(Drop)]
-pub struct Kept {
+pub struct Checkpointed {
     memory: Memory,
     journal: Journal,
     checkpoint: Checkpoint,
 }
 
-impl Model for Kept {
+impl Model for Checkpointed {
     ghost use Rattle.im_types.specs.Contents.{Contents};
     ghost use Rattle.im_checkpoint.specs.Keeping.{Fits};
 
@@ -38,9 +31,9 @@ impl Model for Kept {
     ghost invariant = { λ k. Fits k.checkpoint.state k.memory.contents k.journal };
 }
 
-impl Kept {
+impl Checkpointed {
     // Makes an empty memory, a new journal and no checkpoint, of an image of generation 1.
-    fn new(alloc: Global, limits: Limits) -> Result<Kept, Refusal> {
+    fn new(alloc: Global, limits: Limits) -> Result<Checkpointed, Refusal> {
         let header = Header {
             version: VERSION,
             area: 0,
@@ -48,7 +41,7 @@ impl Kept {
             count: 0,
             limits,
         };
-        Ok(Kept {
+        Ok(Checkpointed {
             memory: Memory::new(alloc, limits)?,
             journal: Journal::fresh(limits),
             checkpoint: Checkpoint::idle(alloc, &header, true)?,
@@ -72,44 +65,48 @@ impl Kept {
     }
 }
 
-fn add_turn(said: &mut Saying, answer: Result<TurnDone, Refusal>) {
-    match answer {
-        Ok(TurnDone::Idle) => said.text("idle"),
-        Ok(TurnDone::Began) => said.text("began"),
-        Ok(TurnDone::Page(page)) => write!(said, "page {page}"),
-        Ok(TurnDone::Synced) => said.text("synced"),
-        Ok(TurnDone::InForce) => said.text("in force"),
-        Ok(TurnDone::Swept) => said.text("swept"),
+// Tells what a turn did.
+fn turn(disk: &mut Blind, kept: &mut Checkpointed, said: &mut Saying) {
+    let turn = kept.turn(disk);
+    said.text(match turn {
+        Ok(TurnDone::Idle) => "idle",
+        Ok(TurnDone::Began) => "began",
+        Ok(TurnDone::Page(_)) => "page ",
+        Ok(TurnDone::Synced) => "synced",
+        Ok(TurnDone::InForce) => "in force",
+        Ok(TurnDone::Swept) => "swept",
+        Err(_) => "",
+    });
+    match turn {
+        Ok(TurnDone::Page(page)) => said.number(page as u64),
+        Ok(_) => {}
         Err(refusal) => said.refusal(refusal),
     }
 }
 
-fn make(here: &mut Place, call: &Call, said: &mut Saying) {
-    let Some(limits) = call.limits(0) else {
-        return said.fail("there are no such sizes");
+fn make(here: &mut ImageDesk, call: &Call, said: &mut Saying) {
+    here.kept = match call.limits(0) {
+        Some(limits) => Checkpointed::new(call.alloc(), limits).ok(),
+        None => None,
     };
-    let made = Kept::new(call.alloc(), limits);
-    keep(&mut here.kept, made, "idle", said)
+    said.so(here.kept.is_some(), "idle")
 }
 
-fn serve(disk: &mut Blind, kept: &mut Kept, words: &[&str], said: &mut Saying) {
-    match command(words) {
+// Puts a command on the disk. Then it acts.
+fn serve(disk: &mut Blind, kept: &mut Checkpointed, call: &Call, said: &mut Saying) {
+    match command(call.rest(1)) {
         Some(command) => said.outcome(kept.serve(disk, &command)),
         None => said.fail("no command"),
     }
 }
 
-/// Makes a call on the checkpoint.
-pub fn tell_of_checkpoint(here: &mut Place, call: &Call, said: &mut Saying) {
-    if let "checkpoint _ _ _" = call.form() {
-        return make(here, call, said);
+/// Makes a call on the checkpoint. Returns whether it is one.
+pub fn tell(here: &mut ImageDesk, call: &Call, said: &mut Saying) -> bool {
+    match (call.word(0), &mut here.disk, &mut here.kept) {
+        ("checkpoint", _, _) => make(here, call, said),
+        ("turn", Some(disk), Some(kept)) => turn(disk, kept, said),
+        ("serve", Some(disk), Some(kept)) => serve(disk, kept, call, said),
+        _ => return false,
     }
-    let (Some(disk), Some(kept)) = (&mut here.disk, &mut here.kept) else {
-        return said.fail("that is no call");
-    };
-    match call.words() {
-        ["serve", rest @ ..] => serve(disk, kept, rest, said),
-        ["turn"] => add_turn(said, kept.turn(disk)),
-        _ => said.fail("that is no call"),
-    }
+    true
 }

@@ -1,22 +1,10 @@
 //! Calls on files of the folder in which the program runs.
-//!
-//! ```text
-//! folder NAME, remove NAME       an empty folder, also if there was one; removes it with all that is in it
-//! put PATH TEXT..                a file with this text, by other hands
-//! create PATH N                  makes a file of N zero bytes, and opens it
-//! create new PATH N              the same, if nothing has that name
-//! open PATH, open PATH to read   opens a file
-//! file read AT N, file write AT BYTE.., file sync, file length, file close
-//! file failure                   what is said to have failed first
-//! file gone PATH                 takes the file's name away, and closes it
-//! ```
 ghost use Rattle.std.specs.Prelude.{◌≡◌, ◌+◌, ◌≤◌, true, length};
 
-use crate::disks::{RUN, add_passed};
+use crate::disks::{RUN, add_length, add_passed};
 use im_disk::{Disk, Failure, FileDisk, OpenFault, Unknown};
 use im_story::{Call, Saying, bytes};
 use im_types::Refusal;
-use std::alloc::{AllocError, Global};
 use std::fs;
 
 /// A file that is open, and its length when it was opened.
@@ -57,11 +45,16 @@ impl Opened {
         }
     }
 
-    fn write(&mut self, at: usize, bytes: &[u8], said: &mut Saying) {
+    // Writes the bytes that the words behind the place tell.
+    fn write(&mut self, call: &Call, said: &mut Saying) {
+        let Some(bytes) = bytes(call.alloc(), call.rest(3)) else {
+            return said.fail("no bytes");
+        };
+        let at = call.place(0);
         if !self.has(at, bytes.len()) {
             return said.fail("that is past the end");
         }
-        add_passed(said, self.disk.write_at(at, bytes))
+        add_passed(said, self.disk.write_at(at, &bytes))
     }
 
     fn failure(&self) -> &'static str {
@@ -71,13 +64,6 @@ impl Opened {
             Some(Failure::Read(_)) => "read",
             Some(Failure::Write(_)) => "write",
             Some(Failure::Sync(_)) => "sync",
-        }
-    }
-
-    fn len(&mut self, said: &mut Saying) {
-        match self.disk.len() {
-            Ok(length) => said.number(length as u64),
-            Err(_) => said.text("fault"),
         }
     }
 }
@@ -133,80 +119,49 @@ fn make_folder(rt: &HostRuntime, name: &str) -> bool {
     fs::create_dir(rt, name).is_ok()
 }
 
-// Puts words together, with a blank between two of them.
-fn joined(alloc: Global, words: &[&str]) -> Result<String, AllocError> {
-    let mut text = String::new(alloc);
-    for word in words {
-        if !text.as_str().is_empty() {
-            text.push(' ')?;
-        }
-        text.push_str(word)?;
-    }
-    Ok(text)
-}
-
-// Makes a file with this text. Returns whether it is there.
-fn put(rt: &HostRuntime, path: &str, words: &[&str]) -> bool {
-    match joined(rt.alloc(), words) {
-        Ok(text) => fs::write(rt, path, text.as_str()).is_ok(),
-        Err(_) => false,
-    }
-}
-
-// Writes the bytes that the words behind the place name.
-fn write(file: &mut Opened, call: &Call, said: &mut Saying) {
-    let ["file", "write", _, rest @ ..] = call.words() else {
-        return said.fail("that is no call of a file");
-    };
-    match bytes(call.alloc(), rest) {
-        Some(bytes) => file.write(call.place(0), &bytes, said),
-        None => said.fail("no bytes"),
-    }
-}
-
-// Makes a call on the file that is open.
-fn tell_of_file(file: &mut Opened, call: &Call, said: &mut Saying) {
-    match call.form() {
-        "file read _ _" => file.read(call, said),
-        "file sync" => add_passed(said, file.disk.sync()),
-        "file length" => file.len(said),
-        "file failure" => said.text(file.failure()),
-        _ => write(file, call, said),
-    }
+// Makes a file with the text that the words behind its path tell. Returns whether it is there.
+fn put(rt: &HostRuntime, call: &Call) -> bool {
+    let mut text = Saying::new(call.alloc());
+    text.words(call.rest(2));
+    !text.is_wrong() && fs::write(rt, call.word(1), text.said()).is_ok()
 }
 
 // Opens a file, or makes one of as many zero bytes as the call's number says.
 fn open(rt: &HostRuntime, call: &Call) -> Result<FileDisk<Unknown>, OpenFault> {
-    match call.words() {
-        ["create", "new", path, _] => FileDisk::create_new(rt, path, call.place(0), Unknown),
-        ["create", path, _] => FileDisk::create(rt, path, call.place(0), Unknown),
-        [_, path, "to", "read"] => FileDisk::open_to_read(rt, path, Unknown),
-        [_, path, ..] => FileDisk::open(rt, path, Unknown),
-        _ => Err(OpenFault::NotFile),
+    match (call.word(0), call.word(1), call.word(2)) {
+        ("create", "new", path) => FileDisk::create_new(rt, path, call.place(0), Unknown),
+        ("create", path, _) => FileDisk::create(rt, path, call.place(0), Unknown),
+        (_, path, "to") => FileDisk::open_to_read(rt, path, Unknown),
+        (_, path, _) => FileDisk::open(rt, path, Unknown),
     }
 }
 
-// Makes a call on the file that is open, or takes it away.
-fn tell_of_open(rt: &HostRuntime, files: &mut Files, call: &Call, said: &mut Saying) {
-    match (call.words(), &mut files.open) {
-        (["file", "close"], _) => {
+// Makes a call on the file that is open.
+fn tell_of_file(rt: &HostRuntime, files: &mut Files, call: &Call, said: &mut Saying) {
+    match (call.word(1), &mut files.open) {
+        ("close", _) => {
             files.open = None;
             said.text("closed")
         }
-        (["file", "gone", path], _) => files.remove(rt, path, said),
-        (_, Some(file)) => tell_of_file(file, call, said),
+        ("gone", _) => files.remove(rt, call.word(2), said),
+        ("read", Some(file)) => file.read(call, said),
+        ("sync", Some(file)) => add_passed(said, file.disk.sync()),
+        ("length", Some(file)) => add_length(said, file.disk.len()),
+        ("failure", Some(file)) => said.text(file.failure()),
+        ("write", Some(file)) => file.write(call, said),
         _ => said.fail("no file is open"),
     }
 }
 
-/// Makes a call on files. Returns whether the words name one.
-pub fn tell_of_files(rt: &HostRuntime, files: &mut Files, call: &Call, said: &mut Saying) -> bool {
-    match call.words() {
-        ["create" | "open", ..] => files.take(open(rt, call), said),
-        ["file", ..] => tell_of_open(rt, files, call, said),
-        ["folder", name] => said.so(make_folder(rt, name), "so"),
-        ["remove", name] => said.so(fs::remove_dir_all(rt, name).is_ok(), "so"),
-        ["put", path, text @ ..] if !text.is_empty() => said.so(put(rt, path, text), "so"),
+/// Makes a call on files. Returns whether it is one.
+pub fn tell(rt: &HostRuntime, files: &mut Files, call: &Call, said: &mut Saying) -> bool {
+    let name = call.word(1);
+    match call.word(0) {
+        "create" | "open" => files.take(open(rt, call), said),
+        "file" => tell_of_file(rt, files, call, said),
+        "folder" => said.so(make_folder(rt, name), "so"),
+        "remove" => said.so(fs::remove_dir_all(rt, name).is_ok(), "so"),
+        "put" => said.so(put(rt, call), "so"),
         _ => return false,
     }
     true

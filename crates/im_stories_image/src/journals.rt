@@ -1,89 +1,67 @@
 //! Calls on a journal.
-//!
-//! ```text
-//! journal CELLS ELEMENTS SLOTS   a new journal, of an image of these sizes
-//! append COMMAND, append fetches 1 to N    the second: element 0 fetches cell 0, by its requests 1 to N
-//! group COMMAND and COMMAND ..   appends them as one group
-//! tail FROM, old tail FROM       reads the run from this count on; the second, of an image of the first version
-//! command I                      the command at this place of the run that was read
-//! first, count, room, to sweep   of the journal
-//! begin later FROM               the run begins at this count
-//! sweep                          a turn of the sweep: how many gates it closed
-//! slot S COMMAND, body S COMMAND puts the slot of a command in its place by hand, or all of it but the gate
-//! old slot S COMMAND             the same in an image of the first version
-//! spell S COMMAND                its code, and whether the same command is read from it
-//! ```
 
 use crate::blind::Blind;
+use crate::desk::ImageDesk;
 use crate::disks::add_passed;
-use crate::images::tell_of_image;
-use crate::place::Place;
 use im_disk::Disk;
 use im_journal::{Journal, read, spell};
-use im_story::{Call, Saying, command};
+use im_story::{Call, Saying, asked, command};
 use im_types::layout::Version;
-use im_types::{Command, LAST, MAX_GROUP, Op, Request};
-use std::alloc::Global;
+use im_types::{Command, LAST, MAX_GROUP, Op, Refusal};
 
-fn fresh(here: &mut Place, call: &Call, said: &mut Saying) {
+// Makes a new journal, of an image of these sizes.
+fn fresh(here: &mut ImageDesk, call: &Call, said: &mut Saying) {
     here.limits = call.limits(0);
-    let Some(limits) = here.limits else {
-        return said.fail("there are no such sizes");
-    };
-    here.journal = Some(Journal::fresh(limits));
     here.commands = None;
-    said.text("fresh")
-}
-
-fn append(disk: &mut Blind, journal: &mut Journal, words: &[&str], said: &mut Saying) {
-    match command(words) {
-        Some(command) => said.done(journal.append(disk, &command), "ok"),
-        None => said.fail("no command"),
+    match here.limits {
+        Some(limits) => {
+            here.journal = Some(Journal::fresh(limits));
+            said.text("fresh")
+        }
+        None => said.fail("there are no such sizes"),
     }
 }
 
 // Lets element 0 fetch cell 0, by its requests 1 to `upto`.
-fn append_fetches(disk: &mut Blind, journal: &mut Journal, upto: u64, said: &mut Saying) {
-    for number in 0..upto {
-        let command = Command::Request(Request {
-            element: 0,
-            number: number + 1,
-            op: Op::Fetch(0),
-        });
-        if let Err(refusal) = journal.append(disk, &command) {
-            return said.refusal(refusal);
+fn append_fetches(disk: &mut Blind, journal: &mut Journal, upto: u64) -> Result<(), Refusal> {
+    for before in 0..upto {
+        let fetch = asked(0, before + 1, Op::Fetch(0));
+        journal.append(disk, &Command::Request(fetch))?;
+    }
+    Ok(())
+}
+
+// Appends the command that the words tell, or those with `and` between them as one group.
+fn append(disk: &mut Blind, journal: &mut Journal, call: &Call, said: &mut Saying) {
+    let mut commands = Vec::new(call.alloc());
+    for part in call.rest(1).split(|word| *word == "and") {
+        let command = command(part);
+        said.so(command.is_some(), "");
+        if let Some(command) = command {
+            said.so(commands.push(command).is_ok(), "");
         }
     }
-    said.text("ok")
-}
-
-// Reads commands with `and` between them.
-fn several(alloc: Global, words: &[&str]) -> Option<Vec<Command>> {
-    let mut commands = Vec::new(alloc);
-    for part in words.split(|word| *word == "and") {
-        commands.push(command(part)?).ok()?;
-    }
-    Some(commands)
-}
-
-fn append_group(
-    disk: &mut Blind,
-    journal: &mut Journal,
-    commands: Option<Vec<Command>>,
-    said: &mut Saying,
-) {
-    let Some(commands) = commands else {
-        return said.fail("no commands");
-    };
     if commands.is_empty() || commands.len() > MAX_GROUP {
         return said.fail("no group has so many commands");
     }
-    said.done(journal.append_group(disk, &commands), "ok")
+    let answer = match call.word(0) {
+        "group" => journal.append_group(disk, &commands),
+        _ => journal.append(disk, &commands[0]),
+    };
+    said.done(answer, "ok")
+}
+
+// Returns the version of the image that the call is of.
+fn version_of(call: &Call) -> Version {
+    match call.word(0) {
+        "old" => Version::One,
+        _ => Version::Two,
+    }
 }
 
 // Reads the run from a count on.
-fn tail(here: &mut Place, version: Version, call: &Call, said: &mut Saying) {
-    let from = call.number(0);
+fn tail(here: &mut ImageDesk, call: &Call, said: &mut Saying) {
+    let (from, version) = (call.number(0), version_of(call));
     let (Some(disk), Some(limits)) = (&mut here.disk, here.limits) else {
         return said.fail("there is no disk, or there are no sizes");
     };
@@ -92,8 +70,7 @@ fn tail(here: &mut Place, version: Version, call: &Call, said: &mut Saying) {
     }
     match Journal::read_tail(call.alloc(), disk, version, limits, from) {
         Ok((journal, commands)) => {
-            let (count, room) = (commands.len(), journal.room());
-            write!(said, "{count} commands, room {room}");
+            write!(said, "{} commands, room {}", commands.len(), journal.room());
             here.journal = Some(journal);
             here.commands = Some(commands);
         }
@@ -101,7 +78,7 @@ fn tail(here: &mut Place, version: Version, call: &Call, said: &mut Saying) {
     }
 }
 
-fn command_read(here: &Place, at: usize) -> Option<Command> {
+fn command_read(here: &ImageDesk, at: usize) -> Option<Command> {
     match &here.commands {
         Some(commands) => commands.get(at).copied(),
         None => None,
@@ -126,101 +103,64 @@ fn sweep(disk: &mut Blind, journal: &mut Journal, said: &mut Saying) {
     }
 }
 
-// Puts the bytes of a command's slot, from this one on, in its place.
-fn put_slot(here: &mut Place, version: Version, from: usize, slot: Numbered, said: &mut Saying) {
+// Puts the slot of a command in its place, or all of it but the gate. Or tells its code, and whether the same command
+// is read from it.
+fn tell_slot(here: &mut ImageDesk, call: &Call, words: &[&str], said: &mut Saying) {
+    let Some(command) = command(words) else {
+        return said.fail("no command");
+    };
+    let (sequence, version) = (call.number(0), version_of(call));
+    let bytes = spell(&command, sequence);
+    if call.word(0) == "spell" {
+        write!(said, "code {}, read ", bytes[2]);
+        return said.either(read(&bytes) == Some(command), "again", "as another");
+    }
     let (Some(disk), Some(limits)) = (&mut here.disk, here.limits) else {
         return said.fail("there is no disk, or there are no sizes");
     };
-    let bytes = spell(&slot.command, slot.sequence);
-    if from > 1 {
-        return said.fail("a slot begins at its gate or at its body");
-    }
-    let place = (slot.sequence % limits.slots as u64) as usize;
-    let at = version.journal_at(limits) + 64 * place + from;
-    add_passed(said, disk.write_at(at, &bytes[from..]))
-}
-
-// A command with its count.
-#[derive(Clone, Copy)]
-struct Numbered {
-    sequence: u64,
-    command: Command,
-}
-
-// Reads a slot, which the words behind a call's name tell.
-fn slot(call: &Call) -> Option<Numbered> {
-    let (["slot" | "body" | "spell", _, words @ ..] | ["old", "slot", _, words @ ..]) = call.words()
-    else {
-        return None;
-    };
-    Some(Numbered {
-        sequence: call.number(0),
-        command: command(words)?,
-    })
-}
-
-// Tells the code in a command's slot, and whether the same command is read from it.
-fn spelled(slot: Numbered, said: &mut Saying) {
-    let bytes = spell(&slot.command, slot.sequence);
-    let code = bytes[2];
-    write!(said, "code {code}, read ");
-    said.either(read(&bytes) == Some(slot.command), "again", "as another")
-}
-
-// Makes calls on single slots.
-fn tell_of_slots(here: &mut Place, call: &Call, said: &mut Saying) {
-    let (Some(slot), Some(kind)) = (slot(call), call.words().first()) else {
-        return tell_of_image(here, call, said);
-    };
-    match *kind {
-        "slot" => put_slot(here, Version::Two, 0, slot, said),
-        "body" => put_slot(here, Version::Two, 1, slot, said),
-        "old" => put_slot(here, Version::One, 0, slot, said),
-        _ => spelled(slot, said),
+    let place = (sequence % limits.slots as u64) as usize;
+    let at = version.journal_at(limits) + 64 * place;
+    if call.word(0) == "body" {
+        add_passed(said, disk.write_at(at + 1, &bytes[1..]))
+    } else {
+        add_passed(said, disk.write_at(at, &bytes))
     }
 }
 
-// Tells what a journal knows of itself.
-fn tell_of_counts(here: &mut Place, call: &Call, said: &mut Saying) {
-    let Some(journal) = here.journal() else {
-        return tell_of_slots(here, call, said);
+// Tells what the journal knows of itself, or that of the memory with a checkpoint. Returns whether that was asked.
+fn tell_count(here: &ImageDesk, call: &Call, said: &mut Saying) -> bool {
+    let kept = match &here.kept {
+        Some(kept) => Some(kept.journal()),
+        None => here.journal.as_ref(),
+    };
+    let Some(journal) = kept else {
+        return false;
     };
     match call.form() {
         "first" => said.number(journal.first()),
         "count" => said.number(journal.count()),
         "room" => said.number(journal.room() as u64),
         "to sweep" => said.number(journal.to_sweep() as u64),
-        _ => tell_of_slots(here, call, said),
+        _ => return false,
     }
+    true
 }
 
-// Makes a call on the journal of a disk.
-fn tell_of_both(here: &mut Place, call: &Call, said: &mut Saying) {
-    let (Some(disk), Some(journal)) = (&mut here.disk, &mut here.journal) else {
-        return said.fail("there is no journal on a disk");
-    };
-    match call.words() {
-        ["append", "fetches", ..] => append_fetches(disk, journal, call.number(1), said),
-        ["append", rest @ ..] => append(disk, journal, rest, said),
-        ["group", rest @ ..] => append_group(disk, journal, several(call.alloc(), rest), said),
-        _ => sweep(disk, journal, said),
+/// Makes a call on the journal. Returns whether it is one.
+pub fn tell(here: &mut ImageDesk, call: &Call, said: &mut Saying) -> bool {
+    match (call.word(0), call.form(), &mut here.disk, &mut here.journal) {
+        (_, "journal _ _ _", _, _) => fresh(here, call, said),
+        (_, "tail _" | "old tail _", _, _) => tail(here, call, said),
+        (_, "command _", _, _) => said.command(command_read(here, call.place(0))),
+        (_, "begin later _", _, Some(journal)) => begin_later(journal, call.number(0), said),
+        (_, "append fetches _ to _", Some(disk), Some(journal)) => {
+            said.done(append_fetches(disk, journal, call.number(1)), "ok")
+        }
+        (_, "sweep", Some(disk), Some(journal)) => sweep(disk, journal, said),
+        ("append" | "group", _, Some(disk), Some(journal)) => append(disk, journal, call, said),
+        ("slot" | "body" | "spell", _, _, _) => tell_slot(here, call, call.rest(2), said),
+        ("old", _, _, _) if call.word(1) == "slot" => tell_slot(here, call, call.rest(3), said),
+        _ => return tell_count(here, call, said),
     }
-}
-
-/// Makes a call on the journal, or else one of those of an image.
-pub fn tell_of_journal(here: &mut Place, call: &Call, said: &mut Saying) {
-    match call.form() {
-        "journal _ _ _" => fresh(here, call, said),
-        "tail _" => tail(here, Version::Two, call, said),
-        "old tail _" => tail(here, Version::One, call, said),
-        "begin later _" => match &mut here.journal {
-            Some(journal) => begin_later(journal, call.number(0), said),
-            None => said.fail("there is no journal"),
-        },
-        "command _" => said.command(command_read(here, call.place(0))),
-        _ => match call.words() {
-            ["append" | "group" | "sweep", ..] => tell_of_both(here, call, said),
-            _ => tell_of_counts(here, call, said),
-        },
-    }
+    true
 }

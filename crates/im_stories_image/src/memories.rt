@@ -1,39 +1,38 @@
 //! Calls on a memory that was made or was read from an image.
-//!
-//! ```text
-//! memory CELLS ELEMENTS SLOTS    an empty one
-//! step COMMAND                   its answer
-//! block A, waiting A             the block that a cell lies in, and who waits at it
-//! collect NAME, window ELEMENT   what is kept
-//! walk TURNS EVERY               a random walk: see walks.rt
-//! ```
 
-use crate::checkpoints::tell_of_checkpoint;
-use crate::commands::{add_block, keep};
-use crate::place::Place;
-use crate::walks::walk;
+use crate::desk::ImageDesk;
+use crate::walks::PageWalk;
 use im_memory::Memory;
 use im_story::{Call, Saying, command};
+use im_types::Block;
 
-fn make(here: &mut Place, call: &Call, said: &mut Saying) {
-    let Some(limits) = call.limits(0) else {
-        return said.fail("there are no such sizes");
+// Makes an empty memory.
+fn make(here: &mut ImageDesk, call: &Call, said: &mut Saying) {
+    here.limits = call.limits(0);
+    here.memory = match here.limits {
+        Some(limits) => Memory::new(call.alloc(), limits).ok(),
+        None => None,
     };
-    here.limits = Some(limits);
-    let made = Memory::new(call.alloc(), limits);
-    keep(&mut here.memory, made, "empty", said)
+    said.so(here.memory.is_some(), "empty")
+}
+
+// Tells a block, or that a cell is in none.
+fn tell_block(block: Option<Block>, said: &mut Saying) {
+    match block {
+        Some(block) => {
+            said.kind(block.kind);
+            write!(said, " {} at {}", block.length, block.base)
+        }
+        None => said.text("none"),
+    }
 }
 
 // Tells who waits at a cell, in order.
-fn waiting(memory: &Memory, a: u32, said: &mut Saying) {
-    for at in 0..4_097usize {
-        let Some(waiter) = memory.waiter(a, at) else {
-            return;
-        };
-        said.name(waiter.element, waiter.number);
+fn tell_waiting(memory: &Memory, a: u32, said: &mut Saying) {
+    for waiter in memory.waiters(a) {
         said.text(" ");
+        said.waiter(Some(waiter))
     }
-    said.text("and others")
 }
 
 fn step(memory: &mut Memory, words: &[&str], said: &mut Saying) {
@@ -43,37 +42,36 @@ fn step(memory: &mut Memory, words: &[&str], said: &mut Saying) {
     }
 }
 
-fn walk_over(here: &mut Place, call: &Call, said: &mut Saying) {
-    let (Some(memory), Some(limits)) = (&mut here.memory, here.limits) else {
+// Makes random commands, with the pages read again after the first of each so many.
+fn walk(here: &mut ImageDesk, call: &Call, said: &mut Saying) {
+    let (Some(memory), Some(limits)) = (here.memory.take(), here.limits) else {
         return said.fail("there is no memory");
     };
-    walk(memory, limits, call, said)
+    let mut walk = PageWalk {
+        alloc: call.alloc(),
+        memory,
+        limits,
+        every: call.number(2),
+        accepted: 0,
+    };
+    call.walk(&mut walk, said);
+    said.either(walk.accepted > 100, ", more", ", no more");
+    said.text(" than 100 accepted");
+    here.memory = Some(walk.memory);
 }
 
-// Makes a call on a memory that is there.
-fn tell_of_contents(memory: &mut Memory, call: &Call, said: &mut Saying) {
-    match call.form() {
-        "block _" => add_block(said, memory.block(call.address(0))),
-        "waiting _" => waiting(memory, call.address(0), said),
-        "collect _._" => said.answer(memory.collect(call.element(0), call.number(1))),
-        "window _" => said.window(memory.window(call.element(0))),
-        _ => match call.words() {
-            ["step", rest @ ..] => step(memory, rest, said),
-            _ => said.fail("that is no call"),
-        },
+/// Makes a call on the memory. Returns whether it is one.
+pub fn tell(here: &mut ImageDesk, call: &Call, said: &mut Saying) -> bool {
+    let (element, number, a) = (call.element(0), call.number(1), call.address(0));
+    match (call.word(0), call.form(), &mut here.memory) {
+        (_, "memory _ _ _", _) => make(here, call, said),
+        (_, "walk _ from _ reading each _", _) => walk(here, call, said),
+        (_, "block _", Some(memory)) => tell_block(memory.block(a), said),
+        (_, "waiting _", Some(memory)) => tell_waiting(memory, a, said),
+        (_, "collect _._", Some(memory)) => said.answer(memory.collect(element, number)),
+        (_, "window _", Some(memory)) => said.window(memory.window(element)),
+        ("step", _, Some(memory)) => step(memory, call.rest(1), said),
+        _ => return false,
     }
-}
-
-/// Makes a call on the memory, or else one of those of a checkpoint.
-pub fn tell_of_memory(here: &mut Place, call: &Call, said: &mut Saying) {
-    match call.form() {
-        "memory _ _ _" => make(here, call, said),
-        "walk _ _" => walk_over(here, call, said),
-        _ => match (call.words(), &mut here.memory) {
-            (["step" | "block" | "waiting" | "collect" | "window", ..], Some(memory)) => {
-                tell_of_contents(memory, call, said)
-            }
-            _ => tell_of_checkpoint(here, call, said),
-        },
-    }
+    true
 }

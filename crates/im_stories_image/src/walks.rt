@@ -3,123 +3,71 @@
 use crate::images::area_of;
 use im_image::{PAGE, area_pages, decode};
 use im_memory::Memory;
-use im_story::{Call, Dice, Saying};
+use im_story::{Dice, Saying, Steps};
 use im_types::layout::Version;
-use im_types::{Command, Limits, Outcome};
+use im_types::{Limits, Outcome};
 use std::alloc::Global;
 
-// Returns a random command of one of four elements.
-fn drawn(dice: &mut Dice, memory: &Memory, cells: u32) -> Command {
-    let element = dice.below(4) as u16;
-    let window = memory.window(element).unwrap_or((1, 1));
-    dice.command(element, window, cells)
+/// A memory that takes random commands.
+#[derive(Drop)]
+pub struct PageWalk {
+    /// The allocator of the pages.
+    pub alloc: Global,
+    /// The memory.
+    pub memory: Memory,
+    /// Its sizes.
+    pub limits: Limits,
+    /// The pages are read again after the first of each so many commands.
+    pub every: u64,
+    /// How many requests were accepted.
+    pub accepted: u64,
 }
 
-fn has_same_waiters(memory: &Memory, other: &Memory, a: u32) -> bool {
-    for at in 0..257usize {
-        if memory.waiter(a, at) != other.waiter(a, at) {
+// Tells all cells with who waits at them, and all windows with what is kept in them.
+fn tell_all(memory: &Memory, said: &mut Saying) {
+    for a in 0..memory.cells() {
+        said.place(memory.cell(a), memory.block(a));
+        for waiter in memory.waiters(a) {
+            said.waiter(Some(waiter));
+        }
+    }
+    for element in 0..memory.elements() {
+        let window = memory.window(element);
+        let (base, next) = window.unwrap_or((1, 1));
+        said.window(window);
+        for number in base..next {
+            said.kept(memory.kept(element, number));
+        }
+    }
+}
+
+impl PageWalk {
+    // Returns whether the memory that the pages show has the same cells and the same windows.
+    fn is_read_again(&self) -> bool {
+        let Some(area) = area_of(self.alloc, &self.memory, self.limits) else {
+            return false;
+        };
+        if area.len() != PAGE * area_pages(self.limits) {
             return false;
         }
-    }
-    true
-}
-
-fn have_same_cells(memory: &Memory, other: &Memory, cells: u32) -> bool {
-    for a in 0..cells {
-        if memory.cell(a) != other.cell(a)
-            || memory.block(a) != other.block(a)
-            || !has_same_waiters(memory, other, a)
-        {
+        let Ok(again) = decode(self.alloc, Version::Two, &area, self.limits) else {
             return false;
-        }
-    }
-    true
-}
-
-fn have_same_entries(memory: &Memory, other: &Memory, element: u16) -> bool {
-    let Ok((base, next)) = memory.window(element) else {
-        return false;
-    };
-    for number in base..next {
-        if memory.kept(element, number) != other.kept(element, number) {
-            return false;
-        }
-    }
-    true
-}
-
-fn have_same_windows(memory: &Memory, other: &Memory, elements: u16) -> bool {
-    for element in 0..elements {
-        if memory.window(element) != other.window(element)
-            || !have_same_entries(memory, other, element)
-        {
-            return false;
-        }
-    }
-    true
-}
-
-// Returns whether the memory that a memory's pages show has the same cells and the same windows.
-fn is_read_again(alloc: Global, memory: &Memory, limits: Limits) -> bool {
-    let Some(area) = area_of(alloc, memory, limits) else {
-        return false;
-    };
-    if area.len() != PAGE * area_pages(limits) {
-        return false;
-    }
-    match decode(alloc, Version::Two, &area, limits) {
-        Ok(again) => {
-            have_same_cells(memory, &again, limits.cells)
-                && have_same_windows(memory, &again, limits.elements)
-        }
-        Err(_) => false,
+        };
+        let (mut told, mut same) = (Saying::new(self.alloc), Saying::new(self.alloc));
+        tell_all(&self.memory, &mut told);
+        tell_all(&again, &mut same);
+        told.said() == same.said() && !told.is_wrong()
     }
 }
 
-// The result of a walk.
-#[derive(Clone, Copy)]
-struct Walked {
-    accepted: u32,
-    alike: u32,
-    others: u32,
-}
-
-impl Walked {
-    fn step(&mut self, dice: &mut Dice, memory: &mut Memory, cells: u32) {
-        let command = drawn(dice, memory, cells);
-        if let Ok(Outcome::Entry(_)) = memory.step(&command) {
+impl Steps for PageWalk {
+    fn step(&mut self, number: u64, dice: &mut Dice) -> bool {
+        let element = dice.below(4) as u16;
+        let window = self.memory.window(element).unwrap_or((1, 1));
+        let command = dice.command(element, window, self.limits.cells);
+        if let Ok(Outcome::Entry(_)) = self.memory.step(&command) {
             self.accepted = self.accepted.saturating_add(1);
         }
+        self.every == 0 || number % self.every != 0 || self.is_read_again()
     }
-
-    fn compare(&mut self, alloc: Global, memory: &Memory, limits: Limits) {
-        if is_read_again(alloc, memory, limits) {
-            self.alike = self.alike.saturating_add(1);
-        } else {
-            self.others = self.others.saturating_add(1);
-        }
-    }
-}
-
-/// Makes random commands: how many, is the call's first number. After the first of each so many as its second number
-/// says, the pages of the memory are made and read again. Tells how many memories were the same then, how many weren't,
-/// and whether more than 100 requests were accepted.
-pub fn walk(memory: &mut Memory, limits: Limits, call: &Call, said: &mut Saying) {
-    let (turns, every) = (call.address(0), call.address(1));
-    let mut walked = Walked {
-        accepted: 0,
-        alike: 0,
-        others: 0,
-    };
-    let mut dice = Dice::new(1);
-    for turn in 0..turns {
-        walked.step(&mut dice, memory, limits.cells);
-        if every != 0 && turn % every == 0 {
-            walked.compare(call.alloc(), memory, limits);
-        }
-    }
-    let (alike, others) = (walked.alike, walked.others);
-    write!(said, "{alike} alike, {others} not, ");
-    said.either(walked.accepted > 100, "more", "no more");
-    said.text(" than 100 accepted")
 }

@@ -13,13 +13,14 @@
 //! taken apart, as a [`Call`], and tells its answer to a [`Saying`], which keeps what goes wrong until the end. So no
 //! arm of its interpreter has a way out, which is what its proof would cost.
 //!
-//! The crate stands on `im_types`, and the crates that tell stories use it. It promises nothing but that it ends: a
-//! story is a test.
+//! The crate stands on `im_types` and `im_disk`, and the crates that tell stories use it. It promises nothing but that
+//! it ends: a story is a test.
 #![tactic(auto)]
 
 mod calls;
 mod cases;
 mod dice;
+mod disks;
 mod files;
 mod old;
 mod paper;
@@ -32,9 +33,10 @@ mod words;
 pub use calls::Call;
 pub use cases::Cases;
 pub use dice::Dice;
+pub use disks::{changes, crash, mode};
 pub use files::walk_files;
 pub use old::old_image;
 pub use paper::Paper;
 pub use says::Saying;
-pub use walks::{Scene, Steps};
-pub use words::{asked, bytes, change, command, hex, name, op, request};
+pub use walks::{Scene, Steps, tell_line};
+pub use words::{asked, bytes, change, command, hex, op, request};

@@ -79,6 +79,14 @@ impl Saying {
         }
     }
 
+    /// Adds words, with a space between two of them.
+    pub fn words(&mut self, words: &[&str]) {
+        for (at, word) in words.iter().enumerate() {
+            self.either(at == 0, "", " ");
+            self.text(word);
+        }
+    }
+
     /// Adds what `write!` formats.
     pub fn write_fmt<D: Display + Drop>(&mut self, value: D) {
         if self.text.write_fmt(value).is_err() {

@@ -178,6 +178,14 @@ impl Saying {
         self.run(run, count, least)
     }
 
+    /// Adds so many of some bytes, from a place on, in the same way.
+    pub fn part(&mut self, bytes: &[u8], at: usize, count: usize, least: usize) {
+        match bytes.get(at..at.saturating_add(count)) {
+            Some(part) => self.bytes(part, least),
+            None => self.fail("there are not so many bytes"),
+        }
+    }
+
     /// Adds `refused N NAME`.
     pub fn refusal(&mut self, refusal: Refusal) {
         let number = refusal.number();

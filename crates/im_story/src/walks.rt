@@ -79,8 +79,8 @@ impl Walked {
     }
 }
 
-// Makes a call, and says its answer.
-fn tell<S: Scene>(alloc: Global, asked: &str, scene: &mut S, said: &mut Saying) {
+/// Makes the call that these words tell, and says its answer.
+pub fn tell_line<S: Scene>(alloc: Global, asked: &str, scene: &mut S, said: &mut Saying) {
     match asked.split_whitespace().collect::<Vec<&str>>(alloc) {
         Ok(words) => scene.make(&Call::of(alloc, words.as_slice()), said),
         Err(_) => said.fail("no memory is left"),
@@ -91,7 +91,7 @@ fn tell<S: Scene>(alloc: Global, asked: &str, scene: &mut S, said: &mut Saying) 
 fn is_so<S: Scene>(alloc: Global, line: &str, scene: &mut S, out: &mut Saying) -> bool {
     let (asked, expected) = line.split_once(" =").unwrap_or((line, "an answer"));
     let mut said = Saying::new(alloc);
-    tell(alloc, asked, scene, &mut said);
+    tell_line(alloc, asked, scene, &mut said);
     let (answer, expected) = (said.said().trim(), expected.trim());
     let is_so = answer == expected && !said.is_wrong();
     if !is_so {

@@ -1,11 +1,12 @@
-//! Files in memory for stories: how their disks fail, what a crash leaves of them, and images on them.
+//! Files in memory for stories: how their disks fail, what a crash leaves of them, images on them, and the words for
+//! all that.
 //!
 //! The crate stands on `im_engine`, by which an image is made and opened. Like `im_story` it promises nothing but that
 //! it ends.
 #![tactic(auto)]
 
-mod place;
-mod words;
+mod calls;
+mod story_file;
 
-pub use place::{Place, STEADY};
-pub use words::{changes, crash, mode};
+pub use im_story::{changes, crash, mode};
+pub use story_file::{STEADY, StoryFile, StoryFile as Place};

@@ -2,7 +2,7 @@
 
 use im_disk::{Crash, Disk, FuseDisk, MemDisk, Mode};
 use im_engine::Engine;
-use im_story::Saying;
+use im_story::{Saying, old_image};
 use im_types::layout::image_length;
 use im_types::{LAST, Limits, Refusal};
 use std::alloc::Global;
@@ -11,7 +11,7 @@ use std::alloc::Global;
 pub const STEADY: (u64, Mode) = (LAST, Mode::Stop);
 
 /// An engine, or the file of one that was closed or couldn't be made, or none.
-pub struct Place {
+pub struct StoryFile {
     /// The allocator of what is made.
     pub alloc: Global,
     /// The engine, unless it is closed.
@@ -25,9 +25,9 @@ pub struct Place {
 }
 
 // By one call, wherever its owner may end.
-impl Drop for Place {
+impl Drop for StoryFile {
     fn drop(self) {
-        let Place {
+        let StoryFile {
             alloc: _,
             engine: _,
             disk: _,
@@ -38,10 +38,10 @@ impl Drop for Place {
     }
 }
 
-impl Place {
+impl StoryFile {
     /// Starts with no file.
-    pub fn new(alloc: Global) -> Place {
-        Place {
+    pub fn new(alloc: Global) -> StoryFile {
+        StoryFile {
             alloc,
             engine: None,
             disk: None,
@@ -119,8 +119,8 @@ impl Place {
     }
 
     /// Returns a copy of the file, all of it synced.
-    pub fn copy(&self) -> Place {
-        let mut place = Place::new(self.alloc);
+    pub fn copy(&self) -> StoryFile {
+        let mut place = StoryFile::new(self.alloc);
         let _is_laid = place.lay(self.bytes(), self.bytes().len());
         place
     }
@@ -218,6 +218,14 @@ impl Place {
         let is_begun = self.begin(limits, STEADY);
         self.close();
         is_begun
+    }
+
+    /// Makes a new file with an image of the first version that has no command. Returns whether it is there.
+    pub fn renew_old(&mut self, limits: Limits) -> bool {
+        match old_image(self.alloc, limits) {
+            Ok(image) => self.lay(image.as_slice(), image.len()),
+            Err(_) => false,
+        }
     }
 
     /// Lets the disk crash. Returns whether there is one, and no engine on it.

@@ -1,7 +1,7 @@
 //! How disks fail, what a crash leaves of them, and bytes at their places, in the words of a story.
 
+use crate::words::{change, hex};
 use im_disk::{Crash, Mode};
-use im_story::{change, hex};
 use std::alloc::Global;
 
 /// Reads how a disk fails: `stop` for good, `once`, or once with a scar. A scar, `scar:BYTE`, is a byte all over what
