@@ -126,6 +126,11 @@ abbrev pub MeansPlanDone : Limits → List ℕ → List ℕ → Type 0
 MeansPlanDone limits text file = (put : List Command) × ((m : Contents)
     × (HasDoneByPlan limits text put m × Means m (length put) 0 file))
 
+-- if each file that is left at the one moment means what planned runs of the script come to, each that is left at the
+-- other one means so much of it
+abbrev pub CarriesPlanOver : Limits → List ℕ → Moment → Moment → (Limits → List ℕ → List ℕ → Type 0) → Type 0
+CarriesPlanOver limits text old new Q = CarriesOver old (MeansPlanned limits text) new (Q limits text)
+
 -- each entry that both memories keep for a request of the plan is the same
 abbrev pub HaveSameEntries : List Request → Contents → Contents → Type 0
 HaveSameEntries plan m n = (r : Request) (entry later : Entry) → IsInPlan plan r
@@ -143,9 +148,9 @@ pub record KeepsRun {D : Type 0} (disk : Ghosts D) (planned : Bool) (text : List
   pub served : (limits : Limits) → status ≡ 0
       → CarriesOver (disk.now old) (MeansAccepted limits) (disk.now new) (MeansServed limits text)
   pub by_plan : (limits : Limits) → planned ≡ true
-      → CarriesOver (disk.now old) (MeansPlanned limits text) (disk.now new) (MeansPlanned limits text)
+      → CarriesPlanOver limits text (disk.now old) (disk.now new) MeansPlanned
   pub ended : (limits : Limits) → planned ≡ true → status ≡ 0
-      → CarriesOver (disk.now old) (MeansPlanned limits text) (disk.now new) (MeansPlanDone limits text)
+      → CarriesPlanOver limits text (disk.now old) (disk.now new) MeansPlanDone
 
 -- the same of a disk that is honest at the end
 abbrev pub KeepsRuns : {D : Type 0} → Ghosts D → Bool → List ℕ → D → D → ℕ → Type 0

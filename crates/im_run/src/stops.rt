@@ -6,8 +6,8 @@ ghost use Rattle.im_types.specs.declared.sizes.Limits.{Limits};
 ghost use Rattle.im_types.specs.Contents.{Contents, full_at};
 ghost use Rattle.im_types.specs.Meaning.{Means, accept_each};
 ghost use Rattle.im_serial.specs.Begun.{new_memory};
-ghost use Rattle.im_run.specs.Stops.{ActInOrder, CarriesOver, HasDoneByPlan, HaveSameEntries, KeepsRuns};
-ghost use Rattle.im_run.specs.Stops.{MeansAccepted, MeansPlanDone, MeansPlanned, MeansServed};
+ghost use Rattle.im_run.specs.Stops.{ActInOrder, CarriesOver, CarriesPlanOver, HasDoneByPlan, HaveSameEntries};
+ghost use Rattle.im_run.specs.Stops.{KeepsRuns, MeansAccepted, MeansPlanDone, MeansPlanned, MeansServed};
 
 use crate::context::RunContext;
 use crate::once::run_once_on;
@@ -94,11 +94,9 @@ pub fn run_over_stops<W: Write, N: Observer, G: Gate + Sync, V: Watcher + Sync, 
     ensures served { (limits : Limits) → result.0 ≡ 0 → CarriesOver image.disk.moment (MeansAccepted limits)
         result.1.moment (MeansServed limits asked.entry.script.now) }
     ensures planned { (limits : Limits) → asked.entry.mode.planned ≡ true
-        → CarriesOver image.disk.moment (MeansPlanned limits asked.entry.script.now) result.1.moment
-        (MeansPlanned limits asked.entry.script.now) }
+        → CarriesPlanOver limits asked.entry.script.now image.disk.moment result.1.moment MeansPlanned }
     ensures ended { (limits : Limits) → asked.entry.mode.planned ≡ true → result.0 ≡ 0
-        → CarriesOver image.disk.moment (MeansPlanned limits asked.entry.script.now) result.1.moment
-        (MeansPlanDone limits asked.entry.script.now) }
+        → CarriesPlanOver limits asked.entry.script.now image.disk.moment result.1.moment MeansPlanDone }
 {
     let Interrupted { mut disk, stops } = image;
     for at in 0..stops.len() {

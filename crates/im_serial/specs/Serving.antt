@@ -291,13 +291,3 @@ SerialOn disk text old new was is status = NotOpened disk.now disk.past old new 
 -- The same of a disk that is honest at the end.
 abbrev pub ServesOn : {D : Type 0} → Ghosts D → List ℕ → D → D → Option (List ℕ) → Option (List ℕ) → ℕ → Type 0
 ServesOn disk text old new was is status = disk.honest new → SerialOn disk text old new was is status
-
--- The same of some script, and of a disk that is at this moment, and has no moment before it.
-pub record ServedFrom {D : Type 0} (now : D → Moment) (past : D → List Moment) (failures : D → ℕ) (first : Moment)
-    (new : D) (before after : Option (List ℕ)) (status : ℕ) : Type 0 where
-  pub old : D
-  pub was : now old ≡ first
-  pub none : past old ≡ []
-  pub text : List ℕ
-  pub served : NotOpened now past old new before after status
-      ⊎ Served now past failures text old new before after status
