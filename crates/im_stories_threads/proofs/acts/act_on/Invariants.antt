@@ -1,6 +1,6 @@
 -- Where the controller begins, over a disk that is always honest.
 use Rattle.std.specs.Prelude.{false}
-use Rattle.im_stories_threads.proofs.naming.act_on.Given as goal
+use Rattle.im_stories_threads.proofs.acts.act_on.Given as goal
 
 abbrev pub ghosts-act_named : goal.ghosts-act_named
 ghosts-act_named g a = let e = a.opening.engine in record {
