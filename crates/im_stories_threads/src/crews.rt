@@ -139,16 +139,7 @@ impl<K: Name + Send + Sync, R: Host> Cast<'_, K, R> {
             };
             (played, looked, is_rested, has_kept)
         });
-        for it in played {
-            self.take_back(it)
-        }
-        for it in looked.iter() {
-            let (refused, wrong, back) = (it.refused, it.wrong, it.back);
-            writeln!(
-                self.said,
-                "  looked: refused {refused}, wrong {wrong}, back {back}"
-            );
-        }
+        self.gather(played, looked.as_slice());
         if let Some(room) = wanted {
             writeln!(
                 self.said,
@@ -159,11 +150,20 @@ impl<K: Name + Send + Sync, R: Host> Cast<'_, K, R> {
         looked
     }
 
-    // Tells what came of a role, and takes its port back.
-    fn take_back(&mut self, played: Player<K>) {
-        write!(self.said, "  accepted {}, last ", played.accepted);
-        self.said.outcome(played.last);
-        self.said.text("\n");
-        self.keep(played.port)
+    // Tells what came of the roles and of the glances, and takes the ports back.
+    fn gather(&mut self, played: Vec<Player<K>>, looked: &[Looked<Shown<K>>]) {
+        for it in played {
+            write!(self.said, "  accepted {}, last ", it.accepted);
+            self.said.outcome(it.last);
+            self.said.text("\n");
+            self.keep(it.port)
+        }
+        for it in looked {
+            let (refused, wrong, back) = (it.refused, it.wrong, it.back);
+            writeln!(
+                self.said,
+                "  looked: refused {refused}, wrong {wrong}, back {back}"
+            );
+        }
     }
 }
