@@ -23,10 +23,10 @@ pub fn turn(order: u32, behind: u32) -> u32 {
 
 /// Returns whether the order with this number gives each element a turn for each of its two requests.
 pub fn is_order(order: u32) -> bool {
-    for before in 0..ELEMENTS {
+    for element in 1..=ELEMENTS {
         let mut turns = 0u32;
         for behind in 0..2 * ELEMENTS {
-            turns = turns.saturating_add(u32::from(turn(order, behind) == before + 1));
+            turns = turns.saturating_add(u32::from(turn(order, behind) == element));
         }
         if turns != 2 {
             return false;

@@ -20,8 +20,8 @@ impl<K: Name + Send + Sync, R: Host> Cast<'_, K, R> {
         if intents.is_empty() {
             return None;
         }
-        let port = self.port(element)?;
         let glances = Glances::new(self.rt, self.alloc, self.controller, element).ok()?;
+        let port = self.port(element)?;
         let entries = Vec::new(self.alloc);
         let served = Served {
             element,
