@@ -33,7 +33,7 @@ const ALONE: [Wish; 1] = [(1, 1, Op::Fetch(0))];
 const TWICE: [Wish; 2] = [(2, 1, Op::Store(0, 5)), (3, 1, Op::Store(0, 7))];
 
 /// What is done under a plan.
-#[derive(Clone, Copy, PartialEq, Eq)]
+#[derive(Clone, Copy)]
 pub enum Planned {
     /// Serves all that is planned, in the order with this number.
     Serves(u32),
@@ -130,7 +130,7 @@ fn show_planned<R: Host>(rt: &R, planned: Planned, said: &mut Saying) {
         return said.text("  no image\n");
     };
     set_up(&mut engine, 1, Op::Alloc(Kind::I, 2), said);
-    if planned == Planned::FindsFull {
+    if let Planned::FindsFull = planned {
         set_up(&mut engine, 2, Op::Store(0, 1), said)
     }
     let wishes = match planned {

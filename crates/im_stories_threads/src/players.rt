@@ -21,7 +21,7 @@ const BEFORE: u64 = 60;
 pub const NO_CELL: Result<Outcome, Refusal> = Ok(Outcome::Entry(Entry::Answered(Reply::NoCell)));
 
 /// What a thread does with its port: requests from number 1 on, or waiting for an answer, or both.
-#[derive(Clone, Copy, PartialEq, Eq)]
+#[derive(Clone, Copy)]
 pub enum Role {
     /// This many fetches of address 0, where no block is.
     Fetches(u64),
@@ -125,7 +125,7 @@ impl<K: Name> Player<K> {
         let (element, role) = (self.element, self.role);
         let (many, awaited) = role.extent();
         let finds_no_block = matches!(role, Role::Fetches(_) | Role::StoresLate);
-        if role == Role::RetiresAndWaits {
+        if let Role::RetiresAndWaits = role {
             self.port.retire(rt, controller);
         }
         for i in 0..many {
