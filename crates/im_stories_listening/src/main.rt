@@ -29,7 +29,10 @@ struct Mouth<R: Drop> {
 
 impl<R: Wait + Drop> Read for Mouth<R> {
     fn read(&mut self, buf: &mut [u8]) -> io::Result<usize> {
-        let (Some(first), Ok(byte)) = (buf.first_mut(), self.said.recv(&self.rt)) else {
+        let Some(first) = buf.first_mut() else {
+            return Ok(0); // It waits for nothing then.
+        };
+        let Ok(byte) = self.said.recv(&self.rt) else {
             return Ok(0);
         };
         *first = byte;
