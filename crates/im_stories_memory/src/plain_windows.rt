@@ -1,6 +1,6 @@
-//! The steps of a random walk over windows, beside windows that are kept plainly.
+//! A random walk over windows, beside windows that are kept plainly.
 
-use crate::windows::{answer, ask, restore};
+use crate::windows::{Windows, answer, ask, restore};
 use im_sessions::Sessions;
 use im_story::{Dice, asked};
 use im_types::{Entry, Judged, Kept, Kind, Op, Refusal, Reply, WINDOW, Waiter};
@@ -24,10 +24,8 @@ impl PlainWindow {
     }
 
     fn kept(&self, number: u64) -> Option<Kept> {
-        if number < self.base {
-            return None;
-        }
-        self.all.get(place_of(number)).copied()
+        let kept = self.all.get(place_of(number)).copied();
+        kept.filter(|_| number >= self.base)
     }
 
     fn judge(&self, number: u64, op: Op) -> Result<Judged, Refusal> {
@@ -51,10 +49,8 @@ impl PlainWindow {
 
     fn answer(&mut self, number: u64, reply: Reply) -> bool {
         let waits = self.entry(number) == Ok(Entry::Waiting);
-        if let Some(kept) = self.all.get_mut(place_of(number)) {
-            if waits {
-                kept.entry = Entry::Answered(reply);
-            }
+        if let (true, Some(kept)) = (waits, self.all.get_mut(place_of(number))) {
+            kept.entry = Entry::Answered(reply);
         }
         waits
     }
@@ -63,10 +59,8 @@ impl PlainWindow {
         if upto > self.next() {
             return Err(Refusal::Gap);
         }
-        for number in self.base..upto {
-            if self.entry(number) == Ok(Entry::Waiting) {
-                return Err(Refusal::NotAnswered);
-            }
+        if (self.base..upto).any(|number| self.entry(number) == Ok(Entry::Waiting)) {
+            return Err(Refusal::NotAnswered);
         }
         self.base = self.base.max(upto);
         Ok(())
@@ -97,10 +91,10 @@ fn any_number(dice: &mut Dice, plain: &PlainWindow) -> u64 {
     match dice.below(3) {
         0 => plain.next(),
         1 => plain.base.saturating_add(dice.below(3) as u64),
-        _ => plain
-            .base
-            .saturating_add(dice.below(70) as u64)
-            .saturating_sub(2),
+        _ => {
+            let number = plain.base.saturating_add(dice.below(70) as u64);
+            number.saturating_sub(2)
+        }
     }
 }
 
@@ -153,45 +147,32 @@ fn call_both(
 
 // Restores each window from the plain one. Returns whether all of them are within their bounds.
 fn restore_all(sessions: &mut Sessions, plain: &[PlainWindow]) -> bool {
-    let mut element = 0u16;
-    for window in plain {
-        let is_made = match window.all.as_slice().get(place_of(window.base)..) {
-            Some(kept) => restore(sessions, element, window.base, kept),
-            None => false,
-        };
-        if !is_made {
-            return false;
-        }
-        element = element.saturating_add(1);
-    }
-    true
-}
-
-/// Makes a thrown call on one of three windows, and restores them after one in ten if that is asked for. Returns
-/// whether they are as the plain ones are.
-pub fn step(
-    sessions: &mut Sessions,
-    plain: &mut [PlainWindow],
-    restores: bool,
-    dice: &mut Dice,
-) -> bool {
-    let element = dice.below(3);
-    let agrees = match plain.get_mut(element as usize) {
-        Some(window) => call_both(sessions, window, element as u16, dice),
-        None => false,
-    };
-    agrees && (!restores || dice.below(10) != 0 || restore_all(sessions, plain))
+    (0..3u16).zip(plain).all(|(element, window)| {
+        let kept = window.all.as_slice().get(place_of(window.base)..);
+        kept.is_some_and(|kept| restore(sessions, element, window.base, kept))
+    })
 }
 
 /// Makes three plain windows with no entry.
 pub fn begin(alloc: Global) -> Option<Vec<PlainWindow>> {
     let mut windows = Vec::new(alloc);
     for _ in 0..3u32 {
-        let window = PlainWindow {
-            base: 1,
-            all: Vec::new(alloc),
-        };
-        windows.push(window).ok()?;
+        let (base, all) = (1, Vec::new(alloc));
+        windows.push(PlainWindow { base, all }).ok()?;
     }
     Some(windows)
+}
+
+/// Makes a thrown call on one of three windows, and restores them after one in ten if that is asked for. Returns
+/// whether they are as the plain ones are.
+pub fn step(windows: &mut Windows, dice: &mut Dice) -> bool {
+    let (element, sessions) = (dice.below(3), &mut windows.sessions);
+    let Some(window) = windows.plain.get_mut(element as usize) else {
+        return false;
+    };
+    let agrees = call_both(sessions, window, element as u16, dice);
+    agrees
+        && (!windows.restores
+            || dice.below(10) != 0
+            || restore_all(sessions, windows.plain.as_slice()))
 }
