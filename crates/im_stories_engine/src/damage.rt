@@ -37,11 +37,15 @@ fn tell_values(copy: &mut StoryFile, bytes: &[u8], at: usize, said: &mut Saying)
 // Tells the results at each place, or of files of each number of zeros, from one to another. They have to be the same.
 fn tell_same(engines: &Engines, copy: &mut StoryFile, call: &Call, said: &mut Saying) {
     let bytes = engines.file.bytes();
-    said.alike(call.number(0)..=call.number(1), |at, one| match call.word(0) {
-        "zeros" => tell_length(copy, &[], at as usize, one),
-        "each" => tell_at(copy, bytes, at as usize, call.rest(5), one),
-        _ => tell_values(copy, bytes, at as usize, one),
-    })
+    for at in call.place(0)..=call.place(1) {
+        let mut one = Saying::new(call.alloc());
+        match call.word(0) {
+            "zeros" => tell_length(copy, &[], at, &mut one),
+            "each" => tell_at(copy, bytes, at, call.rest(5), &mut one),
+            _ => tell_values(copy, bytes, at, &mut one),
+        }
+        said.same(&one, at as u64);
+    }
 }
 
 // Tells the results for copies of each length up to one. Longer copies end in zeros.

@@ -23,6 +23,7 @@ fn format(engines: &mut Engines, call: &Call, said: &mut Saying) {
 }
 
 fn open(engines: &mut Engines, said: &mut Saying) {
+    said.so(engines.file.is_closed(), "");
     said.done(engines.file.start(None), "opened")
 }
 
@@ -67,7 +68,7 @@ pub fn tell(engines: &mut Engines, call: &Call, said: &mut Saying) -> bool {
         ("slot _", _) => tell_slot(engines, call.place(0), said),
         ("count", Some(engine)) => said.number(engine.count()),
         ("room", Some(engine)) => said.number(engine.room() as u64),
-        ("failed", Some(engine)) => write!(said, "{}", engine.failed()),
+        ("failed", Some(engine)) => said.truth(engine.failed()),
         ("window _", Some(engine)) => said.window(engine.window(call.element(0))),
         ("collect _._", Some(engine)) => {
             said.answer(engine.collect(call.element(0), call.number(1)))

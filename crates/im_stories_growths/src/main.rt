@@ -6,21 +6,19 @@
 
 ghost use Rattle.std.specs.Prelude.{◌≡◌, false};
 
-mod asked;
 mod disks;
-mod engines;
-mod naming;
 mod ports;
+mod requests;
+mod served;
 
-use crate::asked::{ALL, FIRST, lacks_memory};
 use crate::disks::{format, look_again, open, state, sum};
-use crate::engines::{events, run, serve_first, turn};
-use crate::naming::act_on;
-use crate::ports::{begin, begun};
+use crate::ports::{act_on, begin, begun};
+use crate::requests::{ALL, FIRST, lacks_memory};
+use crate::served::{events, run, serve_first, turn};
 use im_disk::MemDisk;
 use im_pipes::{Inlet, Outlet, Received, pipe};
 use im_story::Saying;
-use im_story_disk::Place;
+use im_story_disk::StoryFile;
 use im_types::Limits;
 use std::alloc::Global;
 use std::process::ExitCode;
@@ -33,13 +31,13 @@ const ROOM: usize = 4_096;
 const TOO_MUCH: usize = 1 << 60;
 
 // Tells how many commands an engine has.
-fn add_count(said: &mut Saying, place: &Place) {
+fn add_count(said: &mut Saying, place: &StoryFile) {
     let count = state(place).count;
     write!(said, " count {count}\n")
 }
 
 // Makes a new image and its requests, then a checkpoint of them.
-fn show_turned(place: &mut Place, limits: Limits, said: &mut Saying) {
+fn show_turned(place: &mut StoryFile, limits: Limits, said: &mut Saying) {
     said.text("  served:");
     format(place, limits, said);
     serve_first(place, ALL, said);
@@ -50,7 +48,7 @@ fn show_turned(place: &mut Place, limits: Limits, said: &mut Saying) {
 }
 
 // Makes the same requests in one run.
-fn show_run(place: &mut Place, limits: Limits, said: &mut Saying) {
+fn show_run(place: &mut StoryFile, limits: Limits, said: &mut Saying) {
     said.text("  run:");
     let events = events(place.alloc, said);
     format(place, limits, said);
@@ -59,7 +57,7 @@ fn show_run(place: &mut Place, limits: Limits, said: &mut Saying) {
 }
 
 // Shows what is found on the disk of an engine, and by an opening.
-fn show_opened(place: &mut Place, said: &mut Saying) {
+fn show_opened(place: &mut StoryFile, said: &mut Saying) {
     place.close();
     look_again(place, said);
     open(place, said);
@@ -70,7 +68,7 @@ fn show_opened(place: &mut Place, said: &mut Saying) {
 // Makes the same requests through ports, except for the one that makes the block.
 fn show_ports<R: Wait>(
     rt: &R,
-    place: &mut Place,
+    place: &mut StoryFile,
     limits: Limits,
     is_planned: bool,
     said: &mut Saying,
@@ -107,7 +105,7 @@ fn show_pipe<R: Wait>(rt: &R, alloc: Global, said: &mut Saying) {
 }
 
 // Asks for a trace that can't be made. The engine stays as it was, and so does its disk.
-fn show_no_trace<R: Wait>(rt: &R, place: &mut Place, said: &mut Saying) {
+fn show_no_trace<R: Wait>(rt: &R, place: &mut StoryFile, said: &mut Saying) {
     place.close();
     let bytes = sum(place);
     open(place, said);
@@ -123,7 +121,7 @@ fn show_no_trace<R: Wait>(rt: &R, place: &mut Place, said: &mut Saying) {
 }
 
 // Asks for more than there can be, which is refused each time.
-fn show_too_much<R: Wait>(rt: &R, place: &mut Place, limits: Limits, said: &mut Saying) {
+fn show_too_much<R: Wait>(rt: &R, place: &mut StoryFile, limits: Limits, said: &mut Saying) {
     said.text("  too much:");
     if let Err(refusal) = MemDisk::new(place.alloc, TOO_MUCH) {
         write!(said, " a disk {refusal},")
@@ -140,7 +138,7 @@ fn show<R: Wait>(rt: &R, alloc: Global, said: &mut Saying) {
     let Some(limits) = Limits::new(4, 3, 16) else {
         return said.fail("these are no sizes");
     };
-    let mut place = Place::new(alloc);
+    let mut place = StoryFile::new(alloc);
     said.text("growths: the same is told, whichever is refused\n");
     show_turned(&mut place, limits, said);
     show_opened(&mut place, said);

@@ -5,7 +5,7 @@ ghost use Rattle.im_cell.specs.Slots.{slot_at, shown_cell, shown_slot, HasBlocks
 
 use im_cell::{CellTable, Slot};
 use im_story::{Dice, Phrase, Saying};
-use im_types::{Block, Cell, CellRecord, Kind, PresenceTag, Refusal};
+use im_types::{Block, Cell, CellRecord, Kind, PresenceTag};
 use std::alloc::{AllocError, Global};
 
 // Returns the tag of a cell. The table doesn't know who waits.
@@ -48,9 +48,9 @@ fn records_of(alloc: Global, table: &CellTable) -> Result<Vec<CellRecord>, Alloc
 }
 
 // Returns the table that is restored from the records of its cells.
-fn restored(alloc: Global, table: &CellTable) -> Result<CellTable, Refusal> {
+fn restored(alloc: Global, table: &CellTable) -> Result<CellTable, AllocError> {
     let records = records_of(alloc, table)?;
-    CellTable::restore(alloc, records.as_slice())
+    CellTable::restore(alloc, records.as_slice()).map_err(|_| AllocError)
 }
 
 // Puts the restored table in the place of a table. Returns whether there was memory for it.

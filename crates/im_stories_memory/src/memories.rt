@@ -53,6 +53,14 @@ impl Memories {
     }
 }
 
+// Adds all waiters of a cell, in order. Returns whether they are those of the plain memory.
+fn add_waiting(said: &mut Saying, memories: &Memories, a: u32) -> bool {
+    for waiter in memories.fast.waiters(a) {
+        said.who(waiter);
+    }
+    memories.has_same_waiters(a)
+}
+
 // Fetches a cell under the numbers from one to another. Returns how many fetches are accepted and wait.
 fn fetches(memories: &mut Memories, call: &Phrase) -> u32 {
     let mut wait = 0u32;
@@ -130,12 +138,7 @@ fn tell_same(memories: &Memories, call: &Phrase, said: &mut Saying) -> Option<bo
             said.place(fast.cell(a), fast.block(a));
             fast.cell(a) == plain.cell(a) && fast.block(a) == plain.block(a)
         }
-        "waiting _" => {
-            for waiter in fast.waiters(a) {
-                said.who(waiter);
-            }
-            memories.has_same_waiters(a)
-        }
+        "waiting _" => add_waiting(said, memories, a),
         "waiter _ _" => {
             said.waiter(fast.waiter(a, call.place(1)));
             fast.waiter(a, call.place(1)) == plain.waiter(a, call.place(1))
@@ -165,11 +168,7 @@ fn tell_other(memories: &mut Memories, call: &Phrase, said: &mut Saying) {
         "listed _" => said.number(listed(fast, a)),
         _ => said.given(command(call.words()), "no command", |command, said| {
             let answer = memories.step(&command);
-            said.given(
-                answer,
-                "the two memories differ",
-                |answer, said| said.outcome(answer),
-            )
+            said.given(answer, "they differ", |it, said| said.outcome(it))
         }),
     }
 }
@@ -178,7 +177,7 @@ fn tell_other(memories: &mut Memories, call: &Phrase, said: &mut Saying) {
 pub fn tell(memories: &mut Memories, call: &Phrase, said: &mut Saying) {
     match tell_same(memories, call, said) {
         Some(true) => {}
-        Some(false) => said.fail("the two memories differ"),
+        Some(false) => said.fail("they differ"),
         None => tell_other(memories, call, said),
     }
 }

@@ -51,10 +51,10 @@ fn keep(window: &mut WindowRecord, entry: Option<Kept>) -> bool {
 fn keep_each(window: &mut WindowRecord, call: &Call, said: &mut Saying) {
     said.name(call.element(0), next(window));
     if call.form() != "keep _ _ stores" {
-        return said.so(keep(window, kept(call.rest(2))), "");
+        return said.check(keep(window, kept(call.rest(2))));
     }
     for value in 0..call.number(1) {
-        said.so(keep(window, Some(clashing(value))), "");
+        said.check(keep(window, Some(clashing(value))));
     }
     write!(said, " to {}", next(window).saturating_sub(1))
 }

@@ -115,7 +115,7 @@ impl Spelled {
                 self.form = form;
                 self.bytes = bytes;
             }
-            _ => said.so(call.words().len() == 1, ""),
+            _ => said.check(call.words().len() == 1),
         }
         tell_read(call.alloc(), self.form, sizes, &self.bytes, said)
     }

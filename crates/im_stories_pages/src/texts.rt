@@ -1,8 +1,8 @@
 //! Records as they are written in a story: those of cells and nodes as [`Saying`](im_story::Saying) adds them, and kept
 //! entries, `fetch 5 -> waiting`.
 
-use im_story::{Call, entry, op};
-use im_types::{Block, CellRecord, Kept, Kind, NodeRecord, PresenceTag};
+use im_story::{Call, op};
+use im_types::{Block, CellRecord, Entry, Kept, Kind, NodeRecord, PresenceTag, Reply};
 
 // Returns the tag of a cell whose form begins so, and how many numbers it has.
 fn tag(call: &Call, form: &str, at: usize) -> Option<(PresenceTag, usize)> {
@@ -56,12 +56,39 @@ pub fn node(call: &Call, form: &str, at: usize) -> Option<NodeRecord> {
     }
 }
 
+// Reads the reply to an operation, if it has no number.
+fn reply(word: &str) -> Option<Reply> {
+    match word {
+        "stored" => Some(Reply::Stored),
+        "clash" => Some(Reply::Clash),
+        "nocell" => Some(Reply::NoCell),
+        "wrongkind" => Some(Reply::WrongKind),
+        "nospace" => Some(Reply::NoSpace),
+        "badlength" => Some(Reply::BadLength),
+        "released" => Some(Reply::Released),
+        "noblock" => Some(Reply::NoBlock),
+        "stillwaiting" => Some(Reply::StillWaiting),
+        "cleared" => Some(Reply::Cleared),
+        _ => None,
+    }
+}
+
+fn entry(words: &[&str]) -> Option<Entry> {
+    match words {
+        ["->", "waiting"] => Some(Entry::Waiting),
+        ["->", "base", base] => Some(Entry::Answered(Reply::Base(base.parse::<u32>().ok()?))),
+        ["->", "value", value] => Some(Entry::Answered(Reply::Value(value.parse::<u64>().ok()?))),
+        ["->", word] => Some(Entry::Answered(reply(word)?)),
+        _ => None,
+    }
+}
+
 /// Reads a kept entry.
 pub fn kept(words: &[&str]) -> Option<Kept> {
     let arrow = words.iter().position(|word| *word == "->")?;
     let (asked, came) = words.split_at_checked(arrow)?;
     Some(Kept {
         op: op(asked)?,
-        entry: entry(came.get(1..)?)?,
+        entry: entry(came)?,
     })
 }

@@ -87,12 +87,17 @@ impl Saying {
         for number in numbers {
             let mut one = Saying::new(self.alloc());
             tell(number, &mut one);
-            if self.is_empty() {
-                self.also(&one)
-            } else if self.said() != one.said() || one.is_wrong() {
-                self.fail("not the same at ");
-                self.number(number)
-            }
+            self.same(&one, number);
+        }
+    }
+
+    /// Says what another one says if nothing was said, or else checks that it says the same. The number tells of what.
+    pub fn same(&mut self, other: &Saying, number: u64) {
+        if self.is_empty() {
+            self.also(other)
+        } else if self.said() != other.said() || other.is_wrong() {
+            self.fail("not the same at ");
+            self.number(number)
         }
     }
 }

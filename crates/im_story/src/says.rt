@@ -111,6 +111,13 @@ impl Saying {
         }
     }
 
+    /// Says that the call can't be made, unless this is so.
+    pub fn check(&mut self, is_so: bool) {
+        if !is_so {
+            self.fail("it isn't as it has to be")
+        }
+    }
+
     /// Tells of something that is there, or says why the call can't be made.
     pub fn given<T, F: FnOnce(T, &mut Saying)>(&mut self, it: Option<T>, why: &str, tell: F)
         requires { F.IsAlwaysCallable tell }

@@ -14,6 +14,11 @@ use im_types::{
 };
 
 impl Saying {
+    /// Adds `true` or `false`.
+    pub fn truth(&mut self, truth: bool) {
+        self.number(truth)
+    }
+
     /// Adds a number, or `none`.
     pub fn number_or_none(&mut self, number: Option<u32>) {
         match number {
@@ -213,11 +218,7 @@ impl Saying {
     /// Adds so many of some bytes, from a place on, in the same way.
     pub fn part(&mut self, bytes: &[u8], at: usize, count: usize, least: usize) {
         let part = bytes.get(at..at.saturating_add(count));
-        self.given(
-            part,
-            "there are not so many bytes",
-            |part, said| said.bytes(part, least),
-        )
+        self.given(part, "too few bytes", |it, said| said.bytes(it, least))
     }
 
     /// Adds `refused N NAME`.

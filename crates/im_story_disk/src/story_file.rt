@@ -51,6 +51,11 @@ impl StoryFile {
         }
     }
 
+    /// Returns whether there is a file, and no engine on it.
+    pub fn is_closed(&self) -> bool {
+        self.disk.is_some()
+    }
+
     /// Returns the file's bytes, or none if there is no file that is closed.
     pub fn bytes(&self) -> &[u8] {
         match &self.disk {
@@ -187,10 +192,9 @@ impl StoryFile {
 
     /// Opens the image, and closes it again. Tells its count and its room, or why it is refused.
     pub fn tell_opening(&mut self, said: &mut Saying) {
-        said.result(
-            self.found(None),
-            |(count, room), said| write!(said, "count {count} room {room}"),
-        )
+        said.result(self.found(None), |(count, room), said| {
+            write!(said, "count {count} room {room}")
+        })
     }
 
     /// Makes a new file with an image that has no command. Returns whether it is there.
