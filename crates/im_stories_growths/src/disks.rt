@@ -51,27 +51,26 @@ pub fn sum(place: &StoryFile) -> u64 {
     sum
 }
 
-/// Makes a new image. It is formatted again if that is refused. If memory was wanted, no call of the disk was made.
+/// Makes a new image of these sizes, or opens the one that is there, and again if that is refused. If memory was
+/// wanted, no call of the disk was made for a new image. An opening writes nothing, however it is refused.
+pub fn start(place: &mut StoryFile, new: Option<Limits>, said: &mut Saying) {
+    let before = sum(place);
+    if let Err(refusal) = place.start(new) {
+        let is_same = sum(place) == before && (new.is_none() || place.calls == 0);
+        let is_written = new.is_some() && refusal == Refusal::Device;
+        is_refused(refusal, is_same || is_written, said);
+        said.so(place.start(new).is_ok(), "");
+    }
+}
+
+/// Makes a new image on a new disk.
 pub fn format(place: &mut StoryFile, limits: Limits, said: &mut Saying) {
     let length = image_length(limits);
     if let Err(refusal) = place.blank(length) {
         lacks_memory(refusal, true, said);
         said.so(place.blank(length).is_ok(), "");
     }
-    if let Err(refusal) = place.start(Some(limits)) {
-        let is_blank = place.calls == 0 && sum(place) == 0;
-        is_refused(refusal, is_blank || refusal == Refusal::Device, said);
-        said.so(place.start(Some(limits)).is_ok(), "");
-    }
-}
-
-/// Opens the disk, and again if that is refused. An opening writes nothing, however it is refused.
-pub fn open(place: &mut StoryFile, said: &mut Saying) {
-    let before = sum(place);
-    if let Err(refusal) = place.start(None) {
-        is_refused(refusal, sum(place) == before, said);
-        said.so(place.start(None).is_ok(), "");
-    }
+    start(place, Some(limits), said)
 }
 
 // Returns whether the engine refuses everything, since its disk has failed.
@@ -89,7 +88,7 @@ fn refuses_all(place: &mut StoryFile) -> bool {
 pub fn open_again(place: &mut StoryFile, said: &mut Saying) {
     said.so(refuses_all(place), "");
     place.close();
-    open(place, said)
+    start(place, None, said)
 }
 
 // Returns the count and the room of the image.

@@ -4,19 +4,17 @@
 //! (`scripts/refuse-each-growth im_stories_growths`).
 #![tactic(auto)]
 
-ghost use Rattle.std.specs.Prelude.{◌≡◌, false};
-
 mod disks;
 mod ports;
 mod requests;
 mod served;
 
-use crate::disks::{format, look_again, open, state, sum};
+use crate::disks::{format, look_again, start, state, sum};
 use crate::ports::{act_on, begin, begun};
 use crate::requests::{ALL, FIRST, lacks_memory};
 use crate::served::{events, run, serve_first, turn};
 use im_disk::MemDisk;
-use im_pipes::{Inlet, Outlet, Received, pipe};
+use im_pipes::{Received, pipe};
 use im_story::Saying;
 use im_story_disk::StoryFile;
 use im_types::Limits;
@@ -32,8 +30,7 @@ const TOO_MUCH: usize = 1 << 60;
 
 // Tells how many commands an engine has.
 fn add_count(said: &mut Saying, place: &StoryFile) {
-    let count = state(place).count;
-    write!(said, " count {count}\n")
+    write!(said, " count {}\n", state(place).count)
 }
 
 // Makes a new image and its requests, then a checkpoint of them.
@@ -43,8 +40,7 @@ fn show_turned(place: &mut StoryFile, limits: Limits, said: &mut Saying) {
     serve_first(place, ALL, said);
     add_count(said, place);
     turn(place, said);
-    let room = state(place).room;
-    write!(said, "  turned: room {room}\n")
+    write!(said, "  turned: room {}\n", state(place).room)
 }
 
 // Makes the same requests in one run.
@@ -60,9 +56,9 @@ fn show_run(place: &mut StoryFile, limits: Limits, said: &mut Saying) {
 fn show_opened(place: &mut StoryFile, said: &mut Saying) {
     place.close();
     look_again(place, said);
-    open(place, said);
-    let (count, room) = (state(place).count, state(place).room);
-    write!(said, "  opened: count {count}, room {room}\n")
+    start(place, None, said);
+    let now = state(place);
+    write!(said, "  opened: count {}, room {}\n", now.count, now.room)
 }
 
 // Makes the same requests through ports, except for the one that makes the block.
@@ -83,21 +79,15 @@ fn show_ports<R: Wait>(
     add_count(said, place)
 }
 
-// Passes an item through a pipe.
-fn pass<R: Wait>(rt: &R, inlet: Inlet<u64>, outlet: Outlet<u64>, said: &mut Saying)
-    requires { outlet.ended ≡ false }
-{
-    let (mut inlet, mut outlet) = (inlet, outlet);
-    let sent = inlet.send(rt, 7).is_ok();
-    let came = matches!(outlet.receive(rt), Received::Item(7));
-    write!(said, "  piped: sent {sent}, came {came}\n")
-}
-
-// Makes a pipe, and again if that is refused.
+// Makes a pipe, and again if that is refused. Passes an item through it.
 fn show_pipe<R: Wait>(rt: &R, alloc: Global, said: &mut Saying) {
     for _ in 0..2 {
         match pipe::<u64>(alloc, 2) {
-            Ok((inlet, outlet)) => return pass(rt, inlet, outlet, said),
+            Ok((mut inlet, mut outlet)) => {
+                let sent = inlet.send(rt, 7).is_ok();
+                let came = matches!(outlet.receive(rt), Received::Item(7));
+                return write!(said, "  piped: sent {sent}, came {came}\n");
+            }
             Err(refusal) => lacks_memory(refusal, true, said),
         }
     }
@@ -108,7 +98,7 @@ fn show_pipe<R: Wait>(rt: &R, alloc: Global, said: &mut Saying) {
 fn show_no_trace<R: Wait>(rt: &R, place: &mut StoryFile, said: &mut Saying) {
     place.close();
     let bytes = sum(place);
-    open(place, said);
+    start(place, None, said);
     let before = state(place);
     match begin(rt, place, false, TOO_MUCH) {
         Ok(opening) => act_on(rt, place, opening, before, said),

@@ -65,79 +65,64 @@ pub fn begun<R: Wait>(
     begin(rt, place, is_planned, LINES)
 }
 
-// Asks a port for the request at a place.
-fn submit<K: Name, R: Wait>(
-    rt: &R,
-    controller: &Controller<FuseDisk, K>,
-    port: &mut Port<K>,
-    at: usize,
-) -> Result<Outcome, Refusal> {
-    let receipt = port.submit(rt, controller, request(at).number, request(at).op)?;
-    Ok(receipt.outcome())
+// A controller, and who waits for it.
+struct PortDesk<'a, K: Name, R: Wait> {
+    rt: &'a R,
+    controller: &'a Controller<FuseDisk, K>,
 }
 
-// Asks a port for the request at a place. If there was no memory, it asks again: the number isn't used, and that is a
-// line. Returns how many lines there are then, or nothing if the disk has failed, and nothing is answered any longer.
-fn ask_port<K: Name, R: Wait>(
-    rt: &R,
-    controller: &Controller<FuseDisk, K>,
-    port: &mut Port<K>,
-    at: usize,
-    said: &mut Saying,
-) -> Option<usize> {
-    let (mut answer, mut lines) = (submit(rt, controller, port, at), 1);
-    if answer == Err(Refusal::Device) {
-        said.so(submit(rt, controller, port, at) == Err(Refusal::Failed), "");
-        return None;
+impl<K: Name, R: Wait> PortDesk<'_, K, R> {
+    // Asks a port for the request at a place.
+    fn submit(&self, port: &mut Port<K>, at: usize) -> Result<Outcome, Refusal> {
+        let Request { number, op, .. } = request(at);
+        let receipt = port.submit(self.rt, self.controller, number, op)?;
+        Ok(receipt.outcome())
     }
-    if let Err(refusal) = answer {
-        let unused = port.collect(rt, controller, request(at).number);
-        lacks_memory(refusal, matches!(unused, Err(Refusal::Gap)), said);
-        answer = submit(rt, controller, port, at);
-        lines = 2;
-    }
-    match answer {
-        Ok(outcome) => add_answer(said, outcome),
-        Err(_) => said.fail("refused twice"),
-    }
-    Some(lines)
-}
 
-// Gives out the ports of elements 1 and 2.
-fn add_ports<K: Name, R: Wait>(
-    rt: &R,
-    controller: &Controller<FuseDisk, K>,
-    ports: &mut Vec<Port<K>>,
-    said: &mut Saying,
-) {
-    for element in 1..3u16 {
-        match controller.port(rt, element) {
-            Ok(port) => said.so(ports.push(port).is_ok(), ""),
-            Err(refusal) => said.refusal(refusal),
+    // Does the same. If there was no memory, it asks again: the number isn't used, and that is a line. Returns how many
+    // lines there are then, or nothing if the disk has failed, and nothing is answered any longer.
+    fn ask(&self, port: &mut Port<K>, at: usize, said: &mut Saying) -> Option<usize> {
+        let (mut answer, mut lines) = (self.submit(port, at), 1);
+        if answer == Err(Refusal::Device) {
+            said.so(self.submit(port, at) == Err(Refusal::Failed), "");
+            return None;
         }
-    }
-}
-
-// Asks the ports, up to the first request at which the disk fails. Returns its place, and how many lines there are.
-fn ask_ports<K: Name, R: Wait>(
-    rt: &R,
-    controller: &Controller<FuseDisk, K>,
-    ports: &mut Vec<Port<K>>,
-    said: &mut Saying,
-) -> (usize, usize) {
-    let mut lines = 0usize;
-    for at in FIRST..ALL {
-        let place = usize::from(request(at).element).saturating_sub(1);
-        let Some(port) = ports.as_mut_slice().get_mut(place) else {
-            said.fail("no port");
-            return (at, lines);
-        };
-        match ask_port(rt, controller, port, at, said) {
-            Some(more) => lines = lines.saturating_add(more),
-            None => return (at, lines),
+        if let Err(refusal) = answer {
+            let unused = port.collect(self.rt, self.controller, request(at).number);
+            lacks_memory(refusal, matches!(unused, Err(Refusal::Gap)), said);
+            answer = self.submit(port, at);
+            lines = 2;
         }
+        match answer {
+            Ok(outcome) => add_answer(said, outcome),
+            Err(_) => said.fail("refused twice"),
+        }
+        Some(lines)
     }
-    (ALL, lines)
+
+    // Gives out the ports of elements 1 and 2, and asks them, up to the first request at which the disk fails. Returns
+    // its place, and how many lines there are.
+    fn ask_each(&self, ports: &mut Vec<Port<K>>, said: &mut Saying) -> (usize, usize) {
+        for element in 1..3u16 {
+            match self.controller.port(self.rt, element) {
+                Ok(port) => said.so(ports.push(port).is_ok(), ""),
+                Err(refusal) => said.refusal(refusal),
+            }
+        }
+        let mut lines = 0usize;
+        for at in FIRST..ALL {
+            let place = usize::from(request(at).element).saturating_sub(1);
+            let Some(port) = ports.as_mut_slice().get_mut(place) else {
+                said.fail("no port");
+                return (at, lines);
+            };
+            match self.ask(port, at, said) {
+                Some(more) => lines = lines.saturating_add(more),
+                None => return (at, lines),
+            }
+        }
+        (ALL, lines)
+    }
 }
 
 // Returns the state of an engine after `many` more requests, each of which makes four calls of the disk.
@@ -154,7 +139,7 @@ fn after(before: EngineState, many: usize) -> EngineState {
 // Gives a controller a name, over an engine in this state, and asks ports for the requests after the first. The
 // controller's trace has a line for each request that was answered and for each number that wasn't used, and no other.
 // If the disk has failed, the same disk is opened again and asked for the rest.
-fn ask<K: Name, R: Wait>(
+fn act_under<K: Name, R: Wait>(
     rt: &R,
     place: &mut StoryFile,
     opening: Opening<FuseDisk>,
@@ -164,12 +149,13 @@ fn ask<K: Name, R: Wait>(
     requires origin { IsOriginOf ⟦<FuseDisk as Disk>⟧ opening K.origin }
 {
     let controller = opening.named::<K>();
-    let mut ports = match Vec::with_capacity(place.alloc, 2) {
-        Ok(ports) => ports,
-        Err(_) => Vec::new(place.alloc), // It grows as it gets its first.
+    // Without the room it grows as it gets its first.
+    let mut ports = Vec::with_capacity(place.alloc, 2).unwrap_or(Vec::new(place.alloc));
+    let desk = PortDesk {
+        rt,
+        controller: &controller,
     };
-    add_ports(rt, &controller, &mut ports, said);
-    let (at, lines) = ask_ports(rt, &controller, &mut ports, said);
+    let (at, lines) = desk.ask_each(&mut ports, said);
     let ended = finish(rt, controller, ports);
     let is_told = ended.trace.as_slice().len() == lines;
     said.so(ended.came && ended.claimed && is_told, "");
@@ -190,5 +176,5 @@ pub fn act_on<R: Wait>(
     before: EngineState,
     said: &mut Saying,
 ) {
-    ask::<Brand, R>(rt, place, opening, before, said)
+    act_under::<Brand, R>(rt, place, opening, before, said)
 }

@@ -76,10 +76,8 @@ pub fn turn(place: &mut StoryFile, said: &mut Saying) {
 
 /// Returns all requests as events.
 pub fn events(alloc: Global, said: &mut Saying) -> Vec<Event> {
-    let mut events = match Vec::with_capacity(alloc, ALL) {
-        Ok(events) => events,
-        Err(_) => Vec::new(alloc), // It grows as it gets its first.
-    };
+    // Without the room it grows as it gets its first.
+    let mut events = Vec::with_capacity(alloc, ALL).unwrap_or(Vec::new(alloc));
     for at in 0..ALL {
         let event = Event::Command(Command::Request(request(at)));
         said.so(events.push(event).is_ok(), "");
@@ -91,7 +89,10 @@ pub fn events(alloc: Global, said: &mut Saying) -> Vec<Event> {
 fn add_answers(said: &mut Saying, answers: &[Answer]) -> usize {
     let failed = answers.iter().position(|answer| match answer {
         Answer::Served(answer) => !is_told(*answer, said),
-        _ => true,
+        _ => {
+            said.fail("a command isn't answered");
+            true
+        }
     });
     failed.unwrap_or(answers.len())
 }

@@ -67,9 +67,8 @@ fn place_ones(table: &mut CellTable, count: u32) -> u32 {
 // Releases blocks, in steps of two from one on, upwards or downwards. Returns how many are released.
 fn release_each(table: &mut CellTable, count: u32, first: u32, ups: bool) -> u32 {
     let by = if ups { 2 } else { u32::MAX - 1 };
-    let otherwise = (0..count).find(|done| !table.release(first.wrapping_add(done.wrapping_mul(
-        by,
-    ))));
+    let base_of = |done: u32| first.wrapping_add(done.wrapping_mul(by));
+    let otherwise = (0..count).find(|done| !table.release(base_of(*done)));
     otherwise.unwrap_or(count)
 }
 
@@ -81,26 +80,27 @@ fn place(table: &mut CellTable, kind: Kind, length: u32) -> Option<u32> {
     table.place(kind, length)
 }
 
-fn set(table: &mut CellTable, a: u32, cell: Cell, said: &mut Saying) {
-    if table.get(a).is_none() {
-        return said.fail("no such cell");
+// Sets a cell. Returns whether it is in a block.
+fn set(table: &mut CellTable, a: u32, cell: Cell) -> bool {
+    let is_there = table.slot(a).is_some();
+    if is_there {
+        table.set(a, cell)
     }
-    table.set(a, cell);
-    said.text("set")
+    is_there
 }
 
 /// Makes a call of a table.
 pub fn tell(table: &mut CellTable, call: &Phrase, said: &mut Saying) {
-    let (a, first) = (call.address(0), call.address(1));
+    let (a, first, value) = (call.address(0), call.address(1), call.number(1));
     match call.form() {
         "place i _" => said.number_or_none(place(table, Kind::I, a)),
         "place m _" => said.number_or_none(place(table, Kind::M, a)),
         "release _" => said.number(table.release(a)),
         "reset _" => said.number(table.reset(a)),
-        "set _ empty" => set(table, a, Cell::Empty, said),
-        "set _ waiting" => set(table, a, Cell::Waiting, said),
-        "set _ full _" => set(table, a, Cell::Full(call.number(1)), said),
-        "set _ clashed _" => set(table, a, Cell::Clashed(call.number(1)), said),
+        "set _ empty" => said.so(set(table, a, Cell::Empty), "set"),
+        "set _ waiting" => said.so(set(table, a, Cell::Waiting), "set"),
+        "set _ full _" => said.so(set(table, a, Cell::Full(value)), "set"),
+        "set _ clashed _" => said.so(set(table, a, Cell::Clashed(value)), "set"),
         "cell _" => said.place(table.get(a), table.block_of(a)),
         "cells" => said.number(table.cells()),
         "restore" => {
@@ -159,12 +159,8 @@ fn set_both(table: &mut CellTable, slots: &mut [Option<Slot>], a: u32, cell: Cel
     let Some(Slot { block, .. }) = slot_at(slots, a) else {
         return true;
     };
-    if table.get(a).is_none() {
-        return false;
-    }
-    table.set(a, cell);
     write(slots, a, 1, Some(Slot { block, cell }));
-    true
+    set(table, a, cell)
 }
 
 // Makes one thrown call on the table and on the plain slots. Returns whether they answer the same.

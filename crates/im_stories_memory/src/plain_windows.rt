@@ -3,7 +3,7 @@
 use crate::windows::{Windows, answer, ask, restore};
 use im_sessions::Sessions;
 use im_story::{Dice, asked};
-use im_types::{Entry, Judged, Kept, Kind, Op, Refusal, Reply, WINDOW, Waiter};
+use im_types::{Entry, Judged, Kept, Op, Refusal, Reply, WINDOW, Waiter};
 use std::alloc::Global;
 
 /// A window, kept plainly: all entries from number 1 on, those that are forgotten too.
@@ -65,16 +65,54 @@ impl PlainWindow {
         self.base = self.base.max(upto);
         Ok(())
     }
-}
 
-fn any_op(dice: &mut Dice) -> Op {
-    match dice.below(6) {
-        0 => Op::Alloc(Kind::I, 1),
-        1 => Op::Alloc(Kind::M, 1),
-        2 => Op::Fetch(0),
-        3 => Op::Take(0),
-        4 => Op::Store(0, 1),
-        _ => Op::Store(0, 2),
+    // Returns a number in or near the window.
+    fn any_number(&self, dice: &mut Dice) -> u64 {
+        match dice.below(3) {
+            0 => self.next(),
+            1 => self.base.saturating_add(dice.below(3) as u64),
+            _ => self
+                .base
+                .saturating_sub(2)
+                .saturating_add(dice.below(70) as u64),
+        }
+    }
+
+    // Makes a thrown request on this window and on the sessions, most often a new one or a repeat. Returns whether they
+    // agree.
+    fn ask(&mut self, sessions: &mut Sessions, who: Waiter, dice: &mut Dice) -> bool {
+        let op = match self.kept(who.number) {
+            Some(kept) if dice.below(2) == 0 => kept.op,
+            _ => dice.operation(1),
+        };
+        let entry = any_entry(dice);
+        let judged = self.judge(who.number, op);
+        if judged == Ok(Judged::Fresh) && self.all.push(Kept { op, entry }).is_err() {
+            return false;
+        }
+        ask(sessions, &asked(who.element, who.number, op), entry) == judged
+    }
+
+    // Makes one thrown call on this window and on the sessions, where it is that of an element. Returns whether they
+    // agree on it, and then show the same.
+    fn call(&mut self, sessions: &mut Sessions, element: u16, dice: &mut Dice) -> bool {
+        let number = self.any_number(dice);
+        let who = Waiter { element, number };
+        let agrees = match dice.below(8) {
+            0 => {
+                let upto = self.base.saturating_add(dice.below(6) as u64);
+                sessions.confirm(element, upto) == self.confirm(upto)
+            }
+            1 | 2 | 3 => {
+                let reply = Reply::Value(dice.below(100) as u64);
+                answer(sessions, who, reply) == self.answer(number, reply)
+            }
+            _ => self.ask(sessions, who, dice),
+        };
+        agrees
+            && sessions.entry(element, number) == self.entry(number)
+            && sessions.kept(element, number) == self.kept(number)
+            && sessions.window(element) == Ok((self.base, self.next()))
     }
 }
 
@@ -84,65 +122,6 @@ fn any_entry(dice: &mut Dice) -> Entry {
         1 => Entry::Answered(Reply::Stored),
         _ => Entry::Answered(Reply::Value(dice.below(100) as u64)),
     }
-}
-
-// Returns a number in or near the plain window.
-fn any_number(dice: &mut Dice, plain: &PlainWindow) -> u64 {
-    match dice.below(3) {
-        0 => plain.next(),
-        1 => plain.base.saturating_add(dice.below(3) as u64),
-        _ => {
-            let number = plain.base.saturating_add(dice.below(70) as u64);
-            number.saturating_sub(2)
-        }
-    }
-}
-
-// Makes a thrown request on the sessions and on the plain window, most often a new one or a repeat. Returns whether
-// they agree.
-fn ask_both(
-    sessions: &mut Sessions,
-    plain: &mut PlainWindow,
-    who: Waiter,
-    dice: &mut Dice,
-) -> bool {
-    let op = match plain.kept(who.number) {
-        Some(kept) if dice.below(2) == 0 => kept.op,
-        _ => any_op(dice),
-    };
-    let entry = any_entry(dice);
-    let judged = plain.judge(who.number, op);
-    if judged == Ok(Judged::Fresh) && plain.all.push(Kept { op, entry }).is_err() {
-        return false;
-    }
-    ask(sessions, &asked(who.element, who.number, op), entry) == judged
-}
-
-// Makes one thrown call on the sessions and on the plain window of the same element. Returns whether they agree on it,
-// and then show the same.
-fn call_both(
-    sessions: &mut Sessions,
-    plain: &mut PlainWindow,
-    element: u16,
-    dice: &mut Dice,
-) -> bool {
-    let number = any_number(dice, plain);
-    let who = Waiter { element, number };
-    let agrees = match dice.below(8) {
-        0 => {
-            let upto = plain.base.saturating_add(dice.below(6) as u64);
-            sessions.confirm(element, upto) == plain.confirm(upto)
-        }
-        1 | 2 | 3 => {
-            let reply = Reply::Value(dice.below(100) as u64);
-            answer(sessions, who, reply) == plain.answer(number, reply)
-        }
-        _ => ask_both(sessions, plain, who, dice),
-    };
-    agrees
-        && sessions.entry(element, number) == plain.entry(number)
-        && sessions.kept(element, number) == plain.kept(number)
-        && sessions.window(element) == Ok((plain.base, plain.next()))
 }
 
 // Restores each window from the plain one. Returns whether all of them are within their bounds.
@@ -170,8 +149,7 @@ pub fn step(windows: &mut Windows, dice: &mut Dice) -> bool {
     let Some(window) = windows.plain.get_mut(element as usize) else {
         return false;
     };
-    let agrees = call_both(sessions, window, element as u16, dice);
-    agrees
+    window.call(sessions, element as u16, dice)
         && (!windows.restores
             || dice.below(10) != 0
             || restore_all(sessions, windows.plain.as_slice()))

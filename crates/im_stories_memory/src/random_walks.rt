@@ -74,20 +74,17 @@ fn store(alloc: Global, accesses: &mut Accesses, cell: &mut PlainCell, a: u32, v
     let Some((reply, readers)) = accesses.store(alloc, a, value) else {
         return false;
     };
-    reply == cell.write(Kind::I, value)
-        && readers
-            .iter()
-            .all(|reader| Some(*reader) == cell.waiters.pop_front())
+    let mut waiters = readers.iter().copied();
+    reply == cell.write(Kind::I, value) && waiters.all(|it| Some(it) == cell.waiters.pop_front())
 }
 
 // Makes a put. Its taker has to be the first that waits by the rules.
 fn put(accesses: &mut Accesses, cell: &mut PlainCell, a: u32, value: u64) -> bool {
     let (reply, taker) = accesses.put(a, value);
     let agrees = reply == cell.write(Kind::M, value);
-    let first = if reply == Reply::Stored {
-        cell.waiters.pop_front()
-    } else {
-        None
+    let first = match reply {
+        Reply::Stored => cell.waiters.pop_front(),
+        _ => None,
     };
     agrees && taker == first
 }
@@ -97,10 +94,9 @@ fn renew(accesses: &mut Accesses, cell: &mut PlainCell, a: u32) -> bool {
     if !cell.clashed {
         return true;
     }
-    cell.kind = if cell.kind == Kind::I {
-        Kind::M
-    } else {
-        Kind::I
+    cell.kind = match cell.kind {
+        Kind::I => Kind::M,
+        Kind::M => Kind::I,
     };
     cell.value = None;
     cell.clashed = false;

@@ -77,11 +77,10 @@ fn add_judged(said: &mut Saying, judged: Result<Judged, Refusal>) {
 // Tells how requests are judged, and keeps new ones with this entry: one request, or those of an element from one
 // number to another, of which all have to be judged the same.
 fn keep(sessions: &mut Sessions, entry: Entry, call: &Phrase, said: &mut Saying) {
-    let (who, is_row) = (call.waiter(0), call.word(1) == "to");
-    let (last, words) = if is_row {
-        (call.number(2), 3)
-    } else {
-        (who.number, 1)
+    let who = call.waiter(0);
+    let (last, words) = match call.word(1) {
+        "to" => (call.number(2), 3),
+        _ => (who.number, 1),
     };
     said.given(op(call.rest(words)), "no operation", |op, said| {
         said.alike(who.number..=last, |number, one| {
@@ -92,26 +91,15 @@ fn keep(sessions: &mut Sessions, entry: Entry, call: &Phrase, said: &mut Saying)
 
 // Shows an entry for an operation, or keeps it for requests: `show ENTRY for ..`, `keep ENTRY for ..`.
 fn tell_entry(windows: &mut Windows, call: &Phrase, said: &mut Saying) {
-    let before = call
-        .words()
-        .iter()
-        .position(|word| *word == "for")
-        .unwrap_or(0);
-    let (entry, rest) = (
-        entry(call.words().get(1..before).unwrap_or(&[])),
-        call.rest(before.saturating_add(1)),
-    );
-    match (call.word(0), entry, op(rest)) {
+    let mut parts = call.rest(1).split(|word| *word == "for");
+    let (kept, asked) = (parts.next().unwrap_or(&[]), parts.next().unwrap_or(&[]));
+    match (call.word(0), entry(kept), op(asked)) {
         ("show", Some(entry), Some(op)) => {
             said.so(windows.shown.push(Kept { op, entry }).is_ok(), "shown")
         }
         ("keep", Some(entry), _) => {
-            keep(
-                &mut windows.sessions,
-                entry,
-                &Phrase::of(call.alloc(), rest),
-                said,
-            )
+            let asked = Phrase::of(call.alloc(), asked);
+            keep(&mut windows.sessions, entry, &asked, said)
         }
         _ => said.fail("no call of windows"),
     }
@@ -172,11 +160,8 @@ pub fn tell(windows: &mut Windows, call: &Phrase, said: &mut Saying) {
 
 // Returns how many windows begin past a number.
 fn past(sessions: &Sessions, number: u64) -> usize {
-    (0..64)
-        .filter(|element| sessions
-            .window(*element)
-            .is_ok_and(|(base, _)| base > number))
-        .count()
+    let base_of = |element: u16| sessions.window(element).unwrap_or((0, 0)).0;
+    (0..64).filter(|element| base_of(*element) > number).count()
 }
 
 // Returns whether a window with the first of these entries, from a base on, is restored, and continues as it must.
@@ -188,11 +173,9 @@ fn goes_on(sessions: &mut Sessions, base: u64, kept: &[Kept]) -> bool {
     let are_there = (base..next)
         .zip(kept)
         .all(|(at, one)| sessions.entry(0, at) == Ok(one.entry));
-    let is_full = kept.len() as u64 == WINDOW;
-    let wanted = if is_full {
-        Err(Refusal::WindowFull)
-    } else {
-        Ok(Judged::Fresh)
+    let wanted = match kept.len() as u64 {
+        WINDOW => Err(Refusal::WindowFull),
+        _ => Ok(Judged::Fresh),
     };
     are_there
         && sessions.entry(0, base.saturating_sub(1)) == Err(Refusal::Forgotten)

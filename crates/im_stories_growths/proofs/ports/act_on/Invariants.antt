@@ -2,8 +2,8 @@
 use Rattle.std.specs.Prelude.{false}
 use Rattle.im_stories_growths.proofs.ports.act_on.Given as goal
 
-abbrev pub ghosts-ask : goal.ghosts-ask
-ghosts-ask g a = let e = a.opening.engine in record {
+abbrev pub ghosts-act_under : goal.ghosts-act_under
+ghosts-act_under g a = let e = a.opening.engine in record {
   origin = record {
     memory = e.memory;
     plan = a.opening.plan;
