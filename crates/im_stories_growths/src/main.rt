@@ -12,7 +12,7 @@ mod served;
 use crate::disks::{format, look_again, start, state, sum};
 use crate::ports::{act_on, begin, begun};
 use crate::requests::{ALL, FIRST, lacks_memory};
-use crate::served::{events, run, serve_first, turn};
+use crate::served::{run, serve_first, turn};
 use im_disk::MemDisk;
 use im_pipes::{Received, pipe};
 use im_story::Saying;
@@ -28,17 +28,12 @@ const ROOM: usize = 4_096;
 // The number of bytes, items or lines that is too much.
 const TOO_MUCH: usize = 1 << 60;
 
-// Tells how many commands an engine has.
-fn add_count(said: &mut Saying, place: &StoryFile) {
-    write!(said, " count {}\n", state(place).count)
-}
-
 // Makes a new image and its requests, then a checkpoint of them.
 fn show_turned(place: &mut StoryFile, limits: Limits, said: &mut Saying) {
     said.text("  served:");
     format(place, limits, said);
     serve_first(place, ALL, said);
-    add_count(said, place);
+    write!(said, " count {}\n", state(place).count);
     turn(place, said);
     write!(said, "  turned: room {}\n", state(place).room)
 }
@@ -46,10 +41,9 @@ fn show_turned(place: &mut StoryFile, limits: Limits, said: &mut Saying) {
 // Makes the same requests in one run.
 fn show_run(place: &mut StoryFile, limits: Limits, said: &mut Saying) {
     said.text("  run:");
-    let events = events(place.alloc, said);
     format(place, limits, said);
-    run(place, events.as_slice(), said);
-    add_count(said, place)
+    run(place, said);
+    write!(said, " count {}\n", state(place).count)
 }
 
 // Shows what is found on the disk of an engine, and by an opening.
@@ -76,7 +70,7 @@ fn show_ports<R: Wait>(
         Ok(opening) => act_on(rt, place, opening, before, said),
         Err(_) => said.fail("refused twice"),
     }
-    add_count(said, place)
+    write!(said, " count {}\n", state(place).count)
 }
 
 // Makes a pipe, and again if that is refused. Passes an item through it.
@@ -94,8 +88,17 @@ fn show_pipe<R: Wait>(rt: &R, alloc: Global, said: &mut Saying) {
     said.fail("refused twice")
 }
 
-// Asks for a trace that can't be made. The engine stays as it was, and so does its disk.
-fn show_no_trace<R: Wait>(rt: &R, place: &mut StoryFile, said: &mut Saying) {
+// Asks for more than there can be, which is refused each time. If it is a trace, the engine stays as it was, and so
+// does its disk.
+fn show_too_much<R: Wait>(rt: &R, place: &mut StoryFile, limits: Limits, said: &mut Saying) {
+    said.text("  too much:");
+    if let Err(refusal) = MemDisk::new(place.alloc, TOO_MUCH) {
+        write!(said, " a disk {refusal},")
+    }
+    if let Err(refusal) = pipe::<u64>(place.alloc, TOO_MUCH) {
+        write!(said, " a pipe {refusal},")
+    }
+    format(place, limits, said);
     place.close();
     let bytes = sum(place);
     start(place, None, said);
@@ -108,19 +111,6 @@ fn show_no_trace<R: Wait>(rt: &R, place: &mut StoryFile, said: &mut Saying) {
     place.close();
     let is_same = is_same && sum(place) == bytes;
     write!(said, ", as it was before: {is_same}\n")
-}
-
-// Asks for more than there can be, which is refused each time.
-fn show_too_much<R: Wait>(rt: &R, place: &mut StoryFile, limits: Limits, said: &mut Saying) {
-    said.text("  too much:");
-    if let Err(refusal) = MemDisk::new(place.alloc, TOO_MUCH) {
-        write!(said, " a disk {refusal},")
-    }
-    if let Err(refusal) = pipe::<u64>(place.alloc, TOO_MUCH) {
-        write!(said, " a pipe {refusal},")
-    }
-    format(place, limits, said);
-    show_no_trace(rt, place, said)
 }
 
 // Shows each call that takes memory, except for those of threads.

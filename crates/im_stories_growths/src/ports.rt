@@ -66,6 +66,7 @@ pub fn begun<R: Wait>(
 }
 
 // A controller, and who waits for it.
+#[derive(Clone, Copy)]
 struct PortDesk<'a, K: Name, R: Wait> {
     rt: &'a R,
     controller: &'a Controller<FuseDisk, K>,

@@ -8,7 +8,6 @@ use im_engine::{Answer, Event};
 use im_story::Saying;
 use im_story_disk::StoryFile;
 use im_types::{Command, Outcome, Refusal};
-use std::alloc::Global;
 
 // More turns than there are.
 const TURNS: u32 = 100;
@@ -74,17 +73,6 @@ pub fn turn(place: &mut StoryFile, said: &mut Saying) {
     said.so(has_answered(place, ALL), "")
 }
 
-/// Returns all requests as events.
-pub fn events(alloc: Global, said: &mut Saying) -> Vec<Event> {
-    // Without the room it grows as it gets its first.
-    let mut events = Vec::with_capacity(alloc, ALL).unwrap_or(Vec::new(alloc));
-    for at in 0..ALL {
-        let event = Event::Command(Command::Request(request(at)));
-        said.so(events.push(event).is_ok(), "");
-    }
-    events
-}
-
 // Adds the answers of a run, up to the first at which the disk fails. Returns how many there are.
 fn add_answers(said: &mut Saying, answers: &[Answer]) -> usize {
     let failed = answers.iter().position(|answer| match answer {
@@ -108,13 +96,19 @@ fn run_once(place: &mut StoryFile, events: &[Event], said: &mut Saying) -> Resul
 
 /// Runs all requests on a new image, and again if there was no room for their answers: nothing was done then. If the
 /// disk has failed, the rest of the run is served.
-pub fn run(place: &mut StoryFile, events: &[Event], said: &mut Saying) {
+pub fn run(place: &mut StoryFile, said: &mut Saying) {
+    // Without the room it grows as it gets its first.
+    let mut events = Vec::with_capacity(place.alloc, ALL).unwrap_or(Vec::new(place.alloc));
+    for at in 0..ALL {
+        let event = Event::Command(Command::Request(request(at)));
+        said.so(events.push(event).is_ok(), "");
+    }
     let before = state(place);
-    let mut done = run_once(place, events, said);
+    let mut done = run_once(place, events.as_slice(), said);
     if let Err(refusal) = done {
         let is_same = state(place) == before && has_answered(place, 0);
         lacks_memory(refusal, is_same, said);
-        done = run_once(place, events, said);
+        done = run_once(place, events.as_slice(), said);
     }
     said.result(done, |at, said| serve_rest(place, at, ALL, said))
 }

@@ -4,7 +4,7 @@ ghost use Rattle.std.specs.Prelude.{◌≡◌, ◌<◌, ◌^◌, length, map, If
 ghost use Rattle.im_cell.specs.Slots.{slot_at, shown_cell, shown_slot, HasBlocks};
 
 use im_cell::{CellTable, Slot};
-use im_story::{Dice, Phrase, Saying};
+use im_story::{Phrase, Saying};
 use im_types::{Block, Cell, CellRecord, Kind, PresenceTag};
 use std::alloc::{AllocError, Global};
 
@@ -189,15 +189,12 @@ fn agrees(table: &CellTable, slots: &[Option<Slot>]) -> bool {
     })
 }
 
-/// Makes a thrown call on the table, and restores it then if there is an allocator for that. Returns whether it is as
-/// the plain slots are.
-pub fn step(
-    table: &mut CellTable,
-    slots: &mut [Option<Slot>],
-    restoring: Option<Global>,
-    dice: &mut Dice,
-) -> bool {
-    call_both(table, slots, dice.throw())
-        && agrees(table, slots)
-        && restoring.is_none_or(|alloc| restore(alloc, table) && agrees(table, slots))
+/// Makes a thrown call on the table. Returns whether it is as the plain slots are.
+pub fn step(table: &mut CellTable, slots: &mut [Option<Slot>], thrown: u64) -> bool {
+    call_both(table, slots, thrown) && agrees(table, slots)
+}
+
+/// Restores the table. Returns whether it is as the plain slots are.
+pub fn restore_beside(alloc: Global, table: &mut CellTable, slots: &[Option<Slot>]) -> bool {
+    restore(alloc, table) && agrees(table, slots)
 }

@@ -7,6 +7,9 @@ use im_types::{NONE, NodeRecord, Waiter};
 use std::alloc::Global;
 use std::collections::VecDeque;
 
+/// A list that is kept plainly.
+pub type Queue = VecDeque<Waiter>;
+
 // Makes a call of one list, if it exists.
 fn tell_of(arena: &mut Arena, call: &Phrase, said: &mut Saying) {
     let list = call.address(0);
@@ -48,12 +51,7 @@ pub fn tell(arena: &mut Arena, call: &Phrase, said: &mut Saying) {
 
 // Pushes a waiter on a list and on the plain one, if a node is free, or pops one of each. Returns whether they answer
 // the same.
-fn call_both(
-    arena: &mut Arena,
-    list: u32,
-    queue: &mut VecDeque<Waiter>,
-    pushed: Option<Waiter>,
-) -> bool
+fn call_both(arena: &mut Arena, list: u32, queue: &mut Queue, pushed: Option<Waiter>) -> bool
     requires { list < length arena.old.held.lists }
 {
     match pushed {
@@ -64,7 +62,7 @@ fn call_both(
 }
 
 // Returns whether a list is this one, read by its places, by a walk, and by the links of its nodes.
-fn is_list(arena: &Arena, list: u32, queue: &VecDeque<Waiter>) -> bool
+fn is_list(arena: &Arena, list: u32, queue: &Queue) -> bool
     requires { list < length arena.now.held.lists }
 {
     let mut walk = arena.waiters(list);
@@ -109,7 +107,7 @@ fn used(arena: &Arena) -> u32 {
 }
 
 // Returns whether the lists are these, and the counts of nodes are right.
-fn agrees(arena: &Arena, plain: &[VecDeque<Waiter>]) -> bool {
+fn agrees(arena: &Arena, plain: &[Queue]) -> bool {
     let mut held = 0u32;
     for list in 0..arena.list_count() {
         let Some(queue) = plain.get(list as usize) else {
@@ -127,7 +125,7 @@ fn agrees(arena: &Arena, plain: &[VecDeque<Waiter>]) -> bool {
 }
 
 /// Makes so many empty lists.
-pub fn queues(alloc: Global, count: u32) -> Option<Vec<VecDeque<Waiter>>> {
+pub fn queues(alloc: Global, count: u32) -> Option<Vec<Queue>> {
     let mut plain = Vec::new(alloc);
     for _list in 0..count {
         plain.push(VecDeque::new(alloc)).ok()?;
@@ -136,12 +134,7 @@ pub fn queues(alloc: Global, count: u32) -> Option<Vec<VecDeque<Waiter>>> {
 }
 
 /// Makes a thrown call of this number. Returns whether the lists are then as they are kept plainly.
-pub fn step(
-    arena: &mut Arena,
-    plain: &mut [VecDeque<Waiter>],
-    number: u64,
-    dice: &mut Dice,
-) -> bool {
+pub fn step(arena: &mut Arena, plain: &mut [Queue], number: u64, dice: &mut Dice) -> bool {
     if arena.list_count() == 0 {
         return false;
     }

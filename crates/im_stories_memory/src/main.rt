@@ -15,10 +15,9 @@ use accesses::Accesses;
 use im_arena::Arena;
 use im_cell::{CellTable, Slot};
 use im_story::{Dice, Phrase, Saying, Subject, walk_files};
-use im_types::Waiter;
+use lists::Queue;
 use memories::Memories;
 use random_walks::PlainCell;
-use std::collections::VecDeque;
 use std::process::ExitCode;
 use windows::Windows;
 
@@ -27,7 +26,7 @@ use windows::Windows;
 #[derive(Drop)]
 enum Layer {
     Nothing,
-    Lists(Arena, Vec<VecDeque<Waiter>>),
+    Lists(Arena, Vec<Queue>),
     Cells(CellTable, Vec<Option<Slot>>, bool),
     Accesses(Accesses, Vec<PlainCell>),
     Windows(Windows),
@@ -66,10 +65,11 @@ fn step(layer: &mut Layer, call: &Phrase, number: u64, dice: &mut Dice) -> bool 
         Layer::Nothing => false,
         Layer::Lists(arena, plain) => lists::step(arena, plain.as_mut_slice(), number, dice),
         Layer::Cells(table, plain, restores) => {
-            let restoring = (*restores && number % 4 == 0).then_some(call.alloc());
-            cells::step(table, plain.as_mut_slice(), restoring, dice)
+            let restores = *restores && number % 4 == 0;
+            cells::step(table, plain.as_mut_slice(), dice.throw())
+                && (!restores || cells::restore_beside(call.alloc(), table, plain.as_slice()))
         }
-        Layer::Accesses(accesses, plain) => random_walks::step(call.alloc(), accesses, plain, dice),
+        Layer::Accesses(accesses, plain) => random_walks::step(accesses, plain, dice.throw()),
         Layer::Windows(windows) => plain_windows::step(windows, dice),
         Layer::Memories(memories) => memory_walks::step(memories, dice),
     }

@@ -1,7 +1,6 @@
 //! A random walk of accesses, beside cells by the rules, one by one.
 
 use crate::accesses::Accesses;
-use im_story::Dice;
 use im_types::{Cell, Entry, Kind, Reply, Waiter};
 use std::alloc::Global;
 use std::collections::VecDeque;
@@ -67,66 +66,63 @@ impl PlainCell {
             None => Cell::Waiting,
         }
     }
-}
 
-// Makes a store. Its readers have to be those that wait by the rules.
-fn store(alloc: Global, accesses: &mut Accesses, cell: &mut PlainCell, a: u32, value: u64) -> bool {
-    let Some((reply, readers)) = accesses.store(alloc, a, value) else {
-        return false;
-    };
-    let mut waiters = readers.iter().copied();
-    reply == cell.write(Kind::I, value) && waiters.all(|it| Some(it) == cell.waiters.pop_front())
-}
-
-// Makes a put. Its taker has to be the first that waits by the rules.
-fn put(accesses: &mut Accesses, cell: &mut PlainCell, a: u32, value: u64) -> bool {
-    let (reply, taker) = accesses.put(a, value);
-    let agrees = reply == cell.write(Kind::M, value);
-    let first = match reply {
-        Reply::Stored => cell.waiters.pop_front(),
-        _ => None,
-    };
-    agrees && taker == first
-}
-
-// Replaces a clashed cell by a new block of the other kind.
-fn renew(accesses: &mut Accesses, cell: &mut PlainCell, a: u32) -> bool {
-    if !cell.clashed {
-        return true;
+    // Makes a store. Its readers have to be those that wait by the rules.
+    fn store(&mut self, accesses: &mut Accesses, a: u32, value: u64) -> bool {
+        let alloc = *self.waiters.allocator();
+        let Some((reply, readers)) = accesses.store(alloc, a, value) else {
+            return false;
+        };
+        let mut readers = readers.iter().copied();
+        reply == self.write(Kind::I, value)
+            && readers.all(|reader| Some(reader) == self.waiters.pop_front())
     }
-    cell.kind = match cell.kind {
-        Kind::I => Kind::M,
-        Kind::M => Kind::I,
-    };
-    cell.value = None;
-    cell.clashed = false;
-    accesses.release(a) && accesses.place(cell.kind, 1) == Some(a)
-}
 
-// Makes one of the calls on a cell. Returns whether it answers as by the rules, and the cell and its list are then as
-// by the rules.
-fn call_both(
-    alloc: Global,
-    accesses: &mut Accesses,
-    cell: &mut PlainCell,
-    a: u32,
-    number: u64,
-) -> bool {
-    let who = Waiter { element: 1, number };
-    let agrees = match number % 5 {
-        0 => accesses.read(Kind::I, a, who) == cell.read(Kind::I, who),
-        1 => accesses.read(Kind::M, a, who) == cell.read(Kind::M, who),
-        2 => store(alloc, accesses, cell, a, number),
-        3 => put(accesses, cell, a, number),
-        _ => renew(accesses, cell, a),
-    };
-    agrees
-        && accesses.waiting(a) == u32::try_from(cell.waiters.len()).ok()
-        && accesses.get(a) == Some(cell.cell())
+    // Makes a put. Its taker has to be the first that waits by the rules.
+    fn put(&mut self, accesses: &mut Accesses, a: u32, value: u64) -> bool {
+        let (reply, taker) = accesses.put(a, value);
+        let agrees = reply == self.write(Kind::M, value);
+        let first = match reply {
+            Reply::Stored => self.waiters.pop_front(),
+            _ => None,
+        };
+        agrees && taker == first
+    }
+
+    // Replaces a clashed cell by a new block of the other kind.
+    fn renew(&mut self, accesses: &mut Accesses, a: u32) -> bool {
+        if !self.clashed {
+            return true;
+        }
+        self.kind = match self.kind {
+            Kind::I => Kind::M,
+            Kind::M => Kind::I,
+        };
+        self.value = None;
+        self.clashed = false;
+        accesses.release(a) && accesses.place(self.kind, 1) == Some(a)
+    }
+
+    // Makes one of the calls. Returns whether it answers as by the rules, and the cell at this address and its list are
+    // then as by the rules.
+    fn call(&mut self, accesses: &mut Accesses, a: u32, number: u64) -> bool {
+        let who = Waiter { element: 1, number };
+        let agrees = match number % 5 {
+            0 => accesses.read(Kind::I, a, who) == self.read(Kind::I, who),
+            1 => accesses.read(Kind::M, a, who) == self.read(Kind::M, who),
+            2 => self.store(accesses, a, number),
+            3 => self.put(accesses, a, number),
+            _ => self.renew(accesses, a),
+        };
+        agrees
+            && accesses.waiting(a) == u32::try_from(self.waiters.len()).ok()
+            && accesses.get(a) == Some(self.cell())
+    }
 }
 
 // Makes four blocks of one cell each, of the two kinds in turn. Returns whether they are at the first four cells.
-fn begin(alloc: Global, accesses: &mut Accesses, plain: &mut Vec<PlainCell>) -> bool {
+fn begin(accesses: &mut Accesses, plain: &mut Vec<PlainCell>) -> bool {
+    let alloc = *plain.allocator();
     (0..4u32).all(|a| {
         let kind = if a % 2 == 0 { Kind::I } else { Kind::M };
         plain.push(PlainCell::new(alloc, kind)).is_ok() && accesses.place(kind, 1) == Some(a)
@@ -135,19 +131,13 @@ fn begin(alloc: Global, accesses: &mut Accesses, plain: &mut Vec<PlainCell>) -> 
 
 /// Makes a thrown call on four cells of a new table, which the first step makes. Returns whether it answers as by the
 /// rules.
-pub fn step(
-    alloc: Global,
-    accesses: &mut Accesses,
-    plain: &mut Vec<PlainCell>,
-    dice: &mut Dice,
-) -> bool {
-    if plain.is_empty() && !begin(alloc, accesses, plain) {
+pub fn step(accesses: &mut Accesses, plain: &mut Vec<PlainCell>, thrown: u64) -> bool {
+    if plain.is_empty() && !begin(accesses, plain) {
         return false;
     }
-    let thrown = dice.throw();
     let a = (thrown >> 60) as u32 % 4;
     match plain.get_mut(a as usize) {
-        Some(cell) => call_both(alloc, accesses, cell, a, thrown >> 33),
+        Some(cell) => cell.call(accesses, a, thrown >> 33),
         None => false,
     }
 }

@@ -1,7 +1,6 @@
 //! The call of a line, taken apart once.
 
 use crate::says::Saying;
-use crate::words::word;
 use im_types::{Limits, NONE, Waiter};
 use std::alloc::Global;
 
@@ -66,7 +65,7 @@ impl<'a> Phrase<'a> {
 
     /// Returns the word at a place, or an empty one past the last.
     pub fn word(&self, at: usize) -> &'a str {
-        word(self.words, at)
+        self.words.get(at).copied().unwrap_or("")
     }
 
     /// Returns the form.
@@ -105,11 +104,8 @@ impl<'a> Phrase<'a> {
     /// Returns sizes, of which this number is the first: those of cells, elements and slots. There are none if they
     /// aren't allowed.
     pub fn limits(&self, at: usize) -> Option<Limits> {
-        let (elements, slots) = (at.saturating_add(1), at.saturating_add(2));
-        Limits::new(
-            self.address(at),
-            self.element(elements),
-            self.address(slots),
-        )
+        let elements = self.element(at.saturating_add(1));
+        let slots = self.address(at.saturating_add(2));
+        Limits::new(self.address(at), elements, slots)
     }
 }

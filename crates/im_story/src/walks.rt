@@ -70,11 +70,8 @@ fn walk<S: Subject>(text: &str, subject: &mut S, out: &mut Saying) -> (u32, u32,
             lines = lines.saturating_add(1);
         }
     }
-    (
-        stories,
-        lines,
-        wrong.saturating_add(u32::from(lines == before)),
-    )
+    wrong = wrong.saturating_add(u32::from(lines == before));
+    (stories, lines, wrong)
 }
 
 // Walks the stories of a file. Tells how many there were, and each call that was answered otherwise. Returns whether
@@ -86,27 +83,19 @@ fn walk_file<S: Subject>(rt: &HostRuntime, file: &str, subject: &mut S, said: &m
     };
     let mut out = Saying::new(rt.alloc());
     let (stories, lines, wrong) = walk(text.as_str(), subject, &mut out);
-    write!(
-        said,
-        "{file}: {stories} stories, {lines} lines, {wrong} wrong\n"
-    );
+    write!(said, "{file}: {stories} stories, ");
+    write!(said, "{lines} lines, {wrong} wrong\n");
     said.also(&out);
     wrong == 0
-}
-
-// Returns the files that the command line names.
-fn named(rt: &HostRuntime) -> Option<Vec<String>> {
-    env::args(rt)
-        .ok()?
-        .skip(1)
-        .collect::<Vec<String>>(rt.alloc())
-        .ok()
 }
 
 /// Walks the stories of each file that the command line names, and prints a line for each file. Returns the status to
 /// end with. It is 1 if a call was answered otherwise, a line is no call, a story has no call, or no file is named.
 pub fn walk_files<S: Subject>(rt: &HostRuntime, subject: &mut S) -> u8 {
-    let Some(files) = named(rt) else {
+    let Ok(words) = env::args(rt) else {
+        return 1;
+    };
+    let Ok(files) = words.skip(1).collect::<Vec<String>>(rt.alloc()) else {
         return 1;
     };
     let (mut said, mut is_right) = (Saying::new(rt.alloc()), !files.is_empty());

@@ -4,28 +4,17 @@ use im_disk::{Crash, Mode};
 use im_types::{Command, Entry, Kind, Op, Reply, Request};
 use std::alloc::Global;
 
-/// Returns the word at a place, or an empty one past the last.
-pub fn word<'w>(words: &[&'w str], at: usize) -> &'w str {
-    words.get(at).copied().unwrap_or("")
-}
-
 /// An operation: `alloc i N`, `alloc m N`, `release A`, `reset A`, `fetch A`, `store A V`, `take A` or `put A V`.
 pub fn op(words: &[&str]) -> Option<Op> {
-    let (first, last) = (word(words, 1), word(words, 2));
-    let (a, length, value) = (
-        first.parse::<u32>(),
-        last.parse::<u32>(),
-        last.parse::<u64>(),
-    );
-    match (word(words, 0), words.len()) {
-        ("alloc", 3) if first == "i" => Some(Op::Alloc(Kind::I, length.ok()?)),
-        ("alloc", 3) if first == "m" => Some(Op::Alloc(Kind::M, length.ok()?)),
-        ("release", 2) => Some(Op::Release(a.ok()?)),
-        ("reset", 2) => Some(Op::Reset(a.ok()?)),
-        ("fetch", 2) => Some(Op::Fetch(a.ok()?)),
-        ("take", 2) => Some(Op::Take(a.ok()?)),
-        ("store", 3) => Some(Op::Store(a.ok()?, value.ok()?)),
-        ("put", 3) => Some(Op::Put(a.ok()?, value.ok()?)),
+    match *words {
+        ["alloc", "i", length] => Some(Op::Alloc(Kind::I, length.parse::<u32>().ok()?)),
+        ["alloc", "m", length] => Some(Op::Alloc(Kind::M, length.parse::<u32>().ok()?)),
+        ["release", a] => Some(Op::Release(a.parse::<u32>().ok()?)),
+        ["reset", a] => Some(Op::Reset(a.parse::<u32>().ok()?)),
+        ["fetch", a] => Some(Op::Fetch(a.parse::<u32>().ok()?)),
+        ["take", a] => Some(Op::Take(a.parse::<u32>().ok()?)),
+        ["store", a, v] => Some(Op::Store(a.parse::<u32>().ok()?, v.parse::<u64>().ok()?)),
+        ["put", a, v] => Some(Op::Put(a.parse::<u32>().ok()?, v.parse::<u64>().ok()?)),
         _ => None,
     }
 }
@@ -41,21 +30,24 @@ pub fn asked(element: u16, number: u64, op: Op) -> Request {
 
 /// A request: `ELEMENT.NUMBER`, and an operation.
 pub fn request(words: &[&str]) -> Option<Request> {
-    let (element, number) = word(words, 0).split_once('.')?;
-    let (element, number) = (element.parse::<u16>(), number.parse::<u64>());
-    Some(asked(element.ok()?, number.ok()?, op(words.get(1..)?)?))
+    let (who, what) = words.split_first()?;
+    let (element, number) = who.split_once('.')?;
+    Some(asked(
+        element.parse::<u16>().ok()?,
+        number.parse::<u64>().ok()?,
+        op(what)?,
+    ))
 }
 
 /// A command: a request, or `confirm ELEMENT UPTO`.
 pub fn command(words: &[&str]) -> Option<Command> {
-    if word(words, 0) != "confirm" || words.len() != 3 {
-        return Some(Command::Request(request(words)?));
+    match *words {
+        ["confirm", element, upto] => {
+            let (element, upto) = (element.parse::<u16>().ok()?, upto.parse::<u64>().ok()?);
+            Some(Command::Confirm { element, upto })
+        }
+        _ => Some(Command::Request(request(words)?)),
     }
-    let (element, upto) = (word(words, 1).parse::<u16>(), word(words, 2).parse::<u64>());
-    Some(Command::Confirm {
-        element: element.ok()?,
-        upto: upto.ok()?,
-    })
 }
 
 // The reply of this word, if it has no number.
