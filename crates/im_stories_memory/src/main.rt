@@ -21,8 +21,8 @@ use random_walks::PlainCell;
 use std::process::ExitCode;
 use windows::Windows;
 
-// What a story is about, and what a walk keeps plainly beside it. Its first line makes it. A walk may restore a table at
-// each fourth step.
+// What a story is about, and what a walk keeps plainly beside it. Its first line makes it. A walk may restore a table
+// at each fourth step.
 #[derive(Drop)]
 enum Layer {
     Nothing,

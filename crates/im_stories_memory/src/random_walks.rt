@@ -25,8 +25,8 @@ impl PlainCell {
         }
     }
 
-    // Reads: a fetch, which asks for an I cell, or a take, which asks for an M cell. Returns `None` if there is no memory
-    // for who waits.
+    // Reads: a fetch, which asks for an I cell, or a take, which asks for an M cell. Returns `None` if there is no
+    // memory for who waits.
     fn read(&mut self, kind: Kind, who: Waiter) -> Option<Entry> {
         match self.value {
             _ if self.kind != kind => Some(Entry::Answered(Reply::WrongKind)),
