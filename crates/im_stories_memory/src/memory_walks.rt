@@ -46,8 +46,8 @@ fn awaited(memory: &Memory, kept: Kept) -> Option<u32> {
 fn waits_right(memory: &Memory, who: Waiter, kept: Kept) -> bool {
     let cell = awaited(memory, kept);
     (0..memory.cells()).all(|a| {
-        let times = memory.waiters(a).filter(|waiter| *waiter == who).count();
-        times == usize::from(cell == Some(a))
+        let mut found = memory.waiters(a).filter(|waiter| *waiter == who);
+        found.next().is_some() == (cell == Some(a)) && found.next().is_none()
     })
 }
 
