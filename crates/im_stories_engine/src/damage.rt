@@ -2,7 +2,7 @@
 
 use crate::engines::Engines;
 use im_image::{PAGE, area_pages, encode};
-use im_story::{Call, Cases, Saying, bytes, changes};
+use im_story::{Phrase, Saying, bytes, changes};
 use im_story_disk::StoryFile;
 use im_types::Limits;
 
@@ -18,45 +18,17 @@ fn tell_at(copy: &mut StoryFile, file: &[u8], at: usize, words: &[&str], said: &
     }
 }
 
-// Tells the results for copies with each value of the byte at a place, or of each length if there is no place, from one
-// to another. Equal ones in a row are told once, as they are left open.
-fn tell_each(
-    copy: &mut StoryFile,
-    file: &[u8],
-    at: Option<usize>,
-    (from, to): (usize, usize),
-    said: &mut Saying,
-) {
-    let mut cases = Cases::none(said.alloc());
-    for case in from..=to {
-        let is_laid = match (at, u8::try_from(case)) {
-            (Some(at), Ok(value)) => copy.lay(file, file.len()) && copy.put(at, &[value]),
-            _ => copy.lay(file, case),
-        };
-        said.check(is_laid);
-        let mut one = Saying::new(said.alloc());
-        one.done(copy.start(None), "opened");
-        cases.next(case as u64, &one, said);
-    }
-    cases.end(said)
-}
-
-// Tells the results at each place from one to another. They have to be the same.
-fn tell_same(engines: &Engines, call: &Call, said: &mut Saying) {
-    let (file, mut copy) = (engines.file.bytes(), StoryFile::new(call.alloc()));
-    for at in call.place(0)..=call.place(1) {
-        let mut one = Saying::new(call.alloc());
-        if call.word(0) == "each" {
-            tell_at(&mut copy, file, at, call.rest(5), &mut one)
-        } else {
-            tell_each(&mut copy, file, Some(at), (0, 255), &mut one)
-        }
-        said.same(&one, at as u64);
-    }
+// Tells the results for copies with each value of the byte at a place; equal ones in a row once, as they are left open.
+fn tell_values(copy: &mut StoryFile, file: &[u8], at: usize, said: &mut Saying) {
+    said.each(0..=255, |value, one| {
+        let value = u8::try_from(value).unwrap_or(0);
+        one.check(copy.lay(file, file.len()) && copy.put(at, &[value]));
+        one.done(copy.start(None), "opened")
+    })
 }
 
 // Tells the result for a copy of this length, or with the bytes that the call names.
-fn tell_copy(engines: &Engines, call: &Call, said: &mut Saying) {
+fn tell_copy(engines: &Engines, call: &Phrase, said: &mut Saying) {
     let mut copy = engines.file.copy();
     let is_made = match (call.form(), changes(call.alloc(), call.rest(1))) {
         ("length _", _) => copy.cut(call.place(0)),
@@ -68,7 +40,7 @@ fn tell_copy(engines: &Engines, call: &Call, said: &mut Saying) {
 }
 
 // Keeps the pages that show the engine's memory. Tells how many they are.
-fn keep_pages(engines: &mut Engines, call: &Call, said: &mut Saying) {
+fn keep_pages(engines: &mut Engines, call: &Phrase, said: &mut Saying) {
     let Some(engine) = &engines.file.engine else {
         return said.fail("no engine");
     };
@@ -85,20 +57,36 @@ fn keep_pages(engines: &mut Engines, call: &Call, said: &mut Saying) {
     write!(said, "{pages}")
 }
 
+// Tells the results for copies of each length, from one to another; or with other bytes at each place, which have to be
+// the same.
+fn tell_copies(engines: &Engines, call: &Phrase, said: &mut Saying) {
+    let (file, mut copy) = (engines.file.bytes(), StoryFile::new(call.alloc()));
+    let cases = call.number(0)..=call.number(1);
+    match call.word(2) {
+        "length" => said.each(cases, |length, one| {
+            one.check(copy.lay(file, length as usize));
+            one.done(copy.start(None), "opened")
+        }),
+        "value" => said.alike(cases, |at, one| {
+            tell_values(&mut copy, file, at as usize, one)
+        }),
+        _ => said.alike(cases, |at, one| {
+            tell_at(&mut copy, file, at as usize, call.rest(5), one)
+        }),
+    }
+}
+
 /// Opens copies of the closed file, or puts pages of a memory into it. Returns whether the call is one of these.
-pub fn tell(engines: &mut Engines, call: &Call, said: &mut Saying) -> bool {
-    let (from, to) = (call.place(0), call.place(1));
+pub fn tell(engines: &mut Engines, call: &Phrase, said: &mut Saying) -> bool {
     match (call.word(0), call.form()) {
         (_, "pages") => keep_pages(engines, call, said),
         (_, "damage pages at _") => {
-            let is_put = engines.file.put(from, engines.pages.as_slice());
+            let is_put = engines.file.put(call.place(0), engines.pages.as_slice());
             said.so(is_put, "done")
         }
-        (_, "in each length _ to _") => {
-            let mut copy = StoryFile::new(call.alloc());
-            tell_each(&mut copy, engines.file.bytes(), None, (from, to), said)
+        (_, "in each length _ to _" | "in each value of _ to _") | ("each", _) => {
+            tell_copies(engines, call, said)
         }
-        (_, "in each value of _ to _") | ("each", _) => tell_same(engines, call, said),
         (_, "length _") | ("with", _) => tell_copy(engines, call, said),
         _ => return false,
     }

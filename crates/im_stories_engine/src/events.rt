@@ -4,7 +4,7 @@ use crate::engines::Engines;
 use arrayvec::ArrayVec;
 use im_checkpoint::TurnDone;
 use im_engine::{Answer, Event, Group};
-use im_story::{Call, Cases, Saying, command};
+use im_story::{Cases, Phrase, Saying, command};
 use im_types::{Command, Request, Served};
 
 // Reads commands that are written with `with` between them.
@@ -29,7 +29,7 @@ pub fn group_of(commands: &[Command]) -> Option<Group> {
 }
 
 // Reads a command, of which the one under a number that is `more` higher is meant: `1.1 fetch 0`, `16 times 1.1 fetch 0`.
-fn command_of(call: &Call, more: u64) -> Option<Command> {
+fn command_of(call: &Phrase, more: u64) -> Option<Command> {
     let from = if call.word(1) == "times" { 2 } else { 0 };
     match command(call.rest(from))? {
         Command::Request(request) => Some(Command::Request(Request {
@@ -42,7 +42,7 @@ fn command_of(call: &Call, more: u64) -> Option<Command> {
 
 // Reads an event, of which the one that comes behind `more` others is meant: `turn`, `3 turns`, `sweep 64`, requests of
 // different elements with `with` between them, or a command.
-fn event_of(call: &Call, more: u64) -> Option<Event> {
+fn event_of(call: &Phrase, more: u64) -> Option<Event> {
     match (call.form(), call.word(0)) {
         ("turn" | "_ turns", _) => Some(Event::Turn),
         ("sweep _", _) => Some(Event::Sweep(call.address(0))),
@@ -52,7 +52,7 @@ fn event_of(call: &Call, more: u64) -> Option<Event> {
 }
 
 // Returns how often an event is meant.
-fn times_of(call: &Call) -> u64 {
+fn times_of(call: &Phrase) -> u64 {
     match call.word(1) {
         "turns" | "times" => call.number(0),
         _ => 1,
@@ -87,7 +87,7 @@ fn act(engines: &mut Engines, event: Event, said: &mut Saying) -> u32 {
 
 // Does the event that the words tell, as often as they say, and tells the answers. If it is several turns or a sweep, it
 // tells also the room after each.
-fn act_each(engines: &mut Engines, call: &Call, said: &mut Saying) {
+fn act_each(engines: &mut Engines, call: &Phrase, said: &mut Saying) {
     let (mut rooms, mut cases) = (Saying::new(said.alloc()), Cases::none(said.alloc()));
     engines.answers.clear();
     for more in 0..times_of(call) {
@@ -106,7 +106,7 @@ fn act_each(engines: &mut Engines, call: &Call, said: &mut Saying) {
 }
 
 // Serves commands as one group: any commands, or requests of different elements. Tells the answers.
-fn serve_group(engines: &mut Engines, call: &Call, said: &mut Saying) {
+fn serve_group(engines: &mut Engines, call: &Phrase, said: &mut Saying) {
     let (Some(engine), Some(members)) = (&mut engines.file.engine, commands_of(call.rest(1))) else {
         return said.fail("no engine, or no commands");
     };
@@ -121,13 +121,10 @@ fn serve_group(engines: &mut Engines, call: &Call, said: &mut Saying) {
 
 // Plans that the next run has an event as often as the words say, or serves the commands of the story so far. Tells how
 // many events there are then.
-fn plan(engines: &mut Engines, call: &Call, said: &mut Saying) {
-    let planned = Call::of(call.alloc(), call.rest(1));
+fn plan(engines: &mut Engines, call: &Phrase, said: &mut Saying) {
+    let planned = Phrase::of(call.alloc(), call.rest(1));
     if let ("as told", Some(script)) = (planned.form(), &engines.script) {
-        let told = script
-            .commands
-            .iter()
-            .map(|command| Event::Command(*command));
+        let told = script.commands.iter().map(|it| Event::Command(*it));
         said.check(engines.events.extend(told).is_ok());
     } else {
         for more in 0..times_of(&planned) {
@@ -145,14 +142,12 @@ fn run(engines: &mut Engines, said: &mut Saying) {
     let Some(engine) = &mut engines.file.engine else {
         return said.fail("no engine");
     };
-    match engine.run(engines.file.alloc, engines.events.as_slice()) {
-        Ok(answers) => {
-            write!(said, "{} answers", answers.len());
-            engines.answers = answers;
-        }
-        Err(refusal) => said.refusal(refusal),
-    }
+    let run = engine.run(engines.file.alloc, engines.events.as_slice());
     engines.events.clear();
+    said.result(run, |answers, said| {
+        write!(said, "{} answers", answers.len());
+        engines.answers = answers;
+    })
 }
 
 // Adds the answers of a group's members.
@@ -212,7 +207,7 @@ pub fn add_number(cases: &mut Cases, number: u64, said: &mut Saying) {
 }
 
 /// Does the events that the words tell, plans and runs them, or tells answers of the last run, from one to another.
-pub fn tell(engines: &mut Engines, call: &Call, said: &mut Saying) {
+pub fn tell(engines: &mut Engines, call: &Phrase, said: &mut Saying) {
     match (call.form(), call.word(0)) {
         ("run", _) => run(engines, said),
         ("answers _ to _", _) => {

@@ -3,17 +3,16 @@
 use crate::engines::{Engines, StoryScript};
 use im_image::{image_length, journal_at};
 use im_memory::Memory;
-use im_story::{Call, Saying};
+use im_story::{Phrase, Saying};
 
 // Formats a file of its image's length, or of the length that is told.
-fn format(engines: &mut Engines, call: &Call, said: &mut Saying) {
+fn format(engines: &mut Engines, call: &Phrase, said: &mut Saying) {
     let Some(limits) = call.limits(0) else {
         return said.fail("these are no sizes");
     };
-    let length = if call.word(4) == "in" {
-        call.place(3)
-    } else {
-        image_length(limits)
+    let length = match call.form() {
+        "format _ _ _" => image_length(limits),
+        _ => call.place(3),
     };
     engines.script = Some(StoryScript::none(call.alloc(), limits));
     said.check(engines.file.lay(&[], length));
@@ -38,7 +37,7 @@ fn tell_waiting(memory: &Memory, a: u32, said: &mut Saying) {
 }
 
 /// Makes a call of an engine or of its image. Returns whether it is one.
-pub fn tell(engines: &mut Engines, call: &Call, said: &mut Saying) -> bool {
+pub fn tell(engines: &mut Engines, call: &Phrase, said: &mut Saying) -> bool {
     let (a, element) = (call.address(0), call.element(0));
     match (call.form(), &engines.file.engine) {
         ("format _ _ _" | "format _ _ _ in _ bytes", _) => format(engines, call, said),

@@ -44,9 +44,7 @@ pub fn does_work(refusal: Option<Refusal>, said: &mut Saying) -> bool {
 
 /// Returns whether each member of a group was refused with this refusal.
 pub fn are_refused(served: &[Served], refusal: Refusal) -> bool {
-    served
-        .iter()
-        .all(|answer| *answer == Served::Refused(refusal))
+    served.iter().all(|it| *it == Served::Refused(refusal))
 }
 
 /// Returns the answer to a command as that of a group's member.
@@ -68,14 +66,9 @@ pub fn is_wrong_at(case: u64, said: &mut Saying) -> bool {
 
 // Returns whether the same requests wait at a cell, in the same order.
 fn has_same_waiters(fast: &Memory, plain: &PlainMemory, a: u32) -> bool {
-    let mut place = 0usize;
-    for waiter in fast.waiters(a) {
-        if plain.waiter(a, place) != Some(waiter) {
-            return false;
-        }
-        place = place.saturating_add(1);
-    }
-    plain.waiter(a, place).is_none()
+    let (mut waiters, count) = (fast.waiters(a).enumerate(), fast.waiters(a).count());
+    waiters.all(|(place, waiter)| plain.waiter(a, place) == Some(waiter))
+        && plain.waiter(a, count).is_none()
 }
 
 // Returns whether the same entries are kept for an element.
@@ -136,10 +129,8 @@ impl KnownEngine {
         said: &mut Saying,
     ) -> bool {
         let taken = members.get(..answers.len()).unwrap_or(members);
-        let accepts_one = taken
-            .iter()
-            .any(|member| self.plain.judge(member) == Ok(true));
-        if room > 0 && accepts_one && are_refused(answers, Refusal::Device) {
+        let acts = taken.iter().any(|it| self.plain.judge(it) == Ok(true));
+        if acts && room > 0 && are_refused(answers, Refusal::Device) {
             said.check(self.doubt.try_extend_from_slice(taken).is_ok());
             self.room = room;
             return false;

@@ -11,15 +11,15 @@ mod trials;
 mod walks;
 
 use crate::engines::Engines;
-use im_story::{Call, Saying, Scene};
+use im_story::{Phrase, Saying, Subject};
 use std::process::ExitCode;
 
-impl Scene for Engines {
+impl Subject for Engines {
     fn begin(&mut self) {
         *self = Engines::none(self.file.alloc);
     }
 
-    fn make(&mut self, call: &Call, said: &mut Saying) {
+    fn make(&mut self, call: &Phrase, said: &mut Saying) {
         let is_made = images::tell(self, call, said)
             || damage::tell(self, call, said)
             || walks::tell(call, said)

@@ -6,7 +6,7 @@ use crate::events::{add_number, group_of};
 use crate::known::{KnownEngine, are_alike, are_refused, does_work, is_wrong_at, served};
 use im_disk::{Crash, Mode};
 use im_engine::{Answer, Event};
-use im_story::{Call, Cases, Saying, asked, crash, mode};
+use im_story::{Cases, Phrase, Saying, asked, crash, mode};
 use im_story_disk::STEADY;
 use im_types::{Command, LAST, Op, Refusal};
 
@@ -227,7 +227,7 @@ fn events_of(act: &str, script: &StoryScript, said: &mut Saying) -> Vec<Event> {
 /// fails at each call of that, and what the crashes after it leave. All but `call` and `run` use an image that gets the
 /// commands of the story so far, one by one or as one group. `call` uses the closed file. The plain memory has to answer
 /// the script as it was told, and the engine of the story has to have that memory.
-pub fn tell<'x>(engines: &'x Engines, call: &Call<'x>, said: &mut Saying) {
+pub fn tell<'x>(engines: &'x Engines, call: &Phrase<'x>, said: &mut Saying) {
     let (crash, next) = (crash(call.word(4)), crash(call.word(5)));
     let words = 4 + usize::from(crash.is_some()) + usize::from(next.is_some());
     let is_whole = call.words().len() == words;

@@ -6,7 +6,7 @@ use arrayvec::ArrayVec;
 use im_disk::{Crash, Mode};
 use im_memory::Memory;
 use im_plain::PlainMemory;
-use im_story::{Call, Dice, Saying};
+use im_story::{Dice, Phrase, Saying};
 use im_story_disk::STEADY;
 use im_types::{Command, Limits, Request};
 
@@ -64,7 +64,7 @@ fn group(dice: &mut Dice, plain: &PlainMemory) -> ArrayVec<Command, 16> {
 
 // Puts random commands to a fast memory and a plain one, which have to judge and answer them alike, and compares them
 // after every 500. The call's first two numbers say how many, and from which seed. Returns how many were accepted.
-fn walk(limits: Limits, call: &Call, said: &mut Saying) -> u64 {
+fn walk(limits: Limits, call: &Phrase, said: &mut Saying) -> u64 {
     let (Ok(mut fast), Ok(mut plain)) = (
         Memory::new(call.alloc(), limits),
         PlainMemory::new(call.alloc(), limits),
@@ -131,7 +131,7 @@ fn open(known: &mut KnownEngine, dice: &mut Dice, said: &mut Saying) {
 
 // Stops an engine again and again, at any call of any turn, command or opening. The call's first two numbers say how
 // often, and from which seed. Returns how many commands were accepted.
-fn wander(limits: Limits, call: &Call, said: &mut Saying) -> u64 {
+fn wander(limits: Limits, call: &Phrase, said: &mut Saying) -> u64 {
     let Some(mut known) = KnownEngine::begin(call.alloc(), limits, STEADY) else {
         said.fail("there is no image");
         return 0;
@@ -151,14 +151,14 @@ fn wander(limits: Limits, call: &Call, said: &mut Saying) -> u64 {
 
 // Makes events on a disk that fails so, and opens what the crash leaves. Then it serves what is asked. Returns whether
 // the disk has stopped.
-fn stops(limits: Limits, call: &Call, fuse: (u64, Mode), crash: Crash, said: &mut Saying) -> bool {
+fn stops(limits: Limits, call: &Phrase, fuse: (u64, Mode), then: Crash, said: &mut Saying) -> bool {
     let Some(mut known) = KnownEngine::begin(call.alloc(), limits, fuse) else {
         said.fail("there is no image");
         return false;
     };
     let mut dice = Dice::new(call.number(1));
     let works = (0..call.number(0)).all(|_| goes(&mut known, &mut dice, said));
-    known.reopen(Some(crash), said);
+    known.reopen(Some(then), said);
     let works_again = (0..8u64).all(|_| goes(&mut known, &mut dice, said));
     said.check(works_again);
     known.has_all(said);
@@ -167,7 +167,7 @@ fn stops(limits: Limits, call: &Call, fuse: (u64, Mode), crash: Crash, said: &mu
 
 // Stops an engine at each call of the same events in turn, in each way. The call's first two numbers say how many events
 // there are, and from which seed. Returns how many calls there were.
-fn explore(limits: Limits, call: &Call, said: &mut Saying) -> u64 {
+fn explore(limits: Limits, call: &Phrase, said: &mut Saying) -> u64 {
     // A format makes four calls.
     for passes in 4..100_000u64 {
         let is_stopped = WAYS.iter().all(|(mode, crash)| stops(
@@ -187,7 +187,7 @@ fn explore(limits: Limits, call: &Call, said: &mut Saying) -> u64 {
 
 /// Makes a walk. Behind the word come how many commands, stops or events, a seed, and how many commands have to be
 /// accepted, or calls to be stopped at. Returns whether the call is one.
-pub fn tell(call: &Call, said: &mut Saying) -> bool {
+pub fn tell(call: &Phrase, said: &mut Saying) -> bool {
     // Each element of an engine that is stopped at each call has a page of its own in both areas of the image, which is
     // made anew for each call: so there are few.
     let elements = match call.word(0) {
