@@ -28,7 +28,7 @@ pub fn group_of(commands: &[Command]) -> Option<Group> {
     Group::new(members)
 }
 
-// Reads a command, of which the one under a number that is `more` higher is meant: `1.1 fetch 0`, `16 times 1.1 fetch 0`.
+// Reads `1.1 fetch 0` or `16 times 1.1 fetch 0`. Returns the command that asks so under a number that is `more` higher.
 fn command_of(call: &Phrase, more: u64) -> Option<Command> {
     let from = if call.word(1) == "times" { 2 } else { 0 };
     match command(call.rest(from))? {
@@ -85,8 +85,8 @@ fn act(engines: &mut Engines, event: Event, said: &mut Saying) -> u32 {
     engine.room()
 }
 
-// Does the event that the words tell, as often as they say, and tells the answers. If it is several turns or a sweep, it
-// tells also the room after each.
+// Does the event that the words tell, as often as they say. Tells the answers; and of several turns or a sweep the room
+// after each.
 fn act_each(engines: &mut Engines, call: &Phrase, said: &mut Saying) {
     let (mut rooms, mut cases) = (Saying::new(said.alloc()), Cases::none(said.alloc()));
     engines.answers.clear();
@@ -191,10 +191,8 @@ fn add_answers(said: &mut Saying, answers: &[Answer]) {
     let mut cases = Cases::none(said.alloc());
     for answer in answers {
         let mut one = Saying::new(said.alloc());
-        match add_answer(&mut one, answer) {
-            Some(page) => cases.next(page as u64, &one, said),
-            None => cases.again(&one, said),
-        }
+        let page = add_answer(&mut one, answer);
+        cases.take(page.map(u64::from), &one, said);
     }
     cases.end(said)
 }
@@ -203,7 +201,7 @@ fn add_answers(said: &mut Saying, answers: &[Answer]) {
 pub fn add_number(cases: &mut Cases, number: u64, said: &mut Saying) {
     let mut one = Saying::new(said.alloc());
     one.number(number);
-    cases.again(&one, said)
+    cases.take(None, &one, said)
 }
 
 /// Does the events that the words tell, plans and runs them, or tells answers of the last run, from one to another.

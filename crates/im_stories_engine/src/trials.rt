@@ -223,10 +223,10 @@ fn events_of(act: &str, script: &StoryScript, said: &mut Saying) -> Vec<Event> {
     events
 }
 
-/// Makes the call `in each` with `serve`, `opening`, `reopening`, `group`, `turn`, `call` or `run`. Then come how the disk
-/// fails at each call of that, and what the crashes after it leave. All but `call` and `run` use an image that gets the
-/// commands of the story so far, one by one or as one group. `call` uses the closed file. The plain memory has to answer
-/// the script as it was told, and the engine of the story has to have that memory.
+/// Makes the call `in each` with `serve`, `opening`, `reopening`, `group`, `turn`, `call` or `run`. Then come how the
+/// disk fails at each call of that, and what the crashes after it leave. `call` uses the closed file. All others but
+/// `run` use an image that gets the commands of the story so far, one by one or as one group. The plain memory has to
+/// answer the script as it was told, and the engine of the story has to have that memory.
 pub fn tell<'x>(engines: &'x Engines, call: &Phrase<'x>, said: &mut Saying) {
     let (crash, next) = (crash(call.word(4)), crash(call.word(5)));
     let words = 4 + usize::from(crash.is_some()) + usize::from(next.is_some());

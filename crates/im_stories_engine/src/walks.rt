@@ -29,9 +29,9 @@ const WAYS: [(Mode, Crash); 6] = [
     (Mode::Once, Crash::Lost),
 ];
 
-// Returns a command of an element of a memory, or of one element more, behind commands that haven't acted yet: they take
-// that many of its numbers. One in five confirms. Element 0 asks for nothing that may wait, so that one element always
-// continues. One in two requests under a number that is kept asks for what was asked for before.
+// Returns a command of an element of a memory, or of one element more, behind commands that haven't acted yet: they
+// take that many of its numbers. One in five confirms. Element 0 asks for nothing that may wait, so that one element
+// always continues. One in two requests under a number that is kept asks for what was asked for before.
 fn command(dice: &mut Dice, plain: &PlainMemory, before: &[Command]) -> Command {
     let element = dice.below(plain.elements() as u32 + 1) as u16;
     let (base, mut next) = plain.window(element).unwrap_or((1, 1));
@@ -85,7 +85,8 @@ fn walk(limits: Limits, call: &Phrase, said: &mut Saying) -> u64 {
     accepted
 }
 
-// Makes a random turn, sweep, group or command; mostly a turn if there is no room. Returns whether the disk still works.
+// Makes a random turn, sweep, group or command; mostly a turn if there is no room. Returns whether the disk still
+// works.
 fn goes(known: &mut KnownEngine, dice: &mut Dice, said: &mut Saying) -> bool {
     let Some(engine) = &mut known.file.engine else {
         said.fail("no engine");
@@ -165,8 +166,8 @@ fn stops(limits: Limits, call: &Phrase, fuse: (u64, Mode), then: Crash, said: &m
     !works
 }
 
-// Stops an engine at each call of the same events in turn, in each way. The call's first two numbers say how many events
-// there are, and from which seed. Returns how many calls there were.
+// Stops an engine at each call of the same events in turn, in each way. The call's first two numbers say how many
+// events there are, and from which seed. Returns how many calls there were.
 fn explore(limits: Limits, call: &Phrase, said: &mut Saying) -> u64 {
     // A format makes four calls.
     for passes in 4..100_000u64 {
