@@ -2,11 +2,8 @@
 
 use im_engine::{Answer, Event};
 use im_story_disk::StoryFile;
-use im_types::{Command, Limits, Outcome, Refusal};
+use im_types::{Command, Limits, Refusal, Served};
 use std::alloc::Global;
-
-/// The answer to a command.
-pub type Said = Result<Outcome, Refusal>;
 
 /// The commands of a story since its image was formatted.
 #[derive(Drop)]
@@ -16,7 +13,7 @@ pub struct StoryScript {
     /// The commands that were accepted, in order.
     pub commands: Vec<Command>,
     /// The first answer to each.
-    pub answers: Vec<Said>,
+    pub answers: Vec<Served>,
     // How many commands the engine had at the last one.
     count: u64,
 }
@@ -34,8 +31,8 @@ impl StoryScript {
 
     /// Notes a command, its answer, and the count after it, unless the answer is about the disk or the journal. Returns
     /// whether there was memory for it.
-    pub fn note(&mut self, command: Command, answer: Said, count: u64) -> bool {
-        if let Err(Refusal::Device | Refusal::Failed | Refusal::JournalFull) = answer {
+    pub fn note(&mut self, command: Command, answer: Served, count: u64) -> bool {
+        if let Served::Refused(Refusal::Device | Refusal::Failed | Refusal::JournalFull) = answer {
             return true;
         }
         let is_new = count > self.count;

@@ -1,6 +1,7 @@
 //! Commands, groups, turns and sweeps. They are done one by one, or planned and run.
 
 use crate::engines::Engines;
+use crate::known::served;
 use arrayvec::ArrayVec;
 use im_checkpoint::TurnDone;
 use im_engine::{Answer, Event, Group};
@@ -70,7 +71,7 @@ fn act(engines: &mut Engines, event: Event, said: &mut Saying) -> u32 {
     let answer = match event {
         Event::Command(command) => {
             let answer = engine.serve(&command);
-            said.check(script.note(command, answer, engine.count()));
+            said.check(script.note(command, served(answer), engine.count()));
             Answer::Served(answer)
         }
         Event::Turn => Answer::Turned(engine.turn()),
@@ -209,13 +210,11 @@ pub fn tell(engines: &mut Engines, call: &Phrase, said: &mut Saying) {
     match (call.form(), call.word(0)) {
         ("run", _) => run(engines, said),
         ("answers _ to _", _) => {
-            match engines
-                .answers
-                .get(call.place(0)..call.place(1).saturating_add(1))
-            {
-                Some(answers) => add_answers(said, answers),
-                None => said.fail("there are not so many answers"),
-            }
+            let (from, to) = (call.place(0), call.place(1).saturating_add(1));
+            let answers = engines.answers.get(from..to);
+            said.given(answers, "there are not so many answers", |answers, said| {
+                add_answers(said, answers)
+            })
         }
         (_, "plan") => plan(engines, call, said),
         (_, "together" | "commands") => serve_group(engines, call, said),

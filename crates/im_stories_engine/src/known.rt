@@ -1,13 +1,13 @@
 //! What is known of an engine: the plain memory, which has what was answered, and what is in doubt.
 
-use crate::engines::{Said, StoryScript};
+use crate::engines::StoryScript;
 use arrayvec::ArrayVec;
 use im_disk::{Crash, Mode};
 use im_memory::Memory;
 use im_plain::PlainMemory;
 use im_story::Saying;
 use im_story_disk::StoryFile;
-use im_types::{Command, Limits, Refusal, Served};
+use im_types::{Command, Limits, Outcome, Refusal, Served};
 use std::alloc::Global;
 
 /// An engine in a file, and what it has answered: the memory after it, and how many commands that is. The commands of
@@ -48,7 +48,7 @@ pub fn are_refused(served: &[Served], refusal: Refusal) -> bool {
 }
 
 /// Returns the answer to a command as that of a group's member.
-pub fn served(answer: Said) -> Served {
+pub fn served(answer: Result<Outcome, Refusal>) -> Served {
     match answer {
         Ok(outcome) => Served::Done(outcome),
         Err(refusal) => Served::Refused(refusal),
@@ -161,7 +161,7 @@ impl KnownEngine {
     /// Takes in what the commands of a script were answered.
     pub fn hears_script(&mut self, script: &StoryScript, said: &mut Saying) {
         for (command, answer) in script.commands.iter().zip(script.answers.as_slice()) {
-            let _works = self.hears(&[*command], &[served(*answer)], usize::MAX, said);
+            let _works = self.hears(&[*command], &[*answer], usize::MAX, said);
         }
     }
 
