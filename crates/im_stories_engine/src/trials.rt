@@ -15,11 +15,11 @@ use im_types::{Command, LAST, Op, Refusal};
 // turns after that; or the run that was planned. Then the disk crashes, or is opened as it is; and it may crash again
 // after an opening.
 #[derive(Drop)]
-struct Trial<'a> {
-    script: &'a StoryScript,
-    bytes: &'a [u8],
-    events: &'a [Event],
-    act: &'a str,
+struct Trial<'s, 'c> {
+    script: &'s StoryScript,
+    bytes: &'s [u8],
+    events: &'s [Event],
+    act: &'c str,
     mode: Mode,
     crash: Option<Crash>,
     next: Option<Crash>,
@@ -36,7 +36,7 @@ fn has_failed(answer: &Answer) -> bool {
     }
 }
 
-impl Trial<'_> {
+impl Trial<'_, '_> {
     // Makes a new image on a disk that fails so, `more` calls behind a format and the given number of commands, at four
     // calls each.
     fn begin(&mut self, commands: u64, more: u64, mode: Mode, said: &mut Saying) {
@@ -227,7 +227,7 @@ fn events_of(act: &str, script: &StoryScript, said: &mut Saying) -> Vec<Event> {
 /// disk fails at each call of that, and what the crashes after it leave. `call` uses the closed file. All others but
 /// `run` use an image that gets the commands of the story so far, one by one or as one group. The plain memory has to
 /// answer the script as it was told, and the engine of the story has to have that memory.
-pub fn tell<'x>(engines: &'x Engines, call: &Phrase<'x>, said: &mut Saying) {
+pub fn tell(engines: &Engines, call: &Phrase, said: &mut Saying) {
     let (crash, next) = (crash(call.word(4)), crash(call.word(5)));
     let words = 4 + usize::from(crash.is_some()) + usize::from(next.is_some());
     let is_whole = call.words().len() == words;
@@ -238,11 +238,11 @@ pub fn tell<'x>(engines: &'x Engines, call: &Phrase<'x>, said: &mut Saying) {
         return said.fail("there is no image");
     };
     let (act, made) = (call.word(2), events_of(call.word(2), script, said));
-    let planned = engines.events.as_slice();
+    let (planned, made) = (engines.events.as_slice(), made.as_slice());
     let mut trial = Trial {
         script,
         bytes: engines.file.bytes(),
-        events: if act == "run" { planned } else { &made },
+        events: if act == "run" { planned } else { made },
         act,
         mode,
         crash,
