@@ -7,7 +7,7 @@ use crate::known::{KnownEngine, are_alike, are_refused, does_work, is_wrong_at, 
 use im_disk::{Crash, Mode};
 use im_engine::{Answer, Event};
 use im_story::{Cases, Phrase, Saying, asked, crash, mode};
-use im_story_disk::STEADY;
+use im_story_disk::{STEADY, StoryFile};
 use im_types::{Command, LAST, Op, Refusal};
 
 // What is stopped, and how: an opening of an image with the whole script, or a reopening of one that was stopped in its
@@ -45,6 +45,17 @@ impl Trial<'_, '_> {
         match KnownEngine::begin(said.alloc(), self.script.limits, fuse) {
             Some(known) => self.known = known,
             None => said.fail("there is no image"),
+        }
+    }
+
+    // Checks that the plain memory answers the script as it was told, and that the engine of the story has that memory.
+    fn agrees_with(&mut self, file: &StoryFile, said: &mut Saying) {
+        if self.act == "run" {
+            return;
+        }
+        self.known.hears_script(self.script, said);
+        if let Some(engine) = &file.engine {
+            said.check(are_alike(engine.memory(), &self.known.plain))
         }
     }
 
@@ -249,12 +260,7 @@ pub fn tell(engines: &Engines, call: &Phrase, said: &mut Saying) {
         next,
         known,
     };
-    if act != "run" {
-        trial.known.hears_script(script, said);
-        if let Some(engine) = &engines.file.engine {
-            said.check(are_alike(engine.memory(), &trial.known.plain))
-        }
-    }
+    trial.agrees_with(&engines.file, said);
     match act {
         "serve" => trial.tell_serves(said),
         "opening" | "reopening" | "group" | "turn" | "call" | "run" => trial.tell_acts(said),
