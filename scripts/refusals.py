@@ -26,7 +26,7 @@ def misnamed(known):
     """Yields the refusals whose text isn't their name, and the lists that don't have all of them."""
     variants = found(r'#\[error\("([^"]*)"\)\]\n    (\w+),', SOURCE)
     yield from (f"{SOURCE}: the text of {name} is {text}" for text, name in variants if text != name)
-    of_c = [name for listed in found(r"^    return_name!\(number: ([\w, ]+)\);", NAMING) for name in listed.split(", ")]
+    of_c = re.findall(r"\w+", " ".join(found(r"return_name!\(\s+number: ([\w,\s]+)\);", NAMING)))
     for path, names in ((SOURCE, [name for _, name in variants]), (NAMING, of_c)):
         if names != list(known):
             yield f"{path}: it doesn't list the refusals in the order of their numbers"

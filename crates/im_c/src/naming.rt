@@ -8,7 +8,7 @@ use im_types::Refusal;
 
 // Returns the name of the refusal with this number, if it is one of these. Its name is that of its variant.
 macro_rules! return_name {
-    ($number:ident: $($refusal:ident),+ $(,)?) => {
+    ($number:ident: $($refusal:ident),+) => {
         $(
             if $number == Refusal::$refusal.number() {
                 return stringify!($refusal);
@@ -21,10 +21,11 @@ macro_rules! return_name {
 fn name_of(number: u8) -> &'static str
     ensures { result.now ≡ refusal_name number }
 {
-    return_name!(number: Gap, Forgotten, WindowFull, Mismatch, NoElement, NotAnswered, JournalFull);
-    return_name!(number: Device, Failed, NoMemory, TraceFull, WrongLength, NoHeader, BadHeader);
-    return_name!(number: BadPage, BadRecord, BadLimits, BadScript, Stalled, OffPlan, OldVersion);
-    return_name!(number: NotBlank, BadPlan, PaneGone);
+    return_name!(
+        number: Gap, Forgotten, WindowFull, Mismatch, NoElement, NotAnswered, JournalFull, Device,
+        Failed, NoMemory, TraceFull, WrongLength, NoHeader, BadHeader, BadPage, BadRecord, BadLimits,
+        BadScript, Stalled, OffPlan, OldVersion, NotBlank, BadPlan, PaneGone
+    );
     match number {
         UNSERVED => "Unserved",
         NO_CALL => "NoCall",
