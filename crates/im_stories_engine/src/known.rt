@@ -66,9 +66,14 @@ pub fn is_wrong_at(case: u64, said: &mut Saying) -> bool {
 
 // Returns whether the same requests wait at a cell, in the same order.
 fn has_same_waiters(fast: &Memory, plain: &PlainMemory, a: u32) -> bool {
-    let (mut waiters, count) = (fast.waiters(a).enumerate(), fast.waiters(a).count());
-    waiters.all(|(place, waiter)| plain.waiter(a, place) == Some(waiter))
-        && plain.waiter(a, count).is_none()
+    let mut place = 0usize;
+    for waiter in fast.waiters(a) {
+        if plain.waiter(a, place) != Some(waiter) {
+            return false;
+        }
+        place = place.saturating_add(1);
+    }
+    plain.waiter(a, place).is_none()
 }
 
 // Returns whether the same entries are kept for an element.
@@ -105,8 +110,7 @@ impl KnownEngine {
         known.file.begin(limits, fuse).then_some(known)
     }
 
-    // Returns what a member of a group has to be answered, given how many may still be accepted. The plain memory has
-    // it then too.
+    // Returns what a member of a group has to be answered, if so many may still be accepted. The plain memory has it then.
     fn expected(&mut self, command: &Command, left: &mut usize) -> Served {
         if self.plain.judge(command) == Ok(true) {
             if *left == 0 {

@@ -37,8 +37,7 @@ fn has_failed(answer: &Answer) -> bool {
 }
 
 impl Trial<'_, '_> {
-    // Makes a new image on a disk that fails so, `more` calls behind a format and the given number of commands, at four
-    // calls each.
+    // Makes a new image on a disk that fails so, `more` calls behind a format and these commands, at four calls each.
     fn begin(&mut self, commands: u64, more: u64, mode: Mode, said: &mut Saying) {
         let calls = commands.saturating_add(1).saturating_mul(4);
         let fuse = (calls.saturating_add(more), mode);

@@ -85,8 +85,7 @@ fn walk(limits: Limits, call: &Phrase, said: &mut Saying) -> u64 {
     accepted
 }
 
-// Makes a random turn, sweep, group or command; mostly a turn if there is no room. Returns whether the disk still
-// works.
+// Makes a random turn, sweep, group or command; mostly a turn if there is no room. Returns whether the disk works on.
 fn goes(known: &mut KnownEngine, dice: &mut Dice, said: &mut Saying) -> bool {
     let Some(engine) = &mut known.file.engine else {
         said.fail("no engine");
