@@ -110,7 +110,7 @@ impl KnownEngine {
         known.file.begin(limits, fuse).then_some(known)
     }
 
-    // Returns what a member of a group has to be answered, if so many may still be accepted. The plain memory has it then.
+    // Returns what a member has to be answered if so many may still be accepted. The plain memory has it then too.
     fn expected(&mut self, command: &Command, left: &mut usize) -> Served {
         if self.plain.judge(command) == Ok(true) {
             if *left == 0 {
