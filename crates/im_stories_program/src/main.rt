@@ -17,7 +17,7 @@ use im_disk::Mode;
 use im_program::Descriptors;
 use im_script::Said;
 use im_story::{Call, Paper, Saying, Scene, walk_files};
-use im_story_disk::Place;
+use im_story_disk::StoryFile;
 use std::process::ExitCode;
 use writers::ObserverNotes;
 
@@ -29,7 +29,7 @@ struct ProgramDesk<'a> {
     /// What occupies the numbers of the standard streams.
     held: &'a Descriptors,
     /// The image in memory.
-    place: Place,
+    place: StoryFile,
     /// The text that is put together.
     text: Vec<u8>,
     /// The text that was last read as a script.
@@ -52,7 +52,7 @@ impl<'a> ProgramDesk<'a> {
         ProgramDesk {
             rt,
             held,
-            place: Place::new(alloc),
+            place: StoryFile::new(alloc),
             text: Vec::new(alloc),
             read: Vec::new(alloc),
             lines: Vec::new(alloc),

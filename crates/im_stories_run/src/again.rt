@@ -2,7 +2,8 @@
 //! again, until the script is done.
 
 use crate::desk::{How, RunDesk};
-use crate::ends::{End, ends_of, few};
+use crate::ends::{End, ends_of, few, has_end};
+use crate::scripts::{requests_of, script_of};
 use im_disk::{Crash, Mode};
 use im_serving::{Host, Open};
 
@@ -13,6 +14,9 @@ const CRASHES: [Crash; 3] = [Crash::Kept, Crash::Lost, Crash::Byte(0xA5)];
 const MOST_RUNS: u64 = 100;
 
 const MORE: u64 = 16;
+
+// The lines of a report that tell an end.
+const KEPT: [&str; 3] = ["cell", "element", "entry"];
 
 // Reads a word as a number.
 fn number(word: &str) -> u64 {
@@ -40,11 +44,10 @@ impl<R: Host> RunDesk<'_, R> {
 
     // Returns whether the image has one of these ends, which one more run prints and leaves.
     fn has_come_to(&mut self, how: How, script: &str, ends: &[End]) -> bool {
-        let left = self.lines();
+        let left = self.report(&KEPT);
         let status = self.serve(how, script, &Open);
-        let mut same = ends.iter().filter(|end| end.lines.said() == left.said());
-        let is_printed = same.any(|end| end.printed.said() == self.out.text());
-        status == 0 && is_printed && self.lines().said() == left.said()
+        let is_printed = has_end(ends, left.said(), self.out.text());
+        status == 0 && is_printed && self.report(&KEPT).said() == left.said()
     }
 
     // Stops a script behind so many calls, with each crash. Returns how often it comes to one of its ends.
@@ -64,8 +67,9 @@ impl<R: Host> RunDesk<'_, R> {
     pub fn run_again(&mut self, how: How, words: &str) {
         let (words, by) = words.split_once(" by ").unwrap_or((words, "1"));
         let (name, most) = words.rsplit_once(' ').unwrap_or((words, "0"));
-        let (most, by, script) = (number(most), number(by), self.script(name));
-        let ends = ends_of(self.place.alloc, self.requests(name).as_slice());
+        let (alloc, most, by) = (self.place.alloc, number(most), number(by));
+        let script = script_of(alloc, self.text, name);
+        let ends = ends_of(alloc, requests_of(alloc, self.text, name).as_slice());
         let mut right = 0u64;
         for times in 0..=most / by.max(1) {
             let passes = times.saturating_mul(by);

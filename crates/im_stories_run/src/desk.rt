@@ -1,13 +1,14 @@
 //! What a scene works with: an image in memory, what was last printed, and what is told.
 
 use crate::gates::After;
+use crate::scripts::script_of;
 use im_disk::Mode;
 use im_report::inspect_on;
 use im_run::{RunMode, run_on, run_once_on, write_trace};
 use im_script::read_script_with_glances;
 use im_serving::{Gate, Host, Open, Unwatched};
 use im_story::{Paper, Saying};
-use im_story_disk::Place;
+use im_story_disk::StoryFile;
 use im_text::{Observer, Progress, Reason};
 use im_types::{Entry, Limits, Refusal};
 use std::alloc::Global;
@@ -53,7 +54,7 @@ pub struct RunDesk<'a, R> {
     /// The scenes, and the scripts behind them.
     pub text: &'a str,
     /// The image, if there is one.
-    pub place: Place,
+    pub place: StoryFile,
     /// What was last printed.
     pub out: Paper,
     /// Why the last run was refused, if it was.
@@ -64,14 +65,16 @@ pub struct RunDesk<'a, R> {
     pub said: Saying,
 }
 
-// Adds the lines of a report that begin with one of these words.
-fn add_lines(said: &mut Saying, report: &str, words: &[&str]) {
+// Returns the lines of a report that begin with one of these words.
+fn lines_of(alloc: Global, report: &str, words: &[&str]) -> Saying {
+    let mut lines = Saying::new(alloc);
     for line in report.lines() {
         let (word, _) = line.split_once(' ').unwrap_or((line, ""));
         if words.contains(&word) {
-            writeln!(said, "{line}")
+            writeln!(lines, "{line}")
         }
     }
+    lines
 }
 
 impl<'a, R: Host> RunDesk<'a, R> {
@@ -80,7 +83,7 @@ impl<'a, R: Host> RunDesk<'a, R> {
         RunDesk {
             rt,
             text,
-            place: Place::new(alloc),
+            place: StoryFile::new(alloc),
             out: Paper::new(alloc),
             reason: LastReason(None),
             held: false,
@@ -131,7 +134,7 @@ impl<'a, R: Host> RunDesk<'a, R> {
     // other one's requests are held.
     fn run(&mut self, how: How, words: &str) {
         let (name, first) = words.split_once(" after ").unwrap_or((words, ""));
-        let script = self.script(name);
+        let script = script_of(self.place.alloc, self.text, name);
         let status = match first.parse::<u16>() {
             Ok(first) => {
                 let gate = After::new(first);
@@ -148,10 +151,10 @@ impl<'a, R: Host> RunDesk<'a, R> {
     }
 
     // Runs a script on a disk whose calls fail behind the opening. Tells whether the observer was told of that.
-    fn fail(&mut self, name: &str) {
+    fn run_failing(&mut self, name: &str) {
         let _opened = self.place.found(None);
         self.place.fuse = (self.place.calls, Mode::Stop);
-        let script = self.script(name);
+        let script = script_of(self.place.alloc, self.text, name);
         self.reason = LastReason(None);
         let status = self.serve(How::of("run"), script.said(), &Open);
         let is_told = match self.reason.0 {
@@ -161,56 +164,41 @@ impl<'a, R: Host> RunDesk<'a, R> {
         writeln!(self.said, "told of it: {is_told}\nstatus {status}")
     }
 
-    // Prints the image's report. Returns the status.
-    fn inspect(&mut self) -> u8 {
-        self.out = Paper::new(self.place.alloc);
+    /// Returns the lines of the image's report that begin with one of these words, and its status.
+    pub fn report(&mut self, words: &[&str]) -> Saying {
+        let alloc = self.place.alloc;
+        self.out = Paper::new(alloc);
         let Some(disk) = self.place.taken() else {
-            return 2;
+            return Saying::new(alloc);
         };
-        let (status, disk) = inspect_on(self.place.alloc, disk, &mut self.out, &mut self.reason);
+        let (status, disk) = inspect_on(alloc, disk, &mut self.out, &mut self.reason);
         self.place.lay_down(disk);
-        status
-    }
-
-    /// Returns the lines of the image's report that are of cells, windows and entries.
-    pub fn lines(&mut self) -> Saying {
-        let mut lines = Saying::new(self.place.alloc);
-        let status = self.inspect();
-        lines.so(status == 0, "");
-        add_lines(&mut lines, self.out.text(), &["cell", "element", "entry"]);
+        let mut lines = lines_of(alloc, self.out.text(), words);
+        writeln!(lines, "status {status}");
         lines
     }
 
     // Tells lines of the image's report.
-    fn report(&mut self, words: &[&str]) {
-        let status = self.inspect();
+    fn tell_report(&mut self, words: &[&str]) {
+        let lines = self.report(words);
         self.said.text("the report\n");
-        add_lines(&mut self.said, self.out.text(), words);
-        writeln!(self.said, "status {status}")
+        self.said.also(&lines)
     }
 
-    // Tells a line of the scenes.
-    fn tell(&mut self, line: &str) {
+    /// Tells a line of the scenes.
+    pub fn tell(&mut self, line: &str) {
         let (call, words) = line.split_once(' ').unwrap_or((line, ""));
         match call {
             "#" => writeln!(self.said, "{line}"),
             "new" | "old" => self.lay(call == "old"),
             "run" | "plan" | "trace" | "once" | "once-plan" => self.run(How::of(call), words),
-            "fault" => self.fail(words),
+            "fault" => self.run_failing(words),
             "again" | "again-plan" => self.run_again(How::of(call), words),
             "held" => writeln!(self.said, "{words}: {}", self.held),
-            "report" if words == "windows" => self.report(&["element"]),
-            "report" => self.report(&["cell", "entry"]),
+            "report" if words == "windows" => self.tell_report(&["element"]),
+            "report" => self.tell_report(&["cell", "entry"]),
             "" | "--" => {}
             _ => self.said.fail(line),
-        }
-    }
-
-    /// Tells all scenes.
-    pub fn tell_all(&mut self) {
-        let (scenes, _) = self.text.split_once("\nscript ").unwrap_or(("", ""));
-        for line in scenes.lines() {
-            self.tell(line);
         }
     }
 }

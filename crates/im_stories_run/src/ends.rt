@@ -8,7 +8,7 @@ use std::alloc::Global;
 /// An end.
 #[derive(Drop)]
 pub struct End {
-    /// The lines of all cells and elements, as a report has them.
+    /// The lines of all cells and elements, as a report has them, and its status.
     pub lines: Saying,
     /// What one more run prints: for each request `done` if it was confirmed, or else its reply.
     pub printed: Saying,
@@ -58,6 +58,7 @@ impl End {
         for element in 0..memory.elements() {
             end.add_element(memory, element);
         }
+        end.lines.text("status 0\n");
         end
     }
 }
@@ -100,12 +101,8 @@ fn end_of(alloc: Global, requests: &[Request], others: u64, order: u64) -> Optio
 /// Returns all ends of these requests. Those of element 0 stand first, and the last element's last.
 pub fn ends_of(alloc: Global, requests: &[Request]) -> Vec<End> {
     let others = requests.last().map_or(0, |last| u64::from(last.element));
-    let mut numbers = 1u64;
-    for request in requests {
-        if request.element != 0 {
-            numbers = numbers.saturating_mul(others);
-        }
-    }
+    let turns = requests.iter().filter(|it| it.element != 0).count();
+    let numbers = others.saturating_pow(u32::try_from(turns).unwrap_or(u32::MAX));
     let mut ends = Vec::new(alloc);
     for order in 0..numbers {
         if let Some(end) = end_of(alloc, requests, others, order) {
@@ -121,4 +118,10 @@ fn add_end(ends: &mut Vec<End>, end: End) {
     if !before.any(|other| other.lines.said() == end.lines.said()) {
         let _kept = ends.push(end);
     }
+}
+
+/// Returns whether one of these ends has these lines, and one more run prints this.
+pub fn has_end(ends: &[End], lines: &str, printed: &str) -> bool {
+    let mut same = ends.iter().filter(|end| end.lines.said() == lines);
+    same.any(|end| end.printed.said() == printed)
 }

@@ -41,6 +41,9 @@ fn main(rt: HostRuntime) -> ExitCode {
         return ExitCode::from(1);
     };
     let mut desk = RunDesk::new(&rt, rt.alloc(), text.as_str());
-    desk.tell_all();
+    let (scenes, _) = text.as_str().split_once("\nscript ").unwrap_or(("", ""));
+    for line in scenes.lines() {
+        desk.tell(line);
+    }
     ExitCode::from(desk.said.print(&rt))
 }
