@@ -23,18 +23,32 @@ fn number(word: &str) -> u64 {
     word.parse::<u64>().unwrap_or(0)
 }
 
-impl<R: Host> RunDesk<'_, R> {
-    // Runs a script on a new image, with this crash after each run, until it is done. The disk passes so many calls at
-    // first, and so many and some more each time. Returns how many runs were stopped, if it is done then.
-    fn run_to_end(&mut self, how: How, script: &str, passes: u64, crash: Crash) -> Option<u64> {
-        let is_new = self.place.renew(few()?);
-        self.said.so(is_new, "");
+// A script that is stopped: how it is run, its text, and its ends by the plain memory.
+#[derive(Clone, Copy)]
+struct StoppedScript<'s> {
+    how: How,
+    script: &'s str,
+    ends: &'s [End],
+}
+
+impl StoppedScript<'_> {
+    // Runs the script on a new image, with this crash after each run, until it is done. The disk passes so many calls
+    // at first, and so many and some more each time. Returns how many runs were stopped, if it is done then.
+    fn run_to_end<R: Host>(
+        &self,
+        rt: &R,
+        desk: &mut RunDesk,
+        passes: u64,
+        crash: Crash,
+    ) -> Option<u64> {
+        let is_new = desk.place.renew(few()?);
+        desk.said.so(is_new, "");
         let mut many = passes;
         for stops in 0..MOST_RUNS {
-            self.place.fuse = (many, Mode::Stop);
+            desk.place.fuse = (many, Mode::Stop);
             many = many.saturating_add(passes).saturating_add(MORE);
-            let status = self.serve(how, script, &Open);
-            let _crashed = self.place.crash(crash);
+            let status = desk.serve(rt, self.how, self.script, &Open);
+            let _crashed = desk.place.crash(crash);
             if status == 0 {
                 return Some(stops);
             }
@@ -42,45 +56,48 @@ impl<R: Host> RunDesk<'_, R> {
         None
     }
 
-    // Returns whether the image has one of these ends, which one more run prints and leaves.
-    fn has_come_to(&mut self, how: How, script: &str, ends: &[End]) -> bool {
-        let left = self.report(&KEPT);
-        let status = self.serve(how, script, &Open);
-        let is_printed = has_end(ends, left.said(), self.out.text());
-        status == 0 && is_printed && self.report(&KEPT).said() == left.said()
+    // Returns whether the image has one of the ends, which one more run prints and leaves.
+    fn has_come_to<R: Host>(&self, rt: &R, desk: &mut RunDesk) -> bool {
+        let left = desk.report(&KEPT);
+        let status = desk.serve(rt, self.how, self.script, &Open);
+        let is_printed = has_end(self.ends, left.said(), desk.out.text());
+        status == 0 && is_printed && desk.report(&KEPT).said() == left.said()
     }
 
-    // Stops a script behind so many calls, with each crash. Returns how often it comes to one of its ends.
-    fn stop_at(&mut self, how: How, script: &str, ends: &[End], passes: u64) -> u64 {
+    // Stops the script behind so many calls, with each crash. Returns how often it comes to one of its ends.
+    fn stop_at<R: Host>(&self, rt: &R, desk: &mut RunDesk, passes: u64) -> u64 {
         let mut right = 0u64;
         for crash in CRASHES {
-            let is_done = self.run_to_end(how, script, passes, crash).is_some();
-            let is_right = is_done && self.has_come_to(how, script, ends);
+            let is_done = self.run_to_end(rt, desk, passes, crash).is_some();
+            let is_right = is_done && self.has_come_to(rt, desk);
             right = right.saturating_add(u64::from(is_right));
         }
         right
     }
+}
 
-    /// Stops a script behind each number of calls, as the words behind its name tell. Tells how many ends there are by
-    /// the plain memory, how often it comes to one of them, and whether the disk that passed the most calls stopped no
-    /// run.
-    pub fn run_again(&mut self, how: How, words: &str) {
-        let (words, by) = words.split_once(" by ").unwrap_or((words, "1"));
-        let (name, most) = words.rsplit_once(' ').unwrap_or((words, "0"));
-        let (alloc, most, by) = (self.place.alloc, number(most), number(by));
-        let script = script_of(alloc, self.text, name);
-        let ends = ends_of(alloc, requests_of(alloc, self.text, name).as_slice());
-        let mut right = 0u64;
-        for times in 0..=most / by.max(1) {
-            let passes = times.saturating_mul(by);
-            let came = self.stop_at(how, script.said(), ends.as_slice(), passes);
-            right = right.saturating_add(came);
-        }
-        // How many calls a run makes hangs on its groups: four times as many are enough for each request alone.
-        let enough = most.saturating_mul(4);
-        let is_whole = self.run_to_end(how, script.said(), enough, Crash::Kept) == Some(0);
-        write!(self.said, "ends {}, runs to them {right}, ", ends.len());
-        self.said
-            .either(is_whole, "the last at once\n", "the last stopped\n")
+/// Stops a script behind each number of calls, as the words behind its name tell. Tells how many ends there are by the
+/// plain memory, how often it comes to one of them, and whether the disk that passed the most calls stopped no run.
+pub fn run_again<R: Host>(rt: &R, desk: &mut RunDesk, how: How, words: &str) {
+    let (words, by) = words.split_once(" by ").unwrap_or((words, "1"));
+    let (name, most) = words.rsplit_once(' ').unwrap_or((words, "0"));
+    let (alloc, most, by) = (desk.place.alloc, number(most), number(by));
+    let script = script_of(alloc, desk.text, name);
+    let ends = ends_of(alloc, requests_of(alloc, desk.text, name).as_slice());
+    let stopped = StoppedScript {
+        how,
+        script: script.said(),
+        ends: ends.as_slice(),
+    };
+    let mut right = 0u64;
+    for times in 0..=most / by.max(1) {
+        let passes = times.saturating_mul(by);
+        right = right.saturating_add(stopped.stop_at(rt, desk, passes));
     }
+    // How many calls a run makes hangs on its groups: four times as many are enough for each request alone.
+    let enough = most.saturating_mul(4);
+    let is_whole = stopped.run_to_end(rt, desk, enough, Crash::Kept) == Some(0);
+    write!(desk.said, "ends {}, runs to them {right}, ", ends.len());
+    desk.said
+        .either(is_whole, "the last at once\n", "the last stopped\n")
 }

@@ -1,5 +1,6 @@
 //! What a scene works with: an image in memory, what was last printed, and what is told.
 
+use crate::again::run_again;
 use crate::gates::After;
 use crate::scripts::script_of;
 use im_disk::Mode;
@@ -34,9 +35,9 @@ impl How {
 
 // Notes why the work is refused, and nothing else.
 #[derive(Drop)]
-struct LastReason(Option<Reason>);
+struct WhyRefused(Option<Reason>);
 
-impl Observer for LastReason {
+impl Observer for WhyRefused {
     fn answered(&mut self, _element: u16, _number: u64, _entry: Entry) {}
 
     fn progressed(&mut self, _progress: Progress) {}
@@ -48,9 +49,7 @@ impl Observer for LastReason {
 
 /// An image, what was printed, and what is told.
 #[derive(Drop)]
-pub struct RunDesk<'a, R> {
-    /// What runs the threads.
-    rt: &'a R,
+pub struct RunDesk<'a> {
     /// The scenes, and the scripts behind them.
     pub text: &'a str,
     /// The image, if there is one.
@@ -58,7 +57,7 @@ pub struct RunDesk<'a, R> {
     /// What was last printed.
     pub out: Paper,
     /// Why the last run was refused, if it was.
-    reason: LastReason,
+    reason: WhyRefused,
     /// Whether the last run held requests back until another one was answered.
     held: bool,
     /// What is told.
@@ -77,15 +76,14 @@ fn lines_of(alloc: Global, report: &str, words: &[&str]) -> Saying {
     lines
 }
 
-impl<'a, R: Host> RunDesk<'a, R> {
+impl<'a> RunDesk<'a> {
     /// Starts with no image.
-    pub fn new(rt: &'a R, alloc: Global, text: &'a str) -> RunDesk<'a, R> {
+    pub fn new(alloc: Global, text: &'a str) -> RunDesk<'a> {
         RunDesk {
-            rt,
             text,
             place: StoryFile::new(alloc),
             out: Paper::new(alloc),
-            reason: LastReason(None),
+            reason: WhyRefused(None),
             held: false,
             said: Saying::new(alloc),
         }
@@ -102,8 +100,14 @@ impl<'a, R: Host> RunDesk<'a, R> {
     }
 
     /// Runs a script on the image. Returns the status, or 2 if there is no script or no image.
-    pub fn serve<G: Gate + Sync>(&mut self, how: How, script: &str, gate: &G) -> u8 {
-        let (rt, alloc, mode) = (self.rt, self.place.alloc, how.mode);
+    pub fn serve<R: Host, G: Gate + Sync>(
+        &mut self,
+        rt: &R,
+        how: How,
+        script: &str,
+        gate: &G,
+    ) -> u8 {
+        let (alloc, mode) = (self.place.alloc, how.mode);
         self.out = Paper::new(alloc);
         let Ok(script) = read_script_with_glances(alloc, script.as_bytes()) else {
             return 2;
@@ -132,17 +136,17 @@ impl<'a, R: Host> RunDesk<'a, R> {
 
     // Runs a script, and tells what it printed, or its trace. Behind `after` stands the element for whose answer the
     // other one's requests are held.
-    fn run(&mut self, how: How, words: &str) {
+    fn run<R: Host>(&mut self, rt: &R, how: How, words: &str) {
         let (name, first) = words.split_once(" after ").unwrap_or((words, ""));
         let script = script_of(self.place.alloc, self.text, name);
         let status = match first.parse::<u16>() {
             Ok(first) => {
                 let gate = After::new(first);
-                let status = self.serve(how, script.said(), &gate);
-                self.held = gate.has_held(self.rt);
+                let status = self.serve(rt, how, script.said(), &gate);
+                self.held = gate.has_held(rt);
                 status
             }
-            Err(_) => self.serve(how, script.said(), &Open),
+            Err(_) => self.serve(rt, how, script.said(), &Open),
         };
         self.said.text(self.out.text());
         if !how.mode.recorded {
@@ -151,12 +155,12 @@ impl<'a, R: Host> RunDesk<'a, R> {
     }
 
     // Runs a script on a disk whose calls fail behind the opening. Tells whether the observer was told of that.
-    fn run_failing(&mut self, name: &str) {
+    fn run_failing<R: Host>(&mut self, rt: &R, name: &str) {
         let _opened = self.place.found(None);
         self.place.fuse = (self.place.calls, Mode::Stop);
         let script = script_of(self.place.alloc, self.text, name);
-        self.reason = LastReason(None);
-        let status = self.serve(How::of("run"), script.said(), &Open);
+        self.reason = WhyRefused(None);
+        let status = self.serve(rt, How::of("run"), script.said(), &Open);
         let is_told = match self.reason.0 {
             Some(reason) => reason.refusal() == Some(Refusal::Device),
             None => false,
@@ -186,14 +190,14 @@ impl<'a, R: Host> RunDesk<'a, R> {
     }
 
     /// Tells a line of the scenes.
-    pub fn tell(&mut self, line: &str) {
+    pub fn tell<R: Host>(&mut self, rt: &R, line: &str) {
         let (call, words) = line.split_once(' ').unwrap_or((line, ""));
         match call {
             "#" => writeln!(self.said, "{line}"),
             "new" | "old" => self.lay(call == "old"),
-            "run" | "plan" | "trace" | "once" | "once-plan" => self.run(How::of(call), words),
-            "fault" => self.run_failing(words),
-            "again" | "again-plan" => self.run_again(How::of(call), words),
+            "run" | "plan" | "trace" | "once" | "once-plan" => self.run(rt, How::of(call), words),
+            "fault" => self.run_failing(rt, words),
+            "again" | "again-plan" => run_again(rt, self, How::of(call), words),
             "held" => writeln!(self.said, "{words}: {}", self.held),
             "report" if words == "windows" => self.tell_report(&["element"]),
             "report" => self.tell_report(&["cell", "entry"]),

@@ -40,10 +40,10 @@ fn main(rt: HostRuntime) -> ExitCode {
     let Ok(text) = scenes_of(&rt) else {
         return ExitCode::from(1);
     };
-    let mut desk = RunDesk::new(&rt, rt.alloc(), text.as_str());
+    let mut desk = RunDesk::new(rt.alloc(), text.as_str());
     let (scenes, _) = text.as_str().split_once("\nscript ").unwrap_or(("", ""));
     for line in scenes.lines() {
-        desk.tell(line);
+        desk.tell(&rt, line);
     }
     ExitCode::from(desk.said.print(&rt))
 }
