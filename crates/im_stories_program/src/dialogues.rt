@@ -30,19 +30,16 @@ impl<'a> Ear for Client<'a> {
     }
 }
 
-/// Holds a dialogue in which the text is said that was put together. Tells the status, and how many calls the disk got
-/// behind those of an opening.
-pub fn hold(desk: &mut ProgramDesk, call: &Call, said: &mut Saying) {
+// Holds a dialogue in which this is said. Tells the status, and how many calls the disk got behind those of an opening.
+fn hold(desk: &mut ProgramDesk, text: &[u8], call: &Call, said: &mut Saying) {
     let words = call.rest(1);
     for word in words {
         said.so(MANNERS.contains(word) || word.parse::<u64>().is_ok(), "");
     }
     let opening = desk.opening_calls();
     desk.prepare(call, opening);
-    let client = Client {
-        text: desk.text.as_slice(),
-        is_silent: words.contains(&"silently"),
-    };
+    let is_silent = words.contains(&"silently");
+    let client = Client { text, is_silent };
     let buffer = if words.contains(&"slowly") { 1 } else { 8192 };
     let Ok(mut input) = BufReader::with_capacity(call.alloc(), buffer, client) else {
         return said.fail("no memory is left");
@@ -50,17 +47,23 @@ pub fn hold(desk: &mut ProgramDesk, call: &Call, said: &mut Saying) {
     let Some(disk) = desk.place.taken() else {
         return said.fail("there is no disk");
     };
+    let mut backups = NoBackups;
     let (status, disk) = dialogue_on(
         call.alloc(),
         disk,
-        &mut NoBackups,
+        &mut backups,
         &mut input,
         words.contains(&"watched"),
         &mut desk.out,
         &mut desk.notes,
     );
     desk.place.lay_down(disk);
-    desk.text.clear();
     let calls = desk.place.calls.saturating_sub(opening);
     write!(said, "{status}, {calls} calls")
+}
+
+/// Holds a dialogue on the image, in which the text is said that was put together.
+pub fn talk(desk: &mut ProgramDesk, call: &Call, said: &mut Saying) {
+    let text = desk.take_text();
+    hold(desk, text.as_slice(), call, said)
 }

@@ -1,13 +1,14 @@
 //! Files, and the program's work on them.
 
 use crate::ProgramDesk;
+use crate::writers::ObserverNotes;
 use im_disk::Unknown;
 use im_program::{
-    AtHand, Console, Serving, Terminals, Work, act_alone, demonstrate, format_file, inspect_file,
-    read_words, serve_file, status_for,
+    AtHand, Console, Descriptors, Serving, Terminals, Work, act_alone, demonstrate, format_file,
+    inspect_file, read_words, serve_file, status_for,
 };
 use im_report::View;
-use im_story::{Call, Saying};
+use im_story::{Call, Paper, Saying};
 use im_types::Limits;
 use std::fs;
 use std::io::ErrorKind;
@@ -46,29 +47,38 @@ pub fn run(desk: &mut ProgramDesk, call: &Call, said: &mut Saying) {
     write!(said, "{status}")
 }
 
-/// Serves a file's script, tells about an image, or makes one. Tells whether that is done.
-pub fn attempt(desk: &mut ProgramDesk, call: &Call, said: &mut Saying) {
+// Serves a file's script, tells about an image, or makes one. Returns whether that is done.
+fn is_done<'a>(
+    rt: &'a HostRuntime,
+    held: &'a Descriptors,
+    call: &Call,
+    out: &mut Paper,
+    notes: &'a mut ObserverNotes,
+) -> bool {
+    let mut nothing = b"".as_slice();
     let image = call.word(2);
-    desk.print(usize::MAX);
+    let serving = Serving {
+        image,
+        script: call.word(3),
+        once: false,
+    };
     let hand = AtHand {
-        rt: desk.rt,
-        held: desk.held,
-        input: &mut b"".as_slice(),
-        observer: &mut desk.notes,
+        rt,
+        held,
+        input: &mut nothing,
+        observer: notes,
     };
-    let is_done = match (call.word(1), Limits::new(1, 1, 16)) {
-        ("serial", _) => {
-            let serving = Serving {
-                image,
-                script: call.word(3),
-                once: false,
-            };
-            serve_file(hand, &serving, &mut desk.out, Unknown).is_ok()
-        }
-        ("inspect", _) => inspect_file(hand, image, &View::Stat, &mut desk.out, Unknown).is_ok(),
+    match (call.word(1), Limits::new(1, 1, 16)) {
+        ("serial", _) => serve_file(hand, &serving, out, Unknown).is_ok(),
         ("format", Some(limits)) => format_file(hand, image, limits, false, Unknown).is_ok(),
-        _ => return said.fail("no such call"),
-    };
+        _ => inspect_file(hand, image, &View::Stat, out, Unknown).is_ok(),
+    }
+}
+
+/// Does one of these, and tells whether it is done.
+pub fn attempt(desk: &mut ProgramDesk, call: &Call, said: &mut Saying) {
+    desk.print(usize::MAX);
+    let is_done = is_done(desk.rt, desk.held, call, &mut desk.out, &mut desk.notes);
     said.either(is_done, "done", "refused")
 }
 

@@ -18,6 +18,7 @@ use im_program::Descriptors;
 use im_script::Said;
 use im_story::{Call, Paper, Saying, Scene, walk_files};
 use im_story_disk::StoryFile;
+use std::mem;
 use std::process::ExitCode;
 use writers::ObserverNotes;
 
@@ -61,6 +62,11 @@ impl<'a> ProgramDesk<'a> {
             out: Paper::new(alloc),
             notes: ObserverNotes::new(alloc),
         }
+    }
+
+    // Takes the text that was put together. A new one begins.
+    fn take_text(&mut self) -> Vec<u8> {
+        mem::replace(&mut self.text, Vec::new(self.rt.alloc()))
     }
 
     // Returns how many calls an opening of the image makes.
@@ -110,7 +116,7 @@ impl<'a> Scene for ProgramDesk<'a> {
             "bytes" => images::add_bytes(&self.place, call, said),
             "serve" => serving::serve(self, call, said),
             "stat" | "inspect" => serving::look(self, call, said),
-            "talk" => dialogues::hold(self, call, said),
+            "talk" => dialogues::talk(self, call, said),
             "printed" | "told" => printed::tell(self, call, said),
             "progress" => printed::add_progress(self.notes.progress, said),
             "run" => files::run(self, call, said),

@@ -6,7 +6,6 @@ use im_script::{Action, Place, Reader, Said, ScriptLine, read_script, read_u32};
 use im_story::{Call, Saying};
 use im_types::Kind;
 use std::io::Write;
-use std::mem;
 
 // Returns the word of an action, the place on which it acts, and its value.
 fn parts_of(action: Action) -> (&'static str, Option<Place>, Option<u64>) {
@@ -91,7 +90,7 @@ fn hear(lines: &mut Vec<Said>, text: &[u8], call: &Call, said: &mut Saying) {
 /// Reads the text that was put together, with these words after it.
 pub fn read(desk: &mut ProgramDesk, call: &Call, said: &mut Saying) {
     add_text(&mut desk.text, call.rest(1), said);
-    desk.read = mem::replace(&mut desk.text, Vec::new(call.alloc()));
+    desk.read = desk.take_text();
     desk.lines.clear();
     match read_script(call.alloc(), desk.read.as_slice()) {
         Ok(script) => hear(&mut desk.lines, script.text(), call, said),
