@@ -31,11 +31,10 @@ fn tell_byte(disk: &mut Blind, at: usize, said: &mut Saying) {
 
 // Tells that for each value of each of some bytes. All of them have to tell the same.
 fn tell_values(disk: &mut Blind, from: usize, to: usize, said: &mut Saying) {
-    for at in from..=to {
-        let mut one = Saying::new(said.alloc());
-        tell_byte(disk, at, &mut one);
-        said.same(&one, at as u64);
-    }
+    said.alike(
+        from as u64..=to as u64,
+        |at, one| tell_byte(disk, at as usize, one),
+    )
 }
 
 // Tells that for an image of each length.

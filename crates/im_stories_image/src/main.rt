@@ -41,12 +41,7 @@ impl<'r> ImageScene<'r> {
     fn tell_after(&self, call: &Call, said: &mut Saying) {
         let mut desk = ImageDesk::new();
         for line in self.told.said().lines() {
-            tell_line(
-                call.alloc(),
-                line,
-                &mut desk,
-                &mut Saying::new(call.alloc()),
-            );
+            tell_line(line, &mut desk, &mut Saying::new(call.alloc()));
         }
         said.so(desk.crash(crash(call.word(1))) && !self.told.is_wrong(), "");
         desk.make(&Call::of(call.alloc(), call.rest(2)), said)

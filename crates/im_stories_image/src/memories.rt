@@ -54,7 +54,7 @@ fn walk(here: &mut ImageDesk, call: &Call, said: &mut Saying) {
         every: call.number(2),
         accepted: 0,
     };
-    call.walk(&mut walk, said);
+    call.walk(said, |number, dice| walk.step(number, dice));
     said.either(walk.accepted > 100, ", more", ", no more");
     said.text(" than 100 accepted");
     here.memory = Some(walk.memory);

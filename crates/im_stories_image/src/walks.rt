@@ -3,7 +3,7 @@
 use crate::images::area_of;
 use im_image::{PAGE, area_pages, decode};
 use im_memory::Memory;
-use im_story::{Dice, Saying, Steps};
+use im_story::{Dice, Saying};
 use im_types::layout::Version;
 use im_types::{Limits, Outcome};
 use std::alloc::Global;
@@ -58,10 +58,9 @@ impl PageWalk {
         tell_all(&again, &mut same);
         told.said() == same.said() && !told.is_wrong()
     }
-}
 
-impl Steps for PageWalk {
-    fn step(&mut self, number: u64, dice: &mut Dice) -> bool {
+    /// Makes a thrown command. Returns whether the pages show the memory, if they are read now.
+    pub fn step(&mut self, number: u64, dice: &mut Dice) -> bool {
         let element = dice.below(4) as u16;
         let window = self.memory.window(element).unwrap_or((1, 1));
         let command = dice.command(element, window, self.limits.cells);

@@ -7,59 +7,41 @@ use std::alloc::Global;
 /// The words of a call. Its form has `_` for each number and `_._` for each name of a request: that of `1.4 fetch 0` is
 /// `_._ fetch _`, with the numbers 1, 4 and 0. A link that is `none` is a number too: that which leads nowhere.
 #[derive(Drop)]
-pub struct Call<'a> {
+pub struct Phrase<'a> {
     words: &'a [&'a str],
     form: Saying,
     numbers: Vec<u64>,
 }
 
-// Adds a number to those of a call, if there is memory for it.
-fn keep(numbers: &mut Vec<u64>, number: u64) {
-    let _kept = numbers.push(number);
-}
-
-// Adds the two numbers of a name, `ELEMENT.NUMBER`. Returns whether the word is one.
-fn has_named(numbers: &mut Vec<u64>, word: &str) -> bool {
-    let (of, sent) = word.split_once('.').unwrap_or((word, ""));
-    match (of.parse::<u64>(), sent.parse::<u64>()) {
-        (Ok(element), Ok(number)) => {
-            keep(numbers, element);
-            keep(numbers, number);
-            true
-        }
-        _ => false,
-    }
-}
-
-// Adds the numbers of a word. Returns the word as it stands in a form.
+// Adds the numbers of a word, if there is memory for them. Returns the word as it stands in a form.
 fn numbered<'w>(numbers: &mut Vec<u64>, word: &'w str) -> &'w str {
-    if let Ok(number) = word.parse::<u64>() {
-        keep(numbers, number);
-        "_"
-    } else if word == "none" {
-        keep(numbers, u64::from(NONE));
-        "_"
-    } else if has_named(numbers, word) {
-        "_._"
-    } else {
-        word
+    let number = match word {
+        "none" => Some(u64::from(NONE)),
+        _ => word.parse::<u64>().ok(),
+    };
+    let (of, sent) = word.split_once('.').unwrap_or((word, ""));
+    match (number, of.parse::<u64>(), sent.parse::<u64>()) {
+        (Some(number), _, _) => {
+            let _kept = numbers.push(number);
+            "_"
+        }
+        (None, Ok(element), Ok(number)) => {
+            let _kept = numbers.extend_from_slice(&[element, number]);
+            "_._"
+        }
+        _ => word,
     }
 }
 
-// Adds the form and the numbers of these words.
-fn take_apart(words: &[&str], form: &mut Saying, numbers: &mut Vec<u64>) {
-    for word in words {
-        form.either(form.is_empty(), "", " ");
-        form.text(numbered(numbers, word));
-    }
-}
-
-impl<'a> Call<'a> {
+impl<'a> Phrase<'a> {
     /// Takes these words apart. Where memory is wanting the form is another one, and numbers are missing.
-    pub fn of(alloc: Global, words: &'a [&'a str]) -> Call<'a> {
+    pub fn of(alloc: Global, words: &'a [&'a str]) -> Phrase<'a> {
         let (mut form, mut numbers) = (Saying::new(alloc), Vec::new(alloc));
-        take_apart(words, &mut form, &mut numbers);
-        Call {
+        for word in words {
+            form.either(form.is_empty(), "", " ");
+            form.text(numbered(&mut numbers, word));
+        }
+        Phrase {
             words,
             form,
             numbers,
@@ -122,11 +104,8 @@ impl<'a> Call<'a> {
     /// Returns sizes, of which this number is the first: those of cells, elements and slots. There are none if they
     /// aren't allowed.
     pub fn limits(&self, at: usize) -> Option<Limits> {
-        let (elements, slots) = (at.saturating_add(1), at.saturating_add(2));
-        Limits::new(
-            self.address(at),
-            self.element(elements),
-            self.address(slots),
-        )
+        let elements = self.element(at.saturating_add(1));
+        let slots = self.address(at.saturating_add(2));
+        Limits::new(self.address(at), elements, slots)
     }
 }

@@ -1,9 +1,9 @@
 -- Where the controller begins, over a disk that is always honest.
 use Rattle.std.specs.Prelude.{false}
-use Rattle.im_stories_growths.proofs.naming.act_on.Given as goal
+use Rattle.im_stories_growths.proofs.ports.act_on.Given as goal
 
-abbrev pub ghosts-act_named : goal.ghosts-act_named
-ghosts-act_named g a = let e = a.opening.engine in record {
+abbrev pub ghosts-act_under : goal.ghosts-act_under
+ghosts-act_under g a = let e = a.opening.engine in record {
   origin = record {
     memory = e.memory;
     plan = a.opening.plan;

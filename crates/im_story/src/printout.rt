@@ -6,23 +6,23 @@ use std::io::{ErrorKind, Write};
 
 /// A writer that takes a number of bytes, and then fails.
 #[derive(Drop)]
-pub struct Paper {
+pub struct Printout {
     text: Vec<u8>,
     room: usize,
 }
 
-impl Paper {
+impl Printout {
     /// Starts with nothing written, and room for so many bytes.
-    pub fn with_room(alloc: Global, room: usize) -> Paper {
-        Paper {
+    pub fn with_room(alloc: Global, room: usize) -> Printout {
+        Printout {
             text: Vec::new(alloc),
             room,
         }
     }
 
     /// Starts with nothing written, and never fails but for want of memory.
-    pub fn new(alloc: Global) -> Paper {
-        Paper::with_room(alloc, usize::MAX)
+    pub fn new(alloc: Global) -> Printout {
+        Printout::with_room(alloc, usize::MAX)
     }
 
     /// Returns what was written.
@@ -31,7 +31,7 @@ impl Paper {
     }
 }
 
-impl Write for Paper {
+impl Write for Printout {
     fn write(&mut self, buf: &[u8]) -> io::Result<usize> {
         let count = buf.len().min(self.room);
         if count == 0 && !buf.is_empty() {
