@@ -6,7 +6,7 @@ use im_filters::Telling;
 use im_migration::Asked;
 use im_program::{CommandLine, Job, Transfer, WordFault, Work, read_words};
 use im_report::View;
-use im_story::{Call, Saying};
+use im_story::{Phrase, Saying};
 
 fn add_size(said: &mut Saying, size: Option<u32>, name: &str) {
     if let Some(number) = size {
@@ -92,7 +92,7 @@ fn add_line(said: &mut Saying, line: &CommandLine) {
 }
 
 /// Reads a command line, whose words are spelled as in a text. Tells its work, or the status that it ends with.
-pub fn read(desk: &mut ProgramDesk, call: &Call, said: &mut Saying) {
+pub fn read(desk: &mut ProgramDesk, call: &Phrase, said: &mut Saying) {
     let alloc = call.alloc();
     let mut spelled = Vec::new(alloc);
     for word in call.words() {
@@ -115,7 +115,7 @@ pub fn read(desk: &mut ProgramDesk, call: &Call, said: &mut Saying) {
 }
 
 /// Tells whether these words are in what was said about a bad command line.
-pub fn find(desk: &ProgramDesk, call: &Call, said: &mut Saying) {
+pub fn find(desk: &ProgramDesk, call: &Phrase, said: &mut Saying) {
     let mut spelled = Vec::new(call.alloc());
     add_text(&mut spelled, call.rest(1), said);
     let text = str::from_utf8(spelled.as_slice()).unwrap_or("\n\n");

@@ -4,7 +4,7 @@
 use crate::ProgramDesk;
 use im_dialogue::{NoBackups, dialogue_on};
 use im_listening::Ear;
-use im_story::{Call, Saying};
+use im_story::{Phrase, Saying};
 use std::io::{self, BufReader, Read};
 
 // How a dialogue is held: with a buffer of one byte, with a client that is silent whenever it is empty, or watched; and
@@ -31,7 +31,7 @@ impl<'a> Ear for Client<'a> {
 }
 
 // Holds a dialogue in which this is said. Tells the status, and how many calls the disk got behind those of an opening.
-fn hold(desk: &mut ProgramDesk, text: &[u8], call: &Call, said: &mut Saying) {
+fn hold(desk: &mut ProgramDesk, text: &[u8], call: &Phrase, said: &mut Saying) {
     let words = call.rest(1);
     for word in words {
         said.so(MANNERS.contains(word) || word.parse::<u64>().is_ok(), "");
@@ -63,7 +63,7 @@ fn hold(desk: &mut ProgramDesk, text: &[u8], call: &Call, said: &mut Saying) {
 }
 
 /// Holds a dialogue on the image, in which the text is said that was put together.
-pub fn talk(desk: &mut ProgramDesk, call: &Call, said: &mut Saying) {
+pub fn talk(desk: &mut ProgramDesk, call: &Phrase, said: &mut Saying) {
     let text = desk.take_text();
     hold(desk, text.as_slice(), call, said)
 }

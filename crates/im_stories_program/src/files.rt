@@ -8,7 +8,7 @@ use im_program::{
     inspect_file, read_words, serve_file, status_for,
 };
 use im_report::View;
-use im_story::{Call, Paper, Saying};
+use im_story::{Phrase, Printout, Saying};
 use im_types::Limits;
 use std::fs;
 use std::io::ErrorKind;
@@ -22,7 +22,7 @@ const NOBODY: Terminals = Terminals {
 
 /// Does the work of a command line that takes one thread. Standard input is the text that was put together. Tells the
 /// status.
-pub fn run(desk: &mut ProgramDesk, call: &Call, said: &mut Saying) {
+pub fn run(desk: &mut ProgramDesk, call: &Phrase, said: &mut Saying) {
     let Ok(line) = read_words(call.alloc(), call.rest(1)) else {
         return said.fail("bad words");
     };
@@ -44,15 +44,15 @@ pub fn run(desk: &mut ProgramDesk, call: &Call, said: &mut Saying) {
     };
     desk.text.clear();
     let status = status_for(status, line.statuses, console.reason());
-    write!(said, "{status}")
+    said.number(status)
 }
 
 // Serves a file's script, tells about an image, or makes one. Returns whether that is done.
 fn is_done<'a>(
     rt: &'a HostRuntime,
     held: &'a Descriptors,
-    call: &Call,
-    out: &mut Paper,
+    call: &Phrase,
+    out: &mut Printout,
     notes: &'a mut ObserverNotes,
 ) -> bool {
     let mut nothing = b"".as_slice();
@@ -76,14 +76,14 @@ fn is_done<'a>(
 }
 
 /// Does one of these, and tells whether it is done.
-pub fn attempt(desk: &mut ProgramDesk, call: &Call, said: &mut Saying) {
+pub fn attempt(desk: &mut ProgramDesk, call: &Phrase, said: &mut Saying) {
     desk.print(usize::MAX);
     let is_done = is_done(desk.rt, desk.held, call, &mut desk.out, &mut desk.notes);
     said.either(is_done, "done", "refused")
 }
 
 /// Makes a file of the text that was put together, or of the image in memory. Tells how many bytes there are.
-pub fn write(desk: &mut ProgramDesk, call: &Call, said: &mut Saying) {
+pub fn write(desk: &mut ProgramDesk, call: &Phrase, said: &mut Saying) {
     let is_text = call.word(0) == "save";
     let bytes = if is_text {
         desk.text.as_slice()
@@ -98,7 +98,7 @@ pub fn write(desk: &mut ProgramDesk, call: &Call, said: &mut Saying) {
 }
 
 /// Tells how long a file is, if it exists. Makes an image in memory of it, if that is asked for.
-pub fn read(desk: &mut ProgramDesk, call: &Call, said: &mut Saying) {
+pub fn read(desk: &mut ProgramDesk, call: &Phrase, said: &mut Saying) {
     match fs::read(desk.rt, call.word(1)) {
         Ok(bytes) => {
             let (bytes, is_loaded) = (bytes.as_slice(), call.word(0) == "load");
@@ -110,6 +110,6 @@ pub fn read(desk: &mut ProgramDesk, call: &Call, said: &mut Saying) {
 }
 
 /// Removes a file.
-pub fn remove(desk: &ProgramDesk, call: &Call, said: &mut Saying) {
+pub fn remove(desk: &ProgramDesk, call: &Phrase, said: &mut Saying) {
     said.so(fs::remove_file(desk.rt, call.word(1)).is_ok(), "removed")
 }

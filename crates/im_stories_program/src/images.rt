@@ -1,10 +1,10 @@
 //! The image in memory, and changes of its bytes.
 
-use im_story::{Call, Saying, bytes};
+use im_story::{Phrase, Saying, bytes};
 use im_story_disk::StoryFile;
 
 /// Makes a new image, or opens the one that is there and tells the count of its commands.
-pub fn open(place: &mut StoryFile, call: &Call, said: &mut Saying) {
+pub fn open(place: &mut StoryFile, call: &Phrase, said: &mut Saying) {
     let limits = call.limits(0);
     match place.found(limits) {
         Ok((count, _)) if limits.is_none() => said.number(count),
@@ -14,12 +14,12 @@ pub fn open(place: &mut StoryFile, call: &Call, said: &mut Saying) {
 }
 
 /// Tells bytes of the image, each by itself.
-pub fn add_bytes(place: &StoryFile, call: &Call, said: &mut Saying) {
+pub fn add_bytes(place: &StoryFile, call: &Phrase, said: &mut Saying) {
     said.part(place.bytes(), call.place(0), call.place(1), usize::MAX)
 }
 
 /// Puts bytes in their places, and tells those that stood there before in the same way.
-pub fn write(place: &mut StoryFile, call: &Call, said: &mut Saying) {
+pub fn write(place: &mut StoryFile, call: &Phrase, said: &mut Saying) {
     let (at, Some(bytes)) = (call.place(0), bytes(call.alloc(), call.rest(2))) else {
         return said.fail("these are no bytes");
     };

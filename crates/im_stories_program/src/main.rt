@@ -16,7 +16,7 @@ mod writers;
 use im_disk::Mode;
 use im_program::Descriptors;
 use im_script::Said;
-use im_story::{Call, Paper, Saying, Scene, walk_files};
+use im_story::{Phrase, Printout, Saying, Subject, walk_files};
 use im_story_disk::StoryFile;
 use std::mem;
 use std::process::ExitCode;
@@ -42,7 +42,7 @@ struct ProgramDesk<'a> {
     /// Why a text or a command line was last refused.
     fault: Saying,
     /// What was last printed.
-    out: Paper,
+    out: Printout,
     /// What was told besides that.
     notes: ObserverNotes,
 }
@@ -59,7 +59,7 @@ impl<'a> ProgramDesk<'a> {
             lines: Vec::new(alloc),
             bases: Vec::new(alloc),
             fault: Saying::new(alloc),
-            out: Paper::new(alloc),
+            out: Printout::new(alloc),
             notes: ObserverNotes::new(alloc),
         }
     }
@@ -77,13 +77,13 @@ impl<'a> ProgramDesk<'a> {
 
     // Begins a new text of what is printed, of so many bytes at most, and of what is told besides.
     fn print(&mut self, room: usize) {
-        self.out = Paper::with_room(self.rt.alloc(), room);
+        self.out = Printout::with_room(self.rt.alloc(), room);
         self.notes = ObserverNotes::new(self.rt.alloc());
     }
 
     // Does the same, as a call's words tell: the writer takes `_ bytes`. The disk passes `_ calls` behind those of an
     // opening, or all `but for call _`.
-    fn prepare(&mut self, call: &Call, opening: u64) {
+    fn prepare(&mut self, call: &Phrase, opening: u64) {
         let passes = opening.saturating_add(call.number(0));
         self.print(usize::MAX);
         for word in call.words() {
@@ -97,12 +97,12 @@ impl<'a> ProgramDesk<'a> {
     }
 }
 
-impl<'a> Scene for ProgramDesk<'a> {
+impl<'a> Subject for ProgramDesk<'a> {
     fn begin(&mut self) {
         *self = ProgramDesk::new(self.rt, self.held);
     }
 
-    fn make(&mut self, call: &Call, said: &mut Saying) {
+    fn make(&mut self, call: &Phrase, said: &mut Saying) {
         match call.word(0) {
             "script" | "repeat" | "numbered" => scripts::put(self, call, said),
             "read" => scripts::read(self, call, said),

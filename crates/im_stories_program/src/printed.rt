@@ -2,7 +2,7 @@
 
 use crate::ProgramDesk;
 use crate::spelling::line_ends;
-use im_story::{Call, Saying};
+use im_story::{Phrase, Saying};
 use im_text::Progress;
 
 // Returns the line at this place of a text, from 0.
@@ -27,7 +27,7 @@ fn add_line(text: &str, at: usize, said: &mut Saying) {
 }
 
 // Adds the answer that lines have in common. Their requests have one number after another.
-fn add_run(text: &str, call: &Call, said: &mut Saying) {
+fn add_run(text: &str, call: &Phrase, said: &mut Saying) {
     let (first, last) = (call.place(0), call.place(1));
     let line = line_of(text, first).unwrap_or("");
     let (who, answer) = line.split_once(' ').unwrap_or(("", ""));
@@ -55,7 +55,7 @@ pub fn add_progress(progress: Option<Progress>, said: &mut Saying) {
 }
 
 /// Tells how many lines were printed, or told besides; one of them, or what some of them have in common.
-pub fn tell(desk: &ProgramDesk, call: &Call, said: &mut Saying) {
+pub fn tell(desk: &ProgramDesk, call: &Phrase, said: &mut Saying) {
     let text = match call.word(0) {
         "told" => desk.notes.told.said(),
         _ => desk.out.text(),

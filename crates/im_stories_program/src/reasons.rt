@@ -3,7 +3,7 @@
 use crate::ProgramDesk;
 use im_damage::Damage;
 use im_program::refuse;
-use im_story::{Call, Saying};
+use im_story::{Phrase, Saying};
 use im_text::{CallFault, PathFault, Reason};
 use im_types::Refusal;
 use std::io::ErrorKind;
@@ -12,7 +12,7 @@ use std::io::ErrorKind;
 const FULL: CallFault = CallFault::Write(ErrorKind::StorageFull);
 
 // Returns the reason of this name, with the call's numbers.
-fn reason_of(name: &str, call: &Call) -> Option<Reason> {
+fn reason_of(name: &str, call: &Phrase) -> Option<Reason> {
     Some(match name {
         "no memory" => Reason::Memory,
         "in use" => Reason::File(PathFault::InUse),
@@ -49,12 +49,12 @@ fn reason_of(name: &str, call: &Call) -> Option<Reason> {
 }
 
 /// Tells what a reason says, or the status of a program that distinguishes its refusals.
-pub fn tell(call: &Call, said: &mut Saying) {
+pub fn tell(call: &Phrase, said: &mut Saying) {
     let (asked, name) = call.form().split_once(' ').unwrap_or(("", ""));
     let name = name.strip_prefix("of ").unwrap_or(name);
     match (asked, reason_of(name, call)) {
         ("reason", Some(reason)) => write!(said, "{reason}"),
-        (_, Some(reason)) => write!(said, "{}", reason.status()),
+        (_, Some(reason)) => said.number(reason.status()),
         _ => said.fail("there is no such reason"),
     }
 }
@@ -63,5 +63,5 @@ pub fn tell(call: &Call, said: &mut Saying) {
 pub fn refuse_memory(desk: &mut ProgramDesk, said: &mut Saying) {
     desk.print(usize::MAX);
     let status = refuse(desk.rt.alloc(), Refusal::NoMemory, &mut desk.out);
-    write!(said, "{status}")
+    said.number(status)
 }

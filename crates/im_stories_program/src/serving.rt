@@ -5,7 +5,7 @@ use crate::ProgramDesk;
 use im_report::{Filter, Span, View, inspect_on, look_on};
 use im_script::read_script;
 use im_serial::{serial_on, serial_once_on};
-use im_story::{Call, Saying};
+use im_story::{Phrase, Saying};
 
 // How a script is served.
 const SERVINGS: [&str; 6] = [
@@ -44,7 +44,7 @@ fn serve_script(desk: &mut ProgramDesk, is_once: bool, said: &mut Saying) -> u8 
 }
 
 /// Serves the script as the call tells, a stopped one again and again until its status is 0. Tells the last status.
-pub fn serve(desk: &mut ProgramDesk, call: &Call, said: &mut Saying) {
+pub fn serve(desk: &mut ProgramDesk, call: &Phrase, said: &mut Saying) {
     said.so(SERVINGS.contains(&call.form()), "");
     let is_past = call.form().ends_with("past the opening");
     let opening = if is_past { desk.opening_calls() } else { 0 };
@@ -56,11 +56,11 @@ pub fn serve(desk: &mut ProgramDesk, call: &Call, said: &mut Saying) {
             status = serve_script(desk, call.word(1) == "once", said);
         }
     }
-    said.number(u64::from(status))
+    said.number(status)
 }
 
 // Returns what a call wants of the image.
-fn view_of(call: &Call) -> Option<View> {
+fn view_of(call: &Phrase) -> Option<View> {
     let (from, to) = (call.address(0), call.address(1));
     let (span, number) = (Some(Span { from, to }), Some(from));
     let (cells, element, waiting) = match call.form() {
@@ -81,7 +81,7 @@ fn view_of(call: &Call) -> Option<View> {
 }
 
 /// Prints what is wanted of the image, or else the whole report. Tells the status.
-pub fn look(desk: &mut ProgramDesk, call: &Call, said: &mut Saying) {
+pub fn look(desk: &mut ProgramDesk, call: &Phrase, said: &mut Saying) {
     let (alloc, wanted) = (call.alloc(), view_of(call));
     said.so(wanted.is_some() || REPORTS.contains(&call.form()), "");
     desk.prepare(call, 0);
@@ -93,5 +93,5 @@ pub fn look(desk: &mut ProgramDesk, call: &Call, said: &mut Saying) {
         None => inspect_on(alloc, disk, &mut desk.out, &mut desk.notes),
     };
     desk.place.lay_down(disk);
-    said.number(u64::from(status))
+    said.number(status)
 }

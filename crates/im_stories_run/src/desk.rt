@@ -8,7 +8,7 @@ use im_report::inspect_on;
 use im_run::{RunMode, run_on, run_once_on, write_trace};
 use im_script::read_script_with_glances;
 use im_serving::{Gate, Host, Open, Unwatched};
-use im_story::{Paper, Saying};
+use im_story::{Printout, Saying};
 use im_story_disk::StoryFile;
 use im_text::{Observer, Progress, Reason};
 use im_types::{Entry, Limits, Refusal};
@@ -55,7 +55,7 @@ pub struct RunDesk<'a> {
     /// The image, if there is one.
     pub place: StoryFile,
     /// What was last printed.
-    pub out: Paper,
+    pub out: Printout,
     /// Why the last run was refused, if it was.
     reason: WhyRefused,
     /// Whether the last run held requests back until another one was answered.
@@ -82,7 +82,7 @@ impl<'a> RunDesk<'a> {
         RunDesk {
             text,
             place: StoryFile::new(alloc),
-            out: Paper::new(alloc),
+            out: Printout::new(alloc),
             reason: WhyRefused(None),
             held: false,
             said: Saying::new(alloc),
@@ -108,7 +108,7 @@ impl<'a> RunDesk<'a> {
         gate: &G,
     ) -> u8 {
         let (alloc, mode) = (self.place.alloc, how.mode);
-        self.out = Paper::new(alloc);
+        self.out = Printout::new(alloc);
         let Ok(script) = read_script_with_glances(alloc, script.as_bytes()) else {
             return 2;
         };
@@ -127,7 +127,7 @@ impl<'a> RunDesk<'a> {
         };
         self.place.lay_down(disk);
         if mode.recorded {
-            self.out = Paper::new(alloc);
+            self.out = Printout::new(alloc);
             let is_written = write_trace(alloc, &trace, &mut self.out).is_ok();
             self.said.so(is_written, "")
         }
@@ -171,7 +171,7 @@ impl<'a> RunDesk<'a> {
     /// Returns the lines of the image's report that begin with one of these words, and its status.
     pub fn report(&mut self, words: &[&str]) -> Saying {
         let alloc = self.place.alloc;
-        self.out = Paper::new(alloc);
+        self.out = Printout::new(alloc);
         let Some(disk) = self.place.taken() else {
             return Saying::new(alloc);
         };
