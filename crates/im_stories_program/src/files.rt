@@ -43,8 +43,7 @@ pub fn run(desk: &mut ProgramDesk, call: &Phrase, said: &mut Saying) {
         _ => return said.fail("the words ask for more than one thread or file"),
     };
     desk.text.clear();
-    let status = status_for(status, line.statuses, console.reason());
-    said.number(status)
+    said.number(status_for(status, line.statuses, console.reason()))
 }
 
 // Serves a file's script, tells about an image, or makes one. Returns whether that is done.
@@ -107,9 +106,4 @@ pub fn read(desk: &mut ProgramDesk, call: &Phrase, said: &mut Saying) {
         }
         Err(error) => said.so(error.kind() == ErrorKind::NotFound, "none"),
     }
-}
-
-/// Removes a file.
-pub fn remove(desk: &ProgramDesk, call: &Phrase, said: &mut Saying) {
-    said.so(fs::remove_file(desk.rt, call.word(1)).is_ok(), "removed")
 }

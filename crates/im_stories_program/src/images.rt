@@ -13,12 +13,7 @@ pub fn open(place: &mut StoryFile, call: &Phrase, said: &mut Saying) {
     }
 }
 
-/// Tells bytes of the image, each by itself.
-pub fn add_bytes(place: &StoryFile, call: &Phrase, said: &mut Saying) {
-    said.part(place.bytes(), call.place(0), call.place(1), usize::MAX)
-}
-
-/// Puts bytes in their places, and tells those that stood there before in the same way.
+/// Puts bytes in their places, and tells those that stood there before, each by itself.
 pub fn write(place: &mut StoryFile, call: &Phrase, said: &mut Saying) {
     let (at, Some(bytes)) = (call.place(0), bytes(call.alloc(), call.rest(2))) else {
         return said.fail("these are no bytes");

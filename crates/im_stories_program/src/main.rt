@@ -18,8 +18,8 @@ use im_program::Descriptors;
 use im_script::Said;
 use im_story::{Phrase, Printout, Saying, Subject, walk_files};
 use im_story_disk::StoryFile;
-use std::mem;
 use std::process::ExitCode;
+use std::{fs, mem};
 use writers::ObserverNotes;
 
 /// What a story works with: a script, an image in memory, what was last printed, and the folder's files.
@@ -113,7 +113,7 @@ impl<'a> Subject for ProgramDesk<'a> {
             "fault" => said.text(self.fault.said()),
             "format" | "count" => images::open(&mut self.place, call, said),
             "write" => images::write(&mut self.place, call, said),
-            "bytes" => images::add_bytes(&self.place, call, said),
+            "bytes" => said.part(self.place.bytes(), call.place(0), call.place(1), usize::MAX),
             "serve" => serving::serve(self, call, said),
             "stat" | "inspect" => serving::look(self, call, said),
             "talk" => dialogues::talk(self, call, said),
@@ -123,7 +123,7 @@ impl<'a> Subject for ProgramDesk<'a> {
             "try" => files::attempt(self, call, said),
             "save" | "keep" => files::write(self, call, said),
             "file" | "load" => files::read(self, call, said),
-            "remove" => files::remove(self, call, said),
+            "remove" => said.so(fs::remove_file(self.rt, call.word(1)).is_ok(), "removed"),
             "imem" => command_lines::read(self, call, said),
             "says" => command_lines::find(self, call, said),
             "reason" | "status" => reasons::tell(call, said),

@@ -43,14 +43,11 @@ fn add_run(text: &str, call: &Phrase, said: &mut Saying) {
     write!(said, "{element}.{from} to {element}.{upto} {answer}")
 }
 
-/// Adds how far the work came, as it was last told.
+/// Adds how far the work came, as it was last told, if it was.
 pub fn add_progress(progress: Option<Progress>, said: &mut Saying) {
-    match progress {
-        Some(it) => {
-            write!(said, "{} served, room {}", it.served, it.room);
-            write!(said, ", {} checkpoints", it.checkpoints)
-        }
-        None => said.text("none"),
+    if let Some(it) = progress {
+        write!(said, "{} served, room {}", it.served, it.room);
+        write!(said, ", {} checkpoints", it.checkpoints)
     }
 }
 
