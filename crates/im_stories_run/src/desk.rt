@@ -69,7 +69,7 @@ fn lines_of(alloc: Global, report: &str, words: &[&str]) -> Saying {
     let mut lines = Saying::new(alloc);
     for line in report.lines() {
         let (word, _) = line.split_once(' ').unwrap_or((line, ""));
-        if words.contains(&word) {
+        if words.iter().any(|it| *it == word) {
             writeln!(lines, "{line}")
         }
     }
