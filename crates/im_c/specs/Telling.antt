@@ -2,7 +2,11 @@
 use Rattle.std.specs.Prelude.{◌≡◌, ◌⊎◌, ℕ, ◌<◌, ◌≤◌, List, [], ◌++◌, ◌==◌, codes, drop, length, Some, Err}
 use Rattle.std.specs.Prelude.{if◌then◌else◌}
 use Rattle.im_types.specs.declared.refusals.Refusal.{Refusal}
-use Rattle.im_types.specs.declared.refusals.Refusal.TheVariants.{NoMemory, Device}
+use Rattle.im_types.specs.declared.refusals.Refusal.TheVariants.{Gap, Forgotten, WindowFull, Mismatch, NoElement}
+use Rattle.im_types.specs.declared.refusals.Refusal.TheVariants.{NotAnswered, JournalFull, Device, Failed, NoMemory}
+use Rattle.im_types.specs.declared.refusals.Refusal.TheVariants.{TraceFull, WrongLength, NoHeader, BadHeader, BadPage}
+use Rattle.im_types.specs.declared.refusals.Refusal.TheVariants.{BadRecord, BadLimits, BadScript, Stalled, OffPlan}
+use Rattle.im_types.specs.declared.refusals.Refusal.TheVariants.{OldVersion, NotBlank, BadPlan, PaneGone}
 use Rattle.im_types.specs.Refusals.{number_of}
 use Rattle.im_types.specs.Header.{header_fault, layout_in}
 use Rattle.im_types.specs.Meaning.{Reads}
@@ -43,33 +47,33 @@ pub record IsTold (file : List ℕ) (count : ℕ) (old new : List ℕ) : Type 0 
   pub whole : count ≡ length text
   pub put : PutsText text old new
 
--- the name of the refusal with this number
+-- the name of the refusal with this number; the last two are C's own
 abbrev pub refusal_name : ℕ → List ℕ
 refusal_name number =
-    if number == 1 then codes "Gap"
-    else if number == 2 then codes "Forgotten"
-    else if number == 3 then codes "WindowFull"
-    else if number == 4 then codes "Mismatch"
-    else if number == 5 then codes "NoElement"
-    else if number == 6 then codes "NotAnswered"
-    else if number == 7 then codes "JournalFull"
-    else if number == 8 then codes "Device"
-    else if number == 9 then codes "Failed"
-    else if number == 10 then codes "NoMemory"
-    else if number == 11 then codes "TraceFull"
-    else if number == 12 then codes "WrongLength"
-    else if number == 13 then codes "NoHeader"
-    else if number == 14 then codes "BadHeader"
-    else if number == 15 then codes "BadPage"
-    else if number == 16 then codes "BadRecord"
-    else if number == 17 then codes "BadLimits"
-    else if number == 18 then codes "BadScript"
-    else if number == 19 then codes "Stalled"
-    else if number == 20 then codes "OffPlan"
-    else if number == 21 then codes "OldVersion"
-    else if number == 22 then codes "NotBlank"
-    else if number == 23 then codes "BadPlan"
-    else if number == 24 then codes "PaneGone"
+    if number == number_of Gap then codes "Gap"
+    else if number == number_of Forgotten then codes "Forgotten"
+    else if number == number_of WindowFull then codes "WindowFull"
+    else if number == number_of Mismatch then codes "Mismatch"
+    else if number == number_of NoElement then codes "NoElement"
+    else if number == number_of NotAnswered then codes "NotAnswered"
+    else if number == number_of JournalFull then codes "JournalFull"
+    else if number == number_of Device then codes "Device"
+    else if number == number_of Failed then codes "Failed"
+    else if number == number_of NoMemory then codes "NoMemory"
+    else if number == number_of TraceFull then codes "TraceFull"
+    else if number == number_of WrongLength then codes "WrongLength"
+    else if number == number_of NoHeader then codes "NoHeader"
+    else if number == number_of BadHeader then codes "BadHeader"
+    else if number == number_of BadPage then codes "BadPage"
+    else if number == number_of BadRecord then codes "BadRecord"
+    else if number == number_of BadLimits then codes "BadLimits"
+    else if number == number_of BadScript then codes "BadScript"
+    else if number == number_of Stalled then codes "Stalled"
+    else if number == number_of OffPlan then codes "OffPlan"
+    else if number == number_of OldVersion then codes "OldVersion"
+    else if number == number_of NotBlank then codes "NotBlank"
+    else if number == number_of BadPlan then codes "BadPlan"
+    else if number == number_of PaneGone then codes "PaneGone"
     else if number == 254 then codes "Unserved"
     else if number == 255 then codes "NoCall"
     else codes ""

@@ -3,38 +3,32 @@ ghost use Rattle.std.specs.Prelude.{◌≡◌, length};
 ghost use Rattle.im_c.specs.Telling.{PutsText, answer_name, refusal_name};
 
 use crate::inspecting::put_text;
+use crate::plain::{NO_CALL, UNSERVED};
+use im_types::Refusal;
+
+// Returns the name of the refusal with this number, if it is one of these. Its name is that of its variant.
+macro_rules! return_name {
+    ($number:ident: $($refusal:ident),+) => {
+        $(
+            if $number == Refusal::$refusal.number() {
+                return stringify!($refusal);
+            }
+        )+
+    };
+}
 
 // The name of the refusal with this number.
 fn name_of(number: u8) -> &'static str
     ensures { result.now ≡ refusal_name number }
 {
+    return_name!(
+        number: Gap, Forgotten, WindowFull, Mismatch, NoElement, NotAnswered, JournalFull, Device,
+        Failed, NoMemory, TraceFull, WrongLength, NoHeader, BadHeader, BadPage, BadRecord, BadLimits,
+        BadScript, Stalled, OffPlan, OldVersion, NotBlank, BadPlan, PaneGone
+    );
     match number {
-        1 => "Gap",
-        2 => "Forgotten",
-        3 => "WindowFull",
-        4 => "Mismatch",
-        5 => "NoElement",
-        6 => "NotAnswered",
-        7 => "JournalFull",
-        8 => "Device",
-        9 => "Failed",
-        10 => "NoMemory",
-        11 => "TraceFull",
-        12 => "WrongLength",
-        13 => "NoHeader",
-        14 => "BadHeader",
-        15 => "BadPage",
-        16 => "BadRecord",
-        17 => "BadLimits",
-        18 => "BadScript",
-        19 => "Stalled",
-        20 => "OffPlan",
-        21 => "OldVersion",
-        22 => "NotBlank",
-        23 => "BadPlan",
-        24 => "PaneGone",
-        254 => "Unserved",
-        255 => "NoCall",
+        UNSERVED => "Unserved",
+        NO_CALL => "NoCall",
         _ => "",
     }
 }

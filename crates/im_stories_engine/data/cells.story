@@ -4,8 +4,8 @@
 -- 16 times 1.1 fetch 0 = nocell x16   sixteen requests, 1.1 to 1.16
 -- together 0.1 alloc i 2 with 1.1 fetch 0 = base 0, waiting    requests of different elements as one group
 -- commands confirm 0 2 with 1.2 fetch 0 = confirmed, waiting   any commands as one group, which may end early
--- turns 3 = began, page 0..1; room 0 x3
--- sweep 64 = 16; room 16          closes at most 64 slots with one sync
+-- 3 turns = began, page 0..1; room 0 x3
+-- sweep 64 = swept 16; room 16    closes at most 64 slots with one sync
 -- plan 1.1 fetch 0 = 1 events     what the next run does: commands, groups, turns, sweeps, or all commands as told
 -- run = 1 answers
 -- answers 0 to 0 = nocell
@@ -15,7 +15,7 @@
 -- with 16:05 = count 5 room 256   the result of opening a copy with this byte
 -- length 8191 = refused ..        or a copy of this length
 -- each 0 to 3 as 00 ff = ..       the same for each of these bytes at each of these places
--- in each length to 9 = ..        the result of opening a copy of each length; equal ones in a row once
+-- in each length 0 to 9 = ..      the result of opening a copy of each length; equal ones in a row once
 -- in each value of 0 to 3 = ..    the same for each value of each of these bytes
 -- in each serve stop kept = ..    a stop in each call of each serve, a crash, and all is sent again; so of an opening, of
 --                                 a reopening after a stop, of the script as a group, of each turn, of a call on the
@@ -108,7 +108,7 @@ waiting 0 = 1.1
 collect 1.1 = waiting
 2.1 store 0 9 = stored
 0.3 release 0 = released
-cell 0 = in no block
+cell 0 = free
 -- A repeat is answered as at first. The fetch was answered before its block went.
 0.2 release 0 = stillwaiting
 1.2 fetch 0 = nocell
@@ -144,7 +144,7 @@ count = 8
 collect 0.2 = cleared
 cell 0 = full 6 in block 0 of 2 i
 -- And so it is on the pages.
-turns 60 = began, page 0..51, synced, in force, swept x3, idle x2; room 248 x55, 251, 254, 256 x3
+60 turns = began, page 0..51, synced, in force, swept x3, idle x2; room 248 x55, 251, 254, 256 x3
 close = closed
 open = opened
 count = 8

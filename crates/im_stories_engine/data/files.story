@@ -67,7 +67,7 @@ format 4096 16 256 = formatted
 1.1 fetch 0 = waiting
 2.1 fetch 0 = waiting
 1.2 fetch 0 = waiting
-turns 58 = began, page 0..51, synced, in force, swept x2, idle; room 252 x55, 255, 256 x2
+58 turns = began, page 0..51, synced, in force, swept x2, idle; room 252 x55, 255, 256 x2
 close = closed
 bytes 4096 2 = a5 01
 with = count 4 room 256
@@ -162,7 +162,7 @@ damage 8200:00 8201:00 8202:00 8203:00 = done
 open = opened
 count = 0
 room = 16
-cell 0 = in no block
+cell 0 = free
 window 0 = 1 1
 0.1 alloc i 1 = base 0
 0.2 alloc i 1 = nospace
@@ -249,8 +249,9 @@ each 32792 to 32795 as 00 01 ff = count 1 room 15, count 1 room 15, count 1 room
 each 32796 to 32831 as 00 01 ff = count 1 room 15, refused 16 BadRecord, refused 16 BadRecord
 
 # A file of zeros has no header
-zeros 0 to 8191 = refused 12 WrongLength
-zeros 8192 to 8199 = refused 13 NoHeader
+-- A copy of no file is all zeros.
+in each length 0 to 8191 = refused 12 WrongLength 0..8191
+in each length 8192 to 8199 = refused 13 NoHeader 8192..8199
 
 # An image of another length is refused
 -- The least image, cut or with zeros behind it.
@@ -307,7 +308,7 @@ room = 0
 -- All sixteen slots are swept, three by a turn: the stale one is the first.
 turn = swept
 room = 3
-turns 6 = swept x5, idle; room 6, 9, 12, 15, 16 x2
+6 turns = swept x5, idle; room 6, 9, 12, 15, 16 x2
 0.1 fetch 0 = nocell
 count = 22
 room = 15

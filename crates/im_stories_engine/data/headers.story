@@ -31,7 +31,7 @@ in each turn scar:a5 00 = 3 x13
 in each turn scar:a5 a5 = 3 x13
 -- Behind the turns an opening makes five calls. One of them fails, and a second opening of the same disk finds all
 -- three.
-turns 8 = began, page 0..2, synced, in force, swept, idle; room 13 x6, 16 x2
+8 turns = began, page 0..2, synced, in force, swept, idle; room 13 x6, 16 x2
 close = closed
 calls = 29
 in each call once = 3 x5
@@ -51,7 +51,7 @@ format 1 1 16 = formatted
 0.2 fetch 0 = waiting
 0.3 store 0 0 = stored
 0.2 fetch 0 = value 0
-turns 4 = began, page 0..2; room 13 x4
+4 turns = began, page 0..2; room 13 x4
 turn = synced
 turn = refused 8 Device
 turn = refused 9 Failed
@@ -78,7 +78,7 @@ format 1 1 16 = formatted
 0.2 fetch 0 = waiting
 0.3 store 0 0 = stored
 0.2 fetch 0 = value 0
-turns 4 = began, page 0..2; room 13 x4
+4 turns = began, page 0..2; room 13 x4
 turn = synced
 turn = refused 8 Device
 turn = refused 9 Failed

@@ -2,7 +2,7 @@
 -- It has 33,792 bytes. Each length in turn: cut short, as it is, and longer by a zero.
 format 1 1 16 = formatted
 close = closed
-in each length to 33793 = refused 12 WrongLength 0..33791, opened 33792, refused 12 WrongLength 33793
+in each length 0 to 33793 = refused 12 WrongLength 0..33791, opened 33792, refused 12 WrongLength 33793
 
 # Each value of each byte of a header counts
 -- What an opening comes to for each of the 256 values, told where it changes.

@@ -26,7 +26,7 @@ room = 0
 collect 2.1 = refused 1 Gap
 count = 16
 -- There is no room before the first sweep. An area has 52 pages.
-turns 62 = began, page 0..51, synced, in force, swept x6, idle; room 0 x55, 3, 6, 9, 12, 15, 16 x2
+62 turns = began, page 0..51, synced, in force, swept x6, idle; room 0 x55, 3, 6, 9, 12, 15, 16 x2
 count = 16
 close = closed
 -- The format, sixteen commands, and the turns: 52, 2, 4, five times 4, and 2.
@@ -54,16 +54,16 @@ open = opened
 count = 50
 room = 14
 -- After an opening every page of both areas counts as changed.
-turns 60 = began, page 0..51, synced, in force, swept, idle x4; room 14 x55, 16 x5
+60 turns = began, page 0..51, synced, in force, swept, idle x4; room 14 x55, 16 x5
 
 # The third header is in force after three checkpoints
 format 4096 16 16 = formatted
 16 times 1.1 fetch 0 = nocell x16
-turns 61 = began, page 0..51, synced, in force, swept x6; room 0 x55, 3, 6, 9, 12, 15, 16
+61 turns = began, page 0..51, synced, in force, swept x6; room 0 x55, 3, 6, 9, 12, 15, 16
 16 times 2.1 fetch 0 = nocell x16
-turns 11 = began, page 37..38, synced, in force, swept x6; room 0 x5, 3, 6, 9, 12, 15, 16
+11 turns = began, page 37..38, synced, in force, swept x6; room 0 x5, 3, 6, 9, 12, 15, 16
 16 times 3.1 fetch 0 = nocell x16
-turns 11 = began, page 38..39, synced, in force, swept x6; room 0 x5, 3, 6, 9, 12, 15, 16
+11 turns = began, page 38..39, synced, in force, swept x6; room 0 x5, 3, 6, 9, 12, 15, 16
 4.1 fetch 0 = nocell
 close = closed
 -- The gate and the area of the other header, its generation and its count.
@@ -82,7 +82,7 @@ format 4096 16 256 = formatted
 1.1 fetch 0 = waiting
 turn = began
 2.1 store 0 7 = stored
-turns 54 = page 0..51, synced, in force; room 253 x54
+54 turns = page 0..51, synced, in force; room 253 x54
 close = closed
 crash lost = crashed
 -- The header in force: its gate and area, its generation and its count.
@@ -156,7 +156,7 @@ format 20000 2 16 = formatted
 1.5 store 16384 5 = stored
 1.6 store 19999 6 = stored
 1.7 fetch 12000 = waiting
-turns 167 = began, page 0..159, synced, in force, swept x3, idle; room 8 x163, 11, 14, 16 x2
+167 turns = began, page 0..159, synced, in force, swept x3, idle; room 8 x163, 11, 14, 16 x2
 close = closed
 crash lost = crashed
 open = opened
@@ -177,13 +177,13 @@ collect 1.7 = value 7
 format 4096 16 16 = formatted
 16 times 1.1 fetch 0 = nocell x16
 -- Nothing is swept before an area has the commands, nor while a checkpoint is under way.
-sweep 64 = 0; room 0
-turns 54 = began, page 0..51, synced; room 0 x54
-sweep 64 = 0; room 0
+sweep 64 = swept 0; room 0
+54 turns = began, page 0..51, synced; room 0 x54
+sweep 64 = swept 0; room 0
 turn = in force
-sweep 5 = 5; room 5
-sweep 64 = 11; room 16
-sweep 64 = 0; room 16
+sweep 5 = swept 5; room 5
+sweep 64 = swept 11; room 16
+sweep 64 = swept 0; room 16
 turn = idle
 count = 16
 close = closed

@@ -2,40 +2,32 @@
 //! random walks beside the plain memory. `data/cells.story` begins with their words.
 #![tactic(auto)]
 
-mod alike;
-mod commands;
 mod damage;
 mod engines;
-mod explorer;
+mod events;
 mod images;
 mod known;
-mod runs;
-mod scripts;
-mod stopped_runs;
-mod stops;
-mod texts;
 mod trials;
 mod walks;
-mod wanders;
 
 use crate::engines::Engines;
-use im_story::{Call, Saying, Scene};
+use im_story::{Phrase, Saying, Subject};
 use std::process::ExitCode;
 
-impl Scene for Engines {
+impl Subject for Engines {
     fn begin(&mut self) {
         *self = Engines::none(self.file.alloc);
     }
 
-    fn make(&mut self, call: &Call, said: &mut Saying) {
+    fn make(&mut self, call: &Phrase, said: &mut Saying) {
         let is_made = images::tell(self, call, said)
             || damage::tell(self, call, said)
-            || runs::tell(self, call, said)
-            || stops::tell(self, call, said)
-            || wanders::tell(call, said)
+            || walks::tell(call, said)
             || self.file.tell(call, said);
-        if !is_made {
-            commands::serve_each(self, call, said)
+        match call.word(0) {
+            _ if is_made => {}
+            "in" => trials::tell(self, call, said),
+            _ => events::tell(self, call, said),
         }
     }
 }

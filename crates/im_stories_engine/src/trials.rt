@@ -1,230 +1,171 @@
-//! An act is stopped at a call of the disk, and what is found after the image is opened again, beside the plain memory.
-//!
-//! Each test looks at every case. It tells how many commands were found in each, or at which case something is wrong.
+//! An act is stopped at each call of the disk in turn, and what is found after the image is opened again, beside the
+//! plain memory.
 
-use crate::commands::{are_refused, group_of};
-use crate::engines::Engines;
-use crate::known::KnownMemory;
-use crate::scripts::StoryScript;
-use crate::stopped_runs::does_run_stop;
-use crate::texts::{add_number, is_wrong_at};
-use arrayvec::ArrayVec;
-use im_checkpoint::TurnDone;
-use im_disk::{Crash, FuseDisk, Mode};
-use im_engine::Engine;
-use im_story::{Cases, Saying, asked};
-use im_story_disk::StoryFile;
+use crate::engines::{Engines, StoryScript};
+use crate::events::{add_number, group_of};
+use crate::known::{KnownEngine, are_alike, are_refused, does_work, is_wrong_at, served};
+use im_disk::{Crash, Mode};
+use im_engine::{Answer, Event};
+use im_story::{Cases, Phrase, Saying, asked, crash, mode};
+use im_story_disk::{STEADY, StoryFile};
 use im_types::{Command, LAST, Op, Refusal};
 
-/// How a disk fails, the crash after that, and one more crash after an opening. Without a crash the disk is opened as
-/// it is.
-#[derive(Clone, Copy)]
-pub struct Way {
-    /// How the disk fails.
-    pub mode: Mode,
-    /// The crash after that.
-    pub crash: Option<Crash>,
-    /// The crash after an opening.
-    pub next: Option<Crash>,
-}
-
-/// What is stopped, and how: an opening of an image with the whole script, or a reopening of one that was stopped in
-/// its last command; the script as one group; the turns after it; a call, which is an opening of a copy of the file
-/// with the turns after that; or the run that was planned. With it come the file of the case, and what is known of it.
+// What is stopped, and how: an opening of an image with the whole script, or a reopening of one that was stopped in its
+// last command; the script as one group; the turns after it; a call, which is an opening of a copy of the file with the
+// turns after that; or the run that was planned. Then the disk crashes, or is opened as it is; and it may crash again
+// after an opening.
 #[derive(Drop)]
-pub struct Trial<'a> {
-    /// The engines of the story.
-    pub engines: &'a Engines,
-    /// The script.
-    pub script: &'a StoryScript,
-    /// What is stopped.
-    pub act: &'a str,
-    /// How.
-    pub way: Way,
-    /// The file of the case.
-    pub file: StoryFile,
-    /// What is known of it.
-    pub known: KnownMemory,
+struct Trial<'s, 'c> {
+    script: &'s StoryScript,
+    bytes: &'s [u8],
+    events: &'s [Event],
+    act: &'c str,
+    mode: Mode,
+    crash: Option<Crash>,
+    next: Option<Crash>,
+    known: KnownEngine,
 }
 
-// Returns `more` calls more than a format and the given number of commands make, at four calls each.
-fn past(commands: u64, more: u64) -> u64 {
-    commands
-        .saturating_mul(4)
-        .saturating_add(4)
-        .saturating_add(more)
-}
-
-// Takes turns until the disk stops; from then on each has to answer `Failed`. Returns whether it stops before there is
-// nothing left to do.
-fn do_turns_stop(file: &mut StoryFile, said: &mut Saying) -> bool {
-    let Some(engine) = &mut file.engine else {
-        return false;
-    };
-    for _ in 0..1_000 {
-        match engine.turn() {
-            Ok(TurnDone::Idle) => return false,
-            Ok(_) => {}
-            Err(refusal) => {
-                let is_over = engine.turn() == Err(Refusal::Failed);
-                said.so(is_over && refusal == Refusal::Device, "");
-                return true;
-            }
-        }
+// Returns whether an event was answered `Failed`.
+fn has_failed(answer: &Answer) -> bool {
+    match answer {
+        Answer::Served(answer) => *answer == Err(Refusal::Failed),
+        Answer::Turned(answer) => *answer == Err(Refusal::Failed),
+        Answer::Swept(answer) => *answer == Err(Refusal::Failed),
+        Answer::Grouped(_, answers) => are_refused(answers, Refusal::Failed),
     }
-    said.fail("the turns don't end");
-    false
 }
 
-// Returns whether an engine has failed. It answers nothing then, not even a repeat, or a command that no memory would
-// take.
-fn is_over(engine: &mut Engine<FuseDisk>, script: &StoryScript) -> bool {
-    for (command, _) in script.accepted.iter() {
-        if engine.serve(command) != Err(Refusal::Failed) {
-            return false;
-        }
-    }
-    let unknown = Command::Request(asked(script.limits.elements, 1, Op::Fetch(0)));
-    engine.serve(&unknown) == Err(Refusal::Failed)
-        && engine.collect(0, 1) == Err(Refusal::Failed)
-        && engine.window(0) == Err(Refusal::Failed)
-        && engine.failed()
-}
-
-impl Trial<'_> {
-    // Makes a new image on a disk that fails so behind this many calls.
-    fn begin(&mut self, passes: u64, mode: Mode, said: &mut Saying) {
-        said.so(self.file.begin(self.script.limits, (passes, mode)), "");
-        match KnownMemory::nothing(self.file.alloc, self.script.limits) {
+impl Trial<'_, '_> {
+    // Makes a new image on a disk that fails so, `more` calls behind a format and these commands, at four calls each.
+    fn begin(&mut self, commands: u64, more: u64, mode: Mode, said: &mut Saying) {
+        let calls = commands.saturating_add(1).saturating_mul(4);
+        let fuse = (calls.saturating_add(more), mode);
+        match KnownEngine::begin(said.alloc(), self.script.limits, fuse) {
             Some(known) => self.known = known,
-            None => said.fail("no memory is left"),
+            None => said.fail("there is no image"),
         }
     }
 
-    // Serves the script. If the disk fails in a command, all that comes after it has to be answered `Failed`. Returns
-    // whether the disk still works.
-    fn serve(&mut self, said: &mut Saying) -> bool {
-        let Some(engine) = &mut self.file.engine else {
+    // Checks that the plain memory answers the script as it was told, and that the engine of the story has that memory.
+    fn agrees_with(&mut self, file: &StoryFile, said: &mut Saying) {
+        if self.act == "run" {
+            return;
+        }
+        self.known.hears_script(self.script, said);
+        if let Some(engine) = &file.engine {
+            said.check(are_alike(engine.memory(), &self.known.plain))
+        }
+    }
+
+    // Returns whether the engine has failed. It answers nothing then, not even a repeat, or a command that no memory
+    // would take.
+    fn is_over(&mut self) -> bool {
+        let Some(engine) = &mut self.known.file.engine else {
+            return false;
+        };
+        let unknown = Command::Request(asked(self.script.limits.elements, 1, Op::Fetch(0)));
+        let mut commands = self.script.commands.iter();
+        commands.all(|command| engine.serve(command) == Err(Refusal::Failed))
+            && engine.serve(&unknown) == Err(Refusal::Failed)
+            && engine.collect(0, 1) == Err(Refusal::Failed)
+            && engine.window(0) == Err(Refusal::Failed)
+            && engine.failed()
+    }
+
+    // Serves the script up to the failure in the command behind this many, or to the end. All that comes after a
+    // failure has to be answered `Failed`.
+    fn serve_up_to(&mut self, count: u64, said: &mut Saying) {
+        let (script, mut works) = (self.script, true);
+        for command in script.commands.iter() {
+            works = works && self.known.serve(command, said);
+        }
+        said.check(self.known.count == count && works == (count == script.len()));
+        said.check(works || self.is_over())
+    }
+
+    // Takes in the answer to an event. After the disk has stopped it has to be `Failed`. A group is that of the script.
+    // Returns whether the disk still works.
+    fn hears(&mut self, works: bool, event: &Event, answer: &Answer, said: &mut Saying) -> bool {
+        match (event, answer) {
+            _ if !works => said.check(has_failed(answer)),
+            (Event::Command(command), Answer::Served(answer)) => {
+                return self
+                    .known
+                    .hears(&[*command], &[served(*answer)], usize::MAX, said);
+            }
+            (Event::Group(_), Answer::Grouped(room, answers)) => {
+                let commands = self.script.commands.as_slice();
+                return self.known.hears(commands, answers, *room as usize, said);
+            }
+            (Event::Turn, Answer::Turned(done)) => return does_work(done.err(), said),
+            (Event::Sweep(_), Answer::Swept(slots)) => return does_work(slots.err(), said),
+            _ => said.fail("an event is answered otherwise"),
+        }
+        false
+    }
+
+    // Runs the events. Returns whether the disk stops.
+    fn does_run_stop(&mut self, said: &mut Saying) -> bool {
+        let Some(engine) = &mut self.known.file.engine else {
             said.fail("no engine");
             return false;
         };
-        let (script, mut works) = (self.script, true);
-        for (command, _) in script.accepted.iter() {
-            let room = engine.room() as usize;
-            let answer = engine.serve(command);
-            if works {
-                works = self.known.hears_one(*command, answer, room, said);
-            } else {
-                said.so(answer == Err(Refusal::Failed), "")
-            }
-        }
-        said.so(works || is_over(engine, script), "");
-        works
-    }
-
-    // Does the same, up to the failure in the command behind this many, or to the end.
-    fn serve_up_to(&mut self, served: u64, said: &mut Saying) {
-        let works = self.serve(said);
-        let is_so = self.known.count == served && works == (served == self.script.len());
-        said.so(is_so, "")
-    }
-
-    // Opens the disk, which passes this many calls. Returns whether the opening was stopped.
-    fn does_opening_stop(&mut self, passes: u64, said: &mut Saying) -> bool {
-        self.file.close();
-        self.file.fuse = (passes, self.way.mode);
-        match self.file.start(None) {
-            Ok(()) => false,
-            Err(refusal) => {
-                said.so(refusal == Refusal::Device, "");
-                true
-            }
-        }
-    }
-
-    // Serves the script as one group. If the disk stops, the group is answered `Failed` from then on. Returns whether
-    // it stops.
-    fn does_group_stop(&mut self, said: &mut Saying) -> bool {
-        let (Some(engine), Some(members)) = (&mut self.file.engine, self.script.members()) else {
-            said.fail("no engine, or too many commands");
+        let Ok(answers) = engine.run(said.alloc(), self.events) else {
+            said.fail("no memory is left");
             return false;
         };
-        let Some(group) = group_of(&members) else {
-            said.fail("that is no group");
-            return false;
-        };
-        let (mut served, mut later) = (ArrayVec::new(), ArrayVec::new());
-        let room = engine.room() as usize;
-        engine.serve_group(group.requests(), &mut served);
-        if self.known.hears(&members, &served, room, said) {
-            return false;
+        let (events, has_failed) = (self.events, engine.failed());
+        let mut works = true;
+        for (event, answer) in events.iter().zip(answers.as_slice()) {
+            works = self.hears(works, event, answer, said);
         }
-        engine.serve_group(group.requests(), &mut later);
-        said.so(are_refused(&later, Refusal::Failed) && engine.failed(), "");
-        true
+        said.check(answers.len() == events.len() && works != has_failed);
+        !works
     }
 
     // Does the act on a disk that passes the given number of calls. Returns whether it was stopped.
     fn is_stopped(&mut self, passes: u64, said: &mut Saying) -> bool {
-        let (count, mode) = (self.script.len(), self.way.mode);
-        match (self.act, count.checked_sub(1)) {
-            ("group", _) => {
-                self.begin(past(0, passes), mode, said);
-                return self.does_group_stop(said);
-            }
-            ("run", _) => {
-                self.begin(past(0, passes), mode, said);
-                return does_run_stop(self.engines, &mut self.file, &mut self.known, said);
-            }
-            ("turn", _) => {
-                self.begin(past(count, passes), mode, said);
-                self.serve_up_to(count, said);
-                return do_turns_stop(&mut self.file, said);
-            }
-            ("call", _) => {
-                self.begin(LAST, Mode::Stop, said);
-                self.known.hears_script(self.script, said);
-                let engines = self.engines;
-                let bytes = engines.file.bytes();
-                said.so(self.file.lay(bytes, bytes.len()), "");
-                return self.does_opening_stop(passes, said) || do_turns_stop(&mut self.file, said);
-            }
-            ("reopening", Some(before)) => {
-                self.begin(past(before, 3), Mode::Stop, said);
-                self.serve_up_to(before, said)
-            }
-            _ => {
-                self.begin(LAST, Mode::Stop, said);
-                self.serve_up_to(count, said)
-            }
-        }
-        self.does_opening_stop(passes, said)
-    }
-
-    // Returns whether each command of the script has its slot. Turns may have made room.
-    fn has_its_room(&self) -> bool {
-        let room = match &self.file.engine {
-            Some(engine) => u64::from(engine.room()),
-            None => 0,
+        let count = self.script.len();
+        let before = count.saturating_sub(1);
+        let (commands, more, mode, serves) = match self.act {
+            "group" | "run" => (0, passes, self.mode, None),
+            "turn" => (count, passes, self.mode, Some(count)),
+            "reopening" => (before, 3, Mode::Stop, Some(before)),
+            "call" => (0, LAST, Mode::Stop, None),
+            _ => (0, LAST, Mode::Stop, Some(count)),
         };
-        let all = room.saturating_add(self.file.count());
-        matches!(self.act, "turn" | "call") || all == u64::from(self.script.limits.slots)
+        self.begin(commands, more, mode, said);
+        if let Some(count) = serves {
+            self.serve_up_to(count, said)
+        }
+        if self.act == "call" {
+            self.known.hears_script(self.script, said);
+            said.check(self.known.file.lay(self.bytes, self.bytes.len()))
+        }
+        let opens = matches!(self.act, "opening" | "reopening" | "call");
+        opens && !self.known.opens((passes, self.mode), said) || self.does_run_stop(said)
     }
 
     // Opens what the crashes leave of a disk that has stopped. Returns how many commands are found: all that were
     // answered, and those in doubt or none of them. All of the script acts once when it is sent again.
     fn found(&mut self, said: &mut Saying) -> u64 {
-        said.so(self.file.reopen(self.way.crash), "");
-        self.known.has_all(&self.file, said);
+        self.known.reopen(self.crash, said);
         let found = self.known.count;
-        if self.way.next.is_some() {
-            said.so(self.file.reopen(self.way.next), "");
-            self.known.is_all(&self.file, said);
+        if self.next.is_some() {
+            self.known.reopen(self.next, said);
         }
         if self.act != "run" {
             self.serve_up_to(self.script.len(), said);
-            self.known.is_all(&self.file, said);
-            said.so(self.has_its_room(), "");
+            self.known.has_all(said);
+            // Each command has its slot. Turns may have made room.
+            let free = match &self.known.file.engine {
+                Some(engine) => u64::from(engine.room()),
+                None => 0,
+            };
+            let slots = free.saturating_add(self.known.count);
+            let is_swept = matches!(self.act, "turn" | "call");
+            said.check(is_swept || slots == u64::from(self.script.limits.slots))
         }
         found
     }
@@ -234,19 +175,19 @@ impl Trial<'_> {
     fn times_found(&mut self, call: u64, said: &mut Saying) -> u64 {
         let mut times: u64 = 0;
         for served in 0..self.script.len() {
-            self.begin(past(served, call), self.way.mode, said);
+            self.begin(served, call, self.mode, said);
             self.serve_up_to(served, said);
             let found = self.found(said);
             times = times.saturating_add(u64::from(found > served));
             if is_wrong_at(served, said) {
-                return times;
+                break;
             }
         }
         times
     }
 
-    /// Tells in how many cases a command was found, for each of the four calls of a serve.
-    pub fn tell_serves(&mut self, said: &mut Saying) {
+    // Tells in how many cases a command was found, for each of the four calls of a serve.
+    fn tell_serves(&mut self, said: &mut Saying) {
         for call in 0..4 {
             let times = self.times_found(call, said);
             if is_wrong_at(call, said) {
@@ -257,8 +198,8 @@ impl Trial<'_> {
         write!(said, "of {}", self.script.len())
     }
 
-    /// Tells what is found for each call of an act, up to the first that passes.
-    pub fn tell_acts(&mut self, said: &mut Saying) {
+    // Tells how many commands are found for each call of an act, up to the first that passes.
+    fn tell_acts(&mut self, said: &mut Saying) {
         let mut cases = Cases::none(said.alloc());
         for passes in 0..1_000 {
             if !self.is_stopped(passes, said) {
@@ -271,5 +212,57 @@ impl Trial<'_> {
             add_number(&mut cases, found, said);
         }
         said.fail("the calls don't end")
+    }
+}
+
+// Returns the events that are stopped: a group, which is put once more, or turns, more than there are to be made.
+fn events_of(act: &str, script: &StoryScript, said: &mut Saying) -> Vec<Event> {
+    let mut events = Vec::new(said.alloc());
+    let times = match act {
+        "group" => 2,
+        "turn" | "call" => 200,
+        _ => 0,
+    };
+    for _ in 0..times {
+        let event = match act {
+            "group" => group_of(&script.commands).map(Event::Group),
+            _ => Some(Event::Turn),
+        };
+        said.check(event.is_some_and(|event| events.push(event).is_ok()))
+    }
+    events
+}
+
+/// Makes the call `in each` with `serve`, `opening`, `reopening`, `group`, `turn`, `call` or `run`. Then come how the
+/// disk fails at each call of that, and what the crashes after it leave. `call` uses the closed file. All others but
+/// `run` use an image that gets the commands of the story so far, one by one or as one group. The plain memory has to
+/// answer the script as it was told, and the engine of the story has to have that memory.
+pub fn tell(engines: &Engines, call: &Phrase, said: &mut Saying) {
+    let (crash, next) = (crash(call.word(4)), crash(call.word(5)));
+    let words = 4 + usize::from(crash.is_some()) + usize::from(next.is_some());
+    let is_whole = call.words().len() == words;
+    let (Some(mode), Some(script), true) = (mode(call.word(3)), &engines.script, is_whole) else {
+        return said.fail("that is no way to stop");
+    };
+    let Some(known) = KnownEngine::begin(call.alloc(), script.limits, STEADY) else {
+        return said.fail("there is no image");
+    };
+    let (act, made) = (call.word(2), events_of(call.word(2), script, said));
+    let (planned, made) = (engines.events.as_slice(), made.as_slice());
+    let mut trial = Trial {
+        script,
+        bytes: engines.file.bytes(),
+        events: if act == "run" { planned } else { made },
+        act,
+        mode,
+        crash,
+        next,
+        known,
+    };
+    trial.agrees_with(&engines.file, said);
+    match act {
+        "serve" => trial.tell_serves(said),
+        "opening" | "reopening" | "group" | "turn" | "call" | "run" => trial.tell_acts(said),
+        _ => said.fail("that is no act"),
     }
 }

@@ -4,23 +4,19 @@
 //! (`scripts/refuse-each-growth im_stories_growths`).
 #![tactic(auto)]
 
-ghost use Rattle.std.specs.Prelude.{◌≡◌, false};
-
-mod asked;
 mod disks;
-mod engines;
-mod naming;
 mod ports;
+mod requests;
+mod served;
 
-use crate::asked::{ALL, FIRST, lacks_memory};
-use crate::disks::{format, look_again, open, state, sum};
-use crate::engines::{events, run, serve_first, turn};
-use crate::naming::act_on;
-use crate::ports::{begin, begun};
+use crate::disks::{format, look_again, start, state, sum};
+use crate::ports::{act_on, begin, begun};
+use crate::requests::{ALL, FIRST, lacks_memory};
+use crate::served::{run, serve_first, turn};
 use im_disk::MemDisk;
-use im_pipes::{Inlet, Outlet, Received, pipe};
+use im_pipes::{Received, pipe};
 use im_story::Saying;
-use im_story_disk::Place;
+use im_story_disk::StoryFile;
 use im_types::Limits;
 use std::alloc::Global;
 use std::process::ExitCode;
@@ -32,45 +28,37 @@ const ROOM: usize = 4_096;
 // The number of bytes, items or lines that is too much.
 const TOO_MUCH: usize = 1 << 60;
 
-// Tells how many commands an engine has.
-fn add_count(said: &mut Saying, place: &Place) {
-    let count = state(place).count;
-    write!(said, " count {count}\n")
-}
-
 // Makes a new image and its requests, then a checkpoint of them.
-fn show_turned(place: &mut Place, limits: Limits, said: &mut Saying) {
+fn show_turned(place: &mut StoryFile, limits: Limits, said: &mut Saying) {
     said.text("  served:");
     format(place, limits, said);
     serve_first(place, ALL, said);
-    add_count(said, place);
+    write!(said, " count {}\n", state(place).count);
     turn(place, said);
-    let room = state(place).room;
-    write!(said, "  turned: room {room}\n")
+    write!(said, "  turned: room {}\n", state(place).room)
 }
 
 // Makes the same requests in one run.
-fn show_run(place: &mut Place, limits: Limits, said: &mut Saying) {
+fn show_run(place: &mut StoryFile, limits: Limits, said: &mut Saying) {
     said.text("  run:");
-    let events = events(place.alloc, said);
     format(place, limits, said);
-    run(place, events.as_slice(), said);
-    add_count(said, place)
+    run(place, said);
+    write!(said, " count {}\n", state(place).count)
 }
 
 // Shows what is found on the disk of an engine, and by an opening.
-fn show_opened(place: &mut Place, said: &mut Saying) {
+fn show_opened(place: &mut StoryFile, said: &mut Saying) {
     place.close();
     look_again(place, said);
-    open(place, said);
-    let (count, room) = (state(place).count, state(place).room);
-    write!(said, "  opened: count {count}, room {room}\n")
+    start(place, None, said);
+    let now = state(place);
+    write!(said, "  opened: count {}, room {}\n", now.count, now.room)
 }
 
 // Makes the same requests through ports, except for the one that makes the block.
 fn show_ports<R: Wait>(
     rt: &R,
-    place: &mut Place,
+    place: &mut StoryFile,
     limits: Limits,
     is_planned: bool,
     said: &mut Saying,
@@ -82,35 +70,38 @@ fn show_ports<R: Wait>(
         Ok(opening) => act_on(rt, place, opening, before, said),
         Err(_) => said.fail("refused twice"),
     }
-    add_count(said, place)
+    write!(said, " count {}\n", state(place).count)
 }
 
-// Passes an item through a pipe.
-fn pass<R: Wait>(rt: &R, inlet: Inlet<u64>, outlet: Outlet<u64>, said: &mut Saying)
-    requires { outlet.ended ≡ false }
-{
-    let (mut inlet, mut outlet) = (inlet, outlet);
-    let sent = inlet.send(rt, 7).is_ok();
-    let came = matches!(outlet.receive(rt), Received::Item(7));
-    write!(said, "  piped: sent {sent}, came {came}\n")
-}
-
-// Makes a pipe, and again if that is refused.
+// Makes a pipe, and again if that is refused. Passes an item through it.
 fn show_pipe<R: Wait>(rt: &R, alloc: Global, said: &mut Saying) {
     for _ in 0..2 {
         match pipe::<u64>(alloc, 2) {
-            Ok((inlet, outlet)) => return pass(rt, inlet, outlet, said),
+            Ok((mut inlet, mut outlet)) => {
+                let sent = inlet.send(rt, 7).is_ok();
+                let came = matches!(outlet.receive(rt), Received::Item(7));
+                return write!(said, "  piped: sent {sent}, came {came}\n");
+            }
             Err(refusal) => lacks_memory(refusal, true, said),
         }
     }
     said.fail("refused twice")
 }
 
-// Asks for a trace that can't be made. The engine stays as it was, and so does its disk.
-fn show_no_trace<R: Wait>(rt: &R, place: &mut Place, said: &mut Saying) {
+// Asks for more than there can be, which is refused each time. If it is a trace, the engine stays as it was, and so
+// does its disk.
+fn show_too_much<R: Wait>(rt: &R, place: &mut StoryFile, limits: Limits, said: &mut Saying) {
+    said.text("  too much:");
+    if let Err(refusal) = MemDisk::new(place.alloc, TOO_MUCH) {
+        write!(said, " a disk {refusal},")
+    }
+    if let Err(refusal) = pipe::<u64>(place.alloc, TOO_MUCH) {
+        write!(said, " a pipe {refusal},")
+    }
+    format(place, limits, said);
     place.close();
     let bytes = sum(place);
-    open(place, said);
+    start(place, None, said);
     let before = state(place);
     match begin(rt, place, false, TOO_MUCH) {
         Ok(opening) => act_on(rt, place, opening, before, said),
@@ -122,25 +113,12 @@ fn show_no_trace<R: Wait>(rt: &R, place: &mut Place, said: &mut Saying) {
     write!(said, ", as it was before: {is_same}\n")
 }
 
-// Asks for more than there can be, which is refused each time.
-fn show_too_much<R: Wait>(rt: &R, place: &mut Place, limits: Limits, said: &mut Saying) {
-    said.text("  too much:");
-    if let Err(refusal) = MemDisk::new(place.alloc, TOO_MUCH) {
-        write!(said, " a disk {refusal},")
-    }
-    if let Err(refusal) = pipe::<u64>(place.alloc, TOO_MUCH) {
-        write!(said, " a pipe {refusal},")
-    }
-    format(place, limits, said);
-    show_no_trace(rt, place, said)
-}
-
 // Shows each call that takes memory, except for those of threads.
 fn show<R: Wait>(rt: &R, alloc: Global, said: &mut Saying) {
     let Some(limits) = Limits::new(4, 3, 16) else {
         return said.fail("these are no sizes");
     };
-    let mut place = Place::new(alloc);
+    let mut place = StoryFile::new(alloc);
     said.text("growths: the same is told, whichever is refused\n");
     show_turned(&mut place, limits, said);
     show_opened(&mut place, said);

@@ -1,55 +1,28 @@
 //! What ports ask under the lock, and how a controller begins and ends.
 
-use crate::asked::{ALL, FIRST, State, add_answer, asked, lacks_memory};
-use crate::disks::{has_answered, state};
-use crate::engines::serve_rest;
+ghost use Rattle.im_controller.specs.Kept.{IsOriginOf};
+
+use crate::disks::{EngineState, has_answered, state};
+use crate::requests::{ALL, FIRST, add_answer, lacks_memory, request};
+use crate::served::serve_rest;
 use im_controller::{Controller, Name, Opening, Port, finish, start, start_planned};
-use im_disk::FuseDisk;
-use im_engine::Engine;
+use im_disk::{Disk, FuseDisk};
 use im_planning::Plan;
 use im_story::Saying;
-use im_story_disk::Place;
-use im_types::{Outcome, Refusal};
+use im_story_disk::StoryFile;
+use im_types::{Outcome, Refusal, Request};
 use std::alloc::Global;
+use std::marker::Brand;
 use std::sync::Wait;
 
 // How many lines a trace has room for.
 const LINES: usize = 8;
 
-// What ports were told: the place of the next request, and how many of the numbers that they asked for weren't used.
-#[derive(Clone, Copy)]
-struct Told {
-    next: usize,
-    unused: usize,
-}
-
 // Returns all requests but the first ones, as a plan.
 fn plan(alloc: Global) -> Result<Plan, Refusal> {
-    let Ok(mut requests) = Vec::with_capacity(alloc, ALL) else {
-        return Err(Refusal::NoMemory);
-    };
-    for at in FIRST..ALL {
-        let Ok(()) = requests.push(asked(at)) else {
-            return Err(Refusal::NoMemory);
-        };
-    }
-    Plan::new(alloc, requests)
-}
-
-// Makes room for a trace of so many lines, under a plan or without one.
-fn start_on<R: Wait>(
-    rt: &R,
-    alloc: Global,
-    engine: Engine<FuseDisk>,
-    is_planned: bool,
-    lines: usize,
-) -> Result<Opening<FuseDisk>, (Refusal, Engine<FuseDisk>)> {
-    if !is_planned {
-        return start(rt, alloc, engine, lines);
-    }
-    match plan(alloc) {
-        Ok(plan) => start_planned(rt, alloc, engine, plan, lines),
-        Err(refusal) => Err((refusal, engine)),
+    match (FIRST..ALL).map(request).collect::<Vec<Request>>(alloc) {
+        Ok(requests) => Plan::new(alloc, requests),
+        Err(_) => Err(Refusal::NoMemory),
     }
 }
 
@@ -57,117 +30,106 @@ fn start_on<R: Wait>(
 /// stays.
 pub fn begin<R: Wait>(
     rt: &R,
-    place: &mut Place,
+    place: &mut StoryFile,
     is_planned: bool,
     lines: usize,
 ) -> Result<Opening<FuseDisk>, Refusal> {
-    let Some(engine) = place.engine.take() else {
-        return Err(Refusal::Failed);
+    let alloc = place.alloc;
+    let plan = if is_planned { Some(plan(alloc)?) } else { None };
+    let started = match (place.engine.take(), plan) {
+        (Some(engine), Some(plan)) => start_planned(rt, alloc, engine, plan, lines),
+        (Some(engine), None) => start(rt, alloc, engine, lines),
+        (None, _) => return Err(Refusal::Failed),
     };
-    match start_on(rt, place.alloc, engine, is_planned, lines) {
-        Ok(opening) => Ok(opening),
-        Err((refusal, engine)) => {
-            place.engine = Some(engine);
-            Err(refusal)
-        }
-    }
+    started.map_err(|(refusal, engine)| {
+        place.engine = Some(engine);
+        refusal
+    })
 }
 
-// Asks a port for the request at a place.
-fn submit<K: Name, R: Wait>(
+/// Makes room for a trace over an engine that has the block, and asks again if that is refused: the engine has to be as
+/// it was.
+pub fn begun<R: Wait>(
     rt: &R,
-    controller: &Controller<FuseDisk, K>,
-    port: &mut Port<K>,
-    at: usize,
-) -> Result<Outcome, Refusal> {
-    let request = asked(at);
-    match port.submit(rt, controller, request.number, request.op) {
-        Ok(receipt) => Ok(receipt.outcome()),
-        Err(refusal) => Err(refusal),
-    }
-}
-
-// Returns whether the number of the request at a place isn't used.
-fn is_unused<K: Name, R: Wait>(
-    rt: &R,
-    controller: &Controller<FuseDisk, K>,
-    port: &mut Port<K>,
-    at: usize,
-) -> bool {
-    matches!(
-        port.collect(rt, controller, asked(at).number),
-        Err(Refusal::Gap)
-    )
-}
-
-// Asks a port for the next request. If there was no memory, it asks again: the number isn't used, and that is a line.
-// Returns whether it was answered; if not, the disk has failed, and nothing is answered any longer.
-fn ask_port<K: Name, R: Wait>(
-    rt: &R,
-    controller: &Controller<FuseDisk, K>,
-    port: &mut Port<K>,
-    told: &mut Told,
+    place: &mut StoryFile,
+    is_planned: bool,
     said: &mut Saying,
-) -> bool {
-    let mut answer = submit(rt, controller, port, told.next);
-    if answer == Err(Refusal::Device) {
-        said.so(
-            submit(rt, controller, port, told.next) == Err(Refusal::Failed),
-            "",
-        );
-        return false;
-    }
-    if let Err(refusal) = answer {
-        lacks_memory(refusal, is_unused(rt, controller, port, told.next), said);
-        told.unused = told.unused.saturating_add(1);
-        answer = submit(rt, controller, port, told.next);
-    }
-    match answer {
-        Ok(outcome) => add_answer(said, outcome),
-        Err(_) => said.fail("refused twice"),
-    }
-    told.next = told.next.saturating_add(1);
-    answer.is_ok()
+) -> Result<Opening<FuseDisk>, Refusal> {
+    let before = state(place);
+    let opening = begin(rt, place, is_planned, LINES);
+    let Err(refusal) = opening else {
+        return opening;
+    };
+    let is_same = state(place) == before && has_answered(place, FIRST);
+    lacks_memory(refusal, is_same, said);
+    begin(rt, place, is_planned, LINES)
 }
 
-// Gives out the ports of elements 1 and 2.
-fn add_ports<K: Name, R: Wait>(
-    rt: &R,
-    controller: &Controller<FuseDisk, K>,
-    ports: &mut Vec<Port<K>>,
-    said: &mut Saying,
-) {
-    for element in 1..3u16 {
-        match controller.port(rt, element) {
-            Ok(port) => said.so(ports.push(port).is_ok(), ""),
-            Err(refusal) => said.refusal(refusal),
-        }
-    }
+// A controller, and who waits for it.
+#[derive(Clone, Copy)]
+struct PortDesk<'a, K: Name, R: Wait> {
+    rt: &'a R,
+    controller: &'a Controller<FuseDisk, K>,
 }
 
-// Asks the ports, up to the first request at which the disk fails.
-fn ask_ports<K: Name, R: Wait>(
-    rt: &R,
-    controller: &Controller<FuseDisk, K>,
-    ports: &mut Vec<Port<K>>,
-    told: &mut Told,
-    said: &mut Saying,
-) {
-    for _ in FIRST..ALL {
-        let place = usize::from(asked(told.next).element).saturating_sub(1);
-        let Some(port) = ports.as_mut_slice().get_mut(place) else {
-            return said.fail("no port");
-        };
-        if !ask_port(rt, controller, port, told, said) {
-            return;
+impl<K: Name, R: Wait> PortDesk<'_, K, R> {
+    // Asks a port for the request at a place.
+    fn submit(&self, port: &mut Port<K>, at: usize) -> Result<Outcome, Refusal> {
+        let Request { number, op, .. } = request(at);
+        let receipt = port.submit(self.rt, self.controller, number, op)?;
+        Ok(receipt.outcome())
+    }
+
+    // Does the same. If there was no memory, it asks again: the number isn't used, and that is a line. Returns how many
+    // lines there are then, or nothing if the disk has failed, and nothing is answered any longer.
+    fn ask(&self, port: &mut Port<K>, at: usize, said: &mut Saying) -> Option<usize> {
+        let (mut answer, mut lines) = (self.submit(port, at), 1);
+        if answer == Err(Refusal::Device) {
+            said.so(self.submit(port, at) == Err(Refusal::Failed), "");
+            return None;
         }
+        if let Err(refusal) = answer {
+            let unused = port.collect(self.rt, self.controller, request(at).number);
+            lacks_memory(refusal, matches!(unused, Err(Refusal::Gap)), said);
+            answer = self.submit(port, at);
+            lines = 2;
+        }
+        match answer {
+            Ok(outcome) => add_answer(said, outcome),
+            Err(_) => said.fail("refused twice"),
+        }
+        Some(lines)
+    }
+
+    // Gives out the ports of elements 1 and 2, and asks them, up to the first request at which the disk fails. Returns
+    // its place, and how many lines there are.
+    fn ask_each(&self, ports: &mut Vec<Port<K>>, said: &mut Saying) -> (usize, usize) {
+        for element in 1..3u16 {
+            match self.controller.port(self.rt, element) {
+                Ok(port) => said.so(ports.push(port).is_ok(), ""),
+                Err(refusal) => said.refusal(refusal),
+            }
+        }
+        let mut lines = 0usize;
+        for at in FIRST..ALL {
+            let place = usize::from(request(at).element).saturating_sub(1);
+            let Some(port) = ports.as_mut_slice().get_mut(place) else {
+                said.fail("no port");
+                return (at, lines);
+            };
+            match self.ask(port, at, said) {
+                Some(more) => lines = lines.saturating_add(more),
+                None => return (at, lines),
+            }
+        }
+        (ALL, lines)
     }
 }
 
 // Returns the state of an engine after `many` more requests, each of which makes four calls of the disk.
-fn after(before: State, many: usize) -> State {
+fn after(before: EngineState, many: usize) -> EngineState {
     let commands = many as u64;
-    State {
+    EngineState {
         calls: before.calls.saturating_add(commands.saturating_mul(4)),
         count: before.count.saturating_add(commands),
         room: before.room.saturating_sub(commands),
@@ -175,57 +137,45 @@ fn after(before: State, many: usize) -> State {
     }
 }
 
-// Checks the engine of a controller. If its disk has failed, the same disk is opened again and asked for the rest.
-fn see_engine(place: &mut Place, told: Told, before: State, said: &mut Saying) {
-    let is_after = state(place) == after(before, told.next.saturating_sub(FIRST));
-    said.so(is_after || state(place).failed, "");
-    serve_rest(place, told.next, ALL, said)
-}
-
-/// Asks ports for the requests after the first, over an engine in this state. The controller's trace has a line for
-/// each request that was answered and for each number that wasn't used, and no other.
-pub fn ask<K: Name, R: Wait>(
+// Gives a controller a name, over an engine in this state, and asks ports for the requests after the first. The
+// controller's trace has a line for each request that was answered and for each number that wasn't used, and no other.
+// If the disk has failed, the same disk is opened again and asked for the rest.
+fn act_under<K: Name, R: Wait>(
     rt: &R,
-    place: &mut Place,
-    controller: Controller<FuseDisk, K>,
-    before: State,
+    place: &mut StoryFile,
+    opening: Opening<FuseDisk>,
+    before: EngineState,
     said: &mut Saying,
-) {
-    let mut ports = match Vec::with_capacity(place.alloc, 2) {
-        Ok(ports) => ports,
-        Err(_) => Vec::new(place.alloc), // It grows as it gets its first.
+)
+    requires origin { IsOriginOf ⟦<FuseDisk as Disk>⟧ opening K.origin }
+{
+    let controller = opening.named::<K>();
+    // Without the room it grows as it gets its first.
+    let mut ports = Vec::with_capacity(place.alloc, 2).unwrap_or(Vec::new(place.alloc));
+    let desk = PortDesk {
+        rt,
+        controller: &controller,
     };
-    let mut told = Told {
-        next: FIRST,
-        unused: 0,
-    };
-    add_ports(rt, &controller, &mut ports, said);
-    ask_ports(rt, &controller, &mut ports, &mut told, said);
+    let (at, lines) = desk.ask_each(&mut ports, said);
     let ended = finish(rt, controller, ports);
-    let lines = told.next.saturating_sub(FIRST).saturating_add(told.unused);
+    let is_told = ended.trace.as_slice().len() == lines;
+    said.so(ended.came && ended.claimed && is_told, "");
+    place.engine = Some(ended.engine);
+    let now = state(place);
     said.so(
-        ended.came && ended.claimed && ended.trace.as_slice().len() == lines,
+        now.failed || now == after(before, at.saturating_sub(FIRST)),
         "",
     );
-    place.engine = Some(ended.engine);
-    see_engine(place, told, before, said)
+    serve_rest(place, at, ALL, said)
 }
 
-/// Makes room for a trace over an engine that has the block, and asks again if that is refused: the engine has to be as
-/// it was.
-pub fn begun<R: Wait>(
+/// Does that with a controller of its own.
+pub fn act_on<R: Wait>(
     rt: &R,
-    place: &mut Place,
-    is_planned: bool,
+    place: &mut StoryFile,
+    opening: Opening<FuseDisk>,
+    before: EngineState,
     said: &mut Saying,
-) -> Result<Opening<FuseDisk>, Refusal> {
-    let before = state(place);
-    match begin(rt, place, is_planned, LINES) {
-        Ok(opening) => Ok(opening),
-        Err(refusal) => {
-            let is_same = state(place) == before && has_answered(place, FIRST);
-            lacks_memory(refusal, is_same, said);
-            begin(rt, place, is_planned, LINES)
-        }
-    }
+) {
+    act_under::<Brand, R>(rt, place, opening, before, said)
 }

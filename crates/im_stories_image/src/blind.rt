@@ -1,97 +1,85 @@
 //! A disk whose contents no proof knows, so that a story may put any bytes on it.
-ghost use Rattle.std.specs.Prelude.{[], ◌≤◌};
-ghost use Rattle.im_disk.specs.Moment.{Rises};
+ghost use Rattle.std.specs.Prelude.{◌≡◌, ◌+◌, ◌-◌, ◌^◌, ◌≤◌, [], true, length};
 
-use im_disk::{Crash, DeviceFault, Disk, FuseDisk, MemDisk, Mode};
+use im_disk::{DeviceFault, Disk, FuseDisk, MemDisk, Mode};
 use im_types::LAST;
 
-/// A disk in memory over a fuse. A range past its end is a fault, and makes no call of the disk beneath.
+/// A disk over another one. A range past the end that this had at first is a fault, and makes no call of it.
 #[derive(Drop)]
-pub struct Blind {
-    disk: FuseDisk,
-    failures: u64,
+pub struct Blind<D: Disk> {
+    disk: D,
+    size: usize,
+    ghost inside: { D.honest disk → size ≤ length (D.now disk).bytes },
 }
 
-impl Blind {
-    /// Makes a disk all of whose calls pass.
-    pub fn new(disk: MemDisk) -> Blind {
-        Blind::fused(disk, LAST, Mode::Stop)
-    }
-
-    /// Makes a disk that passes the given number of calls, and then fails as the mode says.
-    pub fn fused(disk: MemDisk, passes: u64, mode: Mode) -> Blind {
-        Blind {
-            disk: FuseDisk::new(disk, passes, mode),
-            failures: 0,
+impl<D: Disk> Blind<D> {
+    /// Takes a disk. One whose length can't be read counts as empty.
+    pub fn over(mut disk: D) -> Blind<D> {
+        match disk.len() {
+            Ok(size) => Blind { disk, size },
+            Err(_) => Blind { disk, size: 0 },
         }
     }
 
-    /// Returns the disk without a fuse.
-    pub fn into_inner(self) -> MemDisk {
-        self.disk.into_inner()
+    /// Returns the disk beneath.
+    pub fn inner(&self) -> &D {
+        &self.disk
     }
 
-    /// Returns the disk after a crash of this kind. All its calls pass.
-    pub fn crash(self, crash: Crash) -> Blind {
-        Blind::new(self.into_inner().crash(crash))
+    /// Gives the disk beneath back.
+    pub fn into_inner(self) -> D {
+        self.disk
     }
 
-    /// Returns how many calls there were since the fuse was set.
-    pub fn calls(&self) -> u64 {
-        self.disk.calls()
-    }
-
-    fn fault(&mut self) -> DeviceFault
-        ensures rises { Rises self.old.failures self.new.failures }
-        ensures up { self.old.failures ≤ self.new.failures }
+    // Returns whether a range lies inside.
+    fn has(&self, at: usize, count: usize) -> bool
+        ensures { result ≡ true → at + count ≤ self.now.size }
     {
-        self.failures = self.failures.saturating_add(1);
-        DeviceFault
+        at <= self.size && count <= self.size - at
     }
 }
 
-impl Disk for Blind {
+/// A disk in memory, whose calls fail as its fuse says.
+pub type StoryDisk = Blind<FuseDisk>;
+
+impl StoryDisk {
+    /// Takes a disk in memory. All calls pass.
+    pub fn steady(disk: MemDisk) -> StoryDisk {
+        Blind::over(FuseDisk::new(disk, LAST, Mode::Stop))
+    }
+}
+
+impl<D: Disk> Disk for Blind<D> {
     ghost now = { λ _. record { bytes = []; ranges = [] } };
 
     ghost past = { λ _. [] };
 
-    ghost failures = { λ b. b.failures };
+    // A count at its top stays there, whatever fails.
+    ghost failures = { λ _. 2 ^ 64 - 1 };
 
     ghost honest = { λ _. ⊥ };
 
     fn len(&mut self) -> Result<usize, DeviceFault> {
-        match self.disk.len() {
-            Ok(len) => Ok(len),
-            Err(_) => Err(self.fault()),
-        }
+        self.disk.len()
     }
 
     fn read(&mut self, at: usize, buf: &mut [u8]) -> Result<(), DeviceFault> {
-        match self.disk.len() {
-            Ok(len) if at <= len && buf.len() <= len - at => {}
-            _ => return Err(self.fault()),
-        }
-        match self.disk.read(at, buf) {
-            Ok(()) => Ok(()),
-            Err(_) => Err(self.fault()),
+        if self.has(at, buf.len()) {
+            self.disk.read(at, buf)
+        } else {
+            Err(DeviceFault)
         }
     }
 
     fn write_at(&mut self, at: usize, bytes: &[u8]) -> Result<(), DeviceFault> {
-        match self.disk.len() {
-            Ok(len) if at <= len && bytes.len() <= len - at => {}
-            _ => return Err(self.fault()),
-        }
-        match self.disk.write_at(at, bytes) {
-            Ok(()) => Ok(()),
-            Err(_) => Err(self.fault()),
+        if self.has(at, bytes.len()) {
+            self.disk.write_at(at, bytes)
+        } else {
+            Err(DeviceFault)
         }
     }
 
     fn sync(&mut self) -> Result<(), DeviceFault> {
-        match self.disk.sync() {
-            Ok(()) => Ok(()),
-            Err(_) => Err(self.fault()),
-        }
+        self.disk.sync()
     }
 }

@@ -1,24 +1,27 @@
 //! What is in memory: a disk, and what was made of it or is to be put on it.
 
-use crate::blind::Blind;
+use crate::blind::StoryDisk;
 use crate::checkpoints::{self, Checkpointed};
-use crate::{disks, faults, images, journals, memories};
-use im_disk::{Crash, Disk, MemDisk};
+use crate::{disks, images, journals, memories};
+use im_disk::{Disk, MemDisk};
+use im_image::new_image;
 use im_journal::Journal;
 use im_memory::Memory;
-use im_story::{Call, Saying, Scene, changes};
+use im_story::{Phrase, Saying, Subject, changes, old_image};
+use im_types::layout::Version;
 use im_types::{Command, Limits, Refusal};
 use std::alloc::Global;
 
 /// What the calls of a story act on.
-#[derive(Drop)]
+#[derive(Default, Drop)]
 pub struct ImageDesk {
     /// The disk.
-    pub disk: Option<Blind>,
+    pub disk: Option<StoryDisk>,
     /// The sizes of the image that is on the disk, or is to be.
     pub limits: Option<Limits>,
-    /// The journal, and the commands that were last read from it.
+    /// The journal.
     pub journal: Option<Journal>,
+    /// The commands that were last read from it.
     pub commands: Option<Vec<Command>>,
     /// The memory that was made or last read.
     pub memory: Option<Memory>,
@@ -26,97 +29,93 @@ pub struct ImageDesk {
     pub kept: Option<Checkpointed>,
 }
 
-/// Makes a disk with these bytes.
-pub fn disk_of(alloc: Global, bytes: &[u8]) -> Result<Blind, Refusal> {
-    let mut disk = MemDisk::new(alloc, bytes.len())?;
-    disk.write_at(0, bytes)?;
-    Ok(Blind::new(disk))
-}
-
-/// Reads all bytes of a disk.
-pub fn all_bytes(alloc: Global, disk: &mut Blind) -> Option<Vec<u8>> {
-    let length = disk.len().ok()?;
-    let mut bytes = vec![in alloc; 0; length].ok()?;
-    match disk.read(0, &mut bytes) {
-        Ok(()) => Some(bytes),
-        Err(_) => None,
-    }
+/// Makes a disk of this length. It has these bytes as far as they go, and then zeros.
+pub fn disk_of(alloc: Global, bytes: &[u8], length: usize) -> Result<MemDisk, Refusal> {
+    let mut disk = MemDisk::new(alloc, length)?;
+    disk.write_at(0, &bytes[..length.min(bytes.len())])?;
+    Ok(disk)
 }
 
 impl ImageDesk {
-    /// Starts with nothing.
-    pub fn new() -> ImageDesk {
-        ImageDesk {
-            disk: None,
-            limits: None,
-            journal: None,
-            commands: None,
-            memory: None,
-            kept: None,
-        }
+    /// Takes the disk, without its fuse.
+    pub fn take(&mut self) -> Option<MemDisk> {
+        Some(self.disk.take()?.into_inner().into_inner())
     }
 
-    /// Lets the disk crash in this way. Returns whether there are both.
-    pub fn crash(&mut self, crash: Option<Crash>) -> bool {
-        match (crash, self.disk.take()) {
-            (Some(crash), Some(disk)) => {
-                self.disk = Some(disk.crash(crash));
-                true
-            }
-            _ => false,
-        }
+    /// Puts a disk of this length in place of the one that is there, with these bytes. Tells how long it is.
+    pub fn lay(&mut self, alloc: Global, bytes: &[u8], length: usize, said: &mut Saying) {
+        said.result(disk_of(alloc, bytes, length), |disk, said| {
+            self.disk = Some(StoryDisk::steady(disk));
+            write!(said, "{length} bytes")
+        })
     }
 
-    /// Makes a disk with these bytes in place of the one that is there. Returns whether there is memory for it.
-    pub fn lay(&mut self, alloc: Global, bytes: &[u8]) -> bool {
-        self.disk = disk_of(alloc, bytes).ok();
-        self.disk.is_some()
-    }
-
-    // Puts the bytes that the first of a call's words tell on the disk. Returns what stood there before.
-    fn put(&mut self, call: &Call, count: usize) -> Option<Vec<u8>> {
-        let changes = changes(call.alloc(), call.words().get(1..count)?)?;
-        let Some(disk) = &mut self.disk else {
-            return None;
-        };
-        let old = all_bytes(call.alloc(), disk)?;
-        for (at, byte) in &changes {
-            disk.write_at(*at, &[*byte]).ok()?;
-        }
-        Some(old)
-    }
-
-    // Makes a call while bytes are on the disk, and lays down what stood there before: `with AT:BYTE .. CALL`.
-    fn tell_with(&mut self, call: &Call, said: &mut Saying) {
+    // Makes a call while other bytes stand in their places: `with AT:BYTE .. CALL`.
+    fn tell_with(&mut self, call: &Phrase, said: &mut Saying) {
         let others = call.rest(1).iter().position(|word| !word.contains(':'));
         let count = others.unwrap_or(0).saturating_add(1);
-        let Some(old) = self.put(call, count) else {
-            return said.fail("no changes");
+        let words = call.words().get(1..count).unwrap_or(&[]);
+        let (Some(changes), Some(old)) = (changes(call.alloc(), words), self.take()) else {
+            return said.fail("no changes, or no disk");
         };
-        self.tell(&Call::of(call.alloc(), call.rest(count)), said);
-        said.so(self.lay(call.alloc(), &old), "")
+        let Ok(disk) = disk_of(call.alloc(), old.bytes(), old.bytes().len()) else {
+            return said.fail("no memory is left");
+        };
+        let mut disk = StoryDisk::steady(disk);
+        for (at, byte) in &changes {
+            said.so(disk.write_at(*at, &[*byte]).is_ok(), "");
+        }
+        self.disk = Some(disk);
+        self.tell(&Phrase::of(call.alloc(), call.rest(count)), said);
+        self.disk = Some(StoryDisk::steady(old));
+    }
+
+    // Makes what has these sizes, or tells the layout of an image that has them.
+    fn make_sized(&mut self, limits: Limits, call: &Phrase, said: &mut Saying) {
+        let alloc = call.alloc();
+        self.limits = Some(limits);
+        match call.form() {
+            "journal _ _ _" => {
+                self.journal = Some(Journal::fresh(limits));
+                said.text("fresh")
+            }
+            "memory _ _ _" => {
+                self.memory = Memory::new(alloc, limits).ok();
+                said.so(self.memory.is_some(), "empty")
+            }
+            "checkpoint _ _ _" => {
+                self.kept = Checkpointed::new(alloc, limits).ok();
+                said.so(self.kept.is_some(), "idle")
+            }
+            "image _ _ _" => images::lay(self, alloc, new_image(alloc, limits).ok(), said),
+            "old image _ _ _" => images::lay(self, alloc, old_image(alloc, limits).ok(), said),
+            "layout _ _ _" => images::tell_layout(Version::Two, limits, said),
+            "old layout _ _ _" => images::tell_layout(Version::One, limits, said),
+            _ => said.fail("that is no call"),
+        }
     }
 
     // Makes a call of the disk or of what was made of it.
-    fn tell(&mut self, call: &Call, said: &mut Saying) {
+    fn tell(&mut self, call: &Phrase, said: &mut Saying) {
         let is_made = disks::tell(self, call, said)
+            || checkpoints::tell(self, call, said)
             || journals::tell(self, call, said)
             || images::tell(self, call, said)
-            || faults::tell(self, call, said)
-            || memories::tell(self, call, said)
-            || checkpoints::tell(self, call, said);
-        if !is_made {
-            said.fail("that is no call")
+            || memories::tell(self, call, said);
+        match call.limits(0) {
+            _ if is_made => {}
+            Some(limits) => self.make_sized(limits, call, said),
+            None => said.fail("that is no call"),
         }
     }
 }
 
-impl Scene for ImageDesk {
+impl Subject for ImageDesk {
     fn begin(&mut self) {
-        *self = ImageDesk::new();
+        *self = ImageDesk::default();
     }
 
-    fn make(&mut self, call: &Call, said: &mut Saying) {
+    fn make(&mut self, call: &Phrase, said: &mut Saying) {
         match call.word(0) {
             "with" => self.tell_with(call, said),
             _ => self.tell(call, said),

@@ -1,204 +1,155 @@
 //! Calls on an image.
 
-use crate::blind::Blind;
-use crate::desk::{ImageDesk, all_bytes};
+use crate::blind::StoryDisk;
+use crate::desk::{ImageDesk, disk_of};
+use crate::disks::add_passed;
+use crate::memories::area_of;
 use im_disk::Disk;
 use im_image::{
-    Header, PAGE, VERSION, Versions, area_at, area_pages, encode, inspect, new_image, read_header,
-    read_image,
+    Header, PAGE, Report, VERSION, Versions, area_at, inspect, read_header, read_image,
 };
 use im_memory::Memory;
-use im_story::{Call, Saying, old_image};
+use im_story::{Phrase, Saying};
 use im_types::layout::Version;
 use im_types::{Limits, Refusal};
 use std::alloc::Global;
 
-// Makes a disk with these bytes, and tells how many there are.
-fn lay(here: &mut ImageDesk, call: &Call, bytes: Option<&[u8]>, said: &mut Saying) {
-    match bytes {
-        Some(bytes) => {
-            said.so(here.lay(call.alloc(), bytes), "");
-            write!(said, "{} bytes", bytes.len())
-        }
-        None => said.fail("there are not so many bytes"),
-    }
+/// Tells the layout of an image of these sizes.
+pub fn tell_layout(version: Version, limits: Limits, said: &mut Saying) {
+    let (pages, at) = (version.area_pages(limits), version.journal_at(limits));
+    let length = version.image_length(limits);
+    write!(said, "{pages} pages, journal at {at}, {length} bytes")
 }
 
-// Tells the layout of an image of these sizes, or makes one on a disk of its own.
-fn tell_sizes(here: &mut ImageDesk, call: &Call, version: Version, said: &mut Saying) {
-    let Some(limits) = call.limits(0) else {
-        return said.fail("there are no such sizes");
-    };
-    if call.form().ends_with("layout _ _ _") {
-        let (pages, at) = (version.area_pages(limits), version.journal_at(limits));
-        let length = version.image_length(limits);
-        return write!(said, "{pages} pages, journal at {at}, {length} bytes");
-    }
-    here.limits = Some(limits);
-    let image = match version {
-        Version::One => old_image(call.alloc(), limits).ok(),
-        Version::Two => new_image(call.alloc(), limits).ok(),
-    };
-    match image {
-        Some(image) => lay(here, call, Some(image.as_slice()), said),
-        None => said.fail("no memory is left"),
-    }
+/// Puts an image on a disk of its own. Tells how long it is.
+pub fn lay(here: &mut ImageDesk, alloc: Global, image: Option<Vec<u8>>, said: &mut Saying) {
+    said.given(image, "no memory is left", |image, said| {
+        here.lay(alloc, &image, image.len(), said)
+    })
 }
 
-fn cut(here: &mut ImageDesk, call: &Call, said: &mut Saying) {
-    let Some(disk) = &mut here.disk else {
-        return said.fail("there is no disk");
-    };
-    match all_bytes(call.alloc(), disk) {
-        Some(bytes) => lay(here, call, bytes.get(..call.place(0)), said),
-        None => said.fail("the disk can't be read"),
-    }
-}
-
-// Returns where the header of an area stands.
-fn header_at(area: u8) -> usize {
-    if area == 0 { 0 } else { PAGE }
-}
-
-// Reads the number of an area.
-fn area(number: u64) -> Option<u8> {
-    match number {
-        0 => Some(0),
-        1 => Some(1),
-        _ => None,
-    }
-}
-
-fn add_header(said: &mut Saying, header: Result<Header, Refusal>) {
-    match header {
-        Ok(it) => {
-            let (area, generation) = (it.area, it.generation);
-            write!(
-                said,
-                "version {}, area {area}, generation {generation}",
-                it.version
-            );
-            let (cells, elements) = (it.limits.cells, it.limits.elements);
-            write!(
-                said,
-                ", count {}, sizes {cells} {elements} {}",
-                it.count, it.limits.slots
-            )
-        }
-        Err(refusal) => said.refusal(refusal),
-    }
+fn add_header(said: &mut Saying, it: Header) {
+    let (area, generation, count) = (it.area, it.generation, it.count);
+    let (cells, elements, slots) = (it.limits.cells, it.limits.elements, it.limits.slots);
+    write!(said, "version {}, area {area}", it.version);
+    write!(said, ", generation {generation}, count {count}");
+    write!(said, ", sizes {cells} {elements} {slots}")
 }
 
 // Tells the header that stands behind the gate of an area's place.
-fn tell_header(disk: &mut Blind, call: &Call, said: &mut Saying) {
+fn tell_header(disk: &mut StoryDisk, area: u8, said: &mut Saying) {
     let mut bytes = [0; 64];
-    let Some(area) = area(call.number(0)) else {
-        return said.fail("there is no such area");
-    };
-    said.so(disk.read(header_at(area), &mut bytes).is_ok(), "");
+    said.so(disk.read(PAGE * area as usize, &mut bytes).is_ok(), "");
     match Header::read(&bytes, area) {
-        Some(header) => add_header(said, Ok(header)),
+        Some(header) => add_header(said, header),
         None => said.text("none"),
     }
 }
 
-// Reads a header: an area, a generation, a count and sizes.
-fn header(call: &Call) -> Option<Header> {
-    Some(Header {
+// Spells a header in its place: an area, a generation, a count and sizes.
+fn put_header(disk: &mut StoryDisk, area: u8, call: &Phrase, said: &mut Saying) {
+    let Some(limits) = call.limits(3) else {
+        return said.fail("there are no such sizes");
+    };
+    let header = Header {
         version: VERSION,
-        area: area(call.number(0))?,
+        area,
         generation: call.number(1),
         count: call.number(2),
-        limits: call.limits(3)?,
+        limits,
+    };
+    add_passed(said, disk.write_at(PAGE * area as usize, &header.spell()))
+}
+
+// Reports an image, or what it means to one who opens it.
+fn report(disk: &mut StoryDisk, call: &Phrase) -> Result<Report, Refusal> {
+    if call.form() == "inspect" {
+        return inspect(call.alloc(), disk);
+    }
+    let image = read_image(call.alloc(), disk, Versions::InUse)?;
+    Ok(Report {
+        header: image.header,
+        run: image.journal.count().saturating_sub(image.header.count),
+        room: image.journal.room(),
+        memory: image.memory,
     })
 }
 
-// Spells a header in its place.
-fn put_header(disk: &mut Blind, call: &Call, said: &mut Saying) {
-    match header(call) {
-        Some(header) => {
-            let is_put = disk
-                .write_at(header_at(header.area), &header.spell())
-                .is_ok();
-            said.so(is_put, "ok")
-        }
-        None => said.fail("there is no such header"),
-    }
+// Tells what an image means. From then on the story is about its memory.
+fn tell_meaning(report: Report, memory: &mut Option<Memory>, said: &mut Saying) {
+    let (generation, count) = (report.header.generation, report.header.count);
+    write!(said, "generation {generation}, count {count}");
+    write!(said, ", run {}, room {}", report.run, report.room);
+    *memory = Some(report.memory);
 }
 
-// Adds what an image means: its header, its run and its room.
-fn add_meaning(said: &mut Saying, header: &Header, run: u64, room: u32) {
-    let (generation, count) = (header.generation, header.count);
-    write!(
-        said,
-        "generation {generation}, count {count}, run {run}, room {room}"
-    )
-}
-
-// Tells what the image means, or what it means to one who opens it.
-fn meant(disk: &mut Blind, call: &Call, said: &mut Saying) -> Result<Memory, Refusal> {
-    if call.form() == "inspect" {
-        let report = inspect(call.alloc(), disk)?;
-        add_meaning(said, &report.header, report.run, report.room);
-        return Ok(report.memory);
-    }
-    let image = read_image(call.alloc(), disk, Versions::InUse)?;
-    let run = image.journal.count().saturating_sub(image.header.count);
-    add_meaning(said, &image.header, run, image.journal.room());
-    Ok(image.memory)
-}
-
-// Does the same. From then on the story is about the image's memory.
-fn tell_meaning(here: &mut ImageDesk, call: &Call, said: &mut Saying) {
-    let Some(disk) = &mut here.disk else {
-        return said.fail("there is no disk");
-    };
-    match meant(disk, call, said) {
-        Ok(memory) => here.memory = Some(memory),
-        Err(refusal) => said.refusal(refusal),
-    }
-}
-
-/// Returns the pages of a memory, written over other bytes. There are none if the memory has other sizes.
-pub fn area_of(alloc: Global, memory: &Memory, limits: Limits) -> Option<Vec<u8>> {
-    let mut area = vec![in alloc; 0xEE; PAGE * area_pages(limits)].ok()?;
-    if memory.cells() != limits.cells || memory.elements() != limits.elements {
-        return None;
-    }
-    encode(memory, limits, &mut area);
-    Some(area)
-}
-
-fn put_pages(here: &mut ImageDesk, call: &Call, said: &mut Saying) {
+// Puts the pages of the memory into an area.
+fn put_pages(here: &mut ImageDesk, call: &Phrase, said: &mut Saying) {
     let (Some(disk), Some(memory), Some(limits)) = (&mut here.disk, &here.memory, here.limits)
     else {
         return said.fail("there is no disk or no memory");
     };
-    let Some(pages) = area_of(call.alloc(), memory, limits) else {
-        return said.fail("a memory of other sizes");
-    };
-    let number = call.place(0);
-    if number > 1 {
-        return said.fail("there is no such area");
+    let (area, pages) = (call.place(0), area_of(call.alloc(), memory, limits));
+    match pages {
+        Some(pages) if area < 2 => {
+            add_passed(said, disk.write_at(area_at(limits, area), &pages))
+        }
+        _ => said.fail("a memory of other sizes, or no such area"),
     }
-    said.either(
-        disk.write_at(area_at(limits, number), &pages).is_ok(),
-        "ok",
-        "fault",
-    )
+}
+
+// Tells that an image is told, or why it is refused.
+fn look(disk: &mut StoryDisk, said: &mut Saying) {
+    match inspect(said.alloc(), disk) {
+        Ok(_) => said.text("told"),
+        Err(refusal) => write!(said, "{refusal}"),
+    }
+}
+
+// Tells that for each value of a byte.
+fn tell_values(disk: &mut StoryDisk, at: usize, said: &mut Saying) {
+    let mut old = [0];
+    said.so(disk.read(at, &mut old).is_ok(), "");
+    said.each(0..=255, |value, one| {
+        one.so(disk.write_at(at, &[(value & 0xff) as u8]).is_ok(), "");
+        look(disk, one)
+    });
+    said.so(disk.write_at(at, &old).is_ok(), "")
+}
+
+// Tells that for an image of each length.
+fn tell_lengths(here: &mut ImageDesk, upto: u64, said: &mut Saying) {
+    let Some(disk) = here.take() else {
+        return said.fail("there is no disk");
+    };
+    said.each(0..=upto, |length, one| {
+        let cut = disk_of(one.alloc(), disk.bytes(), length as usize);
+        one.result(cut, |cut, one| look(&mut StoryDisk::steady(cut), one))
+    });
+    here.disk = Some(StoryDisk::steady(disk));
 }
 
 /// Makes a call on the image. Returns whether it is one.
-pub fn tell(here: &mut ImageDesk, call: &Call, said: &mut Saying) -> bool {
+pub fn tell(here: &mut ImageDesk, call: &Phrase, said: &mut Saying) -> bool {
+    let area = u8::try_from(call.number(0)).unwrap_or(u8::MAX);
     match (call.form(), &mut here.disk) {
-        ("layout _ _ _" | "image _ _ _", _) => tell_sizes(here, call, Version::Two, said),
-        ("old layout _ _ _" | "old image _ _ _", _) => tell_sizes(here, call, Version::One, said),
-        ("cut _", _) => cut(here, call, said),
+        ("cut _", _) => said.given(here.take(), "there is no disk", |old, said| {
+            here.lay(call.alloc(), old.bytes(), call.place(0), said)
+        }),
         ("encode _", _) => put_pages(here, call, said),
-        ("inspect" | "to open", _) => tell_meaning(here, call, said),
-        ("in force", Some(disk)) => add_header(said, read_header(disk, Versions::Any)),
-        ("header at _", Some(disk)) => tell_header(disk, call, said),
-        ("header _ _ _ _ _ _", Some(disk)) => put_header(disk, call, said),
+        ("lengths to _", _) => tell_lengths(here, call.number(0), said),
+        ("inspect" | "to open", Some(disk)) => said.result(report(disk, call), |report, said| {
+            tell_meaning(report, &mut here.memory, said)
+        }),
+        ("in force", Some(disk)) => said.result(read_header(disk, Versions::Any), |header, said| {
+            add_header(said, header)
+        }),
+        ("header at _", Some(disk)) => tell_header(disk, area, said),
+        ("header _ _ _ _ _ _", Some(disk)) => put_header(disk, area, call, said),
+        ("values _", Some(disk)) => tell_values(disk, call.place(0), said),
+        ("values _ to _", Some(disk)) => said.alike(call.number(0)..=call.number(1), |at, one| {
+            tell_values(disk, at as usize, one)
+        }),
         _ => return false,
     }
     true

@@ -6,23 +6,21 @@ mod blind;
 mod checkpoints;
 mod desk;
 mod disks;
-mod faults;
 mod files;
 mod images;
 mod journals;
 mod memories;
-mod walks;
 
 use crate::desk::ImageDesk;
-use crate::files::Files;
-use im_story::{Call, Saying, Scene, crash, tell_line, walk_files};
+use crate::files::OpenFile;
+use im_story::{Phrase, Saying, Subject, tell_line, walk_files};
 use std::process::ExitCode;
 
-// A disk in memory with what was made of it, files of the folder in which the program runs, and the calls so far.
+// A disk in memory with what was made of it, a file of the folder in which the program runs, and the calls so far.
 #[derive(Drop)]
 struct ImageScene<'r> {
     rt: &'r HostRuntime,
-    files: Files,
+    file: Option<OpenFile>,
     desk: ImageDesk,
     told: Saying,
 }
@@ -31,38 +29,35 @@ impl<'r> ImageScene<'r> {
     fn new(rt: &'r HostRuntime) -> ImageScene<'r> {
         ImageScene {
             rt,
-            files: Files::new(),
-            desk: ImageDesk::new(),
+            file: None,
+            desk: ImageDesk::default(),
             told: Saying::new(rt.alloc()),
         }
     }
 
     // Makes the same calls on another disk, and this call after a crash of it: `if KIND CALL`.
-    fn tell_after(&self, call: &Call, said: &mut Saying) {
-        let mut desk = ImageDesk::new();
+    fn tell_after(&self, call: &Phrase, said: &mut Saying) {
+        let alloc = call.alloc();
+        let (mut desk, mut crashed) = (ImageDesk::default(), Saying::new(alloc));
         for line in self.told.said().lines() {
-            tell_line(
-                call.alloc(),
-                line,
-                &mut desk,
-                &mut Saying::new(call.alloc()),
-            );
+            tell_line(line, &mut desk, &mut Saying::new(alloc));
         }
-        said.so(desk.crash(crash(call.word(1))) && !self.told.is_wrong(), "");
-        desk.make(&Call::of(call.alloc(), call.rest(2)), said)
+        desk.make(&Phrase::of(alloc, &["crash", call.word(1)]), &mut crashed);
+        said.so(!crashed.is_wrong() && !self.told.is_wrong(), "");
+        desk.make(&Phrase::of(alloc, call.rest(2)), said)
     }
 }
 
-impl<'r> Scene for ImageScene<'r> {
+impl<'r> Subject for ImageScene<'r> {
     fn begin(&mut self) {
         *self = ImageScene::new(self.rt);
     }
 
-    fn make(&mut self, call: &Call, said: &mut Saying) {
+    fn make(&mut self, call: &Phrase, said: &mut Saying) {
         if call.word(0) == "if" {
             return self.tell_after(call, said);
         }
-        if !files::tell(self.rt, &mut self.files, call, said) {
+        if !files::tell(self, call, said) {
             self.told.words(call.words());
             self.told.text("\n");
             self.desk.make(call, said)

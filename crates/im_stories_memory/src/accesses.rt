@@ -7,7 +7,7 @@ use im_arena::Arena;
 use im_cell::CellTable;
 use im_istore::{fetch, look, next_reader, store, store_and_drain};
 use im_mstore::{put, take};
-use im_story::{Call, Saying};
+use im_story::{Phrase, Saying};
 use im_types::{Cell, Entry, Kind, Refusal, Reply, Waiter};
 use std::alloc::Global;
 use std::marker::Model;
@@ -15,7 +15,6 @@ use std::marker::Model;
 /// A table and the lists of its cells. A cell waits exactly if somebody is on its list.
 #[derive(Drop)]
 pub struct Accesses {
-    alloc: Global,
     table: CellTable,
     arena: Arena,
 }
@@ -78,16 +77,7 @@ impl Accesses {
     /// Makes the given numbers of free cells and of free nodes for waiters.
     pub fn new(alloc: Global, cells: u32, nodes: u32) -> Result<Accesses, Refusal> {
         let (table, arena) = pair(alloc, cells, nodes)?;
-        Ok(Accesses {
-            alloc,
-            table,
-            arena,
-        })
-    }
-
-    /// Returns the allocator of both.
-    pub fn alloc(&self) -> Global {
-        self.alloc
+        Ok(Accesses { table, arena })
     }
 
     /// Makes a block. Returns `None` if there is no room for it, or it has no cell.
@@ -137,12 +127,10 @@ impl Accesses {
         }
         let reply = store(&mut self.table, &self.arena, a, value);
         said.reply(reply);
-        match reply {
-            Reply::Stored => {
-                let next = resume(&mut self.arena, a, said);
-                add_next(said, next)
-            }
-            _ => {}
+        if reply == Reply::Stored {
+            let next = resume(&mut self.arena, a, said);
+            said.text(", then ");
+            said.waiter(next)
         }
     }
 
@@ -153,90 +141,67 @@ impl Accesses {
 
     /// Returns how many wait for a cell, or `None` past the last one.
     pub fn waiting(&self, a: u32) -> Option<u32> {
-        if a >= self.arena.list_count() {
-            return None;
+        if a < self.arena.list_count() {
+            Some(self.arena.len(a))
+        } else {
+            None
         }
-        Some(self.arena.len(a))
-    }
-}
-
-// Adds who comes after the last reader.
-fn add_next(said: &mut Saying, next: Option<Waiter>) {
-    said.text(", then ");
-    said.waiter(next)
-}
-
-// Adds the result of a read.
-fn add_read(said: &mut Saying, entry: Option<Entry>) {
-    match entry {
-        Some(entry) => said.entry(entry),
-        None => said.fail("no node is free"),
     }
 }
 
 // Adds the result of a write, and the waiters that it answers, in order.
 fn add_written(said: &mut Saying, reply: Reply, resumed: &[Waiter]) {
     said.reply(reply);
-    let mut before = " for ";
-    for who in resumed {
-        said.text(before);
-        said.name(who.element, who.number);
-        before = " ";
+    for (at, who) in resumed.iter().enumerate() {
+        said.either(at == 0, " for ", " ");
+        said.waiter(Some(*who));
     }
 }
 
-fn add_put(said: &mut Saying, answer: (Reply, Option<Waiter>)) {
-    match answer.1 {
-        Some(taker) => add_written(said, answer.0, &[taker]),
-        None => said.reply(answer.0),
-    }
-}
-
-fn add_drained(said: &mut Saying, answer: Option<(Reply, Vec<Waiter>)>) {
-    match answer {
-        Some((reply, readers)) => add_written(said, reply, readers.as_slice()),
-        None => said.fail("no such cell"),
-    }
-}
-
-fn add_looked(said: &mut Saying, looked: Result<Cell, Reply>) {
-    match looked {
-        Ok(cell) => said.cell(cell),
-        Err(reply) => said.reply(reply),
+// Returns the kind of a call: its last word, or that of what it reads.
+fn kind_of(word: &str) -> Kind {
+    match word {
+        "take" | "m" => Kind::M,
+        _ => Kind::I,
     }
 }
 
 /// Makes an access.
-pub fn tell(accesses: &mut Accesses, call: &Call, said: &mut Saying) {
-    let (a, value) = (call.address(0), call.number(1));
+pub fn tell(accesses: &mut Accesses, call: &Phrase, said: &mut Saying) {
+    let (a, value, kind) = (call.address(0), call.number(1), kind_of(call.word(1)));
     match call.form() {
-        "_._ fetch _" => add_read(
-            said,
-            accesses.read(Kind::I, call.address(2), call.waiter(0)),
-        ),
-        "_._ take _" => add_read(
-            said,
-            accesses.read(Kind::M, call.address(2), call.waiter(0)),
-        ),
+        "_._ fetch _" | "_._ take _" => {
+            let read = accesses.read(kind, call.address(2), call.waiter(0));
+            said.given(read, "no node is free", |entry, said| said.entry(entry))
+        }
         "store _ _" => accesses.store_first(a, value, said),
-        "store _ _ drained" => add_drained(said, accesses.store(call.alloc(), a, value)),
-        "put _ _" => add_put(said, accesses.put(a, value)),
-        "place i _" => said.number_or_none(accesses.place(Kind::I, a)),
-        "place m _" => said.number_or_none(accesses.place(Kind::M, a)),
+        "store _ _ drained" => {
+            let stored = accesses.store(call.alloc(), a, value);
+            said.given(stored, "no such cell", |(reply, readers), said| {
+                add_written(said, reply, readers.as_slice())
+            })
+        }
+        "put _ _" => {
+            let (reply, taker) = accesses.put(a, value);
+            add_written(said, reply, taker.as_slice())
+        }
+        "place i _" | "place m _" => said.number_or_none(accesses.place(kind, a)),
         _ => tell_state(accesses, call, said),
     }
 }
 
 // Tells what the cells and the lists show.
-fn tell_state(accesses: &Accesses, call: &Call, said: &mut Saying) {
+fn tell_state(accesses: &Accesses, call: &Phrase, said: &mut Saying) {
     let (table, arena, a) = (&accesses.table, &accesses.arena, call.address(0));
     match call.form() {
         "cell _" => said.place(table.get(a), table.block_of(a)),
-        "look _ i" => add_looked(said, look(table, a, Kind::I)),
-        "look _ m" => add_looked(said, look(table, a, Kind::M)),
+        "look _ i" | "look _ m" => match look(table, a, kind_of(call.word(2))) {
+            Ok(cell) => said.cell(cell),
+            Err(reply) => said.reply(reply),
+        },
         "waiting _" => said.number_or_none(accesses.waiting(a)),
-        "free" => said.number(u64::from(arena.free_count())),
-        "lists" => said.number(u64::from(arena.list_count())),
+        "free" => said.number(arena.free_count()),
+        "lists" => said.number(arena.list_count()),
         _ => said.fail("no access"),
     }
 }

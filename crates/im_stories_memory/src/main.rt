@@ -7,10 +7,6 @@ mod cells;
 mod lists;
 mod memories;
 mod memory_walks;
-mod nodes;
-mod plain_cells;
-mod plain_lists;
-mod plain_slots;
 mod plain_windows;
 mod random_walks;
 mod windows;
@@ -18,48 +14,44 @@ mod windows;
 use accesses::Accesses;
 use im_arena::Arena;
 use im_cell::{CellTable, Slot};
-use im_story::{Call, Dice, Saying, Scene, Steps, walk_files};
-use im_types::Waiter;
+use im_story::{Dice, Phrase, Saying, Subject, walk_files};
+use lists::Queue;
 use memories::Memories;
-use plain_cells::PlainCell;
-use std::alloc::Global;
-use std::collections::VecDeque;
+use random_walks::PlainCell;
 use std::process::ExitCode;
 use windows::Windows;
 
-// What a story is about, and what a walk keeps plainly beside it. Its first line makes it. A table may have an
-// allocator, from which a walk restores it now and then.
+// What a story is about, and what a walk keeps plainly beside it. Its first line makes it. A walk may restore a table
+// at each fourth step.
 #[derive(Drop)]
 enum Layer {
     Nothing,
-    Lists(Arena, Vec<VecDeque<Waiter>>),
-    Cells(CellTable, Vec<Option<Slot>>, Option<Global>),
+    Lists(Arena, Vec<Queue>),
+    Cells(CellTable, Vec<Option<Slot>>, bool),
     Accesses(Accesses, Vec<PlainCell>),
     Windows(Windows),
     Memories(Memories),
 }
 
-// Makes a table, and as many plain slots.
-fn table(alloc: Global, cells: u32, restoring: Option<Global>) -> Option<Layer> {
-    let slots = vec![in alloc; None; cells as usize].ok()?;
-    Some(Layer::Cells(CellTable::new(alloc, cells).ok()?, slots, restoring))
-}
-
 // Makes what a story is about, with the sizes that the call names.
-fn made(call: &Call) -> Option<Layer> {
+fn made(call: &Phrase) -> Option<Layer> {
     let (alloc, first, second) = (call.alloc(), call.address(0), call.address(1));
+    let restores = call.form().ends_with(" restored");
     match call.form() {
         "arena _ nodes _ lists" => {
-            let queues = plain_lists::queues(alloc, second)?;
+            let queues = lists::queues(alloc, second)?;
             Some(Layer::Lists(Arena::new(alloc, first, second).ok()?, queues))
         }
-        "table _ cells" => table(alloc, first, None),
-        "table _ cells restored" => table(alloc, first, Some(alloc)),
+        "table _ cells" | "table _ cells restored" => {
+            let slots = vec![in alloc; None; first as usize].ok()?;
+            Some(Layer::Cells(CellTable::new(alloc, first).ok()?, slots, restores))
+        }
         "accesses _ cells _ nodes" => {
             Some(Layer::Accesses(Accesses::new(alloc, first, second).ok()?, Vec::new(alloc)))
         }
-        "windows _" => Some(Layer::Windows(Windows::new(alloc, call.element(0), false)?)),
-        "windows _ restored" => Some(Layer::Windows(Windows::new(alloc, call.element(0), true)?)),
+        "windows _" | "windows _ restored" => {
+            Some(Layer::Windows(Windows::new(alloc, call.element(0), restores)?))
+        }
         "memory _ cells _ elements" => {
             Some(Layer::Memories(Memories::new(alloc, first, call.element(1))?))
         }
@@ -67,33 +59,32 @@ fn made(call: &Call) -> Option<Layer> {
     }
 }
 
-impl Steps for Layer {
-    fn step(&mut self, number: u64, dice: &mut Dice) -> bool {
-        match self {
-            Layer::Nothing => false,
-            Layer::Lists(arena, plain) => {
-                plain_lists::step(arena, plain.as_mut_slice(), number, dice)
-            }
-            Layer::Cells(table, plain, alloc) => {
-                plain_slots::step(table, plain.as_mut_slice(), *alloc, number, dice)
-            }
-            Layer::Accesses(accesses, plain) => random_walks::step(accesses, plain, number, dice),
-            Layer::Windows(windows) => windows.step(dice),
-            Layer::Memories(memories) => memory_walks::step(memories, dice),
+// Makes a thrown step of this number. Returns whether all is then as it is kept plainly.
+fn step(layer: &mut Layer, call: &Phrase, number: u64, dice: &mut Dice) -> bool {
+    match layer {
+        Layer::Nothing => false,
+        Layer::Lists(arena, plain) => lists::step(arena, plain.as_mut_slice(), number, dice),
+        Layer::Cells(table, plain, restores) => {
+            let restores = *restores && number % 4 == 0;
+            cells::step(table, plain.as_mut_slice(), dice.throw())
+                && (!restores || cells::restore_beside(call.alloc(), table, plain.as_slice()))
         }
+        Layer::Accesses(accesses, plain) => random_walks::step(accesses, plain, dice.throw()),
+        Layer::Windows(windows) => plain_windows::step(windows, dice),
+        Layer::Memories(memories) => memory_walks::step(memories, dice),
     }
 }
 
-impl Scene for Layer {
+impl Subject for Layer {
     fn begin(&mut self) {
         *self = Layer::Nothing;
     }
 
-    fn make(&mut self, call: &Call, said: &mut Saying) {
-        if let "walk _ from _" = call.form() {
-            return call.walk(self, said);
-        }
+    fn make(&mut self, call: &Phrase, said: &mut Saying) {
         match self {
+            _ if call.form() == "walk _ from _" => {
+                call.walk(said, |number, dice| step(self, call, number, dice))
+            }
             Layer::Nothing => match made(call) {
                 Some(layer) => {
                     *self = layer;

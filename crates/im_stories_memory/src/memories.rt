@@ -1,10 +1,11 @@
 //! The fast memory and the plain one, side by side. Each call is made on both, and both have to answer the same.
 
-use crate::nodes::{add_cell_record, add_nodes, listed};
 use im_memory::Memory;
 use im_plain::PlainMemory;
-use im_story::{Call, Saying, asked, command};
-use im_types::{Command, Entry, Limits, Op, Outcome, Refusal};
+use im_story::{Phrase, Saying, asked, command};
+use im_types::{
+    Cell, CellRecord, Command, Entry, Limits, NONE, NodeRecord, Op, Outcome, PresenceTag, Refusal,
+};
 use std::alloc::Global;
 
 /// The two memories, and how many commands they accepted.
@@ -37,60 +38,87 @@ impl Memories {
         if judged != self.plain.judge(command) {
             return None;
         }
-        if judged == Ok(true) {
-            self.accepted = self.accepted.saturating_add(1);
-        }
+        self.accepted = self.accepted.saturating_add(u32::from(judged == Ok(true)));
         let answer = self.fast.step(command);
-        if answer == self.plain.step(command) {
-            Some(answer)
-        } else {
-            None
-        }
+        (answer == self.plain.step(command)).then_some(answer)
+    }
+
+    /// Returns whether the same requests wait at a cell, in the same order.
+    pub fn has_same_waiters(&self, a: u32) -> bool {
+        let count = self
+            .fast
+            .waiters(a)
+            .fold(0usize, |count, _| count.saturating_add(1));
+        (0..=count).all(|place| self.fast.waiter(a, place) == self.plain.waiter(a, place))
     }
 }
 
 // Adds all waiters of a cell, in order. Returns whether they are those of the plain memory.
 fn add_waiting(said: &mut Saying, memories: &Memories, a: u32) -> bool {
-    for place in 0..4_097usize {
-        let waiter = memories.fast.waiter(a, place);
-        if waiter != memories.plain.waiter(a, place) {
-            return false;
-        }
-        if waiter.is_none() {
-            return true;
-        }
-        said.text(" ");
-        said.waiter(waiter);
+    for waiter in memories.fast.waiters(a) {
+        said.who(waiter);
     }
-    true
+    memories.has_same_waiters(a)
 }
 
 // Fetches a cell under the numbers from one to another. Returns how many fetches are accepted and wait.
-fn fetches(memories: &mut Memories, call: &Call) -> u32 {
+fn fetches(memories: &mut Memories, call: &Phrase) -> u32 {
     let mut wait = 0u32;
     for number in call.number(1)..call.number(2).saturating_add(1) {
         let before = memories.accepted;
         let fetch = asked(call.element(0), number, Op::Fetch(call.address(3)));
         let answer = memories.step(&Command::Request(fetch));
-        if answer == Some(Ok(Outcome::Entry(Entry::Waiting))) && memories.accepted > before {
-            wait = wait.saturating_add(1);
-        }
+        let waits = answer == Some(Ok(Outcome::Entry(Entry::Waiting)));
+        wait = wait.saturating_add(u32::from(waits && memories.accepted > before));
     }
     wait
 }
 
-fn tell_command(memories: &mut Memories, call: &Call, said: &mut Saying) {
-    let Some(command) = command(call.words()) else {
-        return said.fail("no command");
-    };
-    match memories.step(&command) {
-        Some(answer) => said.outcome(answer),
-        None => said.fail("the two memories differ"),
+// Adds the record of a cell. If somebody waits, it doesn't add which nodes are in the cell's list.
+fn add_cell_record(said: &mut Saying, record: CellRecord) {
+    match record {
+        CellRecord::Held {
+            block,
+            tag: PresenceTag::Waiting { .. },
+        } => said.place(Some(Cell::Waiting), Some(block)),
+        record => said.cell_record(record),
     }
 }
 
+// Adds the waiters in the nodes of a cell's list, from the first on. The last node has to be the one that the cell's
+// record names, and to lead to none.
+fn add_nodes(said: &mut Saying, memory: &Memory, record: CellRecord) {
+    let CellRecord::Held {
+        tag: PresenceTag::Waiting { first, last },
+        ..
+    } = record
+    else {
+        return said.fail("nobody waits");
+    };
+    let (mut at, mut before) = (first, NONE);
+    for _ in 0..4_097u32 {
+        let NodeRecord::Listed { next, waiter } = memory.records().node_record(at) else {
+            break;
+        };
+        said.who(waiter);
+        before = at;
+        at = next;
+    }
+    if at != NONE || before != last {
+        said.fail("the last node is another one")
+    }
+}
+
+// Returns how many of the first nodes are in a list.
+fn listed(memory: &Memory, nodes: u32) -> usize {
+    let records = memory.records();
+    (0..nodes)
+        .filter(|n| matches!(records.node_record(*n), NodeRecord::Listed { .. }))
+        .count()
+}
+
 // Tells what the fast memory answers. Returns whether the plain one answers the same, if both are asked.
-fn tell_same(memories: &Memories, call: &Call, said: &mut Saying) -> Option<bool> {
+fn tell_same(memories: &Memories, call: &Phrase, said: &mut Saying) -> Option<bool> {
     let (fast, plain) = (&memories.fast, &memories.plain);
     let (of, number, a) = (call.element(0), call.number(1), call.address(0));
     let is_same = match call.form() {
@@ -116,11 +144,11 @@ fn tell_same(memories: &Memories, call: &Call, said: &mut Saying) -> Option<bool
             fast.waiter(a, call.place(1)) == plain.waiter(a, call.place(1))
         }
         "cells" => {
-            said.number(u64::from(fast.cells()));
+            said.number(fast.cells());
             fast.cells() == plain.cells()
         }
         "elements" => {
-            said.number(u64::from(fast.elements()));
+            said.number(fast.elements());
             fast.elements() == plain.elements()
         }
         _ => return None,
@@ -128,24 +156,28 @@ fn tell_same(memories: &Memories, call: &Call, said: &mut Saying) -> Option<bool
     Some(is_same)
 }
 
-/// Makes a call of both memories.
-pub fn tell(memories: &mut Memories, call: &Call, said: &mut Saying) {
-    match tell_same(memories, call, said) {
-        Some(true) => {}
-        Some(false) => said.fail("the two memories differ"),
-        None => tell_other(memories, call, said),
+// Makes a call that is a command, or makes many, or shows records.
+fn tell_other(memories: &mut Memories, call: &Phrase, said: &mut Saying) {
+    let (a, fast) = (call.address(0), &memories.fast);
+    match call.form() {
+        "accepted" => said.number(memories.accepted),
+        "_._ to _ fetch _" => write!(said, "{} wait", fetches(memories, call)),
+        "record _" => add_cell_record(said, fast.records().cell_record(a)),
+        "node _" => said.node_record(fast.records().node_record(a)),
+        "nodes _" => add_nodes(said, fast, fast.records().cell_record(a)),
+        "listed _" => said.number(listed(fast, a)),
+        _ => said.given(command(call.words()), "no command", |command, said| {
+            let answer = memories.step(&command);
+            said.given(answer, "they differ", |it, said| said.outcome(it))
+        }),
     }
 }
 
-// Makes a call that is a command, or makes many, or shows records.
-fn tell_other(memories: &mut Memories, call: &Call, said: &mut Saying) {
-    match call.form() {
-        "accepted" => said.number(u64::from(memories.accepted)),
-        "_._ to _ fetch _" => write!(said, "{} wait", fetches(memories, call)),
-        "record _" => add_cell_record(said, &memories.fast, call.address(0)),
-        "node _" => said.node_record(memories.fast.records().node_record(call.address(0))),
-        "nodes _" => add_nodes(said, &memories.fast, call.address(0)),
-        "listed _" => said.number(u64::from(listed(&memories.fast, call.address(0)))),
-        _ => tell_command(memories, call, said),
+/// Makes a call of both memories.
+pub fn tell(memories: &mut Memories, call: &Phrase, said: &mut Saying) {
+    match tell_same(memories, call, said) {
+        Some(true) => {}
+        Some(false) => said.fail("they differ"),
+        None => tell_other(memories, call, said),
     }
 }

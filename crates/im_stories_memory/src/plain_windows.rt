@@ -1,9 +1,9 @@
-//! The steps of a random walk over windows, beside windows that are kept plainly.
+//! A random walk over windows, beside windows that are kept plainly.
 
-use crate::windows::{answer, ask, restore};
+use crate::windows::{Windows, answer, ask, restore};
 use im_sessions::Sessions;
 use im_story::{Dice, asked};
-use im_types::{Entry, Judged, Kept, Kind, Op, Refusal, Reply, WINDOW, Waiter};
+use im_types::{Entry, Judged, Kept, Op, Refusal, Reply, WINDOW, Waiter};
 use std::alloc::Global;
 
 /// A window, kept plainly: all entries from number 1 on, those that are forgotten too.
@@ -24,10 +24,8 @@ impl PlainWindow {
     }
 
     fn kept(&self, number: u64) -> Option<Kept> {
-        if number < self.base {
-            return None;
-        }
-        self.all.get(place_of(number)).copied()
+        let kept = self.all.get(place_of(number)).copied();
+        kept.filter(|_| number >= self.base)
     }
 
     fn judge(&self, number: u64, op: Op) -> Result<Judged, Refusal> {
@@ -51,10 +49,8 @@ impl PlainWindow {
 
     fn answer(&mut self, number: u64, reply: Reply) -> bool {
         let waits = self.entry(number) == Ok(Entry::Waiting);
-        if let Some(kept) = self.all.get_mut(place_of(number)) {
-            if waits {
-                kept.entry = Entry::Answered(reply);
-            }
+        if let (true, Some(kept)) = (waits, self.all.get_mut(place_of(number))) {
+            kept.entry = Entry::Answered(reply);
         }
         waits
     }
@@ -63,24 +59,60 @@ impl PlainWindow {
         if upto > self.next() {
             return Err(Refusal::Gap);
         }
-        for number in self.base..upto {
-            if self.entry(number) == Ok(Entry::Waiting) {
-                return Err(Refusal::NotAnswered);
-            }
+        if (self.base..upto).any(|number| self.entry(number) == Ok(Entry::Waiting)) {
+            return Err(Refusal::NotAnswered);
         }
         self.base = self.base.max(upto);
         Ok(())
     }
-}
 
-fn any_op(dice: &mut Dice) -> Op {
-    match dice.below(6) {
-        0 => Op::Alloc(Kind::I, 1),
-        1 => Op::Alloc(Kind::M, 1),
-        2 => Op::Fetch(0),
-        3 => Op::Take(0),
-        4 => Op::Store(0, 1),
-        _ => Op::Store(0, 2),
+    // Returns a number in or near the window.
+    fn any_number(&self, dice: &mut Dice) -> u64 {
+        match dice.below(3) {
+            0 => self.next(),
+            1 => self.base.saturating_add(dice.below(3) as u64),
+            _ => self
+                .base
+                .saturating_sub(2)
+                .saturating_add(dice.below(70) as u64),
+        }
+    }
+
+    // Makes a thrown request on this window and on the sessions, most often a new one or a repeat. Returns whether they
+    // agree.
+    fn ask(&mut self, sessions: &mut Sessions, who: Waiter, dice: &mut Dice) -> bool {
+        let op = match self.kept(who.number) {
+            Some(kept) if dice.below(2) == 0 => kept.op,
+            _ => dice.operation(1),
+        };
+        let entry = any_entry(dice);
+        let judged = self.judge(who.number, op);
+        if judged == Ok(Judged::Fresh) && self.all.push(Kept { op, entry }).is_err() {
+            return false;
+        }
+        ask(sessions, &asked(who.element, who.number, op), entry) == judged
+    }
+
+    // Makes one thrown call on this window and on the sessions, where it is that of an element. Returns whether they
+    // agree on it, and then show the same.
+    fn call(&mut self, sessions: &mut Sessions, element: u16, dice: &mut Dice) -> bool {
+        let number = self.any_number(dice);
+        let who = Waiter { element, number };
+        let agrees = match dice.below(8) {
+            0 => {
+                let upto = self.base.saturating_add(dice.below(6) as u64);
+                sessions.confirm(element, upto) == self.confirm(upto)
+            }
+            1 | 2 | 3 => {
+                let reply = Reply::Value(dice.below(100) as u64);
+                answer(sessions, who, reply) == self.answer(number, reply)
+            }
+            _ => self.ask(sessions, who, dice),
+        };
+        agrees
+            && sessions.entry(element, number) == self.entry(number)
+            && sessions.kept(element, number) == self.kept(number)
+            && sessions.window(element) == Ok((self.base, self.next()))
     }
 }
 
@@ -92,106 +124,33 @@ fn any_entry(dice: &mut Dice) -> Entry {
     }
 }
 
-// Returns a number in or near the plain window.
-fn any_number(dice: &mut Dice, plain: &PlainWindow) -> u64 {
-    match dice.below(3) {
-        0 => plain.next(),
-        1 => plain.base.saturating_add(dice.below(3) as u64),
-        _ => plain
-            .base
-            .saturating_add(dice.below(70) as u64)
-            .saturating_sub(2),
-    }
-}
-
-// Makes a thrown request on the sessions and on the plain window, most often a new one or a repeat. Returns whether
-// they agree.
-fn ask_both(
-    sessions: &mut Sessions,
-    plain: &mut PlainWindow,
-    who: Waiter,
-    dice: &mut Dice,
-) -> bool {
-    let op = match plain.kept(who.number) {
-        Some(kept) if dice.below(2) == 0 => kept.op,
-        _ => any_op(dice),
-    };
-    let entry = any_entry(dice);
-    let judged = plain.judge(who.number, op);
-    if judged == Ok(Judged::Fresh) && plain.all.push(Kept { op, entry }).is_err() {
-        return false;
-    }
-    ask(sessions, &asked(who.element, who.number, op), entry) == judged
-}
-
-// Makes one thrown call on the sessions and on the plain window of the same element. Returns whether they agree on it,
-// and then show the same.
-fn call_both(
-    sessions: &mut Sessions,
-    plain: &mut PlainWindow,
-    element: u16,
-    dice: &mut Dice,
-) -> bool {
-    let number = any_number(dice, plain);
-    let who = Waiter { element, number };
-    let agrees = match dice.below(8) {
-        0 => {
-            let upto = plain.base.saturating_add(dice.below(6) as u64);
-            sessions.confirm(element, upto) == plain.confirm(upto)
-        }
-        1 | 2 | 3 => {
-            let reply = Reply::Value(dice.below(100) as u64);
-            answer(sessions, who, reply) == plain.answer(number, reply)
-        }
-        _ => ask_both(sessions, plain, who, dice),
-    };
-    agrees
-        && sessions.entry(element, number) == plain.entry(number)
-        && sessions.kept(element, number) == plain.kept(number)
-        && sessions.window(element) == Ok((plain.base, plain.next()))
-}
-
 // Restores each window from the plain one. Returns whether all of them are within their bounds.
 fn restore_all(sessions: &mut Sessions, plain: &[PlainWindow]) -> bool {
-    let mut element = 0u16;
-    for window in plain {
-        let is_made = match window.all.as_slice().get(place_of(window.base)..) {
-            Some(kept) => restore(sessions, element, window.base, kept),
-            None => false,
-        };
-        if !is_made {
-            return false;
-        }
-        element = element.saturating_add(1);
-    }
-    true
-}
-
-/// Makes a thrown call on one of three windows, and restores them after one in ten if that is asked for. Returns
-/// whether they are as the plain ones are.
-pub fn step(
-    sessions: &mut Sessions,
-    plain: &mut [PlainWindow],
-    restores: bool,
-    dice: &mut Dice,
-) -> bool {
-    let element = dice.below(3);
-    let agrees = match plain.get_mut(element as usize) {
-        Some(window) => call_both(sessions, window, element as u16, dice),
-        None => false,
-    };
-    agrees && (!restores || dice.below(10) != 0 || restore_all(sessions, plain))
+    (0..3u16).zip(plain).all(|(element, window)| {
+        let kept = window.all.as_slice().get(place_of(window.base)..);
+        kept.is_some_and(|kept| restore(sessions, element, window.base, kept))
+    })
 }
 
 /// Makes three plain windows with no entry.
 pub fn begin(alloc: Global) -> Option<Vec<PlainWindow>> {
     let mut windows = Vec::new(alloc);
     for _ in 0..3u32 {
-        let window = PlainWindow {
-            base: 1,
-            all: Vec::new(alloc),
-        };
-        windows.push(window).ok()?;
+        let (base, all) = (1, Vec::new(alloc));
+        windows.push(PlainWindow { base, all }).ok()?;
     }
     Some(windows)
+}
+
+/// Makes a thrown call on one of three windows, and restores them after one in ten if that is asked for. Returns
+/// whether they are as the plain ones are.
+pub fn step(windows: &mut Windows, dice: &mut Dice) -> bool {
+    let (element, sessions) = (dice.below(3), &mut windows.sessions);
+    let Some(window) = windows.plain.get_mut(element as usize) else {
+        return false;
+    };
+    window.call(sessions, element as u16, dice)
+        && (!windows.restores
+            || dice.below(10) != 0
+            || restore_all(sessions, windows.plain.as_slice()))
 }

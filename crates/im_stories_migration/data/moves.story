@@ -8,7 +8,7 @@ old write 311376 01 = 01
 old write 311424 a5 01 05 00 02 00 00 00 02 = a50105000200000002
 old write 311440 01 = 01
 old write 311456 2a = 2a
-new file 450560 = 450560 bytes
+new disk 450560 = 450560 bytes
 mark = marked
 length for old = 450560
 migrate = migrated 3
@@ -17,7 +17,7 @@ migrate = migrated 3
 calls = 4 and 425
 old as marked = yes
 new means old = yes
-tell new = 12 lines
+new report = 12 lines
 printed 0 = version 2
 printed 1 = limits 4096 16 256
 printed 2 = header 0 generation 1 area 0 count 3
@@ -30,7 +30,7 @@ printed 8 = element 1 base 1 kept 1
 printed 9 = entry 1.1 fetch 0 -> value 42
 printed 10 = element 2 base 1 kept 1
 printed 11 = entry 2.1 store 0 42 -> stored
-new open = count 3 room 256
+new opening = count 3 room 256
 -- An image isn't written over.
 mark = marked
 migrate = refused 22 NotBlank
@@ -47,10 +47,10 @@ old write 311376 01 = 01
 old write 311424 a5 01 05 00 02 00 00 00 02 = a50105000200000002
 old write 311440 01 = 01
 old write 311456 2a = 2a
-new file 450560 of 5a = 450560 bytes
+new disk 450560 of 5a = 450560 bytes
 migrate = migrated 3
 new means old = yes
-new open = count 3 room 256
+new opening = count 3 room 256
 
 # Who waits goes on waiting, in the same order
 old image 2 2 16 = 33792 bytes
@@ -68,13 +68,13 @@ old write 17472 04 = 04
 -- And a store of element 0 that is in the journal.
 old write 32960 a5 01 05 00 00 00 00 00 03 00 00 00 00 00 00 00 03 = a501050000000000030000000000000003
 old write 32992 2a = 2a
-new file 41984 = 41984 bytes
+new disk 41984 = 41984 bytes
 length for old = 41984
 with old 32960:00 = migrated 3
 old write 32960 00 = 00
 migrate = migrated 3
 new means old = yes
-tell new = 11 lines
+new report = 11 lines
 printed 2 = header 0 generation 1 area 0 count 3
 printed 3 = journal 0 room 16
 printed 4 = block 0 i 1
@@ -99,24 +99,24 @@ old write 17408 01 00 00 00 00 00 00 00 01 = 010000000000000001
 old write 17472 04 = 04
 old write 32960 a5 01 05 00 00 00 00 00 03 00 00 00 00 00 00 00 03 = a501050000000000030000000000000003
 old write 32992 2a = 2a
-new file 41984 = 41984 bytes
+new disk 41984 = 41984 bytes
 migrate = migrated 4
 new means old = yes
-tell new = 12 lines
+new report = 12 lines
 printed 2 = header 0 generation 1 area 0 count 4
 printed 5 = cell 0 full 42
 printed 8 = entry 0.2 fetch 0 -> value 42
 printed 9 = entry 0.3 store 0 42 -> stored
-new open = count 4 room 16
+new opening = count 4 room 16
 
 # The last count there is leaves no room
 old image 1 1 16 = 33792 bytes
 old write 23 40 = 40
-new file 33792 = 33792 bytes
+new disk 33792 = 33792 bytes
 migrate = migrated 4611686018427387904
 calls = 4 and 35
 new means old = yes
-new open = count 4611686018427387904 room 0
+new opening = count 4611686018427387904 room 0
 
 # The other area of the old image may be in force
 old image 1 1 16 = 33792 bytes
@@ -125,16 +125,16 @@ old write 4096 a5 01 01 00 49 4d 45 4d 02 00 00 00 00 00 00 00 05 = a5010100494d
 old write 4120 01 00 00 00 01 00 00 00 10 = 010000000100000010
 old write 20488 ff ff ff ff ff ff ff ff ff ff ff ff = ffffffffffffffffffffffff
 old write 28672 01 = 01
-new file 33792 = 33792 bytes
+new disk 33792 = 33792 bytes
 migrate = migrated 5
 new means old = yes
-tell new = 4 lines
+new report = 4 lines
 printed 2 = header 0 generation 1 area 0 count 5
 printed 3 = journal 0 room 16
 
 # The first fault of the old image is told, and nothing is written
 old image 1 1 16 = 33792 bytes
-new file 33792 = 33792 bytes
+new disk 33792 = 33792 bytes
 mark = marked
 with old 0:00 = refused 13 NoHeader
 with old 1:01 = refused 14 BadHeader
@@ -151,7 +151,7 @@ new as marked = yes
 
 # By the first version's rules an image of the second one has a bad header, whatever else is wrong with it
 current image 1 1 16 = 33792 bytes
-new file 33792 = 33792 bytes
+new disk 33792 = 33792 bytes
 migrate = refused 14 BadHeader
 calls = 2 and 0
 length for old = refused 14 BadHeader
@@ -175,16 +175,16 @@ old write 311376 01 = 01
 old write 311424 a5 01 05 00 02 00 00 00 02 = a50105000200000002
 old write 311440 01 = 01
 old write 311456 2a = 2a
-new file 450559 = 450559 bytes
+new disk 450559 = 450559 bytes
 migrate = refused 12 WrongLength
 calls = 4 and 0
-new file 327680 of a5 = 327680 bytes
+new disk 327680 of a5 = 327680 bytes
 mark = marked
 migrate = refused 12 WrongLength
 new as marked = yes
-new file 0 = 0 bytes
+new disk 0 = 0 bytes
 migrate = refused 12 WrongLength
-new file 450561 = 450561 bytes
+new disk 450561 = 450561 bytes
 migrate = refused 12 WrongLength
 
 # A gate of the new file that is open is left alone, whatever stands behind it
@@ -196,7 +196,7 @@ old write 311376 01 = 01
 old write 311424 a5 01 05 00 02 00 00 00 02 = a50105000200000002
 old write 311440 01 = 01
 old write 311456 2a = 2a
-new file 450560 = 450560 bytes
+new disk 450560 = 450560 bytes
 with 0:a5 = refused 22 NotBlank
 with 4096:a5 = refused 22 NotBlank
 with 0:a4 = migrated 3

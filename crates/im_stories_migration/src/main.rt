@@ -2,45 +2,35 @@
 //! calls of either disk leave.
 //!
 //! ```text
-//! old image 4096 16 256 = 327680 bytes    an image of the first version, with no command
-//! old write 311296 a5 01 = a501           puts bytes into it, and tells them as they stand
-//! old cut 8191 = 8191 bytes               or cuts it there, or adds zeros
+//! old image 4096 16 256 = 327680 bytes    an image of the first version in the old file, with no command
 //! current image 1 1 16 = 33792 bytes      an image of the version in use in its place
-//! new file 450560 = 450560 bytes          a new file of zeros
-//! new file 450560 of a5 = 450560 bytes    or of this byte
-//! new write 0 00 = 00                     puts bytes into it
+//! old CALL, new CALL                      a call of that file: disk, cut, fuse, crash, opening, as marked
+//! old write 311296 a5 01 = a501           puts bytes into it, and tells them as they stand
+//! old keep a.img = 327680 bytes           makes a file of the folder of it; new load b.img takes one for the new
+//! new report = 12 lines                   its report; printed 3 has a line of it
 //! mark = marked                           keeps both files as they are now
-//! fuse old 2 stop = set                   a disk's calls fail after 2 when it is used next: stop, once, scar:BYTE
 //! migrate = migrated 3
 //! calls = 13 and 315                      of the old file, and of the new one, when each was used last
-//! old as marked = yes                     no byte of it was changed
-//! new as marked = yes
-//! new crash kept = crashed                what a crash leaves of the new file: kept, lost, or a byte
-//! new open = count 3 room 256             the result of opening it
-//! tell old = 12 lines                     its report; printed 3 has a line of it
 //! new means old = yes                     both reports are the same from their fifth line on
 //! in each stop kept = 314 refused 13 NoHeader, 1 count 3
 //! in each stop of old once = 13 refused 8 Device
 //! with 4096:a5 = refused 22 NotBlank      the result of migrating copies with this byte in the new file
 //! with old 0:00 = refused 13 NoHeader     or in the old one
 //! run imem migrate a.img b.img = 0        the program's work on files; printed 0 has its line
-//! told 0 = the script can't be read       why a migration or a copy was refused
-//! keep old a.img = 327680 bytes           makes a file of the old image; load new b.img takes one for the new
+//! told 0 = the script can't be read       why it was refused
 //! ```
 #![tactic(auto)]
 
-mod files;
 mod moves;
 mod programs;
 mod stops;
-mod writers;
 
 use crate::moves::{are_same, move_on, tell_length, tell_with};
-use crate::programs::load;
-use crate::writers::LastReason;
+use crate::programs::{load, run, save, tell_of_file};
 use im_program::Descriptors;
-use im_story::{Call, Paper, Saying, Scene};
-use im_story_disk::Place;
+use im_story::{Phrase, Printout, Saying, Subject, walk_files};
+use im_story_disk::StoryFile;
+use im_text::Reason;
 use std::process::ExitCode;
 
 /// Two files, and what was last printed and told.
@@ -50,13 +40,13 @@ struct MigrationDesk<'a> {
     /// What occupies the numbers of the standard streams.
     held: &'a Descriptors,
     /// The old file.
-    old: Place,
+    old: StoryFile,
     /// The new file.
-    new: Place,
+    new: StoryFile,
     /// What was last printed.
-    out: Paper,
-    /// Why the last migration or copy was refused.
-    told: LastReason,
+    out: Printout,
+    /// Why the last work was refused.
+    told: Option<Reason>,
 }
 
 // By one call, wherever its owner may end.
@@ -76,54 +66,51 @@ impl Drop for MigrationDesk<'_> {
 impl<'a> MigrationDesk<'a> {
     // Starts with nothing.
     fn new(rt: &'a HostRuntime, held: &'a Descriptors) -> MigrationDesk<'a> {
-        let alloc = rt.alloc();
         MigrationDesk {
             rt,
             held,
-            old: Place::new(alloc),
-            new: Place::new(alloc),
-            out: Paper::new(alloc),
-            told: LastReason { reason: None },
+            old: StoryFile::new(rt.alloc()),
+            new: StoryFile::new(rt.alloc()),
+            out: Printout::new(rt.alloc()),
+            told: None,
         }
     }
 }
 
-// Tells the line at a place of what was printed, from 0.
-fn add_line(text: &str, at: usize, said: &mut Saying) {
-    match text.lines().nth(at) {
-        Some(line) => said.text(line),
-        None => said.fail("there is no such line"),
-    }
-}
-
-// Makes a call by its first word. It is one of the new file if one of its first two words is that.
-fn tell_by_word(desk: &mut MigrationDesk, call: &Call, said: &mut Saying) {
+// Makes a call by its first word. It is one of the new file, or else of the old one.
+fn tell_by_word(desk: &mut MigrationDesk, call: &Phrase, said: &mut Saying) {
     match call.word(0) {
         "with" => tell_with(&desk.old, &desk.new, call, said),
         "in" => stops::tell(&desk.old, &desk.new, call, said),
-        "run" => programs::run(desk, call, said),
-        "save" => programs::save(desk, call, said),
-        "file" => load(desk.rt, call.word(1), &mut Place::new(call.alloc()), said),
-        _ if call.word(0) == "new" || call.word(1) == "new" => programs::tell(
+        "run" => run(desk, call, said),
+        "save" => save(desk.rt, call, said),
+        "file" => load(
             desk.rt,
-            &mut desk.new,
-            &mut desk.out,
-            call,
+            call.word(1),
+            &mut StoryFile::new(call.alloc()),
             said,
         ),
-        _ => programs::tell(desk.rt, &mut desk.old, &mut desk.out, call, said),
+        "new" => tell_of_file(desk.rt, &mut desk.new, &mut desk.out, call, said),
+        _ => tell_of_file(desk.rt, &mut desk.old, &mut desk.out, call, said),
     }
 }
 
-impl<'a> Scene for MigrationDesk<'a> {
+impl<'a> Subject for MigrationDesk<'a> {
     fn begin(&mut self) {
         *self = MigrationDesk::new(self.rt, self.held);
     }
 
-    fn make(&mut self, call: &Call, said: &mut Saying) {
+    fn make(&mut self, call: &Phrase, said: &mut Saying) {
         match call.form() {
-            "printed _" => add_line(self.out.text(), call.place(0), said),
-            "told _" => self.told.tell(said),
+            "printed _" => {
+                let line = self.out.text().lines().nth(call.place(0));
+                said.given(line, "there is no such line", |line, said| said.text(line))
+            }
+            "told _" => said.given(
+                self.told,
+                "nothing was told",
+                |told, said| write!(said, "{told}"),
+            ),
             "migrate" => move_on(&mut self.old, &mut self.new, said),
             "calls" => write!(said, "{} and {}", self.old.calls, self.new.calls),
             "mark" => said.so(self.old.mark() && self.new.mark(), "marked"),
@@ -136,7 +123,7 @@ impl<'a> Scene for MigrationDesk<'a> {
 
 fn main(rt: HostRuntime) -> ExitCode {
     let status = match Descriptors::hold(&rt, &rt.stdin(), &rt.stdout(), &rt.stderr()) {
-        Some(held) => im_story::walk_files(&rt, &mut MigrationDesk::new(&rt, &held)),
+        Some(held) => walk_files(&rt, &mut MigrationDesk::new(&rt, &held)),
         None => 1,
     };
     ExitCode::from(status)

@@ -1,18 +1,16 @@
 //! Migrations, and what the two files mean.
 
-use crate::writers::LastReason;
 use im_migration::{Unfollowed, length_for, migrate};
 use im_report::inspect_on;
-use im_story::{Call, Paper, Saying, change};
-use im_story_disk::Place;
+use im_story::{Phrase, Printout, Saying, change};
+use im_story_disk::StoryFile;
+use im_text::{Observer, Progress, Reason};
+use im_types::Entry;
 
 /// Migrates the image of a file to another file. Tells how many commands it has, or why that is refused.
-pub fn move_on(old: &mut Place, new: &mut Place, said: &mut Saying) {
-    let Some(mut from) = old.taken() else {
-        return said.fail("there is no old file");
-    };
-    let Some(to) = new.taken() else {
-        return said.fail("there is no new file");
+pub fn move_on(old: &mut StoryFile, new: &mut StoryFile, said: &mut Saying) {
+    let (Some(mut from), Some(to)) = (old.taken(), new.taken()) else {
+        return said.fail("there is no old file, or no new one");
     };
     match migrate(old.alloc, &mut from, to, &Unfollowed) {
         Ok((to, count)) => {
@@ -28,53 +26,60 @@ pub fn move_on(old: &mut Place, new: &mut Place, said: &mut Saying) {
 }
 
 /// Tells the result of migrating copies, one of which has a byte at a place: `with [old] PLACE:BYTE`.
-pub fn tell_with(old: &Place, new: &Place, call: &Call, said: &mut Saying) {
-    let is_old = call.word(1) == "old";
-    let Some((at, byte)) = change(call.word(if is_old { 2 } else { 1 })) else {
-        return said.fail("that is no byte at a place");
-    };
+pub fn tell_with(old: &StoryFile, new: &StoryFile, call: &Phrase, said: &mut Saying) {
     let (mut old, mut new) = (old.copy(), new.copy());
-    let is_put = if is_old {
-        old.put(at, &[byte])
-    } else {
-        new.put(at, &[byte])
+    let is_put = match (change(call.word(1)), change(call.word(2))) {
+        (Some((at, byte)), _) => new.put(at, &[byte]),
+        (_, Some((at, byte))) => old.put(at, &[byte]),
+        _ => false,
     };
     said.so(is_put, "");
     move_on(&mut old, &mut new, said)
 }
 
 /// Tells how long the file has to be to which the image is migrated.
-pub fn tell_length(old: &mut Place, said: &mut Saying) {
+pub fn tell_length(old: &mut StoryFile, said: &mut Saying) {
     let Some(mut disk) = old.taken() else {
         return said.fail("there is no such file");
     };
-    match length_for(old.alloc, &mut disk) {
-        Ok(length) => said.number(length as u64),
-        Err(refusal) => said.refusal(refusal),
-    }
+    said.result(
+        length_for(old.alloc, &mut disk),
+        |length, said| said.number(length),
+    );
     old.lay_down(disk)
 }
 
+// An observer that nothing is told to.
+#[derive(Drop)]
+struct Unheard;
+
+impl Observer for Unheard {
+    fn answered(&mut self, _element: u16, _number: u64, _entry: Entry) {}
+
+    fn progressed(&mut self, _progress: Progress) {}
+
+    fn refused(&mut self, _reason: Reason) {}
+}
+
 /// Returns the report of a file. It's empty if there is no file.
-pub fn report(place: &mut Place) -> Paper {
-    let mut out = Paper::new(place.alloc);
-    if let Some(disk) = place.taken() {
-        let mut told = LastReason { reason: None };
-        let (_status, disk) = inspect_on(place.alloc, disk, &mut out, &mut told);
-        place.lay_down(disk);
+pub fn report(file: &mut StoryFile) -> Printout {
+    let mut out = Printout::new(file.alloc);
+    if let Some(disk) = file.taken() {
+        let (_status, disk) = inspect_on(file.alloc, disk, &mut out, &mut Unheard);
+        file.lay_down(disk);
     }
     out
 }
 
 // Returns what a report says of the memory: its lines from the fifth on.
-fn memory_part(report: &str) -> Option<&str> {
-    report.splitn(5, '\n').nth(4)
+fn memory_part(report: &Printout) -> Option<&str> {
+    report.text().splitn(5, '\n').nth(4)
 }
 
 /// Returns whether the new file means the memory that the old one means, by their reports.
-pub fn are_same(old: &mut Place, new: &mut Place) -> bool {
+pub fn are_same(old: &mut StoryFile, new: &mut StoryFile) -> bool {
     let (of_old, of_new) = (report(old), report(new));
-    match (memory_part(of_old.text()), memory_part(of_new.text())) {
+    match (memory_part(&of_old), memory_part(&of_new)) {
         (Some(old), Some(new)) => old == new,
         _ => false,
     }

@@ -2,8 +2,8 @@
 
 use crate::moves::{are_same, move_on};
 use im_disk::{Crash, Mode};
-use im_story::{Call, Saying};
-use im_story_disk::{Place, crash, mode};
+use im_story::{Phrase, Saying, crash, mode};
+use im_story_disk::StoryFile;
 
 // Which disk fails, how, and what the crash after it leaves.
 #[derive(Clone, Copy)]
@@ -13,46 +13,14 @@ struct Breakdown {
     crash: Option<Crash>,
 }
 
-// The last result, and how often it came in a row.
-#[derive(Drop)]
-struct Repetition {
-    last: Saying,
-    times: u64,
-}
-
-impl Repetition {
-    // Tells the result.
-    fn tell(&self, said: &mut Saying) {
-        if self.times == 0 {
-            return;
-        }
-        if !said.is_empty() {
-            said.text(", ");
-        }
-        write!(said, "{} {}", self.times, self.last.said())
-    }
-
-    // Takes in a result. Tells the one before it, if that is another one.
-    fn add(&mut self, end: Saying, said: &mut Saying) {
-        said.so(!end.is_wrong(), "");
-        if end.said() != self.last.said() {
-            self.tell(said);
-            self.times = 0;
-        }
-        self.times = self.times.saturating_add(1);
-        self.last = end;
-    }
-}
-
 // Reads which disk fails and how, and what a crash leaves: `in each MODE [of old] [CRASH]`.
-fn breakdown_of(call: &Call) -> Option<Breakdown> {
+fn breakdown_of(call: &Phrase) -> Option<Breakdown> {
     let is_old = call.word(3) == "of";
     let left = call.word(if is_old { 5 } else { 3 });
-    let crash = if left.is_empty() {
-        None
-    } else {
-        Some(crash(left)?)
-    };
+    let crash = crash(left);
+    if crash.is_none() && !left.is_empty() {
+        return None;
+    }
     Some(Breakdown {
         is_old,
         mode: mode(call.word(2))?,
@@ -60,20 +28,21 @@ fn breakdown_of(call: &Call) -> Option<Breakdown> {
     })
 }
 
-// Migrates while a disk passes this many calls. Returns whether it made no more. Else the migration has to be refused.
-fn is_whole(
-    old: &mut Place,
-    new: &mut Place,
+// Migrates while a disk passes this many calls. If it makes more, that has to be refused. Tells then what is found of
+// the new file after a crash, refused or what the old one means, and what a second migration comes to. Returns whether
+// it made more.
+fn breaks(
+    old: &mut StoryFile,
+    new: &mut StoryFile,
     passes: u64,
     breakdown: Breakdown,
-    said: &mut Saying,
+    end: &mut Saying,
 ) -> bool {
     let mut moved = Saying::new(old.alloc);
-    let fuse = (passes, breakdown.mode);
     if breakdown.is_old {
-        old.fuse = fuse;
+        old.fuse = (passes, breakdown.mode);
     } else {
-        new.fuse = fuse;
+        new.fuse = (passes, breakdown.mode);
     }
     move_on(old, new, &mut moved);
     let calls = if breakdown.is_old {
@@ -81,57 +50,56 @@ fn is_whole(
     } else {
         new.calls
     };
-    let is_whole = calls <= passes;
-    said.so(is_whole || moved.said() == "refused 8 Device", "");
-    is_whole
-}
-
-// Returns what is found of the new file after a crash: refused, or what the old one means. Then the migration is made
-// again.
-fn found(old: &mut Place, new: &mut Place, breakdown: Breakdown) -> Saying {
-    let mut end = Saying::new(old.alloc);
+    if calls <= passes {
+        return false;
+    }
+    end.so(moved.said() == "refused 8 Device", "");
     if let Some(crash) = breakdown.crash {
         end.so(new.crash(crash), "");
     }
-    new.tell_opening(&mut end);
+    new.tell_opening(end);
     let is_so = !end.said().starts_with("count") || are_same(old, new);
     end.so(is_so, " then ");
-    move_on(old, new, &mut end);
-    end
+    move_on(old, new, end);
+    true
 }
 
-// Fails at each call, and tells how often each result came in a row. The new file begins with the bytes of `blank`.
-fn tell_each(
-    old: &mut Place,
-    new: &mut Place,
-    blank: &Place,
-    breakdown: Breakdown,
-    said: &mut Saying,
-) {
-    let bytes = blank.bytes();
-    let is_zero = bytes.iter().all(|byte| *byte == 0);
-    let start = if is_zero { b"".as_slice() } else { bytes };
-    let mut results = Repetition {
-        last: Saying::new(old.alloc),
-        times: 0,
-    };
+// Tells a result, and how often it came in a row.
+fn add_times(times: u64, end: &Saying, said: &mut Saying) {
+    if times > 0 {
+        said.either(said.is_empty(), "", ", ");
+        write!(said, "{times} ");
+        said.also(end)
+    }
+}
+
+// Fails at each call, and tells how often each result came in a row. The new file begins with these bytes.
+fn tell_each(old: &mut StoryFile, bytes: &[u8], breakdown: Breakdown, said: &mut Saying) {
+    let mut new = StoryFile::new(old.alloc);
+    let (mut last, mut times) = (Saying::new(old.alloc), 0u64);
     for passes in 0..10_000 {
-        said.so(new.lay(start, bytes.len()), "");
-        if is_whole(old, new, passes, breakdown, said) {
-            return results.tell(said);
+        let mut end = Saying::new(old.alloc);
+        said.so(new.lay(bytes, bytes.len()), "");
+        if !breaks(old, &mut new, passes, breakdown, &mut end) {
+            return add_times(times, &last, said);
         }
-        results.add(found(old, new, breakdown), said);
+        if end.said() != last.said() || end.is_wrong() {
+            add_times(times, &last, said);
+            times = 0;
+        }
+        times = times.saturating_add(1);
+        last = end;
     }
     said.fail("the calls don't end")
 }
 
 /// Makes the call `in each` with `stop`, `once` or `scar:BYTE`, of the new file or `of old`, and what a crash after it
 /// leaves. The old file must not change.
-pub fn tell(old: &Place, new: &Place, call: &Call, said: &mut Saying) {
+pub fn tell(old: &StoryFile, new: &StoryFile, call: &Phrase, said: &mut Saying) {
     let Some(breakdown) = breakdown_of(call) else {
         return said.fail("that is no way to fail");
     };
-    let (mut from, mut to) = (old.copy(), Place::new(old.alloc));
-    tell_each(&mut from, &mut to, new, breakdown, said);
+    let mut from = old.copy();
+    tell_each(&mut from, new.bytes(), breakdown, said);
     said.so(from.bytes() == old.bytes(), "")
 }

@@ -49,8 +49,8 @@ windows 1 = 1
 pages = 12288
 read = 1 cells 64 nodes 1 windows
 -- A hole has at most as many cells as there are, and the next one begins at a cell.
-values 4 = read 0..1, refused 15 BadPage 2..255
-values 8 = refused 15 BadPage 0..254, read 255
+byte 4 0..255 = read 0..1, refused 15 BadPage 2..255
+byte 8 0..255 = refused 15 BadPage 0..254, read 255
 -- A free cell has no tag.
 byte 0 1 = refused 15 BadPage 0
 -- Behind the cells
@@ -60,7 +60,7 @@ byte 4095 1 = refused 15 BadPage 4095
 byte 5120..5135 1 = refused 15 BadPage 5120..5135
 byte 8191 1 = refused 15 BadPage 8191
 -- A window has another base, or none.
-values 8192 = refused 15 BadPage 0, read 1..255
+byte 8192 0..255 = refused 15 BadPage 0, read 1..255
 -- Behind the places of the session
 byte 10272..10303 1 = refused 15 BadPage 10272..10303
 byte 12287 1 = refused 15 BadPage 12287
@@ -72,7 +72,7 @@ nodes 64 = 64
 node 0 free next 1 = set
 windows 1 = 1
 pages = 12288
-values 4096 = read 0..63, refused 15 BadPage 64..255
+byte 4096 0..255 = read 0..63, refused 15 BadPage 64..255
 
 # A cell lies in a block of the cells that there are, and its list has ends among the nodes
 limits 1 1 16 = 1 1 16
@@ -143,7 +143,7 @@ read = 1 cells 16 nodes 1 windows
 area node 15 = free next none
 area node 16 = none
 area window 0 = base 1 with 0
-values 4096 = read 0..15, refused 15 BadPage 16..255
+byte 4096 0..255 = read 0..15, refused 15 BadPage 16..255
 -- Behind the nodes
 byte 4352..4367 1 = refused 15 BadPage 4352..4367
 byte 8191 1 = refused 15 BadPage 8191

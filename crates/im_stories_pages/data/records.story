@@ -22,9 +22,9 @@ byte 20..23 1 = refused 20..23
 -- A full cell has no list of waiters: it links nowhere.
 byte 12..19 0 = refused 12..19
 -- The tag 3 is full, and 4 is clashed; a cell with another tag has no value.
-values 0 = refused 0..2, read 3..4, refused 5..255
+byte 0 0..255 = refused 0..2, read 3..4, refused 5..255
 -- The kinds are 1 and 2.
-values 1 = refused 0, read 1..2, refused 3..255
+byte 1 0..255 = refused 0, read 1..2, refused 3..255
 -- A byte too few, and a byte too many
 short = refused
 read cell 00*33 = refused
@@ -36,7 +36,7 @@ byte 24..31 1 = refused 24..31
 # A cell in no block has no tag, no list and no value
 spell cell free hole 1 next 0 = 00*4 01 00*7 ff*8 00*12
 byte 12..31 1 = refused 12..31
-values 0 = read 0, refused 1..255
+byte 0 0..255 = read 0, refused 1..255
 
 # A waiter node stands in the list of free nodes, or in the list of a cell
 spell node free next none = ff*4 00*12
@@ -55,8 +55,8 @@ spell node free next 3 = 03 00*15
 byte 4..15 2 = refused 4..15
 -- The mark of a node in a list is 1, in two bytes. With mark 0 the node is free, and has no waiter.
 spell node 1.1 next 3 = 03 00*3 01 00 01 00 01 00*7
-values 6 = refused 0, read 1, refused 2..255
-values 7 = read 0, refused 1..255
+byte 6 0..255 = refused 0, read 1, refused 2..255
+byte 7 0..255 = read 0, refused 1..255
 -- A byte too few
 read node 00*15 = refused
 
@@ -101,8 +101,8 @@ byte 3 1 = refused 3
 -- A fetch has no value to store, and while it waits it has none that was read.
 byte 8..31 1 = refused 8..31
 -- The operations are 1 to 7 and 9, and the replies 0 to 12, of which 0 is that there is none yet.
-values 0 = refused 0, read 1..7, refused 8, read 9, refused 10..255
-values 2 = read 0..12, refused 13..255
+byte 0 0..255 = refused 0, read 1..7, refused 8, read 9, refused 10..255
+byte 2 0..255 = read 0..12, refused 13..255
 -- No byte at all
 read entry = refused
 -- A base lies below 2^32.

@@ -38,7 +38,7 @@ byte 0 127 = read 0
 -- A base past the last number
 byte 7 64 = refused 7
 -- An entry too few, an entry too many, and more than there are places
-values 8 = refused 0..2, read 3, refused 4..255
+byte 8 0..255 = refused 0..2, read 3, refused 4..255
 -- Bytes behind the count
 byte 9..31 1 = refused 9..31
 -- Place 0 with no entry, and with an ill-spelled one
@@ -71,7 +71,7 @@ kept 4611686018427387841 = store 0 0 -> clash
 kept 4611686018427387904 = store 0 63 -> clash
 kept 4611686018427387905 = none
 -- An entry too few, and more than there are places
-values 8 = refused 0..63, read 64, refused 65..255
+byte 8 0..255 = refused 0..63, read 64, refused 65..255
 
 # No entry is past the last number
 windows 1 = 1
@@ -92,8 +92,8 @@ read = refused
 -- Request 1, a release that was done, stands at place 1.
 read session 01 00*7 01 00*23 00*32 03 00 09 00 07 00*27 00*4000 = base 1 with 1
 kept 1 = release 7 -> released
-values 64 = refused 0, read 1..7, refused 8, read 9, refused 10..255
-values 66 = read 0..12, refused 13..255
+byte 64 0..255 = refused 0, read 1..7, refused 8, read 9, refused 10..255
+byte 66 0..255 = read 0..12, refused 13..255
 read session 01 00*7 01 00*23 00*32 09 00 0c 00 07 00*27 00*4000 = base 1 with 1
 kept 1 = reset 7 -> cleared
 
@@ -112,7 +112,7 @@ byte 0 31 = read 0
 -- A base past the last number
 byte 7 64 = refused 7
 -- An entry too few, an entry too many, and more than there are places
-values 8 = refused 0..2, read 3, refused 4..255
+byte 8 0..255 = refused 0..2, read 3, refused 4..255
 -- Bytes behind the count
 byte 9..31 1 = refused 9..31
 -- Place 0 with no entry, and with an ill-spelled one
@@ -138,12 +138,12 @@ read session f1 ff*6 3f 10 00*23 05 00 06 00*5 0f 00*23 05 00 06 00*5 00 00*23 0
 kept stores = 16
 kept 4611686018427387889 = store 0 0 -> clash
 kept 4611686018427387904 = store 0 15 -> clash
-values 8 = refused 0..15, read 16, refused 17..255
+byte 8 0..255 = refused 0..15, read 16, refused 17..255
 
 # The first version keeps no reset, and no reply to one
 version 1 = 1
 read session 01 00*7 01 00*23 00*32 03 00 09 00 07 00*27 00*928 = base 1 with 1
 kept 1 = release 7 -> released
-values 64 = refused 0, read 1..7, refused 8..255
-values 66 = read 0..11, refused 12..255
+byte 64 0..255 = refused 0, read 1..7, refused 8..255
+byte 66 0..255 = read 0..11, refused 12..255
 read session 01 00*7 01 00*23 00*32 09 00 0c 00 07 00*27 00*928 = refused

@@ -5,60 +5,43 @@
 //! decimal, and `none` is a link to nothing.
 #![tactic(auto)]
 
-mod areas;
-mod readings;
-mod rows;
+mod pages;
+mod read;
+mod records;
+mod refusals;
+mod set;
 mod shown;
 mod spelled;
-mod texts;
-mod values;
 
-use crate::rows::Records;
-use crate::spelled::Spelled;
-use crate::values::{Sizes, tell_refusal};
-use im_contents::Lists;
-use im_story::{Call, Saying, Scene, walk_files};
-use std::alloc::Global;
+use crate::pages::Pages;
+use crate::refusals::tell_refusal;
+use im_story::{Phrase, Saying, Subject, walk_files};
 use std::process::ExitCode;
 
-/// Records, bytes that may spell some, and the lists of waiters that were last read from the records.
-#[derive(Drop)]
-struct Pages {
-    alloc: Global,
-    sizes: Sizes,
-    rows: Records,
-    spelled: Spelled,
-    lists: Option<Lists>,
-}
+// The fewest equal bytes that are told as one.
+const RUN: usize = 3;
 
-impl Pages {
-    fn new(alloc: Global) -> Pages {
-        Pages {
-            alloc,
-            sizes: Sizes::new(),
-            rows: Records::new(alloc),
-            spelled: Spelled::new(alloc),
-            lists: None,
-        }
-    }
-}
-
-impl Scene for Pages {
+impl Subject for Pages {
     fn begin(&mut self) {
         *self = Pages::new(self.alloc);
     }
 
-    fn make(&mut self, call: &Call, said: &mut Saying) {
-        match call.word(0) {
-            "limits" | "version" => self.sizes.tell(call, said),
-            "refusal" => tell_refusal(call.alloc(), call.word(1), said),
-            "cells" | "nodes" | "windows" | "cell" | "node" | "window" | "keep" => {
-                self.rows.tell(call, said)
-            }
-            "blocks" | "lists" | "waiting" | "agree" | "contents" => {
-                shown::tell(&mut self.lists, self.sizes, &self.rows, call, said)
-            }
-            _ => self.spelled.tell(self.sizes, &self.rows, call, said),
+    fn make(&mut self, call: &Phrase, said: &mut Saying) {
+        match (call.word(0), call.word(1)) {
+            ("refusal", name) => tell_refusal(name, said),
+            ("limits" | "version", _) => self.set_sizes(call, said),
+            ("cells" | "nodes" | "windows", _) => self.make_row(call, said),
+            ("cell" | "node" | "window" | "keep", _) => self.set(call, said),
+            ("blocks" | "lists" | "waiting" | "agree" | "contents", _) => self.show(call, said),
+            ("spell", "session") => self.spell_session(call, said),
+            ("spell", _) => self.spell(call, said),
+            ("pages", _) => self.spell_pages(said),
+            ("bytes", _) => said.part(&self.bytes, call.place(0), call.place(1), RUN),
+            ("read", _) => self.read(call, said),
+            ("short" | "byte", _) => self.read_changed(call, said),
+            ("kept", _) => self.tell_kept(call, said),
+            ("area", _) => self.tell_area(call, said),
+            _ => said.fail("no such call"),
         }
     }
 }

@@ -4,7 +4,7 @@ format 4096 16 256 = formatted
 script setup / alloc x i 2 / element 1 / fetch x+0 / element 2 / store x+0 42 / = 6 lines
 read = 1 blocks, 2 parts, 2 requests
 -- Each time the disk stops in the midst of the second command.
-serve once stopped after 6 calls = 0
+serve once stopped 6 calls past the opening = 0
 count = 3
 serve once = 0
 printed = 3 lines

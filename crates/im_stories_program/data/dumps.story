@@ -2,7 +2,7 @@
 run imem format a.img --cells 64 --elements 4 --slots 16 = 0
 script setup / alloc x i 2 / alloc y m 1 / element 1 / fetch x / take y / = 6 lines
 script element 2 / take y / store x+1 7 / = 9 lines
-feed imem serial a.img - = 0
+run imem serial a.img - = 0
 -- An image that was never asked has no more than a head.
 run imem format b.img --cells 1 --elements 1 --slots 16 = 0
 run imem dump b.img = 0
@@ -44,7 +44,7 @@ script cell 2 waits 1.2 / cell 2 waits 2.1 / element 0 base 1 / = 12 lines
 script entry 0.1 alloc i 2 -> base 0 / entry 0.2 alloc m 1 -> base 2 / element 1 base 1 / = 15 lines
 script entry 1.1 fetch 0 -> waiting / entry 1.2 take 2 -> waiting / element 2 base 1 / = 18 lines
 script entry 2.1 take 2 -> waiting / entry 2.2 store 1 7 -> stored / end / = 21 lines
-feed imem load - c.img = 0
+run imem load - c.img = 0
 printed = 1 lines
 printed 0 = loaded 6
 file c.img = 58368 bytes
@@ -54,7 +54,7 @@ printed 2 = header 0 generation 1 area 0 count 6
 printed 3 = journal 0 room 16
 printed 8 = cell 2 waiting 1.2 2.1
 script element 3 / put 2 9 / fetch 1 / = 3 lines
-feed imem serial c.img - = 0
+run imem serial c.img - = 0
 run imem inspect c.img = 0
 printed 8 = cell 2 waiting 2.1
 printed 14 = entry 1.2 take 2 -> value 9

@@ -34,7 +34,7 @@ printed 0 = refused 8 Device
 # A script comes by standard input where its path is -
 run imem format a.img --cells 64 --elements 4 --slots 16 = 0
 script setup / alloc x i 2 / element 1 / fetch x+0 / element 2 / store x+0 42 / = 6 lines
-feed imem serial a.img - = 0
+run imem serial a.img - = 0
 printed = 4 lines
 printed 0 = 0.1 base 0
 printed 1 = 1.1 waiting
@@ -45,21 +45,21 @@ run imem serial a.img - = 0
 printed = 0 lines
 -- It is read as a file's is.
 script element 1 / fetch / = 2 lines
-feed imem serial a.img - = 1
+run imem serial a.img - = 1
 printed = 1 lines
 printed 0 = refused 18 BadScript
 -- A file's script doesn't take it.
 script element 1 / fetch 9 / = 2 lines
 save s = 18 bytes
 script element 2 / fetch 9 / = 2 lines
-feed imem serial a.img s = 0
+run imem serial a.img s = 0
 printed = 1 lines
 printed 0 = 1.2 nocell
 remove s = removed
 remove a.img = removed
 
 # A refusal has its number and its name
-refuse NoMemory = 1
+refuse no memory = 1
 printed = 1 lines
 printed 0 = refused 10 NoMemory
 

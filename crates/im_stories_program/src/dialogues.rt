@@ -1,13 +1,15 @@
 //! Dialogues on the image in memory. The client says what was put together as a script. All of it may be in the
 //! reader's buffer at once, or a byte at a time. The client may be silent whenever the buffer is empty.
 
-use crate::serving::opening_calls;
-use crate::{ProgramDesk, files};
+use crate::ProgramDesk;
 use im_dialogue::{NoBackups, dialogue_on};
-use im_disk::Mode;
 use im_listening::Ear;
-use im_story::{Call, Saying};
+use im_story::{Phrase, Saying};
 use std::io::{self, BufReader, Read};
+
+// How a dialogue is held: with a buffer of one byte, with a client that is silent whenever it is empty, or watched; and
+// the words by which the disk or the writer fails.
+const MANNERS: [&str; 6] = ["slowly", "silently", "watched", "calls", "to", "bytes"];
 
 // What a client says. It is silent each time it is asked whether something is there, or never.
 #[derive(Drop)]
@@ -28,46 +30,18 @@ impl<'a> Ear for Client<'a> {
     }
 }
 
-// The manner of a dialogue: how many bytes the buffer has, whether the client is silent whenever it is empty, and
-// whether the dialogue is watched.
-#[derive(Clone, Copy)]
-struct Manner {
-    buffer: usize,
-    is_silent: bool,
-    watch: bool,
-}
-
-// Reads the manner of a dialogue. Lets the disk fail after a number of calls behind those of an opening, or the writer
-// after a number of bytes.
-fn set_manner(desk: &mut ProgramDesk, call: &Call, opening: u64, said: &mut Saying) -> Manner {
-    let mut manner = Manner {
-        buffer: 8192,
-        is_silent: false,
-        watch: false,
-    };
-    desk.print(usize::MAX);
-    for word in call.rest(1) {
-        match *word {
-            "slowly" => manner.buffer = 1,
-            "silently" => manner.is_silent = true,
-            "watched" => manner.watch = true,
-            "calls" => {
-                desk.place.fuse = (opening.saturating_add(call.number(0)), Mode::Stop);
-            }
-            "bytes" => desk.print(call.place(0)),
-            _ => said.so(*word == "to" || word.parse::<u64>().is_ok(), ""),
-        }
-    }
-    manner
-}
-
 // Holds a dialogue in which this is said. Tells the status, and how many calls the disk got behind those of an opening.
-fn hold(desk: &mut ProgramDesk, text: &[u8], call: &Call, said: &mut Saying) {
-    let opening = opening_calls(&mut desk.place);
-    let manner = set_manner(desk, call, opening, said);
-    let is_silent = manner.is_silent;
+fn hold(desk: &mut ProgramDesk, text: &[u8], call: &Phrase, said: &mut Saying) {
+    let words = call.rest(1);
+    for word in words {
+        said.so(MANNERS.contains(word) || word.parse::<u64>().is_ok(), "");
+    }
+    let opening = desk.opening_calls();
+    desk.prepare(call, opening);
+    let is_silent = words.contains(&"silently");
     let client = Client { text, is_silent };
-    let Ok(mut input) = BufReader::with_capacity(call.alloc(), manner.buffer, client) else {
+    let buffer = if words.contains(&"slowly") { 1 } else { 8192 };
+    let Ok(mut input) = BufReader::with_capacity(call.alloc(), buffer, client) else {
         return said.fail("no memory is left");
     };
     let Some(disk) = desk.place.taken() else {
@@ -79,7 +53,7 @@ fn hold(desk: &mut ProgramDesk, text: &[u8], call: &Call, said: &mut Saying) {
         disk,
         &mut backups,
         &mut input,
-        manner.watch,
+        words.contains(&"watched"),
         &mut desk.out,
         &mut desk.notes,
     );
@@ -88,11 +62,8 @@ fn hold(desk: &mut ProgramDesk, text: &[u8], call: &Call, said: &mut Saying) {
     write!(said, "{status}, {calls} calls")
 }
 
-/// Holds a dialogue on the image, in which the text is said that was put together. Or makes one of the calls of files.
-pub fn tell(desk: &mut ProgramDesk, call: &Call, said: &mut Saying) {
-    if call.word(0) != "talk" {
-        return files::tell(desk, call, said);
-    }
+/// Holds a dialogue on the image, in which the text is said that was put together.
+pub fn talk(desk: &mut ProgramDesk, call: &Phrase, said: &mut Saying) {
     let text = desk.take_text();
     hold(desk, text.as_slice(), call, said)
 }

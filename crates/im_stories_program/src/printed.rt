@@ -1,24 +1,20 @@
 //! What was printed, and what was told besides, line by line.
 
+use crate::ProgramDesk;
 use crate::spelling::line_ends;
-use crate::{ProgramDesk, images};
-use im_story::{Call, Saying};
+use im_story::{Phrase, Saying};
+use im_text::Progress;
 
 // Returns the line at this place of a text, from 0.
 fn line_of(text: &str, at: usize) -> Option<&str> {
-    if at < line_ends(text.as_bytes()) {
-        text.split('\n').nth(at)
-    } else {
-        None
-    }
+    text.split_terminator('\n').nth(at)
 }
 
 // Adds how many lines end in a text.
 fn add_count(text: &str, said: &mut Saying) {
+    let is_whole = text.is_empty() || text.ends_with('\n');
     write!(said, "{} lines", line_ends(text.as_bytes()));
-    if !text.is_empty() && !text.ends_with('\n') {
-        said.text(", and one that doesn't end")
-    }
+    said.either(is_whole, "", ", and one that doesn't end")
 }
 
 // Adds a line, in quotes if it starts or ends with a space.
@@ -31,7 +27,7 @@ fn add_line(text: &str, at: usize, said: &mut Saying) {
 }
 
 // Adds the answer that lines have in common. Their requests have one number after another.
-fn add_run(text: &str, call: &Call, said: &mut Saying) {
+fn add_run(text: &str, call: &Phrase, said: &mut Saying) {
     let (first, last) = (call.place(0), call.place(1));
     let line = line_of(text, first).unwrap_or("");
     let (who, answer) = line.split_once(' ').unwrap_or(("", ""));
@@ -42,39 +38,29 @@ fn add_run(text: &str, call: &Call, said: &mut Saying) {
         upto = from.saturating_add(at.saturating_sub(first) as u64);
         let mut expected = Saying::new(call.alloc());
         write!(expected, "{element}.{upto} {answer}");
-        said.so(line_of(text, at).unwrap_or("") == expected.said(), "");
+        said.so(line_of(text, at) == Some(expected.said()), "");
     }
     write!(said, "{element}.{from} to {element}.{upto} {answer}")
 }
 
-// Adds how far the work came, as it was last told.
-fn add_progress(desk: &ProgramDesk, said: &mut Saying) {
-    match desk.notes.progress {
-        Some(progress) => {
-            let (served, room, checkpoints) = (
-                progress.served,
-                progress.room,
-                progress.checkpoints,
-            );
-            write!(
-                said,
-                "{served} served, room {room}, {checkpoints} checkpoints"
-            )
-        }
-        None => said.text("none"),
+/// Adds how far the work came, as it was last told, if it was.
+pub fn add_progress(progress: Option<Progress>, said: &mut Saying) {
+    if let Some(it) = progress {
+        write!(said, "{} served, room {}", it.served, it.room);
+        write!(said, ", {} checkpoints", it.checkpoints)
     }
 }
 
-/// Makes a call on what was printed or told, or else one of those of images.
-pub fn tell(desk: &mut ProgramDesk, call: &Call, said: &mut Saying) {
-    let (printed, told) = (desk.out.text(), desk.notes.told.said());
+/// Tells how many lines were printed, or told besides; one of them, or what some of them have in common.
+pub fn tell(desk: &ProgramDesk, call: &Phrase, said: &mut Saying) {
+    let text = match call.word(0) {
+        "told" => desk.notes.told.said(),
+        _ => desk.out.text(),
+    };
     match call.form() {
-        "printed" => add_count(printed, said),
-        "printed _" => add_line(printed, call.place(0), said),
-        "printed _ to _" => add_run(printed, call, said),
-        "told" => add_count(told, said),
-        "told _" => add_line(told, call.place(0), said),
-        "progress" => add_progress(desk, said),
-        _ => images::tell(desk, call, said),
+        "printed" | "told" => add_count(text, said),
+        "printed _" | "told _" => add_line(text, call.place(0), said),
+        "printed _ to _" => add_run(text, call, said),
+        _ => said.fail("there is no such call"),
     }
 }

@@ -1,10 +1,11 @@
 //! Scripts: a text is put together line by line, and read.
 
+use crate::ProgramDesk;
 use crate::spelling::{add_text, add_word, line_ends};
-use crate::{ProgramDesk, serving};
 use im_script::{Action, Place, Reader, Said, ScriptLine, read_script, read_u32};
-use im_story::{Call, Saying};
+use im_story::{Phrase, Saying};
 use im_types::Kind;
+use std::io::Write;
 
 // Returns the word of an action, the place on which it acts, and its value.
 fn parts_of(action: Action) -> (&'static str, Option<Place>, Option<u64>) {
@@ -20,9 +21,10 @@ fn parts_of(action: Action) -> (&'static str, Option<Place>, Option<u64>) {
     }
 }
 
-fn add_action(action: Action, said: &mut Saying) {
-    let (word, place, value) = parts_of(action);
-    said.text(word);
+// Adds a request as it stands in the script.
+fn add_line(line: ScriptLine, said: &mut Saying) {
+    let (word, place, value) = parts_of(line.action);
+    write!(said, "element {}, {word}", line.element);
     match place {
         Some(Place::Address(address)) => write!(said, " cell {address}"),
         Some(Place::Named { index, offset }) => write!(said, " block {index} + {offset}"),
@@ -34,9 +36,10 @@ fn add_action(action: Action, said: &mut Saying) {
     }
 }
 
-// Adds the kinds and lengths of the blocks, or else the elements of the parts.
-fn add_lines(lines: &[Said], of_blocks: bool, said: &mut Saying) {
-    for line in lines {
+/// Adds the kinds and lengths of the blocks, or else the elements of the parts.
+pub fn add_lines(desk: &ProgramDesk, call: &Phrase, said: &mut Saying) {
+    let of_blocks = call.word(0) == "blocks";
+    for line in desk.lines.as_slice() {
         match line {
             Said::Block(block) if of_blocks => {
                 said.text(" ");
@@ -49,53 +52,26 @@ fn add_lines(lines: &[Said], of_blocks: bool, said: &mut Saying) {
     }
 }
 
-// Returns the request at this place, from 0.
-fn request(lines: &[Said], at: usize) -> Option<ScriptLine> {
-    let mut before = 0usize;
-    for line in lines {
-        if let Said::Asks(line) = line {
-            if before == at {
-                return Some(*line);
-            }
-            before = before.saturating_add(1);
-        }
-    }
-    None
-}
-
-// Tells a request.
-fn add_request(line: Option<ScriptLine>, said: &mut Saying) {
-    let Some(line) = line else {
+/// Tells a request as it stands, the address on which it acts, or its operation.
+pub fn add_request(desk: &ProgramDesk, call: &Phrase, said: &mut Saying) {
+    let bases = desk.bases.as_slice();
+    let mut requests = desk.lines.iter().filter_map(|line| match line {
+        Said::Asks(line) => Some(*line),
+        _ => None,
+    });
+    let Some(line) = requests.nth(call.place(0)) else {
         return said.fail("no such request");
     };
-    write!(said, "element {}, ", line.element);
-    add_action(line.action, said)
-}
-
-// Tells the address on which a request acts.
-fn add_address(line: Option<ScriptLine>, bases: &[u32], said: &mut Saying) {
-    let Some(line) = line else {
-        return said.fail("no such request");
-    };
-    match parts_of(line.action).1 {
-        Some(place) => said.number_or_none(place.address(bases)),
-        None => said.fail("a block is made nowhere yet"),
-    }
-}
-
-// Tells the operation of a request.
-fn add_operation(line: Option<ScriptLine>, bases: &[u32], said: &mut Saying) {
-    let Some(line) = line else {
-        return said.fail("no such request");
-    };
-    match line.action.op(bases) {
-        Some(op) => said.op(op),
-        None => said.text("none"),
+    match (call.word(0), parts_of(line.action).1, line.action.op(bases)) {
+        ("address", Some(place), _) => said.number_or_none(place.address(bases)),
+        ("operation", _, Some(op)) => said.op(op),
+        ("operation", _, None) => said.text("none"),
+        _ => add_line(line, said),
     }
 }
 
 // Goes through the lines of a script. Tells how many blocks, parts and requests there are.
-fn hear(lines: &mut Vec<Said>, text: &[u8], call: &Call, said: &mut Saying) {
+fn hear(lines: &mut Vec<Said>, text: &[u8], call: &Phrase, said: &mut Saying) {
     let mut reader = Reader::new(call.alloc());
     let (mut blocks, mut parts, mut requests) = (0u32, 0u32, 0u32);
     for line in text.split(|byte| *byte == b'\n') {
@@ -111,8 +87,8 @@ fn hear(lines: &mut Vec<Said>, text: &[u8], call: &Call, said: &mut Saying) {
     write!(said, "{blocks} blocks, {parts} parts, {requests} requests")
 }
 
-// Reads the text that was put together, with these words after it.
-fn read(desk: &mut ProgramDesk, call: &Call, said: &mut Saying) {
+/// Reads the text that was put together, with these words after it.
+pub fn read(desk: &mut ProgramDesk, call: &Phrase, said: &mut Saying) {
     add_text(&mut desk.text, call.rest(1), said);
     desk.read = desk.take_text();
     desk.lines.clear();
@@ -126,33 +102,27 @@ fn read(desk: &mut ProgramDesk, call: &Call, said: &mut Saying) {
     }
 }
 
-// Adds lines to a text, with these digits in place of each `@`.
-fn add_numbered(text: &mut Vec<u8>, lines: &[u8], digits: &Saying, said: &mut Saying) {
-    for byte in lines {
-        let is_added = if *byte == b'@' {
-            text.extend_from_slice(digits.said().as_bytes()).is_ok()
-        } else {
-            text.push(*byte).is_ok()
-        };
-        said.so(is_added, "");
-    }
-}
-
-// Adds lines to the text that is put together, for each of these numbers. In them `@` stands for the number.
-fn put(desk: &mut ProgramDesk, numbers: (u32, u32), words: &[&str], said: &mut Saying) {
-    let alloc = desk.rt.alloc();
-    let mut lines = Vec::new(alloc);
+/// Adds lines to the text that is put together: once, so many times, or for each of these numbers. In them `@` stands
+/// for the number.
+pub fn put(desk: &mut ProgramDesk, call: &Phrase, said: &mut Saying) {
+    let (from, upto, words) = match call.word(0) {
+        "script" => (1, 1, call.rest(1)),
+        "repeat" => (1, call.address(0), call.rest(2)),
+        _ => (call.address(0), call.address(1), call.rest(4)),
+    };
+    let mut lines = Vec::new(call.alloc());
     add_text(&mut lines, words, said);
-    for number in numbers.0..=numbers.1 {
-        let mut digits = Saying::new(alloc);
-        digits.number(u64::from(number));
-        add_numbered(&mut desk.text, lines.as_slice(), &digits, said);
+    for number in from..=upto {
+        for (at, part) in lines.as_slice().split(|byte| *byte == b'@').enumerate() {
+            said.so(at == 0 || write!(desk.text, "{number}").is_ok(), "");
+            said.so(desk.text.extend_from_slice(part).is_ok(), "");
+        }
     }
-    said.number(line_ends(desk.text.as_slice()) as u64);
-    said.text(" lines")
+    write!(said, "{} lines", line_ends(desk.text.as_slice()))
 }
 
-fn set_bases(desk: &mut ProgramDesk, call: &Call, said: &mut Saying) {
+/// Sets the bases of the setup's blocks.
+pub fn set_bases(desk: &mut ProgramDesk, call: &Phrase, said: &mut Saying) {
     desk.bases.clear();
     for at in 0..call.rest(1).len() {
         said.so(desk.bases.push(call.address(at)).is_ok(), "");
@@ -160,36 +130,9 @@ fn set_bases(desk: &mut ProgramDesk, call: &Call, said: &mut Saying) {
     write!(said, "{} bases", desk.bases.len())
 }
 
-// Reads a word as a number of 32 bits.
-fn read_number(call: &Call, said: &mut Saying) {
+/// Reads a word as a number of 32 bits.
+pub fn read_number(call: &Phrase, said: &mut Saying) {
     let mut text = Vec::new(call.alloc());
     add_word(&mut text, call.word(1), said);
     said.number_or_none(read_u32(text.as_slice()))
-}
-
-// Makes a call on a script that was read, or else one of those of reports and servings.
-fn tell_read(desk: &mut ProgramDesk, call: &Call, said: &mut Saying) {
-    let (lines, bases) = (desk.lines.as_slice(), desk.bases.as_slice());
-    match call.form() {
-        "fault" => said.text(desk.fault.said()),
-        "blocks" => add_lines(lines, true, said),
-        "parts" => add_lines(lines, false, said),
-        "request _" => add_request(request(lines, call.place(0)), said),
-        "address _" => add_address(request(lines, call.place(0)), bases, said),
-        "operation _" => add_operation(request(lines, call.place(0)), bases, said),
-        _ => serving::tell(desk, call, said),
-    }
-}
-
-/// Makes a call on a script.
-pub fn tell(desk: &mut ProgramDesk, call: &Call, said: &mut Saying) {
-    match call.word(0) {
-        "script" => put(desk, (1, 1), call.rest(1), said),
-        "repeat" => put(desk, (1, call.address(0)), call.rest(2), said),
-        "numbered" => put(desk, (call.address(0), call.address(1)), call.rest(4), said),
-        "read" => read(desk, call, said),
-        "bases" => set_bases(desk, call, said),
-        "u32" => read_number(call, said),
-        _ => tell_read(desk, call, said),
-    }
 }

@@ -17,25 +17,18 @@ fn spelled(part: &str) -> (Option<u8>, &str) {
 
 /// Adds the characters of a word.
 pub fn add_word(text: &mut Vec<u8>, word: &str, said: &mut Saying) {
-    if word == "\"\"" {
-        return;
-    }
-    let mut is_first = true;
-    for part in word.split('\\') {
-        let (byte, rest) = if is_first {
-            (None, part)
-        } else {
-            spelled(part)
+    let word = if word == "\"\"" { "" } else { word };
+    for (at, part) in word.split('\\').enumerate() {
+        let (byte, rest) = if at == 0 { (None, part) } else { spelled(part) };
+        let is_spelled = match byte {
+            Some(byte) => text.push(byte).is_ok(),
+            None => at == 0,
         };
-        match byte {
-            Some(byte) => said.so(text.push(byte).is_ok(), ""),
-            None => said.so(is_first, ""),
-        }
+        said.so(is_spelled, "");
         for byte in rest.bytes() {
             let byte = if byte == b'~' { b' ' } else { byte };
             said.so(text.push(byte).is_ok(), "");
         }
-        is_first = false;
     }
 }
 
@@ -45,14 +38,11 @@ pub fn add_text(text: &mut Vec<u8>, words: &[&str], said: &mut Saying) {
     for word in words {
         if *word == "/" {
             said.so(text.push(b'\n').is_ok(), "");
-            begins = true;
-            continue;
+        } else {
+            said.so(begins || text.push(b' ').is_ok(), "");
+            add_word(text, word, said);
         }
-        if !begins {
-            said.so(text.push(b' ').is_ok(), "");
-        }
-        add_word(text, word, said);
-        begins = false;
+        begins = *word == "/";
     }
 }
 

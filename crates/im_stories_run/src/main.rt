@@ -1,48 +1,49 @@
 //! Stories of runs: what is printed when each element has a server of its own, whatever the order in which they come,
 //! and when servers wait for each other; and what a script comes to that is stopped again and again.
+//!
+//! The command line names a file of scenes: titles, which are told, and calls.
+//!
+//! ```text
+//! new, old                       an image with nothing in it, of this version of the layout or the first
+//! run NAME, plan NAME, trace NAME    runs a script on the image, as a plan, or for its trace. With `after N` the
+//!                                requests of the other of elements 1 and 2 are held until one of N's is answered
+//! held TEXT                      tells the text, and whether the last run held requests back so
+//! report, report windows         the image's cells and entries, or its windows
+//! fault NAME                     a run on an image whose calls fail behind its opening
+//! once NAME, once-plan NAME      runs what the image doesn't have of a script, or goes on with its plan
+//! again NAME N, again NAME N by M    the same on new images, stopped behind 0 to N calls of the disk, or each M of
+//!                                them, with each crash, until the script is done. It tells how many ends the plain
+//!                                memory has for it in all orders, and how often it came to one of them and one more
+//!                                run printed that; again-plan NAME N: the same of a plan that is gone on with
+//! ```
 #![tactic(auto)]
 
 mod again;
+mod desk;
 mod ends;
 mod gates;
-mod runs;
-mod scenes;
 mod scripts;
-mod stage;
-mod writers;
 
-use again::run_again;
-use runs::run_named;
-use scenes::SCENES;
-use stage::{How, Stage};
+use desk::RunDesk;
 use std::process::ExitCode;
-use std::sync::Wait;
-use std::thread::Threads;
+use std::{env, fs, io};
 
-// Tells a line of the scenes.
-fn tell<R: Threads + Wait + Sync>(rt: &R, here: &mut Stage, line: &str) {
-    let (call, words) = line.split_once(' ').unwrap_or((line, ""));
-    match call {
-        "run" => run_named(rt, here, How::Run, words),
-        "plan" => run_named(rt, here, How::Plan, words),
-        "trace" => run_named(rt, here, How::Trace, words),
-        "fault" => run_named(rt, here, How::Fault, words),
-        "once" => run_named(rt, here, How::Once, words),
-        "once-plan" => run_named(rt, here, How::OncePlan, words),
-        "again" => run_again(rt, here, How::Once, words),
-        "again-plan" => run_again(rt, here, How::OncePlan, words),
-        _ => here.tell(line, call, words),
-    }
-}
-
-fn tell_all<R: Threads + Wait + Sync>(rt: &R, here: &mut Stage) {
-    for line in &SCENES {
-        tell(rt, here, line);
+// Reads the file that the command line names.
+fn scenes_of(rt: &HostRuntime) -> io::Result<String> {
+    match env::args(rt)?.nth(1) {
+        Some(file) => fs::read_to_string(rt, file.as_str()),
+        None => Err(io::ErrorKind::NotFound.into()),
     }
 }
 
 fn main(rt: HostRuntime) -> ExitCode {
-    let mut here = Stage::new(rt.alloc());
-    tell_all(&rt, &mut here);
-    ExitCode::from(here.said.print(&rt))
+    let Ok(text) = scenes_of(&rt) else {
+        return ExitCode::from(1);
+    };
+    let mut desk = RunDesk::new(rt.alloc(), text.as_str());
+    let (scenes, _) = text.as_str().split_once("\nscript ").unwrap_or(("", ""));
+    for line in scenes.lines() {
+        desk.tell(&rt, line);
+    }
+    ExitCode::from(desk.said.print(&rt))
 }

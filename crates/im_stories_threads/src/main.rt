@@ -6,73 +6,51 @@
 //! What can't be made is told in its place or is missing there, so what is told then isn't what it has to be.
 #![tactic(auto)]
 
+mod acts;
+mod casts;
 mod crews;
 mod gates;
 mod glances;
-mod memories;
-mod naming;
-mod notes;
-mod parts;
 mod plans;
+mod players;
+mod plays;
 mod scenes;
 mod servers;
 mod stops;
 mod traces;
 
-use crate::memories::{new_memory, started};
-use crate::naming::{Act, act_on};
+use crate::acts::{Act, act_on, new_memory};
 use crate::plans::show_plans;
-use crate::scenes::Scene;
+use crate::plays::{PLAYS, Play};
 use crate::stops::show_stops;
-use im_controller::Opening;
-use im_disk::FuseDisk;
+use im_controller::{start, start_unrecorded};
 use im_serving::Host;
 use im_story::Saying;
-use im_types::Limits;
-use std::alloc::Global;
 use std::process::ExitCode;
-use std::sync::Wait;
 
-// Makes a new memory, and room for a scene's trace.
-fn opening<R: Wait>(
-    rt: &R,
-    alloc: Global,
-    scene: Scene,
-    limits: Limits,
-) -> Option<Opening<FuseDisk>> {
-    started(rt, alloc, new_memory(alloc, limits)?, scene.room())
-}
-
-fn show_scene<R: Host>(rt: &R, alloc: Global, scene: Scene, said: &mut Saying) {
-    let Some(limits) = scene.limits() else {
-        return said.text("these are no sizes\n");
+// Plays a scene with a new memory.
+fn show<R: Host>(rt: &R, play: &Play, said: &mut Saying) {
+    let alloc = said.alloc();
+    writeln!(said, "{}", play.head);
+    let Some(engine) = new_memory(alloc, play.sizes) else {
+        return said.text("  no image\n");
     };
-    said.text(scene.head());
-    said.text("\n");
-    if let Some(opening) = opening(rt, alloc, scene, limits) {
-        let told = act_on(rt, alloc, Act::Shows(scene), limits, opening);
-        said.also(&told)
+    let opening = match play.room {
+        Some(lines) => start(rt, alloc, engine, lines),
+        None => start_unrecorded(rt, alloc, engine),
+    };
+    match opening {
+        Ok(opening) => said.also(&act_on(rt, alloc, Act::Plays(play), opening)),
+        Err(_) => said.text("  no memory\n"),
     }
 }
 
 fn main(rt: HostRuntime) -> ExitCode {
-    let alloc = rt.alloc();
-    let mut said = Saying::new(alloc);
-    for scene in [
-        Scene::Two,
-        Scene::KeeperWorks,
-        Scene::KeeperAlone,
-        Scene::OneLine,
-        Scene::Unrecorded,
-        Scene::ServersWait,
-        Scene::RetiredWaits,
-        Scene::Sixteen,
-        Scene::Great,
-        Scene::Readers,
-    ] {
-        show_scene(&rt, alloc, scene, &mut said);
+    let mut said = Saying::new(rt.alloc());
+    for play in &PLAYS {
+        show(&rt, play, &mut said)
     }
-    show_stops(&rt, alloc, &mut said);
-    show_plans(&rt, alloc, &mut said);
+    show_stops(&rt, &mut said);
+    show_plans(&rt, &mut said);
     ExitCode::from(said.print(&rt))
 }

@@ -1,122 +1,86 @@
 //! Servers of what elements ask for.
 
-use crate::gates::{InOrder, Order};
-use crate::notes::{Notes, keep};
-use im_controller::{Controller, Name, Port};
-use im_disk::FuseDisk;
-use im_serving::{Done, Glances, Host, Intent, Part, Served, Unwatched, serve_elements};
-use im_story::Saying;
+use crate::casts::{Cast, keep};
+use im_controller::Name;
+use im_serving::{Done, Gate, Glances, Host, Intent, Part, Served, Unwatched, serve_elements};
 use im_types::{Entry, Op, Refusal};
-use std::alloc::Global;
-use std::sync::Wait;
 
-/// A request: its element, its number and its operation.
-pub type Asked = (u16, u64, Op);
+/// A request: its element, from 1 to 3, its number and its operation.
+pub type Wish = (u16, u64, Op);
 
-// Returns what an element asks for among these requests.
-fn intents(requests: &[Asked], element: u16, notes: &mut Notes) -> Vec<Intent> {
-    let mut intents = Vec::new(notes.alloc);
-    for (of, _, op) in requests {
-        if *of == element {
-            keep(&mut intents, Intent::Request(*op), &mut notes.said)
+impl<K: Name + Send + Sync, R: Host> Cast<'_, K, R> {
+    // Makes the part of an element that was never served, if it asks for something among these requests.
+    fn part(&mut self, wishes: &[Wish], element: u16) -> Option<Part<K>> {
+        let mut intents = Vec::new(self.alloc);
+        for (of, _, op) in wishes {
+            if *of == element {
+                keep(&mut intents, Intent::Request(*op), &mut self.said)
+            }
         }
-    }
-    intents
-}
-
-// Makes the part of an element that was never served. It asks for its requests among these.
-fn part<K: Name, R: Wait>(
-    rt: &R,
-    controller: &Controller<FuseDisk, K>,
-    requests: &[Asked],
-    element: u16,
-    notes: &mut Notes,
-) -> Option<Part<K>> {
-    let alloc: Global = notes.alloc;
-    let glances = Glances::new(rt, alloc, controller, element).ok()?;
-    let port = controller.port(rt, element).ok()?;
-    Some(Part {
-        port,
-        served: Served {
+        if intents.is_empty() {
+            return None;
+        }
+        let glances = Glances::new(self.rt, self.alloc, self.controller, element).ok()?;
+        let port = self.port(element)?;
+        let entries = Vec::new(self.alloc);
+        let served = Served {
             element,
             first: 1,
             base: 1,
-            entries: Vec::new(alloc),
-        },
-        glances,
-        intents: intents(requests, element, notes),
-    })
-}
-
-// Makes the parts of all elements from 1 to the last one that asks.
-fn parts<K: Name, R: Wait>(
-    rt: &R,
-    controller: &Controller<FuseDisk, K>,
-    requests: &[Asked],
-    notes: &mut Notes,
-) -> Vec<Part<K>> {
-    let mut parts = Vec::new(notes.alloc);
-    let elements = match requests.last() {
-        Some((element, _, _)) => *element,
-        None => 0,
-    };
-    for before in 0..elements {
-        let element = before.saturating_add(1);
-        match part(rt, controller, requests, element, notes) {
-            Some(part) => keep(&mut parts, part, &mut notes.said),
-            None => writeln!(notes.said, "  {element} has no port or no glance"),
-        }
+            entries,
+        };
+        Some(Part {
+            port,
+            served,
+            glances,
+            intents,
+        })
     }
-    parts
-}
 
-/// Adds why an element has ended, unless the disk has stopped or its last request is answered.
-pub fn add_ended(element: u16, ended: Result<(), Refusal>, is_answered: bool, said: &mut Saying) {
-    match ended {
-        Ok(()) if is_answered => {}
-        Ok(()) => writeln!(said, "  {element} has no answer"),
-        Err(Refusal::Device | Refusal::Failed) => {}
-        Err(refusal) => {
-            write!(said, "  {element} ");
-            said.refusal(refusal);
-            said.text("\n")
-        }
-    }
-}
-
-// Notes what the requests of an element were told, and adds why it has ended.
-fn note<K: Name>(done: &Done<K>, notes: &mut Notes) {
-    notes.hear();
-    let element = done.served.element;
-    let mut number = done.served.first;
-    let mut is_answered = false;
-    for entry in done.served.entries.iter() {
-        notes.note(element, number, *entry);
-        number = number.saturating_add(1);
-        is_answered = *entry != Entry::Waiting;
-    }
-    add_ended(element, done.done, is_answered, &mut notes.said)
-}
-
-/// Lets servers play, each of what its element asks for among these requests, in an order or freely. Their ports come
-/// back.
-pub fn serve<K: Name + Send + Sync, R: Host>(
-    rt: &R,
-    controller: &Controller<FuseDisk, K>,
-    requests: &[Asked],
-    order: Option<Order>,
-    ports: &mut Vec<Port<K>>,
-    notes: &mut Notes,
-) {
-    let parts = parts(rt, controller, requests, notes);
-    let gate = InOrder::new(order);
-    match serve_elements(rt, notes.alloc, controller, &gate, &Unwatched, parts) {
-        Ok(all) => {
-            for done in all {
-                note(&done, notes);
-                keep(ports, done.port, &mut notes.said);
+    /// Tells why an element has ended, unless the disk has stopped or its last request is answered.
+    pub fn tell_end(&mut self, element: u16, ended: Result<(), Refusal>, is_answered: bool) {
+        match ended {
+            Ok(()) if is_answered => {}
+            Ok(()) => writeln!(self.said, "  {element} has no answer"),
+            Err(Refusal::Device | Refusal::Failed) => {}
+            Err(refusal) => {
+                write!(self.said, "  {element} ");
+                self.said.refusal(refusal);
+                self.said.text("\n")
             }
         }
-        Err(_) => notes.said.text("  no memory\n"),
+    }
+
+    // Takes the port of a server back, notes what its requests were told, and tells why it has ended.
+    fn end(&mut self, done: Done<K>) {
+        let element = done.served.element;
+        let mut number = done.served.first;
+        let mut is_answered = false;
+        for entry in done.served.entries.iter() {
+            self.note(element, number, *entry);
+            number = number.saturating_add(1);
+            is_answered = *entry != Entry::Waiting;
+        }
+        self.tell_end(element, done.done, is_answered);
+        self.keep(done.port)
+    }
+
+    /// Lets servers play, each of what its element asks for among these requests. Their ports come back.
+    pub fn serve<G: Gate + Sync>(&mut self, wishes: &[Wish], gate: &G) {
+        let mut parts = Vec::new(self.alloc);
+        for element in 1..4u16 {
+            if let Some(part) = self.part(wishes, element) {
+                keep(&mut parts, part, &mut self.said)
+            }
+        }
+        let (rt, alloc, controller) = (self.rt, self.alloc, self.controller);
+        match serve_elements(rt, alloc, controller, gate, &Unwatched, parts) {
+            Ok(all) => {
+                for done in all {
+                    self.end(done)
+                }
+            }
+            Err(_) => self.said.text("  no memory\n"),
+        }
     }
 }

@@ -1,52 +1,52 @@
 //! What a trace shows.
 
+use crate::acts::{Sizes, limits_of};
+use crate::players::NO_CELL;
 use im_controller::Traced;
 use im_plain::PlainMemory;
-use im_types::{Call, Command, Entry, Limits, Outcome, Refusal, Reply};
+use im_story::Saying;
+use im_types::{Call, Command, Outcome};
 use std::alloc::Global;
 
-/// Returns how many requests of an element a trace has. They have to be numbered in order from 1 on and each answered
-/// `nocell`; otherwise it returns `None`.
-pub fn fetches_of(trace: &[Traced], element: u16) -> Option<u64> {
+/// Tells how many requests of an element a trace has, if it has some. They have to be numbered in order from 1 on and
+/// each answered `nocell`.
+pub fn add_fetches(trace: &[Traced], element: u16, said: &mut Saying) {
     let mut many = 0u64;
     for traced in trace {
         let line = traced.line();
         let Call::Command(Command::Request(request)) = line.call else {
             continue;
         };
-        if request.element != element {
-            continue;
-        }
-        many = many.saturating_add(1);
-        if request.number != many
-            || line.answer != Ok(Outcome::Entry(Entry::Answered(Reply::NoCell)))
-        {
-            return None;
+        if request.element == element {
+            many = many.saturating_add(1);
+            if request.number != many || line.answer != NO_CELL {
+                return writeln!(said, "  {element}: not in order");
+            }
         }
     }
-    Some(many)
-}
-
-// Returns the plain memory's answer to a call.
-fn answer_again(memory: &mut PlainMemory, call: Call) -> Result<Outcome, Refusal> {
-    match call {
-        Call::Command(command) => memory.step(&command),
-        Call::Collect { element, number } => match memory.collect(element, number) {
-            Ok(entry) => Ok(Outcome::Entry(entry)),
-            Err(refusal) => Err(refusal),
-        },
+    if many != 0 {
+        writeln!(said, "  {element}: {many} nocell, in order")
     }
 }
 
-/// Returns how many lines of a trace, from the first, the plain memory answers alike.
-pub fn alike(alloc: Global, limits: Limits, trace: &[Traced]) -> usize {
+/// Returns how many lines of a trace, from the first, a plain memory of these sizes answers alike.
+pub fn alike(alloc: Global, sizes: Sizes, trace: &[Traced]) -> usize {
+    let Some(limits) = limits_of(sizes) else {
+        return 0;
+    };
     let Ok(mut memory) = PlainMemory::new(alloc, limits) else {
         return 0;
     };
     let mut many = 0usize;
     for traced in trace {
         let line = traced.line();
-        if answer_again(&mut memory, line.call) != line.answer {
+        let again = match line.call {
+            Call::Command(command) => memory.step(&command),
+            Call::Collect { element, number } => memory
+                .collect(element, number)
+                .map(Outcome::Entry),
+        };
+        if again != line.answer {
             break;
         }
         many = many.saturating_add(1);

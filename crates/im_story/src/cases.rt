@@ -2,13 +2,14 @@
 
 use crate::says::Saying;
 use std::alloc::Global;
+use std::ops::RangeInclusive;
 
 /// Cases in a row that tell the same. Those with numbers are told as `TEXT FROM..TO`, a single one as `TEXT CASE`, and
 /// those without numbers as `TEXT xTIMES`. Between two of them comes `, `.
 #[derive(Drop)]
 pub struct Cases {
     text: Saying,
-    numbers: Option<(u64, u64)>,
+    from: Option<u64>,
     times: u64,
 }
 
@@ -17,40 +18,32 @@ impl Cases {
     pub fn none(alloc: Global) -> Cases {
         Cases {
             text: Saying::new(alloc),
-            numbers: None,
+            from: None,
             times: 0,
         }
     }
 
-    // Takes in a case. If it doesn't go on from those before it, they are told.
-    fn take(&mut self, goes_on: bool, text: &Saying, said: &mut Saying) {
-        if !goes_on || text.said() != self.text.said() {
+    /// Takes in a case, which may have a number. If it tells something else than those before it, or doesn't follow
+    /// them, they are told.
+    pub fn take(&mut self, case: Option<u64>, text: &Saying, said: &mut Saying) {
+        let next = self.from.map(|from| from.saturating_add(self.times));
+        if next != case || text.said() != self.text.said() {
             self.end(said);
             self.text.repeat(text);
-            self.numbers = None;
+            self.from = case;
             self.times = 0;
         }
         self.times = self.times.saturating_add(1);
     }
 
-    /// Takes in the case of this number. If it tells something else than those before it, or isn't the next one, they
-    /// are told.
+    /// Takes in the case of this number.
     pub fn next(&mut self, case: u64, text: &Saying, said: &mut Saying) {
-        let goes_on = match self.numbers {
-            Some((_, to)) => to.checked_add(1) == Some(case),
-            None => false,
-        };
-        self.take(goes_on, text, said);
-        self.numbers = match self.numbers {
-            Some((from, _)) => Some((from, case)),
-            None => Some((case, case)),
-        };
+        self.take(Some(case), text, said)
     }
 
-    /// Takes in a case without a number. If it tells something else than those before it, they are told.
+    /// Takes in a case without a number.
     pub fn again(&mut self, text: &Saying, said: &mut Saying) {
-        let goes_on = self.numbers.is_none();
-        self.take(goes_on, text, said)
+        self.take(None, text, said)
     }
 
     /// Tells the last ones.
@@ -60,11 +53,51 @@ impl Cases {
         }
         said.either(said.is_empty(), "", ", ");
         said.also(&self.text);
-        match (self.numbers, self.times) {
-            (Some((from, _)), 1) => write!(said, " {from}"),
-            (Some((from, to)), _) => write!(said, " {from}..{to}"),
+        match (self.from, self.times) {
+            (Some(from), 1) => write!(said, " {from}"),
+            (Some(from), times) => write!(
+                said,
+                " {from}..{}",
+                from.saturating_add(times.saturating_sub(1))
+            ),
             (None, 1) => {}
             (None, times) => write!(said, " x{times}"),
+        }
+    }
+}
+
+impl Saying {
+    /// Tells what each case says. Those in a row that say the same are told once, as [`Cases`] are.
+    pub fn each<F: FnMut(u64, &mut Saying)>(&mut self, numbers: RangeInclusive<u64>, mut tell: F)
+        requires { F.IsAlwaysCallable tell }
+    {
+        let mut cases = Cases::none(self.alloc());
+        for number in numbers {
+            let mut one = Saying::new(self.alloc());
+            tell(number, &mut one);
+            cases.take(Some(number), &one, self);
+        }
+        cases.end(self)
+    }
+
+    /// Tells what the first case says. All others have to say the same.
+    pub fn alike<F: FnMut(u64, &mut Saying)>(&mut self, numbers: RangeInclusive<u64>, mut tell: F)
+        requires { F.IsAlwaysCallable tell }
+    {
+        for number in numbers {
+            let mut one = Saying::new(self.alloc());
+            tell(number, &mut one);
+            self.same(&one, number);
+        }
+    }
+
+    /// Says what another one says if nothing was said, or else checks that it says the same. The number tells of what.
+    pub fn same(&mut self, other: &Saying, number: u64) {
+        if self.is_empty() {
+            self.also(other)
+        } else if self.said() != other.said() || other.is_wrong() {
+            self.fail("not the same at ");
+            self.number(number)
         }
     }
 }

@@ -34,18 +34,10 @@ impl Dice {
         (self.throw() >> 33) as u32 % bound
     }
 
-    // Returns such a number of 64 bits.
-    fn long(&mut self, bound: u64) -> u64
-        requires { 0 < bound }
-        ensures { result < bound }
-    {
-        (self.throw() >> 33) % bound
-    }
-
     /// Returns an operation that never waits: on a cell at an address up to `cells`, or for a block of up to five.
     pub fn answered_at_once(&mut self, cells: u32) -> Op {
-        let a = self.long(cells as u64 + 1) as u32;
-        let value = self.long(100);
+        let a = self.below(cells.saturating_add(1));
+        let value = u64::from(self.below(100));
         match self.below(9) {
             0 => Op::Alloc(Kind::I, self.below(6)),
             1 => Op::Alloc(Kind::M, self.below(6)),
@@ -58,7 +50,7 @@ impl Dice {
 
     /// Returns one of the eight operations, on a cell at an address up to `cells`. One in two may wait.
     pub fn operation(&mut self, cells: u32) -> Op {
-        let a = self.long(cells as u64 + 1) as u32;
+        let a = self.below(cells.saturating_add(1));
         match self.below(4) {
             0 => Op::Fetch(a),
             1 => Op::Take(a),
@@ -73,7 +65,7 @@ impl Dice {
         match self.below(16) {
             0 => base.saturating_sub(1),
             1 => next.saturating_add(1),
-            2 => base.saturating_add(self.long(64)),
+            2 => base.saturating_add(u64::from(self.below(64))),
             _ => next,
         }
     }
@@ -81,7 +73,7 @@ impl Dice {
     /// Returns a command of an element with these bounds of its window. One in five confirms.
     pub fn command(&mut self, element: u16, window: (u64, u64), cells: u32) -> Command {
         if self.below(5) == 0 {
-            let upto = window.0.saturating_add(self.long(18));
+            let upto = window.0.saturating_add(u64::from(self.below(18)));
             return Command::Confirm { element, upto };
         }
         Command::Request(asked(element, self.number(window), self.operation(cells)))

@@ -9,34 +9,29 @@
 //! ```
 //!
 //! A line `# ..` begins a story and says what happens in it. A line `-- ..` is a remark. Each other line that isn't
-//! blank is a call and its answer, with ` = ` between them. The [`Scene`] says what calls there are. It gets a call
-//! taken apart, as a [`Call`], and tells its answer to a [`Saying`], which keeps what goes wrong until the end. So no
+//! blank is a call and its answer, with ` = ` between them. The [`Subject`] says what calls there are. It gets a call
+//! taken apart, as a [`Phrase`], and tells its answer to a [`Saying`], which keeps what goes wrong until the end. So no
 //! arm of its interpreter has a way out, which is what its proof would cost.
 //!
 //! The crate stands on `im_types` and `im_disk`, and the crates that tell stories use it. It promises nothing but that
 //! it ends: a story is a test.
 #![tactic(auto)]
 
-mod calls;
 mod cases;
 mod dice;
-mod disks;
-mod files;
 mod old;
-mod paper;
-mod records;
+mod phrases;
+mod printout;
 mod says;
 mod texts;
 mod walks;
 mod words;
 
-pub use calls::Call;
 pub use cases::Cases;
 pub use dice::Dice;
-pub use disks::{changes, crash, mode};
-pub use files::walk_files;
 pub use old::old_image;
-pub use paper::Paper;
+pub use phrases::{Phrase, Phrase as Call};
+pub use printout::{Printout, Printout as Paper};
 pub use says::Saying;
-pub use walks::{Scene, Steps, tell_line};
-pub use words::{asked, bytes, change, command, hex, op, request};
+pub use walks::{Subject, Subject as Scene, tell_line, walk_files};
+pub use words::{asked, bytes, change, changes, command, crash, entry, hex, mode, op, request};

@@ -4,20 +4,11 @@ use im_types::Limits;
 use im_types::layout::{CELL_RECORD, OPEN, PAGE, Version, cell_bytes};
 use std::alloc::{AllocError, Global};
 
-// Puts bytes among others, if they fit.
+// Puts bytes among others, as far as there are so many.
 fn put(bytes: &mut [u8], at: usize, part: &[u8]) {
-    for (past, byte) in part.iter().enumerate() {
-        if let Some(place) = bytes.get_mut(at.saturating_add(past)) {
-            *place = *byte;
-        }
+    for (place, byte) in bytes.iter_mut().skip(at).zip(part) {
+        *place = *byte;
     }
-}
-
-fn put_header(bytes: &mut [u8], limits: Limits) {
-    put(bytes, 0, &[OPEN, 0, 1, 0, 0x49, 0x4D, 0x45, 0x4D, 1]);
-    put(bytes, 24, &limits.cells.to_le_bytes());
-    put(bytes, 28, &limits.elements.to_le_bytes());
-    put(bytes, 32, &limits.slots.to_le_bytes());
 }
 
 /// Returns the bytes of a new image of the first version. Header 0 is in force at generation 1 with count 0, the empty
@@ -25,7 +16,10 @@ fn put_header(bytes: &mut [u8], limits: Limits) {
 pub fn old_image(alloc: Global, limits: Limits) -> Result<Vec<u8>, AllocError> {
     let old = Version::One;
     let mut bytes = vec![in alloc; 0; old.image_length(limits)]?;
-    put_header(&mut bytes, limits);
+    put(&mut bytes, 0, &[OPEN, 0, 1, 0, 0x49, 0x4D, 0x45, 0x4D, 1]);
+    put(&mut bytes, 24, &limits.cells.to_le_bytes());
+    put(&mut bytes, 28, &limits.elements.to_le_bytes());
+    put(&mut bytes, 32, &limits.slots.to_le_bytes());
     let area = old.area_at(limits, 0);
     for cell in 0..limits.cells as usize {
         put(&mut bytes, area + CELL_RECORD * cell + 8, &[0xFF; 12]);

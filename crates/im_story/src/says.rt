@@ -1,5 +1,6 @@
 //! What a call says. It can be told with no `?`, since what goes wrong is kept until the end.
 
+use im_types::Refusal;
 use std::alloc::{AllocError, Global};
 use std::fmt::Display;
 
@@ -62,16 +63,6 @@ impl Saying {
         self.also(other)
     }
 
-    /// Says what another one says if nothing was said, or else checks that it says the same. The number tells of what.
-    pub fn same(&mut self, other: &Saying, number: u64) {
-        if self.is_empty() {
-            self.also(other)
-        } else if self.said() != other.said() || other.is_wrong() {
-            self.fail("not the same at ");
-            self.number(number)
-        }
-    }
-
     /// Adds a text.
     pub fn text(&mut self, text: &str) {
         if self.text.push_str(text).is_err() {
@@ -95,7 +86,7 @@ impl Saying {
     }
 
     /// Adds a number.
-    pub fn number(&mut self, number: u64) {
+    pub fn number<N: Display + Drop>(&mut self, number: N) {
         write!(self, "{number}")
     }
 
@@ -124,6 +115,26 @@ impl Saying {
     pub fn check(&mut self, is_so: bool) {
         if !is_so {
             self.fail("it isn't as it has to be")
+        }
+    }
+
+    /// Tells of something that is there, or says why the call can't be made.
+    pub fn given<T, F: FnOnce(T, &mut Saying)>(&mut self, it: Option<T>, why: &str, tell: F)
+        requires { F.IsAlwaysCallable tell }
+    {
+        match it {
+            Some(it) => tell(it, self),
+            None => self.fail(why),
+        }
+    }
+
+    /// Tells of an answer, or adds the refusal.
+    pub fn result<T, F: FnOnce(T, &mut Saying)>(&mut self, answer: Result<T, Refusal>, tell: F)
+        requires { F.IsAlwaysCallable tell }
+    {
+        match answer {
+            Ok(it) => tell(it, self),
+            Err(refusal) => self.refusal(refusal),
         }
     }
 

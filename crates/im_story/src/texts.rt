@@ -1,53 +1,35 @@
-//! The texts of replies, of operations and of what a memory has.
+//! The texts of operations, replies and records, and of what a memory has.
+//!
+//! ```text
+//! free hole 3 next none                    the record of a cell in no block
+//! waiting 9 12 in block 0 of 2 m           of a cell of the M block of 2 cells from 0 on; its list: nodes 9 to 12
+//! free next 3                              of a waiter node in no list
+//! 1.4 next none                            of a node of a list: element 1 waits for its request 4
+//! ```
 
 use crate::says::Saying;
 use im_types::{
-    Block, Cell, Command, Entry, Kept, Kind, Op, Outcome, Refusal, Reply, Request, Waiter,
+    Block, Cell, CellRecord, Command, Entry, Kept, Kind, NONE, NodeRecord, Op, Outcome,
+    PresenceTag, Refusal, Reply, Waiter,
 };
-
-fn word_of(reply: Reply) -> &'static str {
-    match reply {
-        Reply::Base(_) => "base ",
-        Reply::NoSpace => "nospace",
-        Reply::BadLength => "badlength",
-        Reply::Value(_) => "value ",
-        Reply::Stored => "stored",
-        Reply::Clash => "clash",
-        Reply::NoCell => "nocell",
-        Reply::WrongKind => "wrongkind",
-        Reply::Released => "released",
-        Reply::NoBlock => "noblock",
-        Reply::StillWaiting => "stillwaiting",
-        Reply::Cleared => "cleared",
-    }
-}
-
-// Returns the word of an operation, its address or length, and its value.
-fn parts_of(op: Op) -> (&'static str, u32, Option<u64>) {
-    match op {
-        Op::Alloc(Kind::I, length) => ("alloc i ", length, None),
-        Op::Alloc(Kind::M, length) => ("alloc m ", length, None),
-        Op::Release(base) => ("release ", base, None),
-        Op::Reset(base) => ("reset ", base, None),
-        Op::Fetch(cell) => ("fetch ", cell, None),
-        Op::Store(cell, value) => ("store ", cell, Some(value)),
-        Op::Take(cell) => ("take ", cell, None),
-        Op::Put(cell, value) => ("put ", cell, Some(value)),
-    }
-}
 
 impl Saying {
     /// Adds `true` or `false`.
     pub fn truth(&mut self, truth: bool) {
-        self.either(truth, "true", "false")
+        self.number(truth)
     }
 
     /// Adds a number, or `none`.
     pub fn number_or_none(&mut self, number: Option<u32>) {
         match number {
-            Some(number) => self.number(u64::from(number)),
+            Some(number) => self.number(number),
             None => self.text("none"),
         }
+    }
+
+    // Adds a link to a cell or a node.
+    fn link(&mut self, link: u32) {
+        self.number_or_none(if link == NONE { None } else { Some(link) })
     }
 
     /// Adds the name of a request.
@@ -61,6 +43,11 @@ impl Saying {
             Some(who) => self.name(who.element, who.number),
             None => self.text("none"),
         }
+    }
+
+    /// Adds a waiter, with a space before it.
+    pub fn who(&mut self, who: Waiter) {
+        write!(self, " {}.{}", who.element, who.number)
     }
 
     /// Adds the letter of a kind.
@@ -78,10 +65,9 @@ impl Saying {
         }
     }
 
-    /// Adds ` in block BASE of LENGTH KIND`.
-    pub fn within(&mut self, block: Block) {
-        let (base, length) = (block.base, block.length);
-        write!(self, " in block {base} of {length} ");
+    // Adds ` in block BASE of LENGTH KIND`.
+    fn within(&mut self, block: Block) {
+        write!(self, " in block {} of {} ", block.base, block.length);
         self.kind(block.kind)
     }
 
@@ -97,13 +83,65 @@ impl Saying {
         }
     }
 
+    // Adds the tag of a cell.
+    fn tag(&mut self, tag: PresenceTag) {
+        match tag {
+            PresenceTag::Empty => self.cell(Cell::Empty),
+            PresenceTag::Waiting { first, last } => {
+                self.text("waiting ");
+                self.link(first);
+                self.text(" ");
+                self.link(last)
+            }
+            PresenceTag::Full(value) => self.cell(Cell::Full(value)),
+            PresenceTag::Clashed(value) => self.cell(Cell::Clashed(value)),
+        }
+    }
+
+    /// Adds the record of a cell.
+    pub fn cell_record(&mut self, cell: CellRecord) {
+        match cell {
+            CellRecord::Free { hole, next } => {
+                write!(self, "free hole {hole} next ");
+                self.link(next)
+            }
+            CellRecord::Held { block, tag } => {
+                self.tag(tag);
+                self.within(block)
+            }
+        }
+    }
+
+    /// Adds the record of a waiter node.
+    pub fn node_record(&mut self, node: NodeRecord) {
+        match node {
+            NodeRecord::Free { next } => {
+                self.text("free next ");
+                self.link(next)
+            }
+            NodeRecord::Listed { next, waiter } => {
+                self.waiter(Some(waiter));
+                self.text(" next ");
+                self.link(next)
+            }
+        }
+    }
+
     /// Adds the text of an answer to an operation.
     pub fn reply(&mut self, reply: Reply) {
-        self.text(word_of(reply));
         match reply {
-            Reply::Base(base) => self.number(u64::from(base)),
-            Reply::Value(value) => self.number(value),
-            _ => {}
+            Reply::Base(base) => write!(self, "base {base}"),
+            Reply::NoSpace => self.text("nospace"),
+            Reply::BadLength => self.text("badlength"),
+            Reply::Value(value) => write!(self, "value {value}"),
+            Reply::Stored => self.text("stored"),
+            Reply::Clash => self.text("clash"),
+            Reply::NoCell => self.text("nocell"),
+            Reply::WrongKind => self.text("wrongkind"),
+            Reply::Released => self.text("released"),
+            Reply::NoBlock => self.text("noblock"),
+            Reply::StillWaiting => self.text("stillwaiting"),
+            Reply::Cleared => self.text("cleared"),
         }
     }
 
@@ -117,26 +155,26 @@ impl Saying {
 
     /// Adds an operation, in the words in which it is asked.
     pub fn op(&mut self, op: Op) {
-        let (word, place, value) = parts_of(op);
-        self.text(word);
-        self.number(u64::from(place));
-        if let Some(value) = value {
-            self.text(" ");
-            self.number(value)
+        match op {
+            Op::Alloc(Kind::I, length) => write!(self, "alloc i {length}"),
+            Op::Alloc(Kind::M, length) => write!(self, "alloc m {length}"),
+            Op::Release(base) => write!(self, "release {base}"),
+            Op::Reset(base) => write!(self, "reset {base}"),
+            Op::Fetch(cell) => write!(self, "fetch {cell}"),
+            Op::Store(cell, value) => write!(self, "store {cell} {value}"),
+            Op::Take(cell) => write!(self, "take {cell}"),
+            Op::Put(cell, value) => write!(self, "put {cell} {value}"),
         }
     }
 
-    /// Adds a request, in the same way.
-    pub fn request(&mut self, request: Request) {
-        self.name(request.element, request.number);
-        self.text(" ");
-        self.op(request.op)
-    }
-
-    /// Adds a command, or `none`.
+    /// Adds a command in the same way, or `none`.
     pub fn command(&mut self, command: Option<Command>) {
         match command {
-            Some(Command::Request(request)) => self.request(request),
+            Some(Command::Request(request)) => {
+                self.name(request.element, request.number);
+                self.text(" ");
+                self.op(request.op)
+            }
             Some(Command::Confirm { element, upto }) => write!(self, "confirm {element} {upto}"),
             None => self.text("none"),
         }
@@ -168,44 +206,34 @@ impl Saying {
     pub fn bytes(&mut self, bytes: &[u8], least: usize) {
         let (mut run, mut count) = (0, 0usize);
         for byte in bytes {
-            if *byte == run {
-                count = count.saturating_add(1);
-            } else {
+            if *byte != run {
                 self.run(run, count, least);
-                (run, count) = (*byte, 1);
+                (run, count) = (*byte, 0);
             }
+            count = count.saturating_add(1);
         }
         self.run(run, count, least)
     }
 
     /// Adds so many of some bytes, from a place on, in the same way.
     pub fn part(&mut self, bytes: &[u8], at: usize, count: usize, least: usize) {
-        match bytes.get(at..at.saturating_add(count)) {
-            Some(part) => self.bytes(part, least),
-            None => self.fail("there are not so many bytes"),
-        }
+        let part = bytes.get(at..at.saturating_add(count));
+        self.given(part, "too few bytes", |it, said| said.bytes(it, least))
     }
 
     /// Adds `refused N NAME`.
     pub fn refusal(&mut self, refusal: Refusal) {
-        let number = refusal.number();
-        write!(self, "refused {number} {refusal}")
+        write!(self, "refused {} {refusal}", refusal.number())
     }
 
     /// Adds a text, or a refusal.
     pub fn done(&mut self, answer: Result<(), Refusal>, text: &str) {
-        match answer {
-            Ok(()) => self.text(text),
-            Err(refusal) => self.refusal(refusal),
-        }
+        self.result(answer, |_, said| said.text(text))
     }
 
     /// Adds what is kept for a request, or why nothing is kept.
     pub fn answer(&mut self, answer: Result<Entry, Refusal>) {
-        match answer {
-            Ok(entry) => self.entry(entry),
-            Err(refusal) => self.refusal(refusal),
-        }
+        self.result(answer, |entry, said| said.entry(entry))
     }
 
     /// Adds the outcome of a command, or why it was refused.
@@ -219,9 +247,6 @@ impl Saying {
 
     /// Adds a window: the number of its first entry, and that of the next request.
     pub fn window(&mut self, window: Result<(u64, u64), Refusal>) {
-        match window {
-            Ok((base, next)) => write!(self, "{base} {next}"),
-            Err(refusal) => self.refusal(refusal),
-        }
+        self.result(window, |(base, next), said| write!(said, "{base} {next}"))
     }
 }

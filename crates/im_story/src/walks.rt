@@ -1,33 +1,29 @@
-//! Walks through a text of stories.
+//! Walks through the stories of files.
 
-use crate::calls::Call;
 use crate::dice::Dice;
+use crate::phrases::Phrase;
 use crate::says::Saying;
-use std::alloc::Global;
+use std::{env, fs};
 
 /// A layer that stories are about, from its beginning on, and the words for its calls.
-pub trait Scene {
+pub trait Subject {
     /// Begins a story: nothing has happened yet.
     fn begin(&mut self);
 
     /// Makes the call, and says its answer, or that there is no such call.
-    fn make(&mut self, call: &Call, said: &mut Saying);
+    fn make(&mut self, call: &Phrase, said: &mut Saying);
 }
 
-/// Steps that are thrown, beside what has to come of them.
-pub trait Steps {
-    /// Makes the step of this number. Returns whether all is then as it has to be.
-    fn step(&mut self, number: u64, dice: &mut Dice) -> bool;
-}
-
-impl Call<'_> {
-    /// Makes as many steps as the call's first number says, thrown from its second one on. Tells how many of them are
-    /// right, up to the first that isn't.
-    pub fn walk<S: Steps>(&self, steps: &mut S, said: &mut Saying) {
+impl Phrase<'_> {
+    /// Makes as many steps as the call's first number says, thrown from its second one on. A step gets its number, and
+    /// returns whether all is then as it has to be. Tells how many of them are right, up to the first that isn't.
+    pub fn walk<F: FnMut(u64, &mut Dice) -> bool>(&self, said: &mut Saying, mut step: F)
+        requires { F.IsAlwaysCallable step }
+    {
         let mut dice = Dice::new(self.number(1));
         let mut right = 0u64;
         for number in 0..self.number(0) {
-            if !steps.step(number, &mut dice) {
+            if !step(number, &mut dice) {
                 break;
             }
             right = number.saturating_add(1);
@@ -36,62 +32,19 @@ impl Call<'_> {
     }
 }
 
-/// What was read of a text, and how much of it was wrong.
-#[derive(Clone, Copy)]
-pub struct Walked {
-    /// How many stories there were.
-    pub stories: u32,
-    /// How many calls they have.
-    pub lines: u32,
-    /// How many calls were answered otherwise, lines are no call, and stories have no call.
-    pub wrong: u32,
-    /// How many calls the last story has so far.
-    here: u32,
-}
-
-impl Walked {
-    fn nothing() -> Walked {
-        Walked {
-            stories: 0,
-            lines: 0,
-            wrong: 0,
-            here: 0,
-        }
-    }
-
-    // A story with no call, or a text with no story, counts as wrong.
-    fn close(&mut self) {
-        self.wrong = self.wrong.saturating_add(u32::from(self.here == 0));
-    }
-
-    fn open(&mut self) {
-        if self.stories != 0 {
-            self.close();
-        }
-        self.stories = self.stories.saturating_add(1);
-        self.here = 0;
-    }
-
-    fn count(&mut self, is_so: bool) {
-        self.lines = self.lines.saturating_add(1);
-        self.here = self.here.saturating_add(1);
-        self.wrong = self.wrong.saturating_add(u32::from(!is_so));
-    }
-}
-
 /// Makes the call that these words tell, and says its answer.
-pub fn tell_line<S: Scene>(alloc: Global, asked: &str, scene: &mut S, said: &mut Saying) {
-    match asked.split_whitespace().collect::<Vec<&str>>(alloc) {
-        Ok(words) => scene.make(&Call::of(alloc, words.as_slice()), said),
+pub fn tell_line<S: Subject>(asked: &str, subject: &mut S, said: &mut Saying) {
+    match asked.split_whitespace().collect::<Vec<&str>>(said.alloc()) {
+        Ok(words) => subject.make(&Phrase::of(said.alloc(), words.as_slice()), said),
         Err(_) => said.fail("no memory is left"),
     }
 }
 
 // Makes a line's call, and adds to `out` if the answer isn't the line's. Returns whether it is.
-fn is_so<S: Scene>(alloc: Global, line: &str, scene: &mut S, out: &mut Saying) -> bool {
+fn is_so<S: Subject>(line: &str, subject: &mut S, out: &mut Saying) -> bool {
     let (asked, expected) = line.split_once(" =").unwrap_or((line, "an answer"));
-    let mut said = Saying::new(alloc);
-    tell_line(alloc, asked, scene, &mut said);
+    let mut said = Saying::new(out.alloc());
+    tell_line(asked, subject, &mut said);
     let (answer, expected) = (said.said().trim(), expected.trim());
     let is_so = answer == expected && !said.is_wrong();
     if !is_so {
@@ -101,18 +54,54 @@ fn is_so<S: Scene>(alloc: Global, line: &str, scene: &mut S, out: &mut Saying) -
     is_so
 }
 
-/// Walks the stories of a text, and adds a line to `out` for each call that was answered otherwise. Returns what was
-/// read.
-pub fn walk<S: Scene>(alloc: Global, text: &str, scene: &mut S, out: &mut Saying) -> Walked {
-    let mut walked = Walked::nothing();
+// Walks the stories of a text. Adds a line to `out` for each call that was answered otherwise. Returns how many stories
+// there were, how many calls they have, and how many calls were answered otherwise, lines are no call, and stories, or
+// a text without one, have no call.
+fn walk<S: Subject>(text: &str, subject: &mut S, out: &mut Saying) -> (u32, u32, u32) {
+    let (mut stories, mut lines, mut wrong, mut before) = (0u32, 0u32, 0u32, 0u32);
     for line in text.lines() {
         if line.starts_with("# ") {
-            walked.open();
-            scene.begin();
+            wrong = wrong.saturating_add(u32::from(stories != 0 && lines == before));
+            stories = stories.saturating_add(1);
+            before = lines;
+            subject.begin();
         } else if !line.trim().is_empty() && !line.starts_with("-- ") {
-            walked.count(is_so(alloc, line, scene, out));
+            wrong = wrong.saturating_add(u32::from(!is_so(line, subject, out)));
+            lines = lines.saturating_add(1);
         }
     }
-    walked.close();
-    walked
+    wrong = wrong.saturating_add(u32::from(lines == before));
+    (stories, lines, wrong)
+}
+
+// Walks the stories of a file. Tells how many there were, and each call that was answered otherwise. Returns whether
+// none was.
+fn walk_file<S: Subject>(rt: &HostRuntime, file: &str, subject: &mut S, said: &mut Saying) -> bool {
+    let Ok(text) = fs::read_to_string(rt, file) else {
+        write!(said, "{file} can't be read\n");
+        return false;
+    };
+    let mut out = Saying::new(rt.alloc());
+    let (stories, lines, wrong) = walk(text.as_str(), subject, &mut out);
+    write!(said, "{file}: {stories} stories, ");
+    write!(said, "{lines} lines, {wrong} wrong\n");
+    said.also(&out);
+    wrong == 0
+}
+
+/// Walks the stories of each file that the command line names, and prints a line for each file. Returns the status to
+/// end with. It is 1 if a call was answered otherwise, a line is no call, a story has no call, or no file is named.
+pub fn walk_files<S: Subject>(rt: &HostRuntime, subject: &mut S) -> u8 {
+    let Ok(words) = env::args(rt) else {
+        return 1;
+    };
+    let Ok(files) = words.skip(1).collect::<Vec<String>>(rt.alloc()) else {
+        return 1;
+    };
+    let (mut said, mut is_right) = (Saying::new(rt.alloc()), !files.is_empty());
+    for file in files.iter() {
+        is_right &= walk_file(rt, file.as_str(), subject, &mut said);
+    }
+    let status = said.print(rt);
+    if is_right { status } else { 1 }
 }

@@ -1,58 +1,20 @@
-//! The words of a call: names of requests, operations and commands, and bytes.
+//! The words of a call: commands, bytes, how disks fail, and what a crash leaves of them.
 
-use im_types::{Command, Kind, Op, Request};
+use im_disk::{Crash, Mode};
+use im_types::{Command, Entry, Kind, Op, Reply, Request};
 use std::alloc::Global;
-
-// Returns the word at a place, or an empty one past the last.
-fn word<'w>(words: &[&'w str], at: usize) -> &'w str {
-    words.get(at).copied().unwrap_or("")
-}
-
-/// The name of a request: `ELEMENT.NUMBER`.
-pub fn name(word: &str) -> Option<(u16, u64)> {
-    let (of, sent) = word.split_once('.').unwrap_or((word, ""));
-    match (of.parse::<u16>(), sent.parse::<u64>()) {
-        (Ok(element), Ok(number)) => Some((element, number)),
-        _ => None,
-    }
-}
-
-// A block of this kind that is to be made.
-fn alloc(kind: &str, length: &str) -> Option<Op> {
-    match (kind, length.parse::<u32>()) {
-        ("i", Ok(length)) => Some(Op::Alloc(Kind::I, length)),
-        ("m", Ok(length)) => Some(Op::Alloc(Kind::M, length)),
-        _ => None,
-    }
-}
-
-// An operation on an address, with no value.
-fn op_at(of: &str, a: u32) -> Option<Op> {
-    match of {
-        "release" => Some(Op::Release(a)),
-        "reset" => Some(Op::Reset(a)),
-        "fetch" => Some(Op::Fetch(a)),
-        "take" => Some(Op::Take(a)),
-        _ => None,
-    }
-}
-
-// An operation that brings a value to an address.
-fn op_with(of: &str, a: u32, value: u64) -> Option<Op> {
-    match of {
-        "store" => Some(Op::Store(a, value)),
-        "put" => Some(Op::Put(a, value)),
-        _ => None,
-    }
-}
 
 /// An operation: `alloc i N`, `alloc m N`, `release A`, `reset A`, `fetch A`, `store A V`, `take A` or `put A V`.
 pub fn op(words: &[&str]) -> Option<Op> {
-    let (of, first, last) = (word(words, 0), word(words, 1), word(words, 2));
-    match (first.parse::<u32>(), last.parse::<u64>()) {
-        (Ok(a), Err(_)) if words.len() == 2 => op_at(of, a),
-        (Ok(a), Ok(value)) if words.len() == 3 => op_with(of, a, value),
-        _ if of == "alloc" && words.len() == 3 => alloc(first, last),
+    match *words {
+        ["alloc", "i", length] => Some(Op::Alloc(Kind::I, length.parse::<u32>().ok()?)),
+        ["alloc", "m", length] => Some(Op::Alloc(Kind::M, length.parse::<u32>().ok()?)),
+        ["release", a] => Some(Op::Release(a.parse::<u32>().ok()?)),
+        ["reset", a] => Some(Op::Reset(a.parse::<u32>().ok()?)),
+        ["fetch", a] => Some(Op::Fetch(a.parse::<u32>().ok()?)),
+        ["take", a] => Some(Op::Take(a.parse::<u32>().ok()?)),
+        ["store", a, v] => Some(Op::Store(a.parse::<u32>().ok()?, v.parse::<u64>().ok()?)),
+        ["put", a, v] => Some(Op::Put(a.parse::<u32>().ok()?, v.parse::<u64>().ok()?)),
         _ => None,
     }
 }
@@ -69,28 +31,50 @@ pub fn asked(element: u16, number: u64, op: Op) -> Request {
 /// A request: `ELEMENT.NUMBER`, and an operation.
 pub fn request(words: &[&str]) -> Option<Request> {
     let (who, what) = words.split_first()?;
-    match (name(who), op(what)) {
-        (Some((element, number)), Some(op)) => Some(asked(element, number, op)),
-        _ => None,
-    }
-}
-
-// A confirmation of an element's entries below a number.
-fn confirmation(of: &str, upto: &str) -> Option<Command> {
-    match (of.parse::<u16>(), upto.parse::<u64>()) {
-        (Ok(element), Ok(upto)) => Some(Command::Confirm { element, upto }),
-        _ => None,
-    }
+    let (element, number) = who.split_once('.')?;
+    Some(asked(
+        element.parse::<u16>().ok()?,
+        number.parse::<u64>().ok()?,
+        op(what)?,
+    ))
 }
 
 /// A command: a request, or `confirm ELEMENT UPTO`.
 pub fn command(words: &[&str]) -> Option<Command> {
-    if word(words, 0) == "confirm" && words.len() == 3 {
-        return confirmation(word(words, 1), word(words, 2));
+    match *words {
+        ["confirm", element, upto] => {
+            let (element, upto) = (element.parse::<u16>().ok()?, upto.parse::<u64>().ok()?);
+            Some(Command::Confirm { element, upto })
+        }
+        _ => Some(Command::Request(request(words)?)),
     }
-    match request(words) {
-        Some(request) => Some(Command::Request(request)),
-        None => None,
+}
+
+// The reply of this word, if it has no number.
+fn reply(word: &str) -> Option<Reply> {
+    match word {
+        "stored" => Some(Reply::Stored),
+        "clash" => Some(Reply::Clash),
+        "nocell" => Some(Reply::NoCell),
+        "wrongkind" => Some(Reply::WrongKind),
+        "nospace" => Some(Reply::NoSpace),
+        "badlength" => Some(Reply::BadLength),
+        "released" => Some(Reply::Released),
+        "noblock" => Some(Reply::NoBlock),
+        "stillwaiting" => Some(Reply::StillWaiting),
+        "cleared" => Some(Reply::Cleared),
+        _ => None,
+    }
+}
+
+/// What is kept for a request: `waiting`, or a reply, such as `base A`, `value V` or `stored`.
+pub fn entry(words: &[&str]) -> Option<Entry> {
+    match *words {
+        ["waiting"] => Some(Entry::Waiting),
+        ["base", base] => Some(Entry::Answered(Reply::Base(base.parse::<u32>().ok()?))),
+        ["value", value] => Some(Entry::Answered(Reply::Value(value.parse::<u64>().ok()?))),
+        [word] => Some(Entry::Answered(reply(word)?)),
+        _ => None,
     }
 }
 
@@ -99,28 +83,49 @@ pub fn hex(word: &str) -> Option<u8> {
     u8::from_str_radix(word, 16).ok()
 }
 
-// A byte and how often it comes: `0a`, once, or `0a*3`.
-fn run_of(word: &str) -> (Option<u8>, usize) {
-    let (byte, count) = word.split_once('*').unwrap_or((word, "1"));
-    (hex(byte), count.parse::<usize>().unwrap_or(0))
-}
-
 /// Bytes, each a word, or some equal ones: `0a*3`.
 pub fn bytes(alloc: Global, words: &[&str]) -> Option<Vec<u8>> {
     let mut bytes = Vec::new(alloc);
     for word in words {
-        let (run, count) = run_of(word);
-        let length = bytes.len().saturating_add(count);
-        bytes.resize(length, run?).ok()?;
+        let (byte, count) = word.split_once('*').unwrap_or((*word, "1"));
+        let length = bytes
+            .len()
+            .saturating_add(count.parse::<usize>().unwrap_or(0));
+        bytes.resize(length, hex(byte)?).ok()?;
     }
     Some(bytes)
 }
 
 /// A place and its byte: `PLACE:BYTE`.
 pub fn change(word: &str) -> Option<(usize, u8)> {
-    let (at, byte) = word.split_once(':').unwrap_or((word, ""));
-    match (at.parse::<usize>(), hex(byte)) {
-        (Ok(at), Some(byte)) => Some((at, byte)),
-        _ => None,
+    let (at, byte) = word.split_once(':')?;
+    Some((at.parse::<usize>().ok()?, hex(byte)?))
+}
+
+/// Places and their bytes.
+pub fn changes(alloc: Global, words: &[&str]) -> Option<Vec<(usize, u8)>> {
+    let mut changes = Vec::new(alloc);
+    for word in words {
+        changes.push(change(word)?).ok()?;
+    }
+    Some(changes)
+}
+
+/// How a disk fails: `stop` for good, `once`, or once with a scar. A scar, `scar:BYTE`, is a byte all over what was to
+/// be written.
+pub fn mode(word: &str) -> Option<Mode> {
+    match word {
+        "stop" => Some(Mode::Stop),
+        "once" => Some(Mode::Once),
+        _ => Some(Mode::Scar(hex(word.strip_prefix("scar:")?)?)),
+    }
+}
+
+/// What a crash leaves of what wasn't synced: `kept`, `lost`, or a byte all over it.
+pub fn crash(word: &str) -> Option<Crash> {
+    match word {
+        "kept" => Some(Crash::Kept),
+        "lost" => Some(Crash::Lost),
+        _ => Some(Crash::Byte(hex(word)?)),
     }
 }

@@ -16,43 +16,14 @@
 //! ```
 
 use crate::story_file::StoryFile;
-use im_story::{Call, Saying, bytes, changes, crash, hex, mode};
+use im_story::{Phrase, Saying, bytes, changes, crash, hex, mode};
 
 // The fewest equal bytes that are told as one.
 const RUN: usize = 8;
 
 impl StoryFile {
-    // Tells how many bytes there are, if a call was made.
-    fn tell_length(&self, is_made: bool, said: &mut Saying) {
-        said.so(is_made, "");
-        write!(said, "{} bytes", self.bytes().len())
-    }
-
-    // Sets how the disk fails when it is used next.
-    fn set_fuse(&mut self, call: &Call, said: &mut Saying) {
-        let mode = mode(call.word(2));
-        said.so(mode.is_some(), "set");
-        if let Some(mode) = mode {
-            self.fuse = (call.number(0), mode);
-        }
-    }
-
-    fn tell_crash(&mut self, call: &Call, said: &mut Saying) {
-        match crash(call.word(1)) {
-            Some(crash) => said.so(self.crash(crash), "crashed"),
-            None => said.fail("that is no crash"),
-        }
-    }
-
-    fn damage(&mut self, call: &Call, said: &mut Saying) {
-        match changes(call.alloc(), call.rest(1)) {
-            Some(changes) => said.so(self.put_each(changes.as_slice()), "done"),
-            None => said.fail("these are no bytes at places"),
-        }
-    }
-
     // Puts bytes in their places. With `write` it tells those that stood there before.
-    fn write(&mut self, call: &Call, said: &mut Saying) {
+    fn write(&mut self, call: &Phrase, said: &mut Saying) {
         let (at, Some(bytes)) = (call.place(0), bytes(call.alloc(), call.rest(2))) else {
             return said.fail("these are no bytes");
         };
@@ -63,42 +34,44 @@ impl StoryFile {
         said.so(self.put(at, bytes.as_slice()), "")
     }
 
-    // Makes an image with no command.
-    fn tell_image(&mut self, call: &Call, said: &mut Saying) {
-        let is_made = match (call.limits(0), call.word(0)) {
-            (Some(limits), "old") => self.renew_old(limits),
-            (Some(limits), _) => self.renew(limits),
-            _ => false,
+    // Makes a new image or a new file of one byte, cuts this one, or marks its bytes. Tells how many there are.
+    fn tell_made(&mut self, call: &Phrase, said: &mut Saying) {
+        let length = call.place(0);
+        let is_made = match call.form() {
+            "image _ _ _" => call.limits(0).is_some_and(|limits| self.renew(limits)),
+            "old image _ _ _" => call.limits(0).is_some_and(|limits| self.renew_old(limits)),
+            "cut _" => self.cut(length),
+            "mark" => self.mark(),
+            "disk _" => self.lay(&[], length),
+            _ => {
+                let bytes = vec![in self.alloc; hex(call.word(3)).unwrap_or(0); length];
+                bytes.is_ok_and(|bytes| self.lay(bytes.as_slice(), length))
+            }
         };
-        self.tell_length(is_made, said)
-    }
-
-    // Makes a new file of zeros or of a byte, cuts this one, or marks its bytes.
-    fn tell_bytes(&mut self, call: &Call, said: &mut Saying) {
-        let (length, byte) = (call.place(0), hex(call.word(3)));
-        let is_made = match (call.word(0), byte) {
-            ("disk", None) => self.lay(&[], length),
-            ("disk", Some(byte)) => match vec![in self.alloc; byte; length] {
-                Ok(bytes) => self.lay(bytes.as_slice(), length),
-                Err(_) => false,
-            },
-            ("cut", _) => self.cut(length),
-            _ => self.mark(),
-        };
-        self.tell_length(is_made, said)
+        said.so(is_made, "");
+        write!(said, "{} bytes", self.bytes().len())
     }
 
     /// Makes a call on the file. Returns whether it is one.
-    pub fn tell(&mut self, call: &Call, said: &mut Saying) -> bool {
+    pub fn tell(&mut self, call: &Phrase, said: &mut Saying) -> bool {
         match (call.word(0), call.form()) {
-            ("fuse", _) => self.set_fuse(call, said),
-            ("crash", _) => self.tell_crash(call, said),
-            ("damage", _) => self.damage(call, said),
+            ("fuse", _) => said.given(mode(call.word(2)), "that is no way to fail", |mode, said| {
+                self.fuse = (call.number(0), mode);
+                said.text("set")
+            }),
+            ("crash", _) => said.given(crash(call.word(1)), "that is no crash", |crash, said| {
+                said.so(self.crash(crash), "crashed")
+            }),
+            ("damage", _) => {
+                let changes = changes(call.alloc(), call.rest(1));
+                let is_done = changes.is_some_and(|changes| self.put_each(changes.as_slice()));
+                said.so(is_done, "done")
+            }
             ("put" | "write", _) => self.write(call, said),
+            ("disk", _) | (_, "cut _" | "mark" | "image _ _ _" | "old image _ _ _") =>
+                self.tell_made(call, said),
             (_, "calls") => said.number(self.calls),
             (_, "bytes _ _") => said.part(self.bytes(), call.place(0), call.place(1), RUN),
-            ("disk", _) | (_, "cut _" | "mark") => self.tell_bytes(call, said),
-            (_, "image _ _ _" | "old image _ _ _") => self.tell_image(call, said),
             (_, "as marked") => said.either(self.is_as_marked(), "yes", "no"),
             (_, "opening") => self.tell_opening(said),
             _ => return false,

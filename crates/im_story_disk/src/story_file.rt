@@ -79,12 +79,7 @@ impl StoryFile {
 
     /// Puts each byte at its place. Returns whether all are there.
     pub fn put_each(&mut self, changes: &[(usize, u8)]) -> bool {
-        for (at, byte) in changes {
-            if !self.put(*at, &[*byte]) {
-                return false;
-            }
-        }
-        true
+        changes.iter().all(|(at, byte)| self.put(*at, &[*byte]))
     }
 
     /// Closes the engine, and makes a file of zeros in place of its own.
@@ -92,13 +87,8 @@ impl StoryFile {
         self.close();
         self.calls = 0;
         self.disk = None;
-        match MemDisk::new(self.alloc, length) {
-            Ok(disk) => {
-                self.disk = Some(disk);
-                Ok(())
-            }
-            Err(refusal) => Err(refusal),
-        }
+        self.disk = Some(MemDisk::new(self.alloc, length)?);
+        Ok(())
     }
 
     /// Does the same. The file has these bytes as far as they go, then zeros; all of them are synced. Returns whether
@@ -120,20 +110,15 @@ impl StoryFile {
 
     /// Returns a copy of the file, all of it synced.
     pub fn copy(&self) -> StoryFile {
-        let mut place = StoryFile::new(self.alloc);
-        let _is_laid = place.lay(self.bytes(), self.bytes().len());
-        place
+        let mut copy = StoryFile::new(self.alloc);
+        let _is_laid = copy.lay(self.bytes(), self.bytes().len());
+        copy
     }
 
     /// Marks the bytes. Returns whether there is memory for that.
     pub fn mark(&mut self) -> bool {
-        match self.bytes().to_vec(self.alloc) {
-            Ok(bytes) => {
-                self.marked = bytes;
-                true
-            }
-            Err(_) => false,
-        }
+        let bytes = self.bytes().to_vec(self.alloc);
+        bytes.map(|bytes| self.marked = bytes).is_ok()
     }
 
     /// Returns whether the bytes are those that were marked.
@@ -196,21 +181,20 @@ impl StoryFile {
     /// Does the same as `start`, and closes the engine again. Returns its count and its room.
     pub fn found(&mut self, new: Option<Limits>) -> Result<(u64, u32), Refusal> {
         let made = self.start(new);
-        let found = match (made, &self.engine) {
-            (Ok(()), Some(engine)) => Ok((engine.count(), engine.room())),
-            (Err(refusal), _) => Err(refusal),
-            _ => Err(Refusal::NoMemory),
-        };
+        let found = self
+            .engine
+            .as_ref()
+            .map(|engine| (engine.count(), engine.room()));
         self.close();
-        found
+        made?;
+        found.ok_or(Refusal::NoMemory)
     }
 
     /// Opens the image, and closes it again. Tells its count and its room, or why it is refused.
     pub fn tell_opening(&mut self, said: &mut Saying) {
-        match self.found(None) {
-            Ok((count, room)) => write!(said, "count {count} room {room}"),
-            Err(refusal) => said.refusal(refusal),
-        }
+        said.result(self.found(None), |(count, room), said| {
+            write!(said, "count {count} room {room}")
+        })
     }
 
     /// Makes a new file with an image that has no command. Returns whether it is there.
@@ -222,21 +206,14 @@ impl StoryFile {
 
     /// Makes a new file with an image of the first version that has no command. Returns whether it is there.
     pub fn renew_old(&mut self, limits: Limits) -> bool {
-        match old_image(self.alloc, limits) {
-            Ok(image) => self.lay(image.as_slice(), image.len()),
-            Err(_) => false,
-        }
+        let image = old_image(self.alloc, limits);
+        image.is_ok_and(|image| self.lay(image.as_slice(), image.len()))
     }
 
     /// Lets the disk crash. Returns whether there is one, and no engine on it.
     pub fn crash(&mut self, crash: Crash) -> bool {
-        match self.disk.take() {
-            Some(disk) => {
-                self.disk = Some(disk.crash(crash));
-                true
-            }
-            None => false,
-        }
+        self.disk = self.disk.take().map(|disk| disk.crash(crash));
+        self.disk.is_some()
     }
 
     /// Closes the engine, lets its disk crash if a crash is told, and opens what that leaves. Returns whether it opens.
@@ -250,9 +227,6 @@ impl StoryFile {
 
     /// Returns how many commands the engine has.
     pub fn count(&self) -> u64 {
-        match &self.engine {
-            Some(engine) => engine.count(),
-            None => 0,
-        }
+        self.engine.as_ref().map_or(0, |engine| engine.count())
     }
 }

@@ -1,0 +1,208 @@
+//! What a scene works with: an image in memory, what was last printed, and what is told.
+
+use crate::again::run_again;
+use crate::gates::After;
+use crate::scripts::script_of;
+use im_disk::Mode;
+use im_report::inspect_on;
+use im_run::{RunMode, run_on, run_once_on, write_trace};
+use im_script::read_script_with_glances;
+use im_serving::{Gate, Host, Open, Unwatched};
+use im_story::{Printout, Saying};
+use im_story_disk::StoryFile;
+use im_text::{Observer, Progress, Reason};
+use im_types::{Entry, Limits, Refusal};
+use std::alloc::Global;
+
+/// How a script is run: once or not, as a plan or not, and for its trace or not.
+#[derive(Clone, Copy)]
+pub struct How {
+    once: bool,
+    mode: RunMode,
+}
+
+impl How {
+    // Reads the word of a call.
+    fn of(call: &str) -> How {
+        let mode = RunMode {
+            planned: call.ends_with("plan"),
+            recorded: call == "trace",
+        };
+        let once = call.starts_with("once") || call.starts_with("again");
+        How { once, mode }
+    }
+}
+
+// Notes why the work is refused, and nothing else.
+#[derive(Drop)]
+struct WhyRefused(Option<Reason>);
+
+impl Observer for WhyRefused {
+    fn answered(&mut self, _element: u16, _number: u64, _entry: Entry) {}
+
+    fn progressed(&mut self, _progress: Progress) {}
+
+    fn refused(&mut self, reason: Reason) {
+        self.0 = Some(reason);
+    }
+}
+
+/// An image, what was printed, and what is told.
+#[derive(Drop)]
+pub struct RunDesk<'a> {
+    /// The scenes, and the scripts behind them.
+    pub text: &'a str,
+    /// The image, if there is one.
+    pub place: StoryFile,
+    /// What was last printed.
+    pub out: Printout,
+    /// Why the last run was refused, if it was.
+    reason: WhyRefused,
+    /// Whether the last run held requests back until another one was answered.
+    held: bool,
+    /// What is told.
+    pub said: Saying,
+}
+
+// Returns the lines of a report that begin with one of these words.
+fn lines_of(alloc: Global, report: &str, words: &[&str]) -> Saying {
+    let mut lines = Saying::new(alloc);
+    for line in report.lines() {
+        let (word, _) = line.split_once(' ').unwrap_or((line, ""));
+        if words.iter().any(|it| *it == word) {
+            writeln!(lines, "{line}")
+        }
+    }
+    lines
+}
+
+impl<'a> RunDesk<'a> {
+    /// Starts with no image.
+    pub fn new(alloc: Global, text: &'a str) -> RunDesk<'a> {
+        RunDesk {
+            text,
+            place: StoryFile::new(alloc),
+            out: Printout::new(alloc),
+            reason: WhyRefused(None),
+            held: false,
+            said: Saying::new(alloc),
+        }
+    }
+
+    // Makes an image of the usual sizes, with nothing in it; or one of the first version.
+    fn lay(&mut self, is_old: bool) {
+        let is_laid = match Limits::new(4_096, 16, 256) {
+            Some(limits) if is_old => self.place.renew_old(limits),
+            Some(limits) => self.place.renew(limits),
+            None => false,
+        };
+        self.said.so(is_laid, "")
+    }
+
+    /// Runs a script on the image. Returns the status, or 2 if there is no script or no image.
+    pub fn serve<R: Host, G: Gate + Sync>(
+        &mut self,
+        rt: &R,
+        how: How,
+        script: &str,
+        gate: &G,
+    ) -> u8 {
+        let (alloc, mode) = (self.place.alloc, how.mode);
+        self.out = Printout::new(alloc);
+        let Ok(script) = read_script_with_glances(alloc, script.as_bytes()) else {
+            return 2;
+        };
+        let Some(disk) = self.place.taken() else {
+            return 2;
+        };
+        let (out, reason) = (&mut self.out, &mut self.reason);
+        let (status, disk, trace) = if how.once {
+            run_once_on(
+                rt, alloc, disk, &script, gate, &Unwatched, out, reason, mode,
+            )
+        } else {
+            run_on(
+                rt, alloc, disk, &script, gate, &Unwatched, out, reason, mode,
+            )
+        };
+        self.place.lay_down(disk);
+        if mode.recorded {
+            self.out = Printout::new(alloc);
+            let is_written = write_trace(alloc, &trace, &mut self.out).is_ok();
+            self.said.so(is_written, "")
+        }
+        status
+    }
+
+    // Runs a script, and tells what it printed, or its trace. Behind `after` stands the element for whose answer the
+    // other one's requests are held.
+    fn run<R: Host>(&mut self, rt: &R, how: How, words: &str) {
+        let (name, first) = words.split_once(" after ").unwrap_or((words, ""));
+        let script = script_of(self.place.alloc, self.text, name);
+        let status = match first.parse::<u16>() {
+            Ok(first) => {
+                let gate = After::new(first);
+                let status = self.serve(rt, how, script.said(), &gate);
+                self.held = gate.has_held(rt);
+                status
+            }
+            Err(_) => self.serve(rt, how, script.said(), &Open),
+        };
+        self.said.text(self.out.text());
+        if !how.mode.recorded {
+            writeln!(self.said, "status {status}")
+        }
+    }
+
+    // Runs a script on a disk whose calls fail behind the opening. Tells whether the observer was told of that.
+    fn run_failing<R: Host>(&mut self, rt: &R, name: &str) {
+        let _opened = self.place.found(None);
+        self.place.fuse = (self.place.calls, Mode::Stop);
+        let script = script_of(self.place.alloc, self.text, name);
+        self.reason = WhyRefused(None);
+        let status = self.serve(rt, How::of("run"), script.said(), &Open);
+        let is_told = match self.reason.0 {
+            Some(reason) => reason.refusal() == Some(Refusal::Device),
+            None => false,
+        };
+        writeln!(self.said, "told of it: {is_told}\nstatus {status}")
+    }
+
+    /// Returns the lines of the image's report that begin with one of these words, and its status.
+    pub fn report(&mut self, words: &[&str]) -> Saying {
+        let alloc = self.place.alloc;
+        self.out = Printout::new(alloc);
+        let Some(disk) = self.place.taken() else {
+            return Saying::new(alloc);
+        };
+        let (status, disk) = inspect_on(alloc, disk, &mut self.out, &mut self.reason);
+        self.place.lay_down(disk);
+        let mut lines = lines_of(alloc, self.out.text(), words);
+        writeln!(lines, "status {status}");
+        lines
+    }
+
+    // Tells lines of the image's report.
+    fn tell_report(&mut self, words: &[&str]) {
+        let lines = self.report(words);
+        self.said.text("the report\n");
+        self.said.also(&lines)
+    }
+
+    /// Tells a line of the scenes.
+    pub fn tell<R: Host>(&mut self, rt: &R, line: &str) {
+        let (call, words) = line.split_once(' ').unwrap_or((line, ""));
+        match call {
+            "#" => writeln!(self.said, "{line}"),
+            "new" | "old" => self.lay(call == "old"),
+            "run" | "plan" | "trace" | "once" | "once-plan" => self.run(rt, How::of(call), words),
+            "fault" => self.run_failing(rt, words),
+            "again" | "again-plan" => run_again(rt, self, How::of(call), words),
+            "held" => writeln!(self.said, "{words}: {}", self.held),
+            "report" if words == "windows" => self.tell_report(&["element"]),
+            "report" => self.tell_report(&["cell", "entry"]),
+            "" | "--" => {}
+            _ => self.said.fail(line),
+        }
+    }
+}
