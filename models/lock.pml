@@ -191,7 +191,7 @@ inline wake(call) {
   ring_ports(to_ports)
 }
 
-/* of im_queue::Servers::change d38f95d1cd67
+/* of im_queue::Servers::change 9bd0395405b4
    of im_queue::Servers::note 39448ea66991
    of im_controller::note_sleep dc175c06a3df: who is told to wait is noted, whether it has retired or not. */
 inline change(e, state) { if :: server[e] != Retired -> server[e] = state :: else fi }
@@ -202,7 +202,7 @@ inline note(e, sleeps) {
   sleeper[e] = sleeps
 #endif
 }
-/* of im_queue::is_stuck 1d9e9a66cdf7
+/* of im_queue::is_stuck 6724f2b6e61b
    of im_queue::is_past 32715c23789f
    of im_queue::are_stuck cefccf9160d0 */
 inline are_stuck(e) {
@@ -216,7 +216,7 @@ inline see_all_wait(e) {
   i = 0;
   do :: i < N -> assert(i == e || does[i] == Done || (does[i] == Waits && entry[i] != Told)); i++ :: else -> break od
 }
-/* of im_controller::begin_wait 9e785d1206c9
+/* of im_controller::begin_wait 3c7540d49b4e
    of im_controller::ask_once b864d3750de2 */
 inline ask_once(e) {
   if :: failed -> change(e, Active); got = Failed
@@ -297,7 +297,7 @@ inline who_is_answered() {
 }
 /* of im_controller::Port::submit 2de2e13636a4
    of im_controller::Controller::serve 2a5feda0c157
-   of im_queue::Inbox::ask 23fb3d79a544
+   of im_queue::Inbox::ask 2cc8b463189f
    of im_controller::Controller::serve_all 473781457ac3 */
 inline submit(e, op) {
   d_step { asked[e] = op; got = Nothing };
@@ -356,7 +356,7 @@ inline await_answer(e) {
   od
 }
 /* of im_controller::Port::retire a2bf9d70c784
-   of im_controller::retire b96ba3dbb1ff */
+   of im_controller::retire eac720830630 */
 inline retire(e) {
   wait_turn(e);
   d_step { server[e] = Retired; does[e] = Done; who_may_be_stuck() };
@@ -435,8 +435,8 @@ gone:
   atomic { got = Nothing; awaits = false; first = Nothing; second = Nothing; ended++ }
 }
 
-/* of im_controller::keep_once 4596bed492d9
-   of im_controller::fall_asleep c434cd36bdfa
+/* of im_controller::keep_once bdec15385c10
+   of im_controller::fall_asleep 6b9f036b0302
    of im_controller::mark_ended 6d93c18ca7af */
 inline keep_once() {
   if :: keeper == Ended -> kept = Ended
@@ -451,7 +451,7 @@ inline keep_once() {
         fi
   fi
 }
-/* of im_controller::Controller::keep_checkpoints_and_tell 44a3cb7e272e */
+/* of im_controller::Controller::keep_checkpoints_and_tell 829b4bc7ec81 */
 proctype Keeper() {
   byte answered, to_ports, at; mtype kept = Nothing;
   wait_turn(KEEPER);

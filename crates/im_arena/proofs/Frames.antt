@@ -14,7 +14,7 @@ use Rattle.im_arena.specs.declared.table.Row.{Row}
 use Rattle.im_arena.specs.Lists.{Links, free_record, link_of, ends_at, first_in, last_in, next_in, node_at, list_at}
 use Rattle.im_arena.specs.Lists.{IsPushed, IsPopped}
 use Rattle.im_arena.specs.Table.{blank_node, blank_row, Span, record_if, record_of, ends_of, next_of, used_of}
-use Rattle.im_arena.specs.Table.{count_of, first_of, last_of, spans_of, Transferred, shown, IsArena}
+use Rattle.im_arena.specs.Table.{count_of, list_first, list_last, spans_of, Transferred, shown_table, IsArena}
 use Rattle.im_arena.specs.Chain.{place_from}
 use Rattle.im_arena.proofs.Moves.{place_from-same}
 use Rattle.im_arena.proofs.Tables.{span_at, last_within, last-some}
@@ -67,10 +67,10 @@ module _ (nodes : List Node) (rows : List Row) (lists free_nodes : ℕ) (arena :
   spans = spans_of nodes rows
 
   abbrev old : Links
-  old = (shown nodes rows lists).links
+  old = (shown_table nodes rows lists).links
 
   abbrev new : Links
-  new = (shown nodes2 rows2 lists).links
+  new = (shown_table nodes2 rows2 lists).links
 
   row_last : last_in (ends_at old list) ≡ (get_or rows list blank_row).last
   row_last = last_is nodes rows lists free_nodes arena list inside
@@ -81,7 +81,7 @@ module _ (nodes : List Node) (rows : List Row) (lists free_nodes : ℕ) (arena :
       ∙ ap (λ (s : Span). s.first) (row_span nodes rows lists free_nodes arena list inside)
 
   pub IsPushed-transferred : Transferred nodes nodes2 rows rows2 lists list content result
-      → IsPushed list (shown nodes rows lists) (shown nodes2 rows2 lists)
+      → IsPushed list (shown_table nodes rows lists) (shown_table nodes2 rows2 lists)
   IsPushed-transferred t = record {
     records = λ n nf nl. slice_get-map_same record_of nodes2 nodes n
         (elim (cases_eq (get_or rows list blank_row).last NONE) [
@@ -93,10 +93,10 @@ module _ (nodes : List Node) (rows : List Row) (lists free_nodes : ℕ) (arena :
   }
     where
       -- somebody is on a list whose last node isn't none
-      some_there : (get_or rows list blank_row).last ≢ NONE → list_at (shown nodes rows lists).held list ≢ []
+      some_there : (get_or rows list blank_row).last ≢ NONE → list_at (shown_table nodes rows lists).held list ≢ []
       some_there some empty =
           let within : list < length spans = omega (arith, span_count nodes rows lists free_nodes arena) in
-          let is : last_of spans list
+          let is : list_last spans list
           ≡ (get_or rows list blank_row).last = ap (λ (s : Span). s.last)
           (row_span nodes rows lists free_nodes arena list inside) in
           let any = last-some nodes spans arena.sound list within (λ e. some (sym is ∙ e)) in
@@ -132,7 +132,7 @@ module _ (nodes : List Node) (rows : List Row) (lists free_nodes : ℕ) (arena :
     tail_free : tail ≢ NONE → used_of nodes tail ≡ false
     tail_free some =
         let within : lists < length spans = omega (arith, span_count nodes rows lists free_nodes arena) in
-        let is : last_of spans lists
+        let is : list_last spans lists
         ≡ tail = ap (λ (s : Span). s.last) (span_at nodes rows lists (omega (arith, arena.size))) in
         let any = last-some nodes spans arena.sound lists within (λ e. some (sym is ∙ e)) in
         ap (used_of nodes) (sym is ∙ arena.sound.chains.ends lists (count_of spans lists - 1) within (omega arith))
@@ -154,7 +154,7 @@ module _ (nodes : List Node) (rows : List Row) (lists free_nodes : ℕ) (arena :
             ≡ slice_get (map record_of nodes) n
         at_tail n is ng some =
             let within : lists < length spans = omega (arith, span_count nodes rows lists free_nodes arena) in
-            let last : last_of spans lists
+            let last : list_last spans lists
             ≡ tail = ap (λ (s : Span). s.last) (span_at nodes rows lists (omega (arith, arena.size))) in
             let lt : n < length nodes = omega (
               arith,
@@ -182,7 +182,7 @@ module _ (nodes : List Node) (rows : List Row) (lists free_nodes : ℕ) (arena :
     first_now : first_in (ends_at new list) ≡ next_in old (first_in (ends_at old list))
     first_now =
         let size2 : length rows2 ≡ lists + 1 = t.size ∙ arena.size in
-        let first : first_of spans list
+        let first : list_first spans list
         ≡ gone = ap (λ (s : Span). s.first) (row_span nodes rows lists free_nodes arena list inside) in
         ap first_in (get_or-take lists (map ends_of rows2) list None inside
         ∙ get_or-map ends_of rows2 list blank_row None (omega (arith, size2)))
@@ -192,17 +192,17 @@ module _ (nodes : List Node) (rows : List Row) (lists free_nodes : ℕ) (arena :
         ∙ get_or-set_same rows list t.giver blank_row (omega (arith, arena.size)))
         ∙ t.detached.first
         ∙ sym (ap (next_in old) (row_first ∙ sym first)
-        ∙ used_next nodes rows lists free_nodes arena (first_of spans list)
+        ∙ used_next nodes rows lists free_nodes arena (list_first spans list)
         (within nodes rows lists free_nodes arena list 0 inside some_there)
         (used_at nodes rows lists free_nodes arena list 0 inside some_there)
         ∙ ap (next_of nodes) first)
 
     -- the nodes behind the first one are linked as before
-    rest_now : (i : ℕ) → i + 1 < length (list_at (shown nodes rows lists).held list) → node_at new list i
+    rest_now : (i : ℕ) → i + 1 < length (list_at (shown_table nodes rows lists).held list) → node_at new list i
         ≡ node_at old list (i + 1)
     rest_now i lt =
         let threaded = IsThreaded-shown nodes rows lists free_nodes arena in
-        let here : list < length (shown nodes rows lists).held.lists = omega
+        let here : list < length (shown_table nodes rows lists).held.lists = omega
         (arith, length-held nodes spans lists (omega (arith, span_count nodes rows lists free_nodes arena))) in
         ap (λ p. place_from (next_in new) p i) first_now
         ∙ place_from-same (next_in old) (next_in new) (next_in old (first_in (ends_at old list))) i (λ j below.
@@ -218,7 +218,7 @@ module _ (nodes : List Node) (rows : List Row) (lists free_nodes : ℕ) (arena :
             ∙ ap (λ (o : Option NodeRecord). unwrap_or o free_record) e
             ∙ unwrap_or-slice_get old.records n free_record)
 
-    pub IsPopped-transferred : IsPopped list (shown nodes rows lists) (shown nodes2 rows2 lists)
+    pub IsPopped-transferred : IsPopped list (shown_table nodes rows lists) (shown_table nodes2 rows2 lists)
     IsPopped-transferred = record {
       records = λ n ng. record_kept n (λ e. ng (e ∙ sym row_first));
       ends = λ b nb. ends_other b nb;

@@ -13,7 +13,7 @@ use Rattle.im_arena.specs.declared.table.Node.{Node}
 use Rattle.im_arena.specs.declared.table.Row.{Row}
 use Rattle.im_arena.specs.Chain.{place_from}
 use Rattle.im_arena.specs.Table.{Span, blank_row, blank_span, empty_row, full_row, start_rows, AreFree, next_of}
-use Rattle.im_arena.specs.Table.{used_of, first_of, last_of, count_of, span_of, spans_of, waiters_on, held, IsArena}
+use Rattle.im_arena.specs.Table.{used_of, list_first, list_last, count_of, span_of, spans_of, waiters_on, held, IsArena}
 use Rattle.im_arena.proofs.Moves.{place_from-last}
 use Rattle.im_arena.proofs.Tables.{eqb-no, span_at, steps-are}
 use Rattle.im_arena.proofs.Views.{list_at-held, length-held}
@@ -117,14 +117,14 @@ module _ (table : List Node) (lists nodes : ℕ) (start : AreFree table nodes) (
     | inr other ↦ at_other a (omega (arith, size)) other
   ]
 
-  place_is : (a i : ℕ) → a ≡ lists → i < nodes → place_from (next_of table) (first_of spans a) i ≡ i
+  place_is : (a i : ℕ) → a ≡ lists → i < nodes → place_from (next_of table) (list_first spans a) i ≡ i
   place_is a i is lt =
-      ap (λ x. place_from (next_of table) (first_of spans x) i) is
+      ap (λ x. place_from (next_of table) (list_first spans x) i) is
       ∙ ap (λ (x : Span). place_from (next_of table) x.first i) (at_full (omega arith))
       ∙ place_from-counts (next_of table) nodes i start.chained lt
 
-  last_is : (a : ℕ) → a ≡ lists → 0 < nodes → last_of spans a ≡ nodes - 1
-  last_is a is some = ap (last_of spans) is ∙ ap (λ (x : Span). x.last) (at_full some)
+  last_is : (a : ℕ) → a ≡ lists → 0 < nodes → list_last spans a ≡ nodes - 1
+  last_is a is some = ap (list_last spans) is ∙ ap (λ (x : Span). x.last) (at_full some)
 
   -- the counts of the spans: nothing but the last one's
   total : sum_by (λ (s : Span). s.count) spans ≡ nodes

@@ -11,7 +11,8 @@ use Rattle.im_types.specs.declared.operations.Waiter.{Waiter}
 use Rattle.im_arena.specs.declared.table.Node.{Node}
 use Rattle.im_arena.specs.declared.table.Row.{Row}
 use Rattle.im_arena.specs.Table.{Span, blank_node, blank_row, blank_span, waiter_in, next_of, used_of, waiter_of}
-use Rattle.im_arena.specs.Table.{first_of, last_of, count_of, row_at, steps_from, span_of, spans_of, Sound, Attached}
+use Rattle.im_arena.specs.Table.{list_first, list_last, count_of, row_at, steps_from, span_of, spans_of, Sound}
+use Rattle.im_arena.specs.Table.{Attached}
 use Rattle.im_arena.specs.Table.{Detached, Transferred}
 use Rattle.im_arena.specs.Chain.{place_from}
 use Rattle.im_arena.proofs.Moves.{place_from-last, Moves, Chains-moved, along_other, along_from, along_to}
@@ -44,10 +45,10 @@ steps-are next at (suc k) (suc fuel) some end le =
 
 module _ (nodes : List Node) (spans : List Span) (sound : Sound nodes spans) where
   -- the ends of a row that isn't empty are nodes
-  pub first_within : (a : ℕ) → a < length spans → 0 < count_of spans a → first_of spans a < length nodes
+  pub first_within : (a : ℕ) → a < length spans → 0 < count_of spans a → list_first spans a < length nodes
   first_within a within some = sound.chains.within a 0 within some
 
-  pub last_within : (a : ℕ) → a < length spans → 0 < count_of spans a → last_of spans a < length nodes
+  pub last_within : (a : ℕ) → a < length spans → 0 < count_of spans a → list_last spans a < length nodes
   last_within a within some =
       let there = sound.chains.ends a (count_of spans a - 1) within (omega arith) in
       let inside = sound.chains.within a (count_of spans a - 1) within (omega arith) in
@@ -55,11 +56,11 @@ module _ (nodes : List Node) (spans : List Span) (sound : Sound nodes spans) whe
 
   -- behind the last node of a span is none
   pub end_of : (a : ℕ) → a < length spans → (k : ℕ) → count_of spans a ≡ k
-      → place_from (next_of nodes) (first_of spans a) k ≡ NONE
+      → place_from (next_of nodes) (list_first spans a) k ≡ NONE
   end_of a al zero e = sound.chains.no_first a al e
   end_of a al (suc k) e =
       let last = sound.chains.ends a k al (omega arith) in
-      place_from-last (next_of nodes) (first_of spans a) k ∙ ap (next_of nodes) (sym last)
+      place_from-last (next_of nodes) (list_first spans a) k ∙ ap (next_of nodes) (sym last)
       ∙ sound.chains.tail a al (omega arith)
 
   pub count_within : (a : ℕ) → a < length spans → count_of spans a ≤ length nodes
@@ -68,17 +69,17 @@ module _ (nodes : List Node) (spans : List Span) (sound : Sound nodes spans) whe
       omega (arith, sound.total)
 
   -- the links tell how many nodes a span has
-  pub count-is : (a : ℕ) → a < length spans → steps_from (next_of nodes) (first_of spans a) (length nodes)
+  pub count-is : (a : ℕ) → a < length spans → steps_from (next_of nodes) (list_first spans a) (length nodes)
       ≡ count_of spans a
   count-is a al =
-      steps-are (next_of nodes) (first_of spans a) (count_of spans a) (length nodes)
+      steps-are (next_of nodes) (list_first spans a) (count_of spans a) (length nodes)
       (λ i lt none. let inside = sound.chains.within a i al lt in let few = sound.chains.few in omega arith)
       (end_of a al (count_of spans a) refl) (count_within a al)
 
   -- rows with these ends have these spans
   pub spans-are : (rows : List Row) → length rows ≡ length spans
-      → ((a : ℕ) → a < length spans → ((get_or rows a blank_row).first ≡ first_of spans a)
-      × ((get_or rows a blank_row).last ≡ last_of spans a))
+      → ((a : ℕ) → a < length spans → ((get_or rows a blank_row).first ≡ list_first spans a)
+      × ((get_or rows a blank_row).last ≡ list_last spans a))
       → spans_of nodes rows ≡ spans
   spans-are rows size ends = ext_get_or blank_span _ _ (length-map rows (span_of nodes) ∙ size) (λ a lt.
       let al : a < length spans = omega (arith, length-map rows (span_of nodes)) in
@@ -91,22 +92,22 @@ module _ (nodes : List Node) (spans : List Span) (sound : Sound nodes spans) whe
             (next_of nodes) f (length nodes);
       } in s) both.0
       ∙ ap (λ l. let s : Span = record {
-        first = first_of spans a;
+        first = list_first spans a;
         last = l;
         count = steps_from (next_of nodes)
-            (first_of spans a) (length nodes);
+            (list_first spans a) (length nodes);
       } in s) both.1
-      ∙ ap (λ n. let s : Span = record { first = first_of spans a; last = last_of spans a; count = n } in s)
+      ∙ ap (λ n. let s : Span = record { first = list_first spans a; last = list_last spans a; count = n } in s)
       (count-is a al))
 
   -- a span is empty where its last node is none
-  pub last-some : (a : ℕ) → a < length spans → last_of spans a ≢ NONE → 0 < count_of spans a
+  pub last-some : (a : ℕ) → a < length spans → list_last spans a ≢ NONE → 0 < count_of spans a
   last-some a within some = elim (cases_eq (count_of spans a) 0) [
     | inl empty ↦ absurd (some (sound.chains.no_last a within empty))
     | inr not_empty ↦ omega arith
   ]
 
-  pub some-last : (a : ℕ) → a < length spans → 0 < count_of spans a → last_of spans a ≢ NONE
+  pub some-last : (a : ℕ) → a < length spans → 0 < count_of spans a → list_last spans a ≢ NONE
   some-last a within some = λ none.
       let inside = last_within a within some in
       let few = sound.chains.few in
@@ -130,153 +131,156 @@ module _ (nodes : List Node) (spans : List Span) (sound : Sound nodes spans) whe
       (apart : from ≢ to) (some : 0 < count_of spans from) (link : content.next ≡ NONE)
       (mark : content.used ≡ nat_lt (to + 1) (length spans)) where
     abbrev nodes1 : List Node
-    nodes1 = set nodes (first_of spans from) content
+    nodes1 = set nodes (list_first spans from) content
 
-    inside1 : first_of spans from < length nodes
+    inside1 : list_first spans from < length nodes
     inside1 = first_within from in_from some
 
     size1 : length nodes1 ≡ length nodes
-    size1 = length-set nodes (first_of spans from) content
+    size1 = length-set nodes (list_first spans from) content
 
     -- the moved node, and each other one
-    moved1 : get_or nodes1 (first_of spans from) blank_node ≡ content
-    moved1 = get_or-set_same nodes (first_of spans from) content blank_node inside1
+    moved1 : get_or nodes1 (list_first spans from) blank_node ≡ content
+    moved1 = get_or-set_same nodes (list_first spans from) content blank_node inside1
 
-    other1 : (m : ℕ) → m ≢ first_of spans from → get_or nodes1 m blank_node ≡ get_or nodes m blank_node
-    other1 m other = get_or-set_other nodes (first_of spans from) m content blank_node other
+    other1 : (m : ℕ) → m ≢ list_first spans from → get_or nodes1 m blank_node ≡ get_or nodes m blank_node
+    other1 m other = get_or-set_other nodes (list_first spans from) m content blank_node other
 
-    first_not_last : 0 < count_of spans to → first_of spans from ≢ last_of spans to
+    first_not_last : 0 < count_of spans to → list_first spans from ≢ list_last spans to
     first_not_last any same =
         let there = sound.chains.ends to (count_of spans to - 1) in_to (omega arith) in
         apart (sound.chains.apart from to 0 (count_of spans to - 1) in_from in_to some (omega arith) (same ∙ there)).0
 
     module _ (nodes2 : List Node) (giver taker : Row)
-        (detached : Detached (last_of spans from) (next_of nodes (first_of spans from)) giver)
-        (attached : Attached nodes1 nodes2 (first_of spans to) (last_of spans to) (first_of spans from) taker) where
-      -- what the link behind the last node of `to` leaves
-      record Kept : Type 0 where
-        size : length nodes2 ≡ length nodes
-        waiters : (m : ℕ) → waiter_of nodes2 m ≡ waiter_of nodes1 m
-        marks : (m : ℕ) → used_of nodes2 m ≡ used_of nodes1 m
-        last : 0 < count_of spans to → next_of nodes2 (last_of spans to) ≡ first_of spans from
-        others : (m : ℕ) → (0 < count_of spans to → m ≢ last_of spans to) → next_of nodes2 m ≡ next_of nodes1 m
+        (detached : Detached (list_last spans from) (next_of nodes (list_first spans from)) giver)
+        (attached : Attached nodes1 nodes2 (list_first spans to) (list_last spans to) (list_first spans from) taker)
+      where
+        -- what the link behind the last node of `to` leaves
+        record Kept : Type 0 where
+          size : length nodes2 ≡ length nodes
+          waiters : (m : ℕ) → waiter_of nodes2 m ≡ waiter_of nodes1 m
+          marks : (m : ℕ) → used_of nodes2 m ≡ used_of nodes1 m
+          last : 0 < count_of spans to → next_of nodes2 (list_last spans to) ≡ list_first spans from
+          others : (m : ℕ) → (0 < count_of spans to → m ≢ list_last spans to) → next_of nodes2 m ≡ next_of nodes1 m
 
-      kept_at : (k : ℕ) → count_of spans to ≡ k → Kept
-      kept_at zero e =
-          let same = (attached.empty (sound.chains.no_last to in_to e)).1 in
-          record {
-            size = ap length same ∙ size1;
-            waiters = λ m. ap (λ ns. waiter_of ns m) same;
-            marks = λ m. ap (λ ns. used_of ns m) same;
-            last = λ lt. absurd (omega arith);
-            others = λ m _. ap (λ ns. next_of ns m) same;
-          }
-      kept_at (suc k) e =
-          let new : Node = record (get_or nodes1 (last_of spans to) blank_node) { next = first_of spans from } in
-          let same = (attached.longer (some-last to in_to (omega arith))).1 in
-          let inside_l : last_of spans to < length nodes1 = omega (arith, size1, last_within to in_to (omega arith)) in
-          let at_last : get_or (set nodes1 (last_of spans to) new) (last_of spans to) blank_node
-          ≡ new = get_or-set_same nodes1 (last_of spans to) new blank_node inside_l in
-          record {
-            size = ap length same ∙ length-set nodes1 (last_of spans to) new ∙ size1;
-            waiters = λ m. ap (λ ns. waiter_of ns m) same ∙ elim (cases_eq m (last_of spans to)) [
-              | inl is ↦ ap (waiter_of (set nodes1 (last_of spans to) new)) is ∙ ap waiter_in at_last
-                  ∙ ap (waiter_of nodes1) (sym is)
-              | inr other ↦ ap waiter_in (get_or-set_other nodes1 (last_of spans to) m new blank_node other)
-            ];
-            marks = λ m. ap (λ ns. used_of ns m) same ∙ elim (cases_eq m (last_of spans to)) [
-              | inl is ↦ ap (used_of (set nodes1 (last_of spans to) new)) is ∙ ap (λ (x : Node). x.used) at_last
-                  ∙ ap (used_of nodes1) (sym is)
-              | inr other ↦ ap (λ (x : Node). x.used)
-                  (get_or-set_other nodes1 (last_of spans to) m new blank_node other)
-            ];
-            last = λ lt. ap (λ ns. next_of ns (last_of spans to)) same ∙ ap (λ (x : Node). x.next) at_last;
-            others = λ m ne. ap (λ ns. next_of ns m) same
-                ∙ ap (λ (x : Node). x.next)
-                (get_or-set_other nodes1 (last_of spans to) m new blank_node (ne (omega arith)));
-          }
+        kept_at : (k : ℕ) → count_of spans to ≡ k → Kept
+        kept_at zero e =
+            let same = (attached.empty (sound.chains.no_last to in_to e)).1 in
+            record {
+              size = ap length same ∙ size1;
+              waiters = λ m. ap (λ ns. waiter_of ns m) same;
+              marks = λ m. ap (λ ns. used_of ns m) same;
+              last = λ lt. absurd (omega arith);
+              others = λ m _. ap (λ ns. next_of ns m) same;
+            }
+        kept_at (suc k) e =
+            let new : Node = record (get_or nodes1 (list_last spans to) blank_node) { next = list_first spans from } in
+            let same = (attached.longer (some-last to in_to (omega arith))).1 in
+            let inside_l : list_last spans to < length nodes1 =
+            omega (arith, size1, last_within to in_to (omega arith)) in
+            let at_last : get_or (set nodes1 (list_last spans to) new) (list_last spans to) blank_node
+            ≡ new = get_or-set_same nodes1 (list_last spans to) new blank_node inside_l in
+            record {
+              size = ap length same ∙ length-set nodes1 (list_last spans to) new ∙ size1;
+              waiters = λ m. ap (λ ns. waiter_of ns m) same ∙ elim (cases_eq m (list_last spans to)) [
+                | inl is ↦ ap (waiter_of (set nodes1 (list_last spans to) new)) is ∙ ap waiter_in at_last
+                    ∙ ap (waiter_of nodes1) (sym is)
+                | inr other ↦ ap waiter_in (get_or-set_other nodes1 (list_last spans to) m new blank_node other)
+              ];
+              marks = λ m. ap (λ ns. used_of ns m) same ∙ elim (cases_eq m (list_last spans to)) [
+                | inl is ↦ ap (used_of (set nodes1 (list_last spans to) new)) is ∙ ap (λ (x : Node). x.used) at_last
+                    ∙ ap (used_of nodes1) (sym is)
+                | inr other ↦ ap (λ (x : Node). x.used)
+                    (get_or-set_other nodes1 (list_last spans to) m new blank_node other)
+              ];
+              last = λ lt. ap (λ ns. next_of ns (list_last spans to)) same ∙ ap (λ (x : Node). x.next) at_last;
+              others = λ m ne. ap (λ ns. next_of ns m) same
+                  ∙ ap (λ (x : Node). x.next)
+                  (get_or-set_other nodes1 (list_last spans to) m new blank_node (ne (omega arith)));
+            }
 
-      abbrev giver_span : Span
-      giver_span = record { first = giver.first; last = giver.last; count = count_of spans from - 1 }
+        abbrev giver_span : Span
+        giver_span = record { first = giver.first; last = giver.last; count = count_of spans from - 1 }
 
-      abbrev taker_span : Span
-      taker_span = record { first = taker.first; last = taker.last; count = count_of spans to + 1 }
+        abbrev taker_span : Span
+        taker_span = record { first = taker.first; last = taker.last; count = count_of spans to + 1 }
 
-      kept : Kept
-      kept = kept_at (count_of spans to) refl
+        kept : Kept
+        kept = kept_at (count_of spans to) refl
 
-      abbrev pub spans2 : List Span
-      spans2 = set (set spans from giver_span) to taker_span
+        abbrev pub spans2 : List Span
+        spans2 = set (set spans from giver_span) to taker_span
 
-      at_from : get_or spans2 from blank_span ≡ giver_span
-      at_from = get_or-set_other (set spans from giver_span) to from taker_span blank_span apart
-          ∙ get_or-set_same spans from giver_span blank_span in_from
+        at_from : get_or spans2 from blank_span ≡ giver_span
+        at_from = get_or-set_other (set spans from giver_span) to from taker_span blank_span apart
+            ∙ get_or-set_same spans from giver_span blank_span in_from
 
-      at_to : get_or spans2 to blank_span ≡ taker_span
-      at_to = get_or-set_same (set spans from giver_span) to taker_span blank_span
-          (omega (arith, length-set spans from giver_span))
+        at_to : get_or spans2 to blank_span ≡ taker_span
+        at_to = get_or-set_same (set spans from giver_span) to taker_span blank_span
+            (omega (arith, length-set spans from giver_span))
 
-      at_other : (b : ℕ) → b ≢ from → b ≢ to → get_or spans2 b blank_span ≡ get_or spans b blank_span
-      at_other b nf nt = get_or-set_other (set spans from giver_span) to b taker_span blank_span nt
-          ∙ get_or-set_other spans from b giver_span blank_span nf
+        at_other : (b : ℕ) → b ≢ from → b ≢ to → get_or spans2 b blank_span ≡ get_or spans b blank_span
+        at_other b nf nt = get_or-set_other (set spans from giver_span) to b taker_span blank_span nt
+            ∙ get_or-set_other spans from b giver_span blank_span nf
 
-      size2 : length spans2 ≡ length spans
-      size2 = length-set (set spans from giver_span) to taker_span ∙ length-set spans from giver_span
+        size2 : length spans2 ≡ length spans
+        size2 = length-set (set spans from giver_span) to taker_span ∙ length-set spans from giver_span
 
-      moves : Moves (length spans) NONE from to (next_of nodes) (used_of nodes) (first_of spans) (last_of spans)
-          (count_of spans) (next_of nodes2) (used_of nodes2) (first_of spans2) (last_of spans2) (count_of spans2)
-      moves = record {
-        some = some;
-        apart = apart;
-        first_from = ap (λ (x : Span). x.first) at_from ∙ detached.first;
-        last_from = λ more. ap (λ (x : Span). x.last) at_from
-            ∙ detached.more
-            (λ none. let second = sound.chains.within from 1 in_from more in let few = sound.chains.few in omega arith);
-        last_from_one = λ one. ap (λ (x : Span). x.last) at_from ∙ detached.one (end_of from in_from 1 one);
-        count_from = omega (arith, ap (λ (x : Span). x.count) at_from);
-        first_to = λ lt. ap (λ (x : Span). x.first) at_to ∙ (attached.longer (some-last to in_to lt)).0;
-        first_to_empty = λ e. ap (λ (x : Span). x.first) at_to ∙ (attached.empty (sound.chains.no_last to in_to e)).0;
-        last_to = ap (λ (x : Span). x.last) at_to ∙ attached.end;
-        count_to = ap (λ (x : Span). x.count) at_to;
-        first_other = λ b nf nt. ap (λ (x : Span). x.first) (at_other b nf nt);
-        last_other = λ b nf nt. ap (λ (x : Span). x.last) (at_other b nf nt);
-        count_other = λ b nf nt. ap (λ (x : Span). x.count) (at_other b nf nt);
-        next_moved = kept.others (first_of spans from) first_not_last ∙ ap (λ (x : Node). x.next) moved1 ∙ link;
-        next_last = kept.last;
-        next_other = λ m nf nl. kept.others m nl ∙ ap (λ (x : Node). x.next) (other1 m nf);
-        used_moved = kept.marks (first_of spans from) ∙ ap (λ (x : Node). x.used) moved1 ∙ mark;
-        used_other = λ m nf. kept.marks m ∙ ap (λ (x : Node). x.used) (other1 m nf);
-      }
+        moves : Moves (length spans) NONE from to (next_of nodes) (used_of nodes) (list_first spans) (list_last spans)
+            (count_of spans) (next_of nodes2) (used_of nodes2) (list_first spans2) (list_last spans2) (count_of spans2)
+        moves = record {
+          some = some;
+          apart = apart;
+          first_from = ap (λ (x : Span). x.first) at_from ∙ detached.first;
+          last_from = λ more. ap (λ (x : Span). x.last) at_from
+              ∙ detached.more
+              (λ none. let second = sound.chains.within from 1 in_from more in let few = sound.chains.few
+              in omega arith);
+          last_from_one = λ one. ap (λ (x : Span). x.last) at_from ∙ detached.one (end_of from in_from 1 one);
+          count_from = omega (arith, ap (λ (x : Span). x.count) at_from);
+          first_to = λ lt. ap (λ (x : Span). x.first) at_to ∙ (attached.longer (some-last to in_to lt)).0;
+          first_to_empty = λ e. ap (λ (x : Span). x.first) at_to ∙ (attached.empty (sound.chains.no_last to in_to e)).0;
+          last_to = ap (λ (x : Span). x.last) at_to ∙ attached.end;
+          count_to = ap (λ (x : Span). x.count) at_to;
+          first_other = λ b nf nt. ap (λ (x : Span). x.first) (at_other b nf nt);
+          last_other = λ b nf nt. ap (λ (x : Span). x.last) (at_other b nf nt);
+          count_other = λ b nf nt. ap (λ (x : Span). x.count) (at_other b nf nt);
+          next_moved = kept.others (list_first spans from) first_not_last ∙ ap (λ (x : Node). x.next) moved1 ∙ link;
+          next_last = kept.last;
+          next_other = λ m nf nl. kept.others m nl ∙ ap (λ (x : Node). x.next) (other1 m nf);
+          used_moved = kept.marks (list_first spans from) ∙ ap (λ (x : Node). x.used) moved1 ∙ mark;
+          used_other = λ m nf. kept.marks m ∙ ap (λ (x : Node). x.used) (other1 m nf);
+        }
 
-      total2 : sum_by (λ (s : Span). s.count) spans2 ≡ length nodes
-      total2 =
-          let f : Span → ℕ = λ s. s.count in
-          let one = sum_by-set f spans from giver_span blank_span in_from in
-          let two = sum_by-set f (set spans from giver_span) to taker_span blank_span
-          (omega (arith, length-set spans from giver_span)) in
-          let read : count_of (set spans from giver_span) to
-          ≡ count_of spans to = ap (λ (x : Span). x.count)
-          (get_or-set_other spans from to giver_span blank_span (λ e. apart (sym e))) in
-          omega (arith, sound.total)
+        total2 : sum_by (λ (s : Span). s.count) spans2 ≡ length nodes
+        total2 =
+            let f : Span → ℕ = λ s. s.count in
+            let one = sum_by-set f spans from giver_span blank_span in_from in
+            let two = sum_by-set f (set spans from giver_span) to taker_span blank_span
+            (omega (arith, length-set spans from giver_span)) in
+            let read : count_of (set spans from giver_span) to
+            ≡ count_of spans to = ap (λ (x : Span). x.count)
+            (get_or-set_other spans from to giver_span blank_span (λ e. apart (sym e))) in
+            omega (arith, sound.total)
 
-      pub Moved-attached : Moved nodes nodes2 spans spans2 from to content (waiter_of nodes (first_of spans from))
-      Moved-attached =
-          let chains = Chains-moved _ _ _ from to _ _ _ _ _ _ _ _ _ _ sound.chains moves in_from in_to in
-          let items : (m : ℕ) → m ≢ first_of spans from → waiter_of nodes2 m
-          ≡ waiter_of nodes m = λ m ne. kept.waiters m ∙ ap waiter_in (other1 m ne) in
-          record {
-            sound = record {
-              chains = rw (kept.size, size2) chains;
-              total = total2 ∙ sym kept.size;
-            };
-            size = size2;
-            table = kept.size;
-            front = along_from _ _ _ from to _ _ _ _ _ _ _ _ _ _ sound.chains moves in_from in_to _ _ items;
-            back = along_to _ _ _ from to _ _ _ _ _ _ _ _ _ _ sound.chains moves in_from in_to _ _ items
-                ∙ ap (λ (x : Waiter). row_at nodes spans to ++ x ∷ [])
-                (kept.waiters (first_of spans from) ∙ ap waiter_in moved1);
-            others = along_other _ _ _ from to _ _ _ _ _ _ _ _ _ _ sound.chains moves in_from in_to _ _ items;
-          }
+        pub Moved-attached : Moved nodes nodes2 spans spans2 from to content (waiter_of nodes (list_first spans from))
+        Moved-attached =
+            let chains = Chains-moved _ _ _ from to _ _ _ _ _ _ _ _ _ _ sound.chains moves in_from in_to in
+            let items : (m : ℕ) → m ≢ list_first spans from → waiter_of nodes2 m
+            ≡ waiter_of nodes m = λ m ne. kept.waiters m ∙ ap waiter_in (other1 m ne) in
+            record {
+              sound = record {
+                chains = rw (kept.size, size2) chains;
+                total = total2 ∙ sym kept.size;
+              };
+              size = size2;
+              table = kept.size;
+              front = along_from _ _ _ from to _ _ _ _ _ _ _ _ _ _ sound.chains moves in_from in_to _ _ items;
+              back = along_to _ _ _ from to _ _ _ _ _ _ _ _ _ _ sound.chains moves in_from in_to _ _ items
+                  ∙ ap (λ (x : Waiter). row_at nodes spans to ++ x ∷ [])
+                  (kept.waiters (list_first spans from) ∙ ap waiter_in moved1);
+              others = along_other _ _ _ from to _ _ _ _ _ _ _ _ _ _ sound.chains moves in_from in_to _ _ items;
+            }
 
 -- a row and a span that are these have the same ends
 same_ends : (x r : Row) (y s : Span) → x ≡ r → y ≡ s → r.first ≡ s.first → r.last ≡ s.last → (x.first ≡ y.first)
@@ -303,7 +307,7 @@ pub last_inside : (nodes : List Node) (rows : List Row) (a : ℕ) → Sound node
 last_inside nodes rows a sound within some =
     let spans = spans_of nodes rows in
     let inside : a < length spans = omega (arith, length-map rows (span_of nodes)) in
-    let is : last_of spans a
+    let is : list_last spans a
     ≡ (get_or rows a blank_row).last = ap (λ (s : Span). s.last) (span_at nodes rows a within) in
     subst (λ n. n < length nodes) is
     (last_within nodes spans sound a inside (last-some nodes spans sound a inside (λ e. some (sym is ∙ e))))
@@ -327,15 +331,15 @@ module _ (nodes : List Node) (rows : List Row) (sound : Sound nodes (spans_of no
   size : length spans ≡ length rows
   size = length-map rows (span_of nodes)
 
-  detached_span : Detached (last_of spans from) (next_of nodes (first_of spans from)) giver
+  detached_span : Detached (list_last spans from) (next_of nodes (list_first spans from)) giver
   detached_span = subst (λ (s : Span). Detached s.last (next_of nodes s.first) giver)
       (sym (span_at nodes rows from in_from)) detached
 
-  attached_span : Attached (set nodes (first_of spans from) content) nodes2 (first_of spans to) (last_of spans to)
-      (first_of spans from) taker
+  attached_span : Attached (set nodes (list_first spans from) content) nodes2 (list_first spans to) (list_last spans to)
+      (list_first spans from) taker
   attached_span =
-      subst (λ (s : Span). Attached (set nodes s.first content) nodes2 (first_of spans to)
-      (last_of spans to) s.first taker) (sym (span_at nodes rows from in_from))
+      subst (λ (s : Span). Attached (set nodes s.first content) nodes2 (list_first spans to)
+      (list_last spans to) s.first taker) (sym (span_at nodes rows from in_from))
       (subst (λ (s : Span). Attached (set nodes (get_or rows from blank_row).first content) nodes2 s.first s.last
       (get_or rows from blank_row).first taker) (sym (span_at nodes rows to in_to)) attached)
 
@@ -351,7 +355,7 @@ module _ (nodes : List Node) (rows : List Row) (sound : Sound nodes (spans_of no
   abbrev moved_spans : List Span
   moved_spans = set (set spans from left) to longer
 
-  moved : Moved nodes nodes2 spans moved_spans from to content (waiter_of nodes (first_of spans from))
+  moved : Moved nodes nodes2 spans moved_spans from to content (waiter_of nodes (list_first spans from))
   moved = Moved-attached nodes spans sound from to content (omega (arith, size))
       (omega (arith, size)) apart some link
       (mark ∙ ap (nat_lt (to + 1)) (sym size)) nodes2 giver taker detached_span attached_span
@@ -359,8 +363,8 @@ module _ (nodes : List Node) (rows : List Row) (sound : Sound nodes (spans_of no
   rows_size : length rows2 ≡ length rows
   rows_size = length-set (set rows from giver) to taker ∙ length-set rows from giver
 
-  ends : (a : ℕ) → a < length moved_spans → ((get_or rows2 a blank_row).first ≡ first_of moved_spans a)
-      × ((get_or rows2 a blank_row).last ≡ last_of moved_spans a)
+  ends : (a : ℕ) → a < length moved_spans → ((get_or rows2 a blank_row).first ≡ list_first moved_spans a)
+      × ((get_or rows2 a blank_row).last ≡ list_last moved_spans a)
   ends a lt = elim (cases_eq a to) [
     | inl is ↦ same_ends _ taker _ longer
         (ap (λ x. get_or rows2 x blank_row) is

@@ -15,7 +15,8 @@ use Rattle.im_arena.specs.Chain.{place_from, along}
 use Rattle.im_arena.specs.Lists.{Links, list_at, Threads, free_record, link_of, first_in, last_in, ends_at, next_in}
 use Rattle.im_arena.specs.Lists.{node_at, IsThreaded}
 use Rattle.im_arena.specs.Table.{Span, blank_node, blank_row, blank_span, record_if, record_of, ends_of, next_of}
-use Rattle.im_arena.specs.Table.{used_of, waiter_of, first_of, last_of, count_of, span_of, spans_of, row_at, shown}
+use Rattle.im_arena.specs.Table.{used_of, waiter_of, list_first, list_last, count_of, span_of, spans_of, row_at}
+use Rattle.im_arena.specs.Table.{shown_table}
 use Rattle.im_arena.specs.Table.{IsArena}
 use Rattle.im_arena.proofs.Moves.{place_from-same}
 use Rattle.im_arena.proofs.Tables.{eqb-no, span_at, first_within, end_of}
@@ -64,7 +65,7 @@ module _ (nodes : List Node) (rows : List Row) (lists free_nodes : ℕ)
   size = span_count nodes rows lists free_nodes arena
 
   abbrev links : Links
-  links = (shown nodes rows lists).links
+  links = (shown_table nodes rows lists).links
 
   abbrev next : ℕ → ℕ
   next = next_of nodes
@@ -108,52 +109,53 @@ module _ (nodes : List Node) (rows : List Row) (lists free_nodes : ℕ)
   ends_is a lt = get_or-take lists (map ends_of rows) a None lt
       ∙ get_or-map ends_of rows a blank_row None (omega (arith, arena.size))
 
-  pub first_is : (a : ℕ) → a < lists → first_in (ends_at links a) ≡ first_of spans a
+  pub first_is : (a : ℕ) → a < lists → first_in (ends_at links a) ≡ list_first spans a
   first_is a lt = ap first_in (ends_is a lt) ∙ first_in-ends_of (get_or rows a blank_row)
       ∙ ap (λ (s : Span). s.first) (sym (row_span a lt))
 
-  pub last_is : (a : ℕ) → a < lists → last_in (ends_at links a) ≡ last_of spans a
+  pub last_is : (a : ℕ) → a < lists → last_in (ends_at links a) ≡ list_last spans a
   last_is a lt =
-      let last : last_of spans a ≡ (get_or rows a blank_row).last = ap (λ (s : Span). s.last) (row_span a lt) in
+      let last : list_last spans a ≡ (get_or rows a blank_row).last = ap (λ (s : Span). s.last) (row_span a lt) in
       ap last_in (ends_is a lt)
       ∙ last_in-ends_of (get_or rows a blank_row)
       (λ none. sym last ∙ arena.sound.chains.no_last a (omega (arith, size)) (empty_first a lt none)) ∙ sym last
 
-  list_is : (a : ℕ) → a < lists → list_at (shown nodes rows lists).held a ≡ row_at nodes spans a
+  list_is : (a : ℕ) → a < lists → list_at (shown_table nodes rows lists).held a ≡ row_at nodes spans a
   list_is a lt = list_at-held nodes spans lists a lt (omega (arith, size))
 
-  pub length_is : (a : ℕ) → a < lists → length (list_at (shown nodes rows lists).held a) ≡ count_of spans a
-  length_is a lt = ap length (list_is a lt) ∙ length-along (waiter_of nodes) next (first_of spans a) (count_of spans a)
+  pub length_is : (a : ℕ) → a < lists → length (list_at (shown_table nodes rows lists).held a) ≡ count_of spans a
+  length_is a lt =
+      ap length (list_is a lt) ∙ length-along (waiter_of nodes) next (list_first spans a) (count_of spans a)
 
   -- each node of a list is in use
-  pub used_at : (a i : ℕ) → a < lists → i < count_of spans a → used_of nodes (place_from next (first_of spans a) i)
+  pub used_at : (a i : ℕ) → a < lists → i < count_of spans a → used_of nodes (place_from next (list_first spans a) i)
       ≡ true
   used_at a i al il = arena.sound.chains.marked a i (omega (arith, size)) il
       ∙ lt-ltb (a + 1) (length spans) (omega (arith, size))
 
-  pub within : (a i : ℕ) → a < lists → i < count_of spans a → place_from next (first_of spans a) i < length nodes
+  pub within : (a i : ℕ) → a < lists → i < count_of spans a → place_from next (list_first spans a) i < length nodes
   within a i al il = arena.sound.chains.within a i (omega (arith, size)) il
 
-  node_is : (a i : ℕ) → a < lists → i < count_of spans a → node_at links a i ≡ place_from next (first_of spans a) i
+  node_is : (a i : ℕ) → a < lists → i < count_of spans a → node_at links a i ≡ place_from next (list_first spans a) i
   node_is a i al il =
       ap (λ p. place_from (next_in links) p i) (first_is a al)
-      ∙ place_from-same next (next_in links) (first_of spans a) i
+      ∙ place_from-same next (next_in links) (list_first spans a) i
       (λ j lt. used_next _ (within a j al (omega arith)) (used_at a j al (omega arith)))
 
   threads_row : (a : ℕ) → a < lists
-      → Threads (map record_of nodes) NONE (first_of spans a) (last_of spans a) (row_at nodes spans a)
+      → Threads (map record_of nodes) NONE (list_first spans a) (list_last spans a) (row_at nodes spans a)
   threads_row a al =
-      Threads-along (map record_of nodes) (waiter_of nodes) next NONE (first_of spans a) (last_of spans a)
+      Threads-along (map record_of nodes) (waiter_of nodes) next NONE (list_first spans a) (list_last spans a)
       (count_of spans a)
       (λ i lt. used_record _ (within a i al lt) (used_at a i al lt))
       (end_of nodes spans arena.sound a (omega (arith, size)) (count_of spans a) refl)
       (λ e. sym (arena.sound.chains.no_last a (omega (arith, size)) e))
       (λ k e. sym (arena.sound.chains.ends a k (omega (arith, size)) e))
 
-  is_empty : (a : ℕ) → a < lists → (ends_at links a ≡ None) ↔ (list_at (shown nodes rows lists).held a ≡ [])
+  is_empty : (a : ℕ) → a < lists → (ends_at links a ≡ None) ↔ (list_at (shown_table nodes rows lists).held a ≡ [])
   is_empty a al = (
     λ e. elim (cases_eq (count_of spans a) 0) [
-      | inl none ↦ list_is a al ∙ ap (λ n. along (waiter_of nodes) next (first_of spans a) n) none
+      | inl none ↦ list_is a al ∙ ap (λ n. along (waiter_of nodes) next (list_first spans a) n) none
       | inr some ↦ absurd
           (not_none (sym (ends_of-some (get_or rows a blank_row) (λ none. some (empty_first a al none)))
           ∙ sym (ends_is a al) ∙ e))
@@ -166,12 +168,12 @@ module _ (nodes : List Node) (rows : List Row) (lists free_nodes : ℕ)
 
   -- a node that is reached from no list is free
   unused : (n : ℕ) → n < length nodes
-      → ((a i : ℕ) → a < lists → i < count_of spans a → place_from next (first_of spans a) i ≢ n) → used_of nodes n
+      → ((a i : ℕ) → a < lists → i < count_of spans a → place_from next (list_first spans a) i ≢ n) → used_of nodes n
       ≡ false
   unused n lt unreached = by_mark (used_of nodes n) refl
     where
       on_no_row : used_of nodes n ≡ true → (a i : ℕ) → a < length spans → i < count_of spans a
-          → place_from next (first_of spans a) i ≢ n
+          → place_from next (list_first spans a) i ≢ n
       on_no_row used a i al il same = elim (cases_eq a lists) [
         | inl is ↦
             let free = arena.sound.chains.marked a i al il ∙ le-ltb (a + 1) (length spans) (omega (arith, size)) in
@@ -183,10 +185,10 @@ module _ (nodes : List Node) (rows : List Row) (lists free_nodes : ℕ)
       by_mark true used = absurd (arena.sound.chains.covered n lt (on_no_row used))
       by_mark false e = e
 
-  inside : (a : ℕ) → a < length (shown nodes rows lists).held.lists → a < lists
+  inside : (a : ℕ) → a < length (shown_table nodes rows lists).held.lists → a < lists
   inside a lt = omega (arith, length-held nodes spans lists (omega (arith, size)))
 
-  pub IsThreaded-shown : IsThreaded (shown nodes rows lists)
+  pub IsThreaded-shown : IsThreaded (shown_table nodes rows lists)
   IsThreaded-shown = record {
     node_count = length-map nodes record_of;
     list_count = length-take-le lists (map ends_of rows) (omega (arith, arena.size, length-map rows ends_of))

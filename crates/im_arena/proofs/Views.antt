@@ -14,7 +14,7 @@ use Rattle.im_arena.specs.declared.table.Node.{Node}
 use Rattle.im_arena.specs.declared.table.Row.{Row}
 use Rattle.im_arena.specs.Chain.{along, place_from}
 use Rattle.im_arena.specs.Lists.{Lists, list_at, with_list, free}
-use Rattle.im_arena.specs.Table.{Span, blank_row, blank_span, blank_node, waiter_in, count_of, first_of, waiter_of}
+use Rattle.im_arena.specs.Table.{Span, blank_row, blank_span, blank_node, waiter_in, count_of, list_first, waiter_of}
 use Rattle.im_arena.specs.Table.{next_of, steps_from, span_of, spans_of, ends_of, waiters_on, row_at, held, Sound}
 use Rattle.im_arena.specs.Table.{IsArena, Transferred}
 use Rattle.im_arena.proofs.Moves.{place_from-last}
@@ -25,7 +25,7 @@ length-along item next at zero = refl
 length-along item next at (suc n) = ap suc (length-along item next (next at) n)
 
 pub length-row : (nodes : List Node) (spans : List Span) (a : ℕ) → length (row_at nodes spans a) ≡ count_of spans a
-length-row nodes spans a = length-along (waiter_of nodes) (next_of nodes) (first_of spans a) (count_of spans a)
+length-row nodes spans a = length-along (waiter_of nodes) (next_of nodes) (list_first spans a) (count_of spans a)
 
 -- a list by its number
 pub list_at-held : (nodes : List Node) (spans : List Span) (n b : ℕ) → b < n → n ≤ length spans

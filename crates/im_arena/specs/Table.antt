@@ -83,12 +83,12 @@ abbrev pub spans_of : List Node → List Row → List Span
 spans_of nodes rows = map (span_of nodes) rows
 
 -- the first node of a span
-abbrev pub first_of : List Span → ℕ → ℕ
-first_of spans a = (slice_index_or spans a blank_span).first
+abbrev pub list_first : List Span → ℕ → ℕ
+list_first spans a = (slice_index_or spans a blank_span).first
 
 -- the last node of a span
-abbrev pub last_of : List Span → ℕ → ℕ
-last_of spans a = (slice_index_or spans a blank_span).last
+abbrev pub list_last : List Span → ℕ → ℕ
+list_last spans a = (slice_index_or spans a blank_span).last
 
 -- the number of nodes of a span
 abbrev pub count_of : List Span → ℕ → ℕ
@@ -116,8 +116,8 @@ pub record IsWalk (nodes : List Node) (at : ℕ) : Type 0 where
 
 -- each node is on one span, in one place of it
 pub record Sound (nodes : List Node) (spans : List Span) : Type 0 where
-  pub chains : Chains (length nodes) (length spans) NONE (next_of nodes) (used_of nodes) (first_of spans)
-      (last_of spans) (count_of spans)
+  pub chains : Chains (length nodes) (length spans) NONE (next_of nodes) (used_of nodes) (list_first spans)
+      (list_last spans) (count_of spans)
   pub total : sum_by (λ (s : Span). s.count) spans ≡ length nodes
 
 -- a row from `first` to `last` after a node is linked at its end
@@ -159,8 +159,8 @@ abbrev pub held : List Node → List Span → ℕ → Lists
 held nodes spans lists = record { nodes = length nodes; lists = take lists (map (waiters_on nodes) spans) }
 
 -- the arena that callers see, from nodes and rows
-abbrev pub shown : List Node → List Row → ℕ → Shown
-shown nodes rows lists = record {
+abbrev pub shown_table : List Node → List Row → ℕ → Shown
+shown_table nodes rows lists = record {
   held = held nodes (spans_of nodes rows) lists;
   links =
       record {

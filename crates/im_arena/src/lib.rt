@@ -50,9 +50,9 @@ impl Model for Arena {
 
     ghost Value = { Shown };
 
-    ghost use Rattle.im_arena.specs.Table.{shown, IsArena};
+    ghost use Rattle.im_arena.specs.Table.{shown_table, IsArena};
 
-    ghost view = { λ a. shown a.nodes.items a.rows.items a.lists };
+    ghost view = { λ a. shown_table a.nodes.items a.rows.items a.lists };
 
     ghost invariant = { λ a. IsArena a.nodes.items a.rows.items a.lists a.free };
 }

@@ -8,14 +8,14 @@ use Rattle.std_heap.specs.contracts.GlobalAllocator.TheImpl.{ghosts, dict}
 use Rattle.std_heap.proofs.Global.TheLaws as heap
 use Rattle.im_listed.specs.contracts.image.Image as Held
 use Rattle.im_listed.proofs.image.Image.TheLaws as held
-use Rattle.im_c.specs.contracts.parts.Parts as Parts
+use Rattle.im_c.specs.contracts.parts.BoxParts as BoxParts
 use Rattle.im_c.specs.contracts.image.LtImage as Handle
 
 abbrev pub E : Bx
 E = record { row = Held.the_row; laws = held.the_row_laws; al = record { row = Heap.the_row; laws = heap.the_row_laws; g = ghosts; d = dict; drops = impl [] tnil dnil } }
 
 abbrev pub FromParts : Slot 0
-FromParts = plain (λ _. Parts.the_row Held.the_row Heap.the_row ghosts)
+FromParts = plain (λ _. BoxParts.the_row Held.the_row Heap.the_row ghosts)
 
 abbrev pub FromHandle : Slot 0
 FromHandle = plain (λ _. Handle.the_row)

@@ -4,7 +4,7 @@ use Rattle.std.proofs.Crossing.{crosses}
 use Rattle.im_memory.specs.contracts.memory.Memory as Memory
 use Rattle.im_checkpoint.specs.contracts.checkpoint.Checkpoint as Checkpoint
 use Rattle.im_listed.specs.contracts.listed.Listed as Listed
-use Rattle.im_listed.proofs.account.Ledger.TheSendSync.{the_send as ledger_send}
+use Rattle.im_listed.proofs.account.StepLedger.TheSendSync.{the_send as ledger_send}
 use Rattle.im_listed.specs.contracts.image.Image as Image
 
 Memory-send : IsSend Memory.the_field.row

@@ -16,7 +16,7 @@ use Rattle.im_checkpoint.specs.declared.checkpoint.TurnDone.{TurnDone}
 use Rattle.im_checkpoint.specs.declared.checkpoint.TurnDone.TheVariants.{Idle, Began, Page, Synced, InForce, Swept}
 use Rattle.im_engine.specs.State.{MeansState, MeansEither}
 use Rattle.im_engine.specs.Run.{Answered, SweepAnswered, TurnAnswered}
-use Rattle.im_listed.specs.Listing.{Task, Puts, Settles}
+use Rattle.im_listed.specs.Listing.{FileStep, Puts, Settles}
 use Rattle.im_listed.specs.History.{given}
 use Rattle.im_listed.specs.Image.{ImageState, Carries, begun_in}
 use Rattle.im_c.specs.declared.plain.LtCommand.{LtCommand}
@@ -26,8 +26,8 @@ use Rattle.im_c.specs.declared.plain.LtStep.{LtStep}
 use Rattle.im_c.specs.Plain.{meant, outcome_of, entry_outcome, refused, no_call}
 
 -- a file with the length of an image, each byte of which is in doubt
-abbrev pub blank : Sizes → Moment
-blank s = given (replicate (image_length layout_in_use s) 0)
+abbrev pub blank_image : Sizes → Moment
+blank_image s = given (replicate (image_length layout_in_use s) 0)
 
 -- the effect of a call that is none: no step is left
 abbrev pub idle_after : ImageState → ImageState
@@ -117,7 +117,7 @@ pub record ShowsWindow (i : ImageState) (element : ℕ) (out : LtBounds) : Type 
   pub alive : i.lost ≡ false → out ≡ window_of (bounds i.engine.memory.windows element)
 
 -- a step, in C's form
-abbrev pub step_told : Option Task → LtStep
+abbrev pub step_told : Option FileStep → LtStep
 step_told None = record { kind = 0; place = 0; length = 0 }
 step_told (Some (Puts place bytes)) = record { kind = 1; place = place; length = length bytes }
 step_told (Some Settles) = record { kind = 2; place = 0; length = 0 }
@@ -128,7 +128,7 @@ pub record CopiesBytes (bytes old : List ℕ) (answer : ℕ) (new : List ℕ) : 
   pub other : (length bytes ≡ length old → ⊥) → (answer ≡ 255) × (new ≡ old)
 
 -- a buffer gets the bytes of a write
-abbrev pub Copies : Option Task → List ℕ → ℕ → List ℕ → Type 0
+abbrev pub Copies : Option FileStep → List ℕ → ℕ → List ℕ → Type 0
 Copies None old answer new = (answer ≡ 255) × (new ≡ old)
 Copies (Some (Puts place bytes)) old answer new = CopiesBytes bytes old answer new
 Copies (Some Settles) old answer new = (answer ≡ 255) × (new ≡ old)

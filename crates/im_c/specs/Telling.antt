@@ -41,7 +41,7 @@ pub record PutsText (text old new : List ℕ) : Type 0 where
   pub other : length old < length text → new ≡ old
 
 -- the report of these bytes has this length, and is put into a buffer
-pub record IsTold (file : List ℕ) (count : ℕ) (old new : List ℕ) : Type 0 where
+pub record IsReported (file : List ℕ) (count : ℕ) (old new : List ℕ) : Type 0 where
   pub text : List ℕ
   pub tells : Tells file (Some []) (Some text)
   pub whole : count ≡ length text

@@ -14,9 +14,9 @@ ghost use Rattle.im_listed.specs.Listing.{carried};
 ghost use Rattle.im_listed.specs.History.{given};
 ghost use Rattle.im_c.specs.Held.{holds_image};
 ghost use Rattle.im_c.specs.Telling.{TellsFault};
-ghost use Rattle.im_c.specs.Image.{blank};
+ghost use Rattle.im_c.specs.Image.{blank_image};
 
-use crate::parts::Parts;
+use crate::parts::BoxParts;
 use im_listed::Image;
 use im_types::layout::image_length;
 use im_types::{Limits, Refusal};
@@ -42,22 +42,22 @@ impl Model for LtImage {
 unsafe impl Send for LtImage {}
 
 impl LtImage {
-    fn of_parts(parts: Parts<Image, Global>) -> LtImage
+    fn of_parts(parts: BoxParts<Image, Global>) -> LtImage
         ensures { result.value ≡ Some parts.value }
     {
-        let Parts { ptr, alloc } = parts;
+        let BoxParts { ptr, alloc } = parts;
         LtImage {
             ptr: ptr as *mut u8,
             alloc,
         }
     }
 
-    fn into_parts(self) -> Parts<Image, Global>
+    fn into_parts(self) -> BoxParts<Image, Global>
         requires { IsSome self.value }
         ensures { self.value ≡ Some result.value }
     {
         let LtImage { ptr, alloc } = self;
-        Parts {
+        BoxParts {
             ptr: ptr as *mut Image,
             alloc,
         }
@@ -73,7 +73,7 @@ impl LtImage {
     pub(crate) fn of_box(held: Box<Image>) -> LtImage
         ensures { result.value ≡ Some held.value }
     {
-        LtImage::of_parts(Parts::of(held))
+        LtImage::of_parts(BoxParts::of(held))
     }
 }
 
@@ -93,7 +93,7 @@ fn formatted(alloc: Global, limits: Limits) -> Result<Box<Image>, Refusal>
     ensures empty { IfOk result (λ b. (b.value.engine.memory ≡ empty_contents limits.cells limits.elements)
         × (b.value.engine.count ≡ 0) × (b.value.engine.room ≡ limits.slots)) }
     ensures carried { IfOk result
-        (λ b. b.value.engine.disk.now ≡ carried (blank (sizes_of limits)) (steps_of b.value)) }
+        (λ b. b.value.engine.disk.now ≡ carried (blank_image (sizes_of limits)) (steps_of b.value)) }
     ensures means { IfOk result (λ b. LeavesNow b.value.engine.disk.now (MeansState b.value.engine)) }
     ensures works { IfOk result (λ b. b.value.lost ≡ false) }
     ensures only { IfErr result IsWant }
@@ -139,7 +139,7 @@ pub extern "C" fn lt_format(
     ensures empty { result ≡ 0 → IfSome next.new.value (λ i.
         (i.engine.memory ≡ empty_contents cells elements) × (i.engine.count ≡ 0) × (i.engine.room ≡ slots)) }
     ensures carried { result ≡ 0 → IfSome next.new.value (λ i. i.engine.disk.now
-        ≡ carried (blank (record { cells = cells; elements = elements; slots = slots })) (steps_of i)) }
+        ≡ carried (blank_image (record { cells = cells; elements = elements; slots = slots })) (steps_of i)) }
     ensures means { result ≡ 0
         → IfSome next.new.value (λ i. LeavesNow i.engine.disk.now (MeansState i.engine)) }
     ensures same { result ≢ 0 → next.new ≡ next.old }

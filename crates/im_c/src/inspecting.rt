@@ -1,7 +1,7 @@
 //! The report of the image in a caller's bytes, for C.
 ghost use Rattle.std.specs.Prelude.{◌≡◌, ◌≢◌, [], Some, IfOk, IfErr};
 ghost use Rattle.im_report.specs.Inspecting.{Tells};
-ghost use Rattle.im_c.specs.Telling.{IsFlawOf, TellsFlaw, IsTold, PutsText};
+ghost use Rattle.im_c.specs.Telling.{IsFlawOf, TellsFlaw, IsReported, PutsText};
 
 use im_image::inspect;
 use im_listed::Listed;
@@ -69,7 +69,7 @@ pub extern "C" fn lt_inspect(
     buffer: &mut [u8],
     written: &mut usize,
 ) -> u8
-    ensures told { result ≡ 0 → IsTold bytes.now written.new buffer.old buffer.new }
+    ensures told { result ≡ 0 → IsReported bytes.now written.new buffer.old buffer.new }
     ensures fault { result ≢ 0 → TellsFlaw bytes.now result }
     ensures same { result ≢ 0 → (buffer.new ≡ buffer.old) × (written.new ≡ written.old) }
 {

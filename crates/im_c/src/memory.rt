@@ -10,7 +10,7 @@ ghost use Rattle.im_c.specs.Handing.{ShowsHeld, Becomes};
 ghost use Rattle.im_c.specs.Memory.{Steps};
 ghost use Rattle.im_c.specs.Plain.{entry_outcome};
 
-use crate::parts::Parts;
+use crate::parts::BoxParts;
 use crate::plain::{LtCommand, LtOutcome, NO_CALL, entry_outcome, meant, outcome_of, refused};
 use im_memory::Memory;
 use im_types::{Limits, Refusal};
@@ -36,22 +36,22 @@ impl Model for LtMemory {
 unsafe impl Send for LtMemory {}
 
 impl LtMemory {
-    fn of_parts(parts: Parts<Memory, Global>) -> LtMemory
+    fn of_parts(parts: BoxParts<Memory, Global>) -> LtMemory
         ensures { result.value ≡ Some parts.value }
     {
-        let Parts { ptr, alloc } = parts;
+        let BoxParts { ptr, alloc } = parts;
         LtMemory {
             ptr: ptr as *mut u8,
             alloc,
         }
     }
 
-    fn into_parts(self) -> Parts<Memory, Global>
+    fn into_parts(self) -> BoxParts<Memory, Global>
         requires { IsSome self.value }
         ensures { self.value ≡ Some result.value }
     {
         let LtMemory { ptr, alloc } = self;
-        Parts {
+        BoxParts {
             ptr: ptr as *mut Memory,
             alloc,
         }
@@ -67,7 +67,7 @@ impl LtMemory {
     pub(crate) fn of_box(held: Box<Memory>) -> LtMemory
         ensures { result.value ≡ Some held.value }
     {
-        LtMemory::of_parts(Parts::of(held))
+        LtMemory::of_parts(BoxParts::of(held))
     }
 }
 

@@ -2,7 +2,7 @@
 ghost use Rattle.std.specs.Prelude.{◌≡◌, length, map, min, IsSome};
 ghost use Rattle.im_types.specs.Contents.{waiters_at};
 ghost use Rattle.im_c.specs.Handing.{ShowsHeld};
-ghost use Rattle.im_c.specs.Waiting.{TellsWaiters, first_of, waiter_told};
+ghost use Rattle.im_c.specs.Waiting.{TellsWaiters, first_places, waiter_told};
 
 use crate::image::LtImage;
 use crate::plain::LtWaiter;
@@ -24,7 +24,7 @@ fn tell_waiters(image: &Image, address: u32, places: &mut [LtWaiter]) -> usize
     ensures count { let who = waiters_at image.now.engine.memory.cells address in
         result ≡ min (length who) (length places.old) }
     ensures first { let who = waiters_at image.now.engine.memory.cells address in
-        places.new ≡ first_of (map waiter_told who) places.old }
+        places.new ≡ first_places (map waiter_told who) places.old }
 {
     let mut count = 0;
     for who in image.waiters(address) {

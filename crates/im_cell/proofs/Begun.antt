@@ -11,7 +11,7 @@ use Rattle.im_laws.proofs.Tests.{true_false, some_none}
 use Rattle.im_holes.specs.Holes.{holder_at}
 use Rattle.im_holes.proofs.Giving.{fill-out}
 use Rattle.im_cell.specs.declared.slots.Slot.{Slot}
-use Rattle.im_cell.specs.Slots.{slot_at, block_at, block_in, is_waiting, HasBlocks}
+use Rattle.im_cell.specs.Slots.{slot_at, slot_block, block_in, is_waiting_slot, HoldsBlocks}
 use Rattle.im_cell.specs.Table.{count_from, waits_at, waits_before, HasCounts, base_in, moved, CanMove, IsHeldBy}
 use Rattle.im_cell.specs.Table.{IsFreeTo}
 use Rattle.im_cell.proofs.Counted.{count-none, count-few, count-more}
@@ -19,7 +19,7 @@ use Rattle.im_holes.proofs.Kept.{lt-yes, lt-not}
 use Rattle.im_cell.proofs.Tables.{at-base, counts-same, counts-moved}
 
 -- no cell is counted yet
-pub counts-begun : (slots : List (Option Slot)) (holes : List (Option ℕ)) → HasBlocks slots
+pub counts-begun : (slots : List (Option Slot)) (holes : List (Option ℕ)) → HoldsBlocks slots
     → holes ≡ replicate (length slots) (Some 0) → HasCounts slots (waits_before slots 0) holes
 counts-begun slots holes blocks all = λ k b is.
     let w = blocks.within k b is in
@@ -63,8 +63,8 @@ counts-passed slots holes a none c =
     ]) c
 
 -- somebody does
-module _ (slots : List (Option Slot)) (holes : List (Option ℕ)) (a : ℕ) (b : Block) (blocks : HasBlocks slots)
-    (few : length slots < 2 ^ 32) (held : IsHeldBy holes (length slots)) (here : block_at slots a ≡ Some b)
+module _ (slots : List (Option Slot)) (holes : List (Option ℕ)) (a : ℕ) (b : Block) (blocks : HoldsBlocks slots)
+    (few : length slots < 2 ^ 32) (held : IsHeldBy holes (length slots)) (here : slot_block slots a ≡ Some b)
     (waits : waits_at slots a ≡ true) (c : HasCounts slots (waits_before slots a) holes) where
   count-next : count_from (waits_before slots (a + 1)) b.length b.base
       ≡ count_from (waits_before slots a) b.length b.base + 1
@@ -109,7 +109,7 @@ counts-all slots holes a past c =
     counts-same slots slots (waits_before slots a) (waits_at slots) holes (λ k. refl) (λ k. elim (cases_lt k a) [
       | inl less ↦ ap (λ t. cond t (waits_at slots k) false) (lt-yes k a less)
       | inr more ↦ ap (λ t. cond t (waits_at slots k) false) (lt-not k a more)
-          ∙ sym (ap is_waiting (get_or_past slots k None (omega arith)))
+          ∙ sym (ap is_waiting_slot (get_or_past slots k None (omega arith)))
     ]) c
 
 -- the free cells before one are holes, and those from it on are all held
@@ -120,7 +120,7 @@ pub record IsGivenTo (slots : List (Option Slot)) (holes : List (Option ℕ)) (a
   pub held : (k : ℕ) → at ≤ k → k < length slots → IsSome (holder_at holes k)
 
 -- cells up to one that isn't free
-pub IsGivenTo-more : (slots : List (Option Slot)) (holes : List (Option ℕ)) (at end : ℕ) → HasBlocks slots
+pub IsGivenTo-more : (slots : List (Option Slot)) (holes : List (Option ℕ)) (at end : ℕ) → HoldsBlocks slots
     → IsFreeTo slots at end → IsGivenTo slots holes at → IsGivenTo slots (fill holes at (end - at) None) end
 IsGivenTo-more slots holes at end blocks free g =
     let o = free.order in let i = free.inside in record {
@@ -139,11 +139,11 @@ IsGivenTo-more slots holes at end blocks free g =
     }
 
 -- one that is waited for is there
-waiting-slot : (o : Option Slot) → is_waiting o ≡ true → (s : Slot) × (o ≡ Some s)
+waiting-slot : (o : Option Slot) → is_waiting_slot o ≡ true → (s : Slot) × (o ≡ Some s)
 waiting-slot None e = absurd (true_false (sym e))
 waiting-slot (Some s) e = (s, refl)
 
-module _ (slots : List (Option Slot)) (holes : List (Option ℕ)) (a : ℕ) (blocks : HasBlocks slots)
+module _ (slots : List (Option Slot)) (holes : List (Option ℕ)) (a : ℕ) (blocks : HoldsBlocks slots)
     (few : length slots < 2 ^ 32) (held : IsHeldBy holes (length slots)) (waits : waits_at slots a ≡ true)
     (c : HasCounts slots (waits_before slots a) holes) where
   pub count-held : (n : ℕ) × (holder_at holes (base_in (slot_at slots a)) ≡ Some n) × CanMove true n

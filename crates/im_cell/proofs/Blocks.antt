@@ -14,7 +14,7 @@ use Rattle.im_types.specs.declared.cells.Cell.{Cell}
 use Rattle.im_types.specs.declared.cells.Cell.TheVariants.{Empty}
 use Rattle.im_types.specs.declared.records.CellRecord.{CellRecord}
 use Rattle.im_cell.specs.declared.slots.Slot.{Slot}
-use Rattle.im_cell.specs.Slots.{slot_at, block_in, block_at, with_cell, new_slot, empty_slot, HasBlocks}
+use Rattle.im_cell.specs.Slots.{slot_at, block_in, slot_block, with_cell, new_slot, empty_slot, HoldsBlocks}
 
 -- something is not nothing
 some_none : {X : Type 0} (x : X) → Some x ≡ None → ⊥
@@ -25,7 +25,7 @@ some_same b c e = cc
 
 -- another cell in the same block
 pub HasBlocks-set : (slots : List (Option Slot)) (a : ℕ) (slot : Slot) (cell : Cell) → slot_at slots a ≡ Some slot
-    → HasBlocks slots → HasBlocks (set slots a (new_slot slot.block cell))
+    → HoldsBlocks slots → HoldsBlocks (set slots a (new_slot slot.block cell))
 HasBlocks-set slots a slot cell at blocks = record {
   within = λ b block is. let w = blocks.within b block (sym (same b) ∙ is) in
       (w.0, w.1, omega (arith, length-set slots a (new_slot slot.block cell)));
@@ -39,18 +39,18 @@ HasBlocks-set slots a slot cell at blocks = record {
           (some_none slot (sym at ∙ get_or_past slots a None past))
     ]
 
-    same : (b : ℕ) → block_at (set slots a (new_slot slot.block cell)) b ≡ block_at slots b
+    same : (b : ℕ) → slot_block (set slots a (new_slot slot.block cell)) b ≡ slot_block slots b
     same b = elim (cases_eq b a) [
       | inl e ↦
-          ap (λ i. block_at (set slots a (new_slot slot.block cell)) i) e
+          ap (λ i. slot_block (set slots a (new_slot slot.block cell)) i) e
           ∙ ap block_in (get_or-set_same slots a (new_slot slot.block cell) None within)
-          ∙ sym (ap block_in at) ∙ sym (ap (block_at slots) e)
+          ∙ sym (ap block_in at) ∙ sym (ap (slot_block slots) e)
       | inr ne ↦ ap block_in (get_or-set_other slots a b (new_slot slot.block cell) None ne)
     ]
 
 -- a new block, where there was none
 pub HasBlocks-placed : (slots : List (Option Slot)) (base n : ℕ) (kind : Kind) → place n slots ≡ Some base
-    → HasBlocks slots → HasBlocks (fill slots base n (empty_slot base n kind))
+    → HoldsBlocks slots → HoldsBlocks (fill slots base n (empty_slot base n kind))
 HasBlocks-placed slots base n kind e blocks = record {
   within = λ a b is. ⊎_elim
       (λ same. let w = blocks.within a b (sym (ap block_in same) ∙ is) in (w.0, w.1, omega (arith, long)))
@@ -84,8 +84,8 @@ HasBlocks-placed slots base n kind e blocks = record {
     fits = place-fits n slots base e
 
 -- a block is gone
-pub HasBlocks-released : (slots : List (Option Slot)) (block : Block) → block_at slots block.base ≡ Some block
-    → HasBlocks slots → HasBlocks (fill slots block.base block.length None)
+pub HasBlocks-released : (slots : List (Option Slot)) (block : Block) → slot_block slots block.base ≡ Some block
+    → HoldsBlocks slots → HoldsBlocks (fill slots block.base block.length None)
 HasBlocks-released slots block at blocks = record {
   within = λ a b is. ⊎_elim
       (λ same. let w = blocks.within a b (sym (ap block_in same) ∙ is) in
@@ -125,8 +125,8 @@ change_each-fill change (y ∷ xs) (suc base) n x same =
     (λ b lo hi h. same (suc b) (omega arith) (omega arith) (omega arith)))
 
 -- the cells of a block are empty
-module _ (slots : List (Option Slot)) (block : Block) (at : block_at slots block.base ≡ Some block)
-    (blocks : HasBlocks slots) where
+module _ (slots : List (Option Slot)) (block : Block) (at : slot_block slots block.base ≡ Some block)
+    (blocks : HoldsBlocks slots) where
   -- emptied one by one, they are filled
   pub emptied-fill : change_each (with_cell Empty) slots block.base block.length
       ≡ fill slots block.base block.length (new_slot block Empty)
@@ -138,8 +138,8 @@ module _ (slots : List (Option Slot)) (block : Block) (at : block_at slots block
       empty_there (Some slot) is = ap (λ b. new_slot b Empty) (some_same slot.block block is)
 
   -- the blocks are as they were
-  pub HasBlocks-emptied : HasBlocks (fill slots block.base block.length (new_slot block Empty))
-  HasBlocks-emptied = subst HasBlocks emptied-fill (record {
+  pub HasBlocks-emptied : HoldsBlocks (fill slots block.base block.length (new_slot block Empty))
+  HasBlocks-emptied = subst HoldsBlocks emptied-fill (record {
     within = λ a b is. let w = blocks.within a b (sym (same a) ∙ is) in (w.0, w.1, omega (arith, long));
     whole = λ a b is c lo hi. same c ∙ blocks.whole a b (sym (same a) ∙ is) c lo hi;
   })
@@ -151,13 +151,13 @@ module _ (slots : List (Option Slot)) (block : Block) (at : block_at slots block
       own None = refl
       own (Some slot) = refl
 
-      same : (b : ℕ) → block_at (change_each (with_cell Empty) slots block.base block.length) b ≡ block_at slots b
+      same : (b : ℕ) → slot_block (change_each (with_cell Empty) slots block.base block.length) b ≡ slot_block slots b
       same b = ⊎_elim (λ h. ap block_in h) (λ h. ap block_in h.2 ∙ own (slot_at slots b))
           (get_or-change_each (with_cell Empty) slots block.base block.length b)
 
 -- what is known of the block whose base is this address
 pub record IsBlock (slots : List (Option Slot)) (block : Block) : Type 0 where
-  pub here : block_at slots block.base ≡ Some block
+  pub here : slot_block slots block.base ≡ Some block
   pub some : 0 < block.length
   pub inside : block.base + block.length ≤ length slots
 
@@ -169,9 +169,10 @@ row-more cells row new i d begun inside pushed =
 
 -- the same of a block that was found at an address of the table
 pub IsBlock-at : (slots value : List (Option Slot)) (a : ℕ) (block : Block) → slots ≡ value → block.base ≡ a
-    → block_at value a ≡ Some block → HasBlocks slots → IsBlock slots block
+    → slot_block value a ≡ Some block → HoldsBlocks slots → IsBlock slots block
 IsBlock-at slots value a block same base at blocks =
-    let here : block_at slots block.base ≡ Some block = ap (block_at slots) base ∙ ap (λ s. block_at s a) same ∙ at in
+    let here : slot_block slots block.base ≡ Some block =
+    ap (slot_block slots) base ∙ ap (λ s. slot_block s a) same ∙ at in
     let w = blocks.within block.base block here in
     record { here = here; some = omega (arith, w.1); inside = w.2 }
 
@@ -179,14 +180,14 @@ past-free : (n a : ℕ) (x : Option Slot) → n ≤ a → get_or (replicate n x)
 past-free n a x past = get_or_past (replicate n x) a None (omega (arith, length-replicate n x))
 
 -- where all cells are free there is no block
-pub HasBlocks-free : (slots : List (Option Slot)) (n : ℕ) → slots ≡ replicate n None → HasBlocks slots
+pub HasBlocks-free : (slots : List (Option Slot)) (n : ℕ) → slots ≡ replicate n None → HoldsBlocks slots
 HasBlocks-free slots n free = record {
   within = λ a block is. absurd (no-block a block is);
   whole = λ a block is b lo hi. absurd (no-block a block is);
 }
   where
-    no-block : (a : ℕ) (block : Block) → block_at slots a ≡ Some block → ⊥
-    no-block a block is = some_none block (sym is ∙ ap (λ s. block_at s a) free ∙ ap block_in (elim (cases_lt a n) [
+    no-block : (a : ℕ) (block : Block) → slot_block slots a ≡ Some block → ⊥
+    no-block a block is = some_none block (sym is ∙ ap (λ s. slot_block s a) free ∙ ap block_in (elim (cases_lt a n) [
       | inl less ↦ get_or-replicate n a None None less
       | inr past ↦ past-free n a None past
     ]))

@@ -14,7 +14,7 @@ use Rattle.im_laws.proofs.BlockLemmas.{length-fill, get_or-fill_in, place-fits}
 use Rattle.im_holes.specs.Holes.{holder_at, AreHeld, AreTakenFrom}
 use Rattle.im_holes.proofs.Giving.{fill-out}
 use Rattle.im_cell.specs.declared.slots.Slot.{Slot}
-use Rattle.im_cell.specs.Slots.{slot_at, block_at, block_in, new_slot, empty_slot, is_waiting, HasBlocks}
+use Rattle.im_cell.specs.Slots.{slot_at, slot_block, block_in, new_slot, empty_slot, is_waiting_slot, HoldsBlocks}
 use Rattle.im_cell.specs.Table.{count_from, waits_at, IsTable}
 use Rattle.im_cell.proofs.Blocks.{HasBlocks-placed, HasBlocks-released, HasBlocks-emptied}
 use Rattle.im_cell.proofs.Kept.{beside-fill}
@@ -29,7 +29,7 @@ place-table slots holes n t = place-like n holes slots t.count t.free
 
 -- the cells of a block are held
 pub held-block : (slots : List (Option Slot)) (holes : List (Option ℕ)) (b : Block) → IsTable slots holes
-    → block_at slots b.base ≡ Some b → AreHeld holes b.base b.length
+    → slot_block slots b.base ≡ Some b → AreHeld holes b.base b.length
 held-block slots holes b t here = λ k lo hi. none-some (holder_at holes k)
     (t.free k ∙ block-some (slot_at slots k) b (t.blocks.whole b.base b here k lo hi))
   where
@@ -38,31 +38,32 @@ held-block slots holes b t here = λ k lo hi. none-some (holder_at holes k)
     block-some (Some s) b e = refl
 
 -- where nobody waits in a block, nobody waits for one of its cells
-pub quiet-at : (slots : List (Option Slot)) (b : Block) → HasBlocks slots → block_at slots b.base ≡ Some b
-    → list_any is_waiting (take b.length (drop b.base slots)) ≡ false → (k : ℕ) → b.base ≤ k → k < b.base + b.length
+pub quiet-at : (slots : List (Option Slot)) (b : Block) → HoldsBlocks slots → slot_block slots b.base ≡ Some b
+    → list_any is_waiting_slot (take b.length (drop b.base slots)) ≡ false → (k : ℕ) → b.base ≤ k
+    → k < b.base + b.length
     → waits_at slots k ≡ false
 quiet-at slots b blocks here none k lo hi = elim (true_or_false (waits_at slots k)) [
   | inl yes_so ↦ absurd (true_false
-      (sym (some-within is_waiting b.base b.length slots k lo hi
+      (sym (some-within is_waiting_slot b.base b.length slots k lo hi
       (let w = blocks.within b.base b here in omega arith) yes_so) ∙ none))
   | inr not_so ↦ not_so
 ]
 
 -- whether a cell of a block is waited for, by its number
 module _ (slots : List (Option Slot)) (holes : List (Option ℕ)) (b : Block) (n : ℕ) (t : IsTable slots holes)
-    (here : block_at slots b.base ≡ Some b) (number : holder_at holes b.base ≡ Some n) where
+    (here : slot_block slots b.base ≡ Some b) (number : holder_at holes b.base ≡ Some n) where
   count-is : n ≡ count_from (waits_at slots) b.length b.base
   count-is = some-number n (count_from (waits_at slots) b.length b.base) (sym number ∙ t.waits b.base b here)
     where
       some-number : (i j : ℕ) → Some i ≡ Some j → i ≡ j
       some-number i j e = cc
 
-  pub quiet-number : n ≡ 0 → list_any is_waiting (take b.length (drop b.base slots)) ≡ false
-  quiet-number zero_is = none-within is_waiting b.base b.length slots
+  pub quiet-number : n ≡ 0 → list_any is_waiting_slot (take b.length (drop b.base slots)) ≡ false
+  quiet-number zero_is = none-within is_waiting_slot b.base b.length slots
       (λ k lo hi. none-counted (waits_at slots) b.length b.base (sym count-is ∙ zero_is) k lo hi)
 
-  pub loud-number : 0 < n → list_any is_waiting (take b.length (drop b.base slots)) ≡ true
-  loud-number some = elim (true_or_false (list_any is_waiting (take b.length (drop b.base slots)))) [
+  pub loud-number : 0 < n → list_any is_waiting_slot (take b.length (drop b.base slots)) ≡ true
+  loud-number some = elim (true_or_false (list_any is_waiting_slot (take b.length (drop b.base slots)))) [
     | inl yes_so ↦ yes_so
     | inr not_so ↦ let z = count-none (waits_at slots) b.length b.base (quiet-at slots b t.blocks here not_so) in
         absurd (omega (arith, count-is))
@@ -83,12 +84,12 @@ module _ (slots : List (Option Slot)) (holes taken : List (Option ℕ)) (base n 
   made-out k out = beside-fill slots base n (empty_slot base n kind) k out
 
   -- no block lies there
-  not-there : (k a : ℕ) (b : Block) → block_at slots a ≡ Some b → b.base ≤ k → k < b.base + b.length → base ≤ k
+  not-there : (k a : ℕ) (b : Block) → slot_block slots a ≡ Some b → b.base ≤ k → k < b.base + b.length → base ≤ k
       → k < base + n → ⊥
   not-there k a b is lb hb lo hi = some_none b
       (sym (t.blocks.whole a b is k lb hb) ∙ ap block_in (place-free n slots base found k lo hi))
 
-  counts-made : (k : ℕ) (b : Block) → block_at made k ≡ Some b
+  counts-made : (k : ℕ) (b : Block) → slot_block made k ≡ Some b
       → holder_at taken b.base ≡ Some (count_from (waits_at made) b.length b.base)
   counts-made k b is = elim (cases_lt k base) [
     | inl low ↦ old (λ lo hi. omega arith)
@@ -101,19 +102,19 @@ module _ (slots : List (Option Slot)) (holes taken : List (Option ℕ)) (base n 
           let q : n ≡ b.length = ap (λ (b : Block). b.length) mine in
           ap (holder_at taken) (sym p) ∙ took.first
           ∙ ap Some (sym (count-none (waits_at made) b.length b.base
-          (λ i a c. ap is_waiting (made-in i (omega arith) (omega arith)))))
+          (λ i a c. ap is_waiting_slot (made-in i (omega arith) (omega arith)))))
     ]
   ]
     where
       old : (base ≤ k → k < base + n → ⊥) → holder_at taken b.base
           ≡ Some (count_from (waits_at made) b.length b.base)
       old out =
-          let was : block_at slots k ≡ Some b = sym (ap block_in (made-out k out)) ∙ is in
+          let was : slot_block slots k ≡ Some b = sym (ap block_in (made-out k out)) ∙ is in
           let w = t.blocks.within k b was in
           took.others b.base (λ lo hi. not-there b.base k b was (omega arith) (omega arith) lo hi)
           ∙ t.waits k b was
           ∙ ap Some (count-same (waits_at slots) (waits_at made) b.length b.base
-          (λ i a c. ap is_waiting (sym (made-out i (λ lo hi. not-there i k b was a c lo hi)))))
+          (λ i a c. ap is_waiting_slot (sym (made-out i (λ lo hi. not-there i k b was a c lo hi)))))
 
   pub IsTable-made : IsTable made taken
   IsTable-made = record {
@@ -135,7 +136,7 @@ module _ (slots : List (Option Slot)) (holes taken : List (Option ℕ)) (base n 
 
 -- a block is given back
 module _ (slots : List (Option Slot)) (holes : List (Option ℕ)) (gone : Block) (t : IsTable slots holes)
-    (here : block_at slots gone.base ≡ Some gone) where
+    (here : slot_block slots gone.base ≡ Some gone) where
   abbrev left : List (Option Slot)
   left = fill slots gone.base gone.length None
 
@@ -152,7 +153,7 @@ module _ (slots : List (Option Slot)) (holes : List (Option ℕ)) (gone : Block)
   left-out k out = beside-fill slots gone.base gone.length None k out
 
   -- another block has no cell of it
-  apart-from : (i k : ℕ) (b : Block) → block_at slots k ≡ Some b → (gone.base ≤ k → k < gone.base + gone.length → ⊥)
+  apart-from : (i k : ℕ) (b : Block) → slot_block slots k ≡ Some b → (gone.base ≤ k → k < gone.base + gone.length → ⊥)
       → b.base ≤ i → i < b.base + b.length → gone.base ≤ i → i < gone.base + gone.length → ⊥
   apart-from i k b was out lb hb lo hi =
       let mine = one-block slots t.blocks gone.base k i gone b here was lo hi lb hb in
@@ -161,7 +162,7 @@ module _ (slots : List (Option Slot)) (holes : List (Option ℕ)) (gone : Block)
       let q : gone.length ≡ b.length = ap (λ (b : Block). b.length) mine in
       out (omega arith) (omega arith)
 
-  counts-left : (k : ℕ) (b : Block) → block_at left k ≡ Some b
+  counts-left : (k : ℕ) (b : Block) → slot_block left k ≡ Some b
       → holder_at given b.base ≡ Some (count_from (waits_at left) b.length b.base)
   counts-left k b is = elim (cases_lt k gone.base) [
     | inl low ↦ old (λ lo hi. omega arith)
@@ -174,13 +175,13 @@ module _ (slots : List (Option Slot)) (holes : List (Option ℕ)) (gone : Block)
       old : (gone.base ≤ k → k < gone.base + gone.length → ⊥) → holder_at given b.base
           ≡ Some (count_from (waits_at left) b.length b.base)
       old out =
-          let was : block_at slots k ≡ Some b = sym (ap block_in (left-out k out)) ∙ is in
+          let was : slot_block slots k ≡ Some b = sym (ap block_in (left-out k out)) ∙ is in
           let w = t.blocks.within k b was in
           fill-out holes gone.base gone.length None b.base
           (λ lo hi. apart-from b.base k b was out (omega arith) (omega arith) lo hi)
           ∙ t.waits k b was
           ∙ ap Some (count-same (waits_at slots) (waits_at left) b.length b.base
-          (λ i a c. ap is_waiting (sym (left-out i (λ lo hi. apart-from i k b was out a c lo hi)))))
+          (λ i a c. ap is_waiting_slot (sym (left-out i (λ lo hi. apart-from i k b was out a c lo hi)))))
 
   pub IsTable-left : IsTable left given
   IsTable-left = record {
@@ -212,8 +213,8 @@ module _ (slots : List (Option Slot)) (holes : List (Option ℕ)) (gone : Block)
 
 -- a block in which nobody waits is emptied
 module _ (slots : List (Option Slot)) (holes : List (Option ℕ)) (block : Block) (t : IsTable slots holes)
-    (here : block_at slots block.base ≡ Some block)
-    (quiet : list_any is_waiting (take block.length (drop block.base slots)) ≡ false) where
+    (here : slot_block slots block.base ≡ Some block)
+    (quiet : list_any is_waiting_slot (take block.length (drop block.base slots)) ≡ false) where
   abbrev emptied : List (Option Slot)
   emptied = fill slots block.base block.length (new_slot block Empty)
 
@@ -245,12 +246,12 @@ module _ (slots : List (Option Slot)) (holes : List (Option ℕ)) (block : Block
         ∙ sym (ap is_none (emptied-in k lo hi)))
         (λ k out. ap is_none (sym (emptied-out k out))) k;
     waits = counts-same slots emptied (waits_at slots) (waits_at emptied) holes
-        (each-cell (λ k. block_at emptied k ≡ block_at slots k)
+        (each-cell (λ k. slot_block emptied k ≡ slot_block slots k)
         (λ k lo hi. ap block_in (emptied-in k lo hi) ∙ sym (t.blocks.whole block.base block here k lo hi))
         (λ k out. ap block_in (emptied-out k out)))
         (each-cell (λ k. waits_at slots k ≡ waits_at emptied k)
-        (λ k lo hi. quiet-at slots block t.blocks here quiet k lo hi ∙ sym (ap is_waiting (emptied-in k lo hi)))
-        (λ k out. ap is_waiting (sym (emptied-out k out)))) t.waits;
+        (λ k lo hi. quiet-at slots block t.blocks here quiet k lo hi ∙ sym (ap is_waiting_slot (emptied-in k lo hi)))
+        (λ k out. ap is_waiting_slot (sym (emptied-out k out)))) t.waits;
   }
     where
       held : (o : Option Slot) → block_in o ≡ Some block → is_none o ≡ false

@@ -18,8 +18,8 @@ use Rattle.im_cell.specs.declared.state.State.{State}
 use Rattle.im_cell.specs.declared.state.State.TheVariants.{Free, EmptyI, WaitingI, FullI, ClashedI, EmptyM, WaitingM}
 use Rattle.im_cell.specs.declared.state.State.TheVariants.{FullM, ClashedM}
 use Rattle.im_cell.specs.declared.state.TheConstants.{NOWHERE}
-use Rattle.im_cell.specs.Slots.{slot_at, new_slot, with_cell, is_waiting}
-use Rattle.im_cell.specs.Cells.{block_by_extent, state_slot, state_for, value_of, kind_of, slots_in, IsFilled}
+use Rattle.im_cell.specs.Slots.{slot_at, new_slot, with_cell, is_waiting_slot}
+use Rattle.im_cell.specs.Cells.{block_by_extent, state_slot, state_for, value_of, tag_kind, slots_in, IsFilled}
 use Rattle.im_cell.specs.Table.{base_in}
 
 pub length-slots : (states : List State) (values : List ℕ) (extents : List Extent) → length values ≡ length states
@@ -78,7 +78,7 @@ never (Some x) e s = some_none x e
 
 -- the state of another cell in the same block
 pub state-with : (s : State) (v : ℕ) (x : Extent) (cell : Cell) → IsSome (state_slot s v x)
-    → state_slot (state_for (kind_of s) cell) (value_of cell) x ≡ with_cell cell (state_slot s v x)
+    → state_slot (state_for (tag_kind s) cell) (value_of cell) x ≡ with_cell cell (state_slot s v x)
 state-with Free v x cell some = absurd (never None refl some)
 state-with EmptyI v x cell some = state-made I cell x
 state-with WaitingI v x cell some = state-made I cell x
@@ -115,7 +115,7 @@ some-inside slots k some = elim (cases_lt k (length slots)) [
 pub set-read : (states : List State) (values : List ℕ) (extents : List Extent) (now : List (Option Slot)) (k : ℕ)
     (state s : State) (v : ℕ) (cell : Cell) → length values ≡ length states → length extents ≡ length states
     → slots_in states values extents ≡ now → k < length states → state ≡ get_or states k state
-    → IsSome (slot_at now k) → s ≡ state_for (kind_of state) cell → v ≡ value_of cell
+    → IsSome (slot_at now k) → s ≡ state_for (tag_kind state) cell → v ≡ value_of cell
     → slots_in (set states k s) (set values k v) extents ≡ set now k (with_cell cell (slot_at now k))
 set-read states values extents now k state s v cell ev ex view less read some is_s is_v =
     let there = at-slots states values extents k state 0 NOWHERE ev ex less in
@@ -124,7 +124,7 @@ set-read states values extents now k state s v cell ev ex view less read some is
     there ∙ ap (λ t. state_slot t (get_or values k 0) x) (sym read) in
     set-slots states values extents k s v NOWHERE (with_cell cell (slot_at (slots_in states values extents) k)) ev ex
     less
-    (ap (λ t. state_slot t v x) is_s ∙ ap (λ w. state_slot (state_for (kind_of state) cell) w x) is_v
+    (ap (λ t. state_slot t v x) is_s ∙ ap (λ w. state_slot (state_for (tag_kind state) cell) w x) is_v
     ∙ state-with state (get_or values k 0) x cell
     (subst IsSome (ap (λ s. slot_at s k) (sym view) ∙ was) some)
     ∙ ap (with_cell cell) (sym was))
@@ -134,11 +134,12 @@ set-read states values extents now k state s v cell ev ex view less read some is
 pub waited-read : (states : List State) (values : List ℕ) (extents : List Extent) (now : List (Option Slot)) (k : ℕ)
     (state : State) (b : Bool) → length values ≡ length states → length extents ≡ length states
     → slots_in states values extents ≡ now → k < length states → state ≡ get_or states k state
-    → ((v : ℕ) (x : Extent) → b ≡ is_waiting (state_slot state v x)) → b ≡ is_waiting (slot_at now k)
+    → ((v : ℕ) (x : Extent) → b ≡ is_waiting_slot (state_slot state v x)) → b ≡ is_waiting_slot (slot_at now k)
 waited-read states values extents now k state b ev ex view less read is =
     is (get_or values k 0) (get_or extents k NOWHERE)
-    ∙ ap (λ t. is_waiting (state_slot t (get_or values k 0) (get_or extents k NOWHERE))) read
-    ∙ ap is_waiting (sym (at-slots states values extents k state 0 NOWHERE ev ex less) ∙ ap (λ s. slot_at s k) view)
+    ∙ ap (λ t. is_waiting_slot (state_slot t (get_or values k 0) (get_or extents k NOWHERE))) read
+    ∙ ap is_waiting_slot (sym (at-slots states values extents k state 0 NOWHERE ev ex less) ∙ ap
+    (λ s. slot_at s k) view)
 
 -- the base of a cell's block is in its extent
 base-of : (s : State) (v : ℕ) (x : Extent) → IsSome (state_slot s v x) → x.base ≡ base_in (state_slot s v x)

@@ -10,8 +10,8 @@ use Rattle.im_types.specs.declared.cells.Cell.{Cell}
 use Rattle.im_laws.proofs.Tests.{true_false, some_none, some_same}
 use Rattle.im_holes.specs.Holes.{holder_at}
 use Rattle.im_cell.specs.declared.slots.Slot.{Slot}
-use Rattle.im_cell.specs.Slots.{slot_at, block_at, block_in, new_slot, with_cell, is_waiting, HasBlocks}
-use Rattle.im_cell.specs.Slots.{is_waiting_cell}
+use Rattle.im_cell.specs.Slots.{slot_at, slot_block, block_in, new_slot, with_cell, is_waiting_slot, HoldsBlocks}
+use Rattle.im_cell.specs.Slots.{cell_waits}
 use Rattle.im_cell.specs.Table.{count_from, waits_at, HasCounts, base_in, moved, CanMove, IsTable}
 use Rattle.im_cell.proofs.Blocks.{HasBlocks-set}
 use Rattle.im_cell.proofs.Counted.{count-same, count-few, count-more}
@@ -26,33 +26,33 @@ some-held None s = absurd (cc)
 some-held (Some x) s = refl
 
 -- a block's first cell is its own, and so is each of its cells
-module _ (slots : List (Option Slot)) (blocks : HasBlocks slots) where
-  pub at-base : (k : ℕ) (b : Block) → block_at slots k ≡ Some b → block_at slots b.base ≡ Some b
+module _ (slots : List (Option Slot)) (blocks : HoldsBlocks slots) where
+  pub at-base : (k : ℕ) (b : Block) → slot_block slots k ≡ Some b → slot_block slots b.base ≡ Some b
   at-base k b is = let w = blocks.within k b is in
       blocks.whole k b is b.base (omega arith) (omega arith)
 
   -- two blocks that share a cell are the same
-  pub one-block : (a c x : ℕ) (b d : Block) → block_at slots a ≡ Some b → block_at slots c ≡ Some d → b.base ≤ x → x
+  pub one-block : (a c x : ℕ) (b d : Block) → slot_block slots a ≡ Some b → slot_block slots c ≡ Some d → b.base ≤ x → x
       < b.base + b.length → d.base ≤ x → x < d.base + d.length → b ≡ d
   one-block a c x b d isb isd lb hb ld hd = some_same b d
       (sym (blocks.whole a b isb x lb hb) ∙ blocks.whole c d isd x ld hd)
 
   -- the same of two with one base
-  pub same-base : (a c : ℕ) (b d : Block) → block_at slots a ≡ Some b → block_at slots c ≡ Some d → b.base ≡ d.base
+  pub same-base : (a c : ℕ) (b d : Block) → slot_block slots a ≡ Some b → slot_block slots c ≡ Some d → b.base ≡ d.base
       → b ≡ d
   same-base a c b d isb isd e = some_same b d
-      (sym (at-base a b isb) ∙ ap (block_at slots) e ∙ at-base c d isd)
+      (sym (at-base a b isb) ∙ ap (slot_block slots) e ∙ at-base c d isd)
 
 -- the counts, where neither the blocks nor who waits changed
 pub counts-same : (slots new : List (Option Slot)) (f g : ℕ → Bool) (holes : List (Option ℕ))
-    → ((k : ℕ) → block_at new k ≡ block_at slots k) → ((k : ℕ) → f k ≡ g k) → HasCounts slots f holes
+    → ((k : ℕ) → slot_block new k ≡ slot_block slots k) → ((k : ℕ) → f k ≡ g k) → HasCounts slots f holes
     → HasCounts new g holes
 counts-same slots new f g holes same alike c = λ k block is.
     c k block (sym (same k) ∙ is) ∙ ap Some (count-same f g block.length block.base (λ i lo hi. alike i))
 
 -- the counts, where one cell began to be waited for, or no longer is
 pub counts-moved : (slots : List (Option Slot)) (f g : ℕ → Bool) (holes : List (Option ℕ)) (a : ℕ) (b : Block) (m : ℕ)
-    → HasBlocks slots → block_at slots a ≡ Some b → length slots ≤ length holes
+    → HoldsBlocks slots → slot_block slots a ≡ Some b → length slots ≤ length holes
     → ((k : ℕ) → k ≢ a → f k ≡ g k) → m ≡ count_from g b.length b.base → HasCounts slots f holes
     → HasCounts slots g (set holes b.base (Some m))
 counts-moved slots f g holes a b m blocks here long others is c = λ k block at. elim (cases_eq block.base b.base) [
@@ -85,9 +85,9 @@ module _ (slots : List (Option Slot)) (a : ℕ) (slot : Slot) (cell : Cell) (at 
   beside-new : (k : ℕ) → k ≢ a → slot_at new k ≡ slot_at slots k
   beside-new k ne = get_or-set_other slots a k (new_slot slot.block cell) None ne
 
-  blocks-new : (k : ℕ) → block_at new k ≡ block_at slots k
+  blocks-new : (k : ℕ) → slot_block new k ≡ slot_block slots k
   blocks-new k = elim (cases_eq k a) [
-    | inl e ↦ ap (block_at new) e ∙ ap block_in at-new ∙ sym (ap block_in at) ∙ sym (ap (block_at slots) e)
+    | inl e ↦ ap (slot_block new) e ∙ ap block_in at-new ∙ sym (ap block_in at) ∙ sym (ap (slot_block slots) e)
     | inr ne ↦ ap block_in (beside-new k ne)
   ]
 
@@ -109,18 +109,18 @@ module _ (slots : List (Option Slot)) (a : ℕ) (slot : Slot) (cell : Cell) (at 
 
   -- it is waited for if it was
   pub IsTable-kept : (holes : List (Option ℕ)) → IsTable slots holes
-      → is_waiting_cell cell ≡ is_waiting_cell slot.cell → IsTable new holes
+      → cell_waits cell ≡ cell_waits slot.cell → IsTable new holes
   IsTable-kept holes t same = IsTable-by holes holes t refl (λ k. refl)
       (counts-same slots new (waits_at slots) (waits_at new) holes blocks-new (λ k. elim (cases_eq k a) [
-        | inl e ↦ ap (waits_at slots) e ∙ ap is_waiting at ∙ sym same ∙ sym (ap is_waiting at-new)
+        | inl e ↦ ap (waits_at slots) e ∙ ap is_waiting_slot at ∙ sym same ∙ sym (ap is_waiting_slot at-new)
             ∙ sym (ap (waits_at new) e)
-        | inr ne ↦ ap is_waiting (sym (beside-new k ne))
+        | inr ne ↦ ap is_waiting_slot (sym (beside-new k ne))
       ]) t.waits)
 
   -- it is waited for where it wasn't, or the other way round
-  module _ (holes : List (Option ℕ)) (t : IsTable slots holes) (more : Bool) (now : is_waiting_cell cell ≡ more)
-      (apart : is_waiting_cell slot.cell ≡ more → ⊥) where
-    here : block_at slots a ≡ Some slot.block
+  module _ (holes : List (Option ℕ)) (t : IsTable slots holes) (more : Bool) (now : cell_waits cell ≡ more)
+      (apart : cell_waits slot.cell ≡ more → ⊥) where
+    here : slot_block slots a ≡ Some slot.block
     here = ap block_in at
 
     abbrev before_count : ℕ
@@ -129,19 +129,19 @@ module _ (slots : List (Option Slot)) (a : ℕ) (slot : Slot) (cell : Cell) (at 
     abbrev after_count : ℕ
     after_count = count_from (waits_at new) slot.block.length slot.block.base
 
-    was_on : waits_at slots a ≡ is_waiting_cell slot.cell
-    was_on = ap is_waiting at
+    was_on : waits_at slots a ≡ cell_waits slot.cell
+    was_on = ap is_waiting_slot at
 
     is_on : waits_at new a ≡ more
-    is_on = ap is_waiting at-new ∙ now
+    is_on = ap is_waiting_slot at-new ∙ now
 
     others : (k : ℕ) → k ≢ a → waits_at slots k ≡ waits_at new k
-    others k ne = ap is_waiting (sym (beside-new k ne))
+    others k ne = ap is_waiting_slot (sym (beside-new k ne))
 
     pub number-was : holder_at holes slot.block.base ≡ Some before_count
     number-was = t.waits a slot.block here
 
-    numbers : (b : Bool) → is_waiting_cell slot.cell ≡ b → (c : Bool) → more ≡ c
+    numbers : (b : Bool) → cell_waits slot.cell ≡ b → (c : Bool) → more ≡ c
         → (after_count ≡ moved more before_count) × CanMove more before_count
     numbers true e true f = absurd (apart (e ∙ sym f))
     numbers false e false f = absurd (apart (e ∙ sym f))
@@ -164,7 +164,7 @@ module _ (slots : List (Option Slot)) (a : ℕ) (slot : Slot) (cell : Cell) (at 
         )
 
     pub can-move : CanMove more before_count
-    can-move = (numbers (is_waiting_cell slot.cell) refl more refl).1
+    can-move = (numbers (cell_waits slot.cell) refl more refl).1
 
     pub IsTable-moved : IsTable new (set holes slot.block.base (Some (moved more before_count)))
     IsTable-moved = IsTable-by holes (set holes slot.block.base (Some (moved more before_count))) t
@@ -181,7 +181,7 @@ module _ (slots : List (Option Slot)) (a : ℕ) (slot : Slot) (cell : Cell) (at 
         (set holes slot.block.base (Some (moved more before_count)))
         blocks-new (λ k. refl)
         (counts-moved slots (waits_at slots) (waits_at new) holes a slot.block (moved more before_count) t.blocks here
-        (omega (arith, t.count)) others (sym (numbers (is_waiting_cell slot.cell) refl more refl).0) t.waits))
+        (omega (arith, t.count)) others (sym (numbers (cell_waits slot.cell) refl more refl).0) t.waits))
 
 -- a slot that is there
 pub found-slot : (o : Option Slot) → IsSome o → (s : Slot) × (o ≡ Some s)
@@ -189,16 +189,16 @@ found-slot None e = absurd (cc)
 found-slot (Some s) e = (s, refl)
 
 module _ (slots : List (Option Slot)) (holes : List (Option ℕ)) (a : ℕ) (cell : Cell) (t : IsTable slots holes)
-    (some : IsSome (slot_at slots a)) (waited : Bool) (was_waited : waited ≡ is_waiting (slot_at slots a)) where
+    (some : IsSome (slot_at slots a)) (waited : Bool) (was_waited : waited ≡ is_waiting_slot (slot_at slots a)) where
   abbrev set_one : List (Option Slot)
   set_one = set slots a (with_cell cell (slot_at slots a))
 
   -- it is waited for if it was
-  pub set-kept : is_waiting_cell cell ≡ waited → IsTable set_one holes
+  pub set-kept : cell_waits cell ≡ waited → IsTable set_one holes
   set-kept same =
       let f = found-slot (slot_at slots a) some in
       subst (λ o. IsTable (set slots a (with_cell cell o)) holes) (sym f.1)
-      (IsTable-kept slots a f.0 cell f.1 holes t (same ∙ was_waited ∙ ap is_waiting f.1))
+      (IsTable-kept slots a f.0 cell f.1 holes t (same ∙ was_waited ∙ ap is_waiting_slot f.1))
 
   -- the base of its block
   base-set : (s : Slot) → slot_at slots a ≡ Some s → base_in (slot_at set_one a) ≡ s.block.base
@@ -209,7 +209,7 @@ module _ (slots : List (Option Slot)) (holes : List (Option ℕ)) (a : ℕ) (cel
         | inr past ↦ absurd (some_none s (sym e ∙ get_or_past slots a None past))
       ]))
 
-  module _ (more : Bool) (now_waits : more ≡ is_waiting_cell cell) (differs : waited ≡ more → ⊥) where
+  module _ (more : Bool) (now_waits : more ≡ cell_waits cell) (differs : waited ≡ more → ⊥) where
     pub held-set : IsSome (slot_at set_one a)
     held-set =
         let f = found-slot (slot_at slots a) some in
@@ -227,7 +227,7 @@ module _ (slots : List (Option Slot)) (holes : List (Option ℕ)) (a : ℕ) (cel
     pub number-set : (n : ℕ) × (holder_at holes (base_in (slot_at set_one a)) ≡ Some n) × CanMove more n
     number-set =
         let f = found-slot (slot_at slots a) some in
-        let apart : is_waiting_cell (f.0).cell ≡ more → ⊥ = λ e. differs (was_waited ∙ ap is_waiting f.1 ∙ e) in (
+        let apart : cell_waits (f.0).cell ≡ more → ⊥ = λ e. differs (was_waited ∙ ap is_waiting_slot f.1 ∙ e) in (
           count_from (waits_at slots) (f.0).block.length (f.0).block.base,
           ap (holder_at holes) (base-set f.0 f.1)
               ∙ number-was slots a f.0 cell f.1 holes t more (sym now_waits) apart,
@@ -242,7 +242,7 @@ module _ (slots : List (Option Slot)) (holes : List (Option ℕ)) (a : ℕ) (cel
     unfolding number-set found-slot
     set-moved moved_holes is_moved =
         let f = found-slot (slot_at slots a) some in
-        let apart : is_waiting_cell (f.0).cell ≡ more → ⊥ = λ e. differs (was_waited ∙ ap is_waiting f.1 ∙ e) in
+        let apart : cell_waits (f.0).cell ≡ more → ⊥ = λ e. differs (was_waited ∙ ap is_waiting_slot f.1 ∙ e) in
         subst (λ h. IsTable set_one h)
         (sym (is_moved number-set.0 number-set.1
         ∙ ap (λ b. set holes b (Some (moved more number-set.0))) (base-set f.0 f.1)))

@@ -51,16 +51,16 @@ value_of (Full v) = v
 value_of (Clashed v) = v
 
 -- the kind of a cell's block, or I for a free cell
-abbrev pub kind_of : State → Kind
-kind_of Free = I
-kind_of EmptyI = I
-kind_of WaitingI = I
-kind_of FullI = I
-kind_of ClashedI = I
-kind_of EmptyM = M
-kind_of WaitingM = M
-kind_of FullM = M
-kind_of ClashedM = M
+abbrev pub tag_kind : State → Kind
+tag_kind Free = I
+tag_kind EmptyI = I
+tag_kind WaitingI = I
+tag_kind FullI = I
+tag_kind ClashedI = I
+tag_kind EmptyM = M
+tag_kind WaitingM = M
+tag_kind FullM = M
+tag_kind ClashedM = M
 
 -- the slots of cells, from the parts that are kept for each
 unfoldable pub slots_in : List State → List ℕ → List Extent → List (Option Slot)

@@ -3,11 +3,11 @@ use Rattle.std.specs.Prelude.{◌≡◌, ℕ, List, Option, Some, true, false, t
 use Rattle.std.specs.List.{list_any}
 use Rattle.im_types.specs.declared.operations.Block.{Block}
 use Rattle.im_cell.specs.declared.slots.Slot.{Slot}
-use Rattle.im_cell.specs.Slots.{block_at, is_waiting, is_releasable}
+use Rattle.im_cell.specs.Slots.{slot_block, is_waiting_slot, is_releasable}
 
 -- the block begins here, and no request waits for any of its cells
 pub record IsQuietBlock (slots : List (Option Slot)) (base : ℕ) (block : Block) : Type 0 where
   pub begins : block.base ≡ base
-  pub found : block_at slots base ≡ Some block
+  pub found : slot_block slots base ≡ Some block
   pub releasable : is_releasable slots base ≡ true
-  pub quiet : list_any is_waiting (take block.length (drop block.base slots)) ≡ false
+  pub quiet : list_any is_waiting_slot (take block.length (drop block.base slots)) ≡ false

@@ -23,17 +23,17 @@ block_in None = None
 block_in (Some slot) = Some slot.block
 
 -- the cell of a slot
-abbrev pub cell_in : Option Slot → Option Cell
-cell_in None = None
-cell_in (Some slot) = Some slot.cell
+abbrev pub slot_cell : Option Slot → Option Cell
+slot_cell None = None
+slot_cell (Some slot) = Some slot.cell
 
 -- the block that an address lies in
-abbrev pub block_at : List (Option Slot) → ℕ → Option Block
-block_at slots a = block_in (slot_at slots a)
+abbrev pub slot_block : List (Option Slot) → ℕ → Option Block
+slot_block slots a = block_in (slot_at slots a)
 
 -- the cell at an address
 abbrev pub cell_at : List (Option Slot) → ℕ → Option Cell
-cell_at slots a = cell_in (slot_at slots a)
+cell_at slots a = slot_cell (slot_at slots a)
 
 -- the slot of a cell of this block
 abbrev pub new_slot : Block → Cell → Option Slot
@@ -61,37 +61,37 @@ shown_slot (FreeCell hole next) = None
 shown_slot (BlockCell block tag) = new_slot block (shown_cell tag)
 
 -- each block lies below the cell count, and each of its cells is in that block alone
-pub record HasBlocks (slots : List (Option Slot)) : Type 0 where
-  pub within : (a : ℕ) (block : Block) → block_at slots a ≡ Some block
+pub record HoldsBlocks (slots : List (Option Slot)) : Type 0 where
+  pub within : (a : ℕ) (block : Block) → slot_block slots a ≡ Some block
       → (block.base ≤ a) × (a < block.base + block.length) × (block.base + block.length ≤ length slots)
-  pub whole : (a : ℕ) (block : Block) → block_at slots a ≡ Some block → (b : ℕ) → block.base ≤ b
-      → b < block.base + block.length → block_at slots b ≡ Some block
+  pub whole : (a : ℕ) (block : Block) → slot_block slots a ≡ Some block → (b : ℕ) → block.base ≤ b
+      → b < block.base + block.length → slot_block slots b ≡ Some block
 
 -- whether requests wait for a cell
-abbrev pub is_waiting_cell : Cell → Bool
-is_waiting_cell Empty = false
-is_waiting_cell Waiting = true
-is_waiting_cell (Full v) = false
-is_waiting_cell (Clashed v) = false
+abbrev pub cell_waits : Cell → Bool
+cell_waits Empty = false
+cell_waits Waiting = true
+cell_waits (Full v) = false
+cell_waits (Clashed v) = false
 
 -- whether requests wait for the cell of a slot
-abbrev pub is_waiting : Option Slot → Bool
-is_waiting None = false
-is_waiting (Some slot) = is_waiting_cell slot.cell
+abbrev pub is_waiting_slot : Option Slot → Bool
+is_waiting_slot None = false
+is_waiting_slot (Some slot) = cell_waits slot.cell
 
 -- the block whose base is this address
-abbrev pub block_with_base : ℕ → Option Block → Option Block
-block_with_base a None = None
-block_with_base a (Some block) = if block.base == a then Some block else None
+abbrev pub block_from : ℕ → Option Block → Option Block
+block_from a None = None
+block_from a (Some block) = if block.base == a then Some block else None
 
 -- there is a block, and no request waits for any of its cells, which begin at this address
 abbrev pub is_quiet_block : List (Option Slot) → ℕ → Option Block → Bool
 is_quiet_block slots a None = false
-is_quiet_block slots a (Some block) = not (list_any is_waiting (take block.length (drop a slots)))
+is_quiet_block slots a (Some block) = not (list_any is_waiting_slot (take block.length (drop a slots)))
 
 -- there is a block with this base, and no request waits for any of its cells
 abbrev pub is_releasable : List (Option Slot) → ℕ → Bool
-is_releasable slots a = is_quiet_block slots a (block_with_base a (block_at slots a))
+is_releasable slots a = is_quiet_block slots a (block_from a (slot_block slots a))
 
 -- the length of a block, or 0
 abbrev pub length_of : Option Block → ℕ
@@ -100,4 +100,4 @@ length_of (Some block) = block.length
 
 -- the number of cells of the block at an address
 abbrev pub length_at : List (Option Slot) → ℕ → ℕ
-length_at slots a = length_of (block_at slots a)
+length_at slots a = length_of (slot_block slots a)

@@ -4,7 +4,7 @@ use Rattle.std.specs.Prelude.{Some, IsSome, is_none, nat_lt, if◌then◌else◌
 use Rattle.im_types.specs.declared.operations.Block.{Block}
 use Rattle.im_holes.specs.Holes.{holder_at}
 use Rattle.im_cell.specs.declared.slots.Slot.{Slot}
-use Rattle.im_cell.specs.Slots.{slot_at, block_at, is_waiting, HasBlocks}
+use Rattle.im_cell.specs.Slots.{slot_at, slot_block, is_waiting_slot, HoldsBlocks}
 
 -- 1 if a test holds, else 0
 abbrev pub one_if : Bool → ℕ
@@ -18,7 +18,7 @@ count_from test (suc n) base = one_if (test base) + count_from test n (suc base)
 
 -- whether requests wait for a cell
 abbrev pub waits_at : List (Option Slot) → ℕ → Bool
-waits_at slots k = is_waiting (slot_at slots k)
+waits_at slots k = is_waiting_slot (slot_at slots k)
 
 -- the same for the cells before one; false for the others
 abbrev pub waits_before : List (Option Slot) → ℕ → ℕ → Bool
@@ -26,7 +26,7 @@ waits_before slots at k = if nat_lt k at then waits_at slots k else false
 
 -- the number of a block's first cell is the number of its cells that pass a test
 abbrev pub HasCounts : List (Option Slot) → (ℕ → Bool) → List (Option ℕ) → Type 0
-HasCounts slots test holes = (k : ℕ) (block : Block) → block_at slots k ≡ Some block
+HasCounts slots test holes = (k : ℕ) (block : Block) → slot_block slots k ≡ Some block
     → holder_at holes block.base ≡ Some (count_from test block.length block.base)
 
 -- the base of a slot's block, or 0
@@ -48,7 +48,7 @@ pub record IsTable (slots : List (Option Slot)) (holes : List (Option ℕ)) : Ty
   pub count : length holes ≡ length slots
   pub few : length slots < 2 ^ 32
   -- each block lies in the table, and each of its cells is in that block alone
-  pub blocks : HasBlocks slots
+  pub blocks : HoldsBlocks slots
   -- a cell is free in `holes` if and only if it is free in `slots`
   pub free : (k : ℕ) → is_none (holder_at holes k) ≡ is_none (slot_at slots k)
   pub waits : HasCounts slots (waits_at slots) holes

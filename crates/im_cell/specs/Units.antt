@@ -35,5 +35,5 @@ shown_from i units [] = []
 shown_from i units (slot ∷ slots) = slot_by (unit_at units (i / UNIT)) slot ∷ shown_from (suc i) units slots
 
 -- the slots of cells with these records of their own, in these units
-unfoldable pub shown : List Unit → List (Option Slot) → List (Option Slot)
-shown units slots = shown_from 0 units slots
+unfoldable pub shown_units : List Unit → List (Option Slot) → List (Option Slot)
+shown_units units slots = shown_from 0 units slots

@@ -1,7 +1,7 @@
 //! The records of the cells, one for each cell.
 ghost use Rattle.std.specs.Prelude.{◌≡◌, ◌-◌, ◌<◌, ◌≤◌, length, slice_set, IsSome};
 ghost use Rattle.im_types.specs.Place.{fill};
-ghost use Rattle.im_cell.specs.Slots.{slot_at, with_cell, is_waiting};
+ghost use Rattle.im_cell.specs.Slots.{slot_at, with_cell, is_waiting_slot};
 ghost use Rattle.im_cell.specs.Cells.{slots_in, IsFilled};
 ghost use Rattle.im_cell.specs.Table.{base_in};
 ghost use Rattle.im_cell.specs.Units.{common_slot};
@@ -98,7 +98,7 @@ impl Cells {
     pub(crate) fn set(&mut self, at: usize, cell: Cell) -> bool
         requires { IsSome (slot_at self.old at) }
         ensures set { self.new ≡ slice_set self.old at (with_cell cell (slot_at self.old at)) }
-        ensures waited { result ≡ is_waiting (slot_at self.old at) }
+        ensures waited { result ≡ is_waiting_slot (slot_at self.old at) }
     {
         let state = self.states[at];
         self.states[at] = state_of(state.kind(), cell);

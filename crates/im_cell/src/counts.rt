@@ -3,7 +3,7 @@ ghost use Rattle.std.specs.Prelude.{◌≡◌, ℕ, ◌+◌, ◌<◌, ◌^◌, l
 ghost use Rattle.std.specs.Prelude.{IsSome};
 ghost use Rattle.im_types.specs.Place.{fill};
 ghost use Rattle.im_holes.specs.Holes.{holder_at};
-ghost use Rattle.im_cell.specs.Slots.{slot_at, block_at, with_cell, is_waiting, HasBlocks};
+ghost use Rattle.im_cell.specs.Slots.{slot_at, slot_block, with_cell, is_waiting_slot, HoldsBlocks};
 ghost use Rattle.std.specs.Prelude.{take, drop};
 ghost use Rattle.std.specs.List.{list_any};
 ghost use Rattle.im_cell.specs.Table.{CanMove, base_in, moved, waits_at, waits_before, HasCounts, IsTable, IsHeldBy};
@@ -62,7 +62,7 @@ fn waits(slots: &CellUnits, a: u32) -> bool
 // Counts the cell at `a` if requests wait for it. The cells before it are already counted.
 fn count_cell(slots: &CellUnits, holes: &mut Holes, a: u32)
     requires few { length slots.now < 2 ^ 32 }
-    requires blocks { HasBlocks slots.now }
+    requires blocks { HoldsBlocks slots.now }
     requires held { IsHeldBy holes.old (length slots.now) }
     requires waits { HasCounts slots.now (waits_before slots.now a) holes.old }
     ensures held { IsHeldBy holes.new (length slots.now) }
@@ -76,7 +76,7 @@ fn count_cell(slots: &CellUnits, holes: &mut Holes, a: u32)
 /// Counts the cells that requests wait for. No cell has a count yet.
 pub(crate) fn count_waiting(slots: &CellUnits, holes: &mut Holes)
     requires few { length slots.now < 2 ^ 32 }
-    requires blocks { HasBlocks slots.now }
+    requires blocks { HoldsBlocks slots.now }
     requires none { holes.old ≡ replicate (length slots.now) (Some 0) }
     ensures waits { HasCounts slots.now (waits_at slots.now) holes.new }
     ensures held { IsHeldBy holes.new (length slots.now) }
@@ -117,7 +117,7 @@ fn free_until(slots: &CellUnits, from: u32) -> u32
 /// Makes holes of the free cells. Each cell is still held.
 pub(crate) fn give_free(slots: &CellUnits, holes: &mut Holes)
     requires few { length slots.now < 2 ^ 32 }
-    requires blocks { HasBlocks slots.now }
+    requires blocks { HoldsBlocks slots.now }
     requires waits { HasCounts slots.now (waits_at slots.now) holes.old }
     requires held { IsHeldBy holes.old (length slots.now) }
     ensures { IsTable slots.now holes.new }
@@ -145,8 +145,8 @@ fn is_any(number: u32) -> bool
 /// Returns whether requests wait for a cell of a block.
 pub(crate) fn any_waiting(slots: &CellUnits, holes: &Holes, block: Block) -> bool
     requires table { IsTable slots.now holes.now }
-    requires block { block_at slots.now block.base ≡ Some block }
-    ensures { result ≡ list_any is_waiting (take block.length (drop block.base slots.now)) }
+    requires block { slot_block slots.now block.base ≡ Some block }
+    ensures { result ≡ list_any is_waiting_slot (take block.length (drop block.base slots.now)) }
 {
     let _slots = slots;
     is_any(holes.number(block.base))

@@ -1,9 +1,9 @@
 //! Cells that are made alike: whole units at once, and cell by cell in a unit that is cut.
 ghost use Rattle.std.specs.Prelude.{◌≡◌, ◌≢◌, ℕ, ◌-◌, ◌*◌, ◌/◌, ◌%◌, ◌<◌, ◌≤◌, ◌^◌, false, length, slice_set, IsSome};
 ghost use Rattle.im_types.specs.Place.{fill};
-ghost use Rattle.im_cell.specs.Slots.{slot_at, with_cell, is_waiting};
+ghost use Rattle.im_cell.specs.Slots.{slot_at, with_cell, is_waiting_slot};
 ghost use Rattle.im_cell.specs.Cells.{IsFilled};
-ghost use Rattle.im_cell.specs.Units.{common_slot, is_own, unit_at, shown};
+ghost use Rattle.im_cell.specs.Units.{common_slot, is_own, unit_at, shown_units};
 
 use crate::cells::Cells;
 use crate::slots::Slot;
@@ -26,7 +26,7 @@ fn write_out(units: &mut [Unit], cells: &mut Cells, at: usize)
     requires few { length units.old < 2 ^ 32 }
     ensures own { unit_at units.new at ≡ Unit.Each }
     ensures others { (j : ℕ) → j ≢ at → unit_at units.new j ≡ unit_at units.old j }
-    ensures same { shown units.new cells.new ≡ shown units.old cells.old }
+    ensures same { shown_units units.new cells.new ≡ shown_units units.old cells.old }
 {
     let unit = unit_of(units, at);
     if unit.is_own() {
@@ -45,7 +45,7 @@ fn write_out_cut(units: &mut [Unit], cells: &mut Cells, bound: usize)
     requires few { length units.old < 2 ^ 32 }
     ensures own { bound % UNIT ≢ 0 → unit_at units.new (bound / UNIT) ≡ Unit.Each }
     ensures others { (j : ℕ) → unit_at units.old j ≡ Unit.Each → unit_at units.new j ≡ Unit.Each }
-    ensures same { shown units.new cells.new ≡ shown units.old cells.old }
+    ensures same { shown_units units.new cells.new ≡ shown_units units.old cells.old }
 {
     if bound % UNIT != 0 {
         write_out(units, cells, bound / UNIT);
@@ -72,7 +72,8 @@ fn fill_uncut(units: &mut [Unit], cells: &mut Cells, base: usize, end: usize, un
     requires unit { is_own unit ≡ false }
     requires first { base % UNIT ≢ 0 → unit_at units.old (base / UNIT) ≡ Unit.Each }
     requires last { end % UNIT ≢ 0 → unit_at units.old (end / UNIT) ≡ Unit.Each }
-    ensures { shown units.new cells.new ≡ fill (shown units.old cells.old) base (end - base) (common_slot unit) }
+    ensures { shown_units units.new cells.new
+        ≡ fill (shown_units units.old cells.old) base (end - base) (common_slot unit) }
 {
     let low = ((base + (UNIT - 1)) / UNIT * UNIT).min(end);
     let high = (end / UNIT * UNIT).max(low);
@@ -88,7 +89,8 @@ pub(crate) fn fill_shown(units: &mut [Unit], cells: &mut Cells, base: usize, end
     requires room { length cells.old ≤ UNIT * length units.old }
     requires few { length units.old < 2 ^ 32 }
     requires unit { is_own unit ≡ false }
-    ensures { shown units.new cells.new ≡ fill (shown units.old cells.old) base (end - base) (common_slot unit) }
+    ensures { shown_units units.new cells.new
+        ≡ fill (shown_units units.old cells.old) base (end - base) (common_slot unit) }
 {
     write_out_cut(units, cells, base);
     write_out_cut(units, cells, end);
@@ -102,7 +104,7 @@ fn write_out_around(units: &mut [Unit], cells: &mut Cells, at: usize)
     requires inside { at / UNIT < length units.old }
     requires few { length units.old < 2 ^ 32 }
     ensures own { unit_at units.new (at / UNIT) ≡ Unit.Each }
-    ensures same { shown units.new cells.new ≡ shown units.old cells.old }
+    ensures same { shown_units units.new cells.new ≡ shown_units units.old cells.old }
 {
     write_out(units, cells, at / UNIT);
 }
@@ -113,7 +115,7 @@ fn give_records(units: &mut [Unit], cells: &mut Cells, at: usize)
     requires inside { at / UNIT < length units.old }
     requires few { length units.old < 2 ^ 32 }
     ensures own { unit_at units.new (at / UNIT) ≡ Unit.Each }
-    ensures same { shown units.new cells.new ≡ shown units.old cells.old }
+    ensures same { shown_units units.new cells.new ≡ shown_units units.old cells.old }
 {
     let unit = unit_of(units, at / UNIT);
     if unit.is_own() {
@@ -128,8 +130,8 @@ pub(crate) fn own_slot(units: &mut [Unit], cells: &mut Cells, at: usize) -> Opti
     requires inside { at < length cells.old }
     requires room { length cells.old ≤ UNIT * length units.old }
     requires few { length units.old < 2 ^ 32 }
-    ensures slot { result ≡ slot_at (shown units.old cells.old) at }
-    ensures same { shown units.new cells.new ≡ shown units.old cells.old }
+    ensures slot { result ≡ slot_at (shown_units units.old cells.old) at }
+    ensures same { shown_units units.new cells.new ≡ shown_units units.old cells.old }
 {
     give_records(units, cells, at);
     cells.slot(at)
@@ -141,10 +143,11 @@ pub(crate) fn set_among_same(units: &mut [Unit], cells: &mut Cells, at: usize, c
     requires inside { at < length cells.old }
     requires room { length cells.old ≤ UNIT * length units.old }
     requires few { length units.old < 2 ^ 32 }
-    requires held { IsSome (slot_at (shown units.old cells.old) at) }
-    ensures set { shown units.new cells.new
-        ≡ slice_set (shown units.old cells.old) at (with_cell cell (slot_at (shown units.old cells.old) at)) }
-    ensures waited { result ≡ is_waiting (slot_at (shown units.old cells.old) at) }
+    requires held { IsSome (slot_at (shown_units units.old cells.old) at) }
+    ensures set { shown_units units.new cells.new
+        ≡ slice_set (shown_units units.old cells.old) at
+        (with_cell cell (slot_at (shown_units units.old cells.old) at)) }
+    ensures waited { result ≡ is_waiting_slot (slot_at (shown_units units.old cells.old) at) }
 {
     write_out(units, cells, at / UNIT);
     cells.set(at, cell)

@@ -1,7 +1,7 @@
 //! The part of a cell that is kept in one byte, and the place of its block.
 ghost use Rattle.std.specs.Prelude.{◌≡◌, ℕ, Some};
-ghost use Rattle.im_cell.specs.Slots.{new_slot, is_waiting, is_waiting_cell, with_cell};
-ghost use Rattle.im_cell.specs.Cells.{block_by_extent, state_slot, state_for, value_of, kind_of};
+ghost use Rattle.im_cell.specs.Slots.{new_slot, is_waiting_slot, cell_waits, with_cell};
+ghost use Rattle.im_cell.specs.Cells.{block_by_extent, state_slot, state_for, value_of, tag_kind};
 
 use crate::slots::Slot;
 use im_types::{Block, Cell, Kind};
@@ -87,7 +87,7 @@ pub(crate) fn value_in(cell: Cell) -> u64
 /// Returns whether requests wait for a cell.
 #[inline(always)]
 pub(crate) fn is_waited_for(cell: Cell) -> bool
-    ensures { result ≡ is_waiting_cell cell }
+    ensures { result ≡ cell_waits cell }
 {
     matches!(cell, Cell::Waiting)
 }
@@ -96,7 +96,7 @@ impl State {
     /// Returns the kind of the cell's block, or I for a free cell.
     #[inline(always)]
     pub(crate) fn kind(self) -> Kind
-        ensures { result ≡ kind_of self }
+        ensures { result ≡ tag_kind self }
     {
         match self {
             State::EmptyM | State::WaitingM | State::FullM | State::ClashedM => Kind::M,
@@ -107,7 +107,7 @@ impl State {
     /// Returns whether requests wait for the cell.
     #[inline(always)]
     pub(crate) fn is_waiting(self) -> bool
-        ensures { (value : ℕ) (extent : Extent) → result ≡ is_waiting (state_slot self value extent) }
+        ensures { (value : ℕ) (extent : Extent) → result ≡ is_waiting_slot (state_slot self value extent) }
     {
         matches!(self, State::WaitingI | State::WaitingM)
     }

@@ -2,7 +2,7 @@
 ghost use Rattle.std.specs.Prelude.{◌≡◌, ◌+◌, ◌-◌, ◌*◌, ◌/◌, ◌<◌, ◌≤◌, ◌^◌, false, length, replicate, slice_set};
 ghost use Rattle.std.specs.Prelude.{IsSome};
 ghost use Rattle.im_types.specs.Place.{fill};
-ghost use Rattle.im_cell.specs.Slots.{slot_at, with_cell, is_waiting};
+ghost use Rattle.im_cell.specs.Slots.{slot_at, with_cell, is_waiting_slot};
 ghost use Rattle.im_cell.specs.Table.{base_in};
 ghost use Rattle.im_cell.specs.Units.{common_slot, is_own};
 
@@ -24,11 +24,11 @@ impl Model for CellUnits {
     ghost use Rattle.std.specs.Prelude.{List, Option, ◌≤◌, ◌<◌, ◌*◌, ◌^◌, length};
     ghost use Rattle.im_cell.specs.declared.slots.Slot.{Slot};
     ghost use Rattle.im_cell.specs.declared.unit.TheConstants.{UNIT};
-    ghost use Rattle.im_cell.specs.Units.{shown};
+    ghost use Rattle.im_cell.specs.Units.{shown_units};
 
     ghost Value = { List (Option Slot) };
 
-    ghost view = { λ u. shown u.units.items u.cells };
+    ghost view = { λ u. shown_units u.units.items u.cells };
 
     ghost invariant = { λ u. (length u.cells ≤ UNIT * length u.units.items) × (length u.cells < 2 ^ 32)
         × (length u.units.items < 2 ^ 32) };
@@ -100,7 +100,7 @@ impl CellUnits {
     pub(crate) fn set(&mut self, a: u32, cell: Cell) -> bool
         requires { IsSome (slot_at self.old a) }
         ensures set { self.new ≡ slice_set self.old a (with_cell cell (slot_at self.old a)) }
-        ensures waited { result ≡ is_waiting (slot_at self.old a) }
+        ensures waited { result ≡ is_waiting_slot (slot_at self.old a) }
     {
         let at = a as usize;
         if unit_of(self.units.as_slice(), at / UNIT).is_own() {

@@ -10,7 +10,7 @@ use Rattle.im_journal.specs.Holding.{JournalState, to_sweep, with_room}
 use Rattle.im_pages.specs.PageSets.{pages_from}
 use Rattle.im_checkpoint.specs.declared.checkpoint.TurnDone.{TurnDone}
 use Rattle.im_checkpoint.specs.Step.{Step, NoCheckpoint, PagesLeft, PagesDone, Synced, CheckpointState}
-use Rattle.im_checkpoint.specs.Step.{PagedCheckpoint, IsUnderWay, with_left, turns_left, changed_in}
+use Rattle.im_checkpoint.specs.Step.{PagedCheckpoint, IsUnderWay, pages_step, turns_left, changed_in}
 use Rattle.im_checkpoint.specs.Turns.{Turned, Moved, is_due, next_header}
 use Rattle.im_checkpoint.specs.Keeping.{IsBetween, StepFits, Fits, ComesTo}
 
@@ -20,11 +20,11 @@ once_more (Ok x) p then = then x p
 once_more (Err e) p then = tt
 
 by_left : (h : Header) (j : JournalState) (count : ℕ) (left : List ℕ) → IsBetween h j count
-    → StepFits h j (with_left count left)
+    → StepFits h j (pages_step count left)
 by_left h j count [] between = between
 by_left h j count (page ∷ left) between = between
 
-pub turns_with : (count : ℕ) (left : List ℕ) → turns_left (with_left count left) ≡ length left + 2
+pub turns_with : (count : ℕ) (left : List ℕ) → turns_left (pages_step count left) ≡ length left + 2
 turns_with count [] = omega arith
 turns_with count (page ∷ left) = refl
 
@@ -103,7 +103,7 @@ module _ (before : PagedCheckpoint) (j : JournalState) (m : Contents) (answer : 
         let began = row.1 in
         let left : List ℕ = pages_from 0 began.changed in
         comes (ap (λ (x : JournalState). x.count) row.2)
-        (with_step (with_left j.count left)
+        (with_step (pages_step j.count left)
         (by_left old.header j j.count left
         (record { from = due_before old.header.count j.count _ due; to = omega arith })) began.state row.2)
 
@@ -123,10 +123,10 @@ module _ (before : PagedCheckpoint) (j : JournalState) (m : Contents) (answer : 
       turned = turned;
       moved = moved;
       nearer = λ under. ap turns_left is
-          ∙ one_less (length left) (turns_left (with_left count left)) (turns_with count left)
+          ∙ one_less (length left) (turns_left (pages_step count left)) (turns_with count left)
           ∙ sym (ap (λ (x : CheckpointState). turns_left x.step + 1) row.1);
       count = ap (λ (x : JournalState). x.count) row.2;
-      fits = with_step (with_left count left)
+      fits = with_step (pages_step count left)
           (by_left old.header j count left (subst (λ (s : Step). StepFits old.header j s) is fits.step)) row.1 row.2;
     }
 

@@ -13,7 +13,7 @@ use Rattle.im_disk.proofs.SinceLemmas.{leaves_start, leaves_step, left_sync, lef
 use Rattle.im_laws.proofs.Tests.{true_false}
 use Rattle.im_journal.specs.Holding.{JournalState, Holds}
 use Rattle.im_meaning.specs.Images.{other}
-use Rattle.im_checkpoint.specs.Step.{Step, NoCheckpoint, PagesLeft, PagesDone, Synced, CheckpointState, with_left}
+use Rattle.im_checkpoint.specs.Step.{Step, NoCheckpoint, PagesLeft, PagesDone, Synced, CheckpointState, pages_step}
 use Rattle.im_checkpoint.specs.Turns.{next_header, begun_at}
 use Rattle.im_checkpoint.specs.Keeping.{Paged, MeansWith, IsWriting, KeepsStep, Keeps, IsCalm, IsKept}
 use Rattle.im_checkpoint.proofs.Bytes.{same_all, same_back, same_then, same_wider, same_overlaid}
@@ -33,7 +33,7 @@ calm_all (PagesLeft count left) now none = tt
 calm_all (PagesDone count) now none = tt
 calm_all (Synced count) now none = none
 
-pub calm_left : (count : ℕ) (left : List ℕ) (now : Moment) → IsCalm (with_left count left) now
+pub calm_left : (count : ℕ) (left : List ℕ) (now : Moment) → IsCalm (pages_step count left) now
 calm_left count [] now = tt
 calm_left count (page ∷ left) now = tt
 
@@ -120,7 +120,7 @@ module _ (c : CheckpointState) (x : Paged) (m : Contents) (j : JournalState) (m0
       page_leaves = leaves_step m0 m0 m1 past0 past0 past1 P (Torn at (length bytes))
           (leaves_start m0 past0 P) tick page_now
 
-      new_step : KeepsStep c.header kept.read.shown kept.read.commands x (with_left count left)
+      new_step : KeepsStep c.header kept.read.shown kept.read.commands x (pages_step count left)
           (overlaid m0.bytes at bytes)
       new_step = by_left left (page_written c.header x m0.bytes (overlaid m0.bytes at bytes) i left bytes page
           (own_area c.header m j m0.bytes kept.read i few bytes size_page at at_is)
@@ -131,18 +131,19 @@ module _ (c : CheckpointState) (x : Paged) (m : Contents) (j : JournalState) (m0
         where
           by_left : (l : List ℕ)
               → IsWriting c.header kept.read.shown kept.read.commands x count l (overlaid m0.bytes at bytes)
-              → KeepsStep c.header kept.read.shown kept.read.commands x (with_left count l) (overlaid m0.bytes at bytes)
+              → KeepsStep c.header kept.read.shown kept.read.commands x (pages_step count l)
+              (overlaid m0.bytes at bytes)
           by_left [] w = w
           by_left (p ∷ l) w = w
 
       pub page_done : m1 ≡ written at bytes m0
-          → IsKept (record { header = c.header; step = with_left count left }) x m j m1
+          → IsKept (record { header = c.header; step = pages_step count left }) x m j m1
       page_done is_written =
           let bytes_are : m1.bytes ≡ overlaid m0.bytes at bytes = ap (λ (y : Moment). y.bytes) is_written in
           let both : (read : Keeps c.header m j m1.bytes)
-          × KeepsStep c.header read.shown read.commands x (with_left count left) m1.bytes =
+          × KeepsStep c.header read.shown read.commands x (pages_step count left) m1.bytes =
           subst (λ (l : List ℕ). (read : Keeps c.header m j l)
-          × KeepsStep c.header read.shown read.commands x (with_left count left) l) (sym bytes_are) (
+          × KeepsStep c.header read.shown read.commands x (pages_step count left) l) (sym bytes_are) (
             keeps_at c.header m j m0.bytes kept.read (overlaid m0.bytes at bytes)
                 (page_still c.header m j m0.bytes kept.read i few bytes size_page at at_is),
             new_step,

@@ -9,7 +9,7 @@ use Rattle.im_pages.specs.PageSets.{union}
 use Rattle.im_checkpoint.specs.declared.checkpoint.Phase.{Phase}
 use Rattle.im_checkpoint.specs.declared.checkpoint.Phase.TheVariants.{NoCheckpoint as None_yet, PagesLeft as Some_left}
 use Rattle.im_checkpoint.specs.declared.checkpoint.Phase.TheVariants.{PagesDone as All_written, Synced as On_disk}
-use Rattle.im_checkpoint.specs.Step.{Step, NoCheckpoint, PagesLeft, PagesDone, Synced, PagedCheckpoint, with_left}
+use Rattle.im_checkpoint.specs.Step.{Step, NoCheckpoint, PagesLeft, PagesDone, Synced, PagedCheckpoint, pages_step}
 use Rattle.im_checkpoint.specs.Step.{left_in, step_by_phase, IsPagesLeft, IsPagesDone, IsSynced}
 use Rattle.im_checkpoint.specs.Keeping.{paged, IsKept}
 
@@ -18,7 +18,7 @@ pub union_none : (set : List Bool) → union (replicate (length set) false) set 
 union_none [] = refl
 union_none (b ∷ set) = ap (λ (l : List Bool). b ∷ l) (union_none set)
 
-pub left_with : (count : ℕ) (left : List ℕ) → left_in (with_left count left) ≡ left
+pub left_with : (count : ℕ) (left : List ℕ) → left_in (pages_step count left) ≡ left
 left_with count [] = refl
 left_with count (page ∷ left) = refl
 

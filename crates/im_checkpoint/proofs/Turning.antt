@@ -18,7 +18,7 @@ use Rattle.im_meaning.specs.Images.{other}
 use Rattle.im_pages.specs.PageSets.{union, pages_from}
 use Rattle.im_image.specs.Encoding.{AreCounted}
 use Rattle.im_image.proofs.Headers.{same_itself}
-use Rattle.im_checkpoint.specs.Step.{NoCheckpoint, Synced, CheckpointState, with_left}
+use Rattle.im_checkpoint.specs.Step.{NoCheckpoint, Synced, CheckpointState, pages_step}
 use Rattle.im_checkpoint.specs.Turns.{next_header, begun_at}
 use Rattle.im_checkpoint.specs.Keeping.{Paged, MeansWith, IsTakenAt, IsWriting, KeepsStep, IsKept}
 use Rattle.im_journal.proofs.Rings.{other_number}
@@ -86,7 +86,7 @@ pub begun_kept : (h : Header) (x : Paged) (copies : List (List ℕ)) (m : Conten
     → IsKept (record { header = h; step = NoCheckpoint }) x m j now → j.count ≤ LAST → h.generation < LAST
     → AreCounted h.sizes x.records → ShowsRecords h.sizes x.records m → length x.older
     ≡ area_pages layout_in_use h.sizes → length x.recent ≡ area_pages layout_in_use h.sizes
-    → IsKept (record { header = h; step = with_left j.count (pages_from 0 (union x.older x.recent)) })
+    → IsKept (record { header = h; step = pages_step j.count (pages_from 0 (union x.older x.recent)) })
     (record {
       recent = replicate
           (length x.older) false;
@@ -125,6 +125,6 @@ begun_kept h x copies m j now kept to_last later counted shows older_size recent
     begun = record { recent = replicate (length x.older) false; older = x.recent; copies = copies; records = x.records }
 
     by_left : (l : List ℕ) → IsWriting h kept.read.shown kept.read.commands begun j.count l now.bytes
-        → KeepsStep h kept.read.shown kept.read.commands begun (with_left j.count l) now.bytes
+        → KeepsStep h kept.read.shown kept.read.commands begun (pages_step j.count l) now.bytes
     by_left [] w = w
     by_left (p ∷ l) w = w

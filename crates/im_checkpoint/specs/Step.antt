@@ -41,9 +41,9 @@ abbrev pub changed_in : PagedCheckpoint → Changed
 changed_in c = record { recent = c.recent; older = c.older }
 
 -- the state with these pages left
-abbrev pub with_left : ℕ → List ℕ → Step
-with_left count [] = PagesDone count
-with_left count (page ∷ left) = PagesLeft count (page ∷ left)
+abbrev pub pages_step : ℕ → List ℕ → Step
+pages_step count [] = PagesDone count
+pages_step count (page ∷ left) = PagesLeft count (page ∷ left)
 
 -- a checkpoint is under way
 abbrev pub IsUnderWay : Step → Type 0

@@ -20,7 +20,7 @@ use Rattle.im_pages.specs.Places.{page_of_session}
 use Rattle.im_pages.specs.PageSets.{has, size_of, union, pages_from, IsWithin}
 use Rattle.im_memory.specs.Covering.{most_pages, IsOfBlock, IsAlone}
 use Rattle.im_checkpoint.specs.Step.{Step, NoCheckpoint, PagesLeft, PagesDone, Synced, CheckpointState}
-use Rattle.im_checkpoint.specs.Step.{PagedCheckpoint, Changed, with_left, turns_left, left_in}
+use Rattle.im_checkpoint.specs.Step.{PagedCheckpoint, Changed, pages_step, turns_left, left_in}
 
 -- there are commands since the header's count, and a later generation is possible
 abbrev pub is_due : Header → JournalState → Bool
@@ -51,7 +51,7 @@ pub record IsIdle (h : Header) (other_alone : Bool) (c : PagedCheckpoint) : Type
 pub record BeginsCheckpoint (h : Header) (count : ℕ) (new : CheckpointState) : Type 0 where
   pub changed : List Bool
   pub size : length changed ≡ area_pages layout_in_use h.sizes
-  pub state : new ≡ record { header = h; step = with_left count (pages_from 0 changed) }
+  pub state : new ≡ record { header = h; step = pages_step count (pages_from 0 changed) }
   pub turns : turns_left new.step ≤ area_pages layout_in_use h.sizes + 2
 
 -- the slots swept with one sync, `most` at most: none while a checkpoint is under way
@@ -83,7 +83,7 @@ pub record Turned (old : CheckpointState) (j : JournalState) (answer : TurnDone)
   pub idle : old.step ≡ NoCheckpoint → to_sweep j ≡ 0 → is_due old.header j ≡ false → (answer ≡ Idle) × (new ≡ old)
       × (k ≡ j)
   pub page : (count : ℕ) (i : ℕ) (left : List ℕ) → old.step ≡ PagesLeft count (i ∷ left)
-      → (answer ≡ Page i) × (new ≡ record { header = old.header; step = with_left count left }) × (k ≡ j)
+      → (answer ≡ Page i) × (new ≡ record { header = old.header; step = pages_step count left }) × (k ≡ j)
   pub synced : (count : ℕ) → old.step ≡ PagesDone count → (answer ≡ SyncedNow)
       × (new ≡ record { header = old.header; step = Synced count }) × (k ≡ j)
   pub in_force : (count : ℕ) → old.step ≡ Synced count

@@ -11,7 +11,7 @@ ghost use Rattle.im_memory.specs.State.{MemoryState};
 ghost use Rattle.im_meaning.specs.Images.{other};
 ghost use Rattle.im_pages.specs.PageSets.{pages_from, IsNext};
 ghost use Rattle.im_image.specs.Reading.{HasSizes};
-ghost use Rattle.im_checkpoint.specs.Step.{NoCheckpoint, with_left, step_by_phase, changed_in, IsPagesDone};
+ghost use Rattle.im_checkpoint.specs.Step.{NoCheckpoint, pages_step, step_by_phase, changed_in, IsPagesDone};
 ghost use Rattle.im_checkpoint.specs.Turns.{Turned, Moved, BeginsCheckpoint, is_due, MakesTurn};
 ghost use Rattle.im_checkpoint.specs.Keeping.{paged, IsKept, FitsIdle, HasPagesLeft, IsReady, TurnKeeps, TurnLeaves};
 
@@ -30,7 +30,7 @@ use std::mem::swap;
 // The progress of a checkpoint whose pages from `from` on are left, and the first of those pages, if there is one.
 fn next_left(left: &PageSet, from: usize) -> (Phase, usize)
     ensures step { (count : ℕ) → step_by_phase result.0 count (pages_from result.1 left.now)
-        ≡ with_left count (pages_from from left.now) }
+        ≡ pages_step count (pages_from from left.now) }
     ensures some { result.0 ≡ Phase.PagesLeft → IsNext left.now from result.1 }
     ensures only { (result.0 ≡ Phase.PagesLeft) ⊎ (result.0 ≡ Phase.PagesDone) }
 {

@@ -8,7 +8,7 @@ use Rattle.im_types.specs.declared.TheConstants.{NONE}
 use Rattle.im_types.specs.declared.operations.Waiter.{Waiter}
 use Rattle.im_types.specs.declared.records.NodeRecord.{NodeRecord}
 use Rattle.im_types.specs.declared.records.NodeRecord.TheVariants.{Free as FreeNode, Listed as ListNode}
-use Rattle.im_types.specs.Chains.{first_of, last_of, Holds, IsChain, uses}
+use Rattle.im_types.specs.Chains.{first_of, last_of, ChainHolds, IsChain, uses}
 use Rattle.im_contents.specs.Walk.{Walked, unvisited_node, node_behind, met_after, visit, walk}
 use Rattle.im_contents.proofs.MarkLemmas.{none_some, some_same, when, unless, bool_cases, bit_same, marked, unmarked}
 use Rattle.im_contents.proofs.MarkLemmas.{in_nodes, marked-set, unmarked-set, not_marked, node_at, IsFresh}
@@ -127,7 +127,7 @@ pub record Done (nodes : List NodeRecord) (last most : ℕ) (marks : List Bool) 
   pub size : length walked.marks ≡ length marks
   pub counts : (n : ℕ) → uses n chain + marked marks n ≡ marked walked.marks n
 
-holds_nil : (nodes : List NodeRecord) (waiters : List Waiter) → Holds nodes [] waiters → [] ≡ waiters
+holds_nil : (nodes : List NodeRecord) (waiters : List Waiter) → ChainHolds nodes [] waiters → [] ≡ waiters
 holds_nil nodes [] h = refl
 holds_nil nodes (who ∷ waiters) h = absurd h
 
@@ -155,7 +155,8 @@ module _ (nodes : List NodeRecord) (few : length nodes ≤ NONE) where
 
   pub walk_complete : (most : ℕ) (marks : List Bool) (at : ℕ) (chain : List ℕ) (waiters : List Waiter) → length marks
       ≡ length nodes
-      → Holds nodes (at ∷ chain) waiters → ((n : ℕ) → uses n (at ∷ chain) + marked marks n ≤ 1) → unmarked marks ≤ most
+      → ChainHolds nodes (at ∷ chain) waiters → ((n : ℕ) → uses n (at ∷ chain) + marked marks n ≤ 1)
+      → unmarked marks ≤ most
       → Done nodes (last_of (at ∷ chain)) most marks at (at ∷ chain) waiters
   walk_complete most marks at chain [] size holds once room = absurd holds
   walk_complete zero marks at chain (who ∷ waiters) size holds once room =
@@ -195,6 +196,6 @@ module _ (nodes : List NodeRecord) (few : length nodes ≤ NONE) where
         counts = λ n. let more = marked-set marks at mark n in let d = done.counts n in omega arith;
       }
     where
-      next_in : (c : List ℕ) (ws : List Waiter) → Holds nodes (next ∷ c) ws → next < length nodes
+      next_in : (c : List ℕ) (ws : List Waiter) → ChainHolds nodes (next ∷ c) ws → next < length nodes
       next_in c [] h = absurd h
       next_in c (w ∷ ws) h = in_nodes nodes next (first_of c) w h.0

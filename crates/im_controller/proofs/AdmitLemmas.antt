@@ -19,12 +19,12 @@ use Rattle.im_types.specs.Contents.{Contents}
 use Rattle.im_laws.proofs.Tests.{true_false}
 use Rattle.im_engine.specs.State.{EngineState}
 use Rattle.im_engine.specs.Commands.{each_refused}
-use Rattle.im_trace.specs.Lines.{leaves_line, lines_of}
+use Rattle.im_trace.specs.Lines.{leaves_line, left_lines}
 use Rattle.im_trace.specs.Log.{sender_of, UnclaimedState, LogState, with_unclaimed}
 use Rattle.im_controller.specs.State.{SharedState}
 use Rattle.im_queue.specs.Members.{AreOfOthers, AreOneOfEach, AreSureBehind, IsCut, AreFreeFor}
 use Rattle.im_controller.specs.Groups.{those, AreAnswersTo}
-use Rattle.im_controller.specs.Groups.{answer_in, with_all_unclaimed}
+use Rattle.im_controller.specs.Groups.{served_answer, with_all_unclaimed}
 use Rattle.im_controller.specs.Groups.{lines_left, MembersAnswered}
 use Rattle.im_controller.specs.Planned.{has_command, IsOnPlan, AreOnPlan, StartsBy, KeepsTo}
 use Rattle.im_controller.specs.Admitted.{is_asked, is_picked, picked, admitted, refused_off, with_off, with_refused_off}
@@ -124,14 +124,14 @@ module _ {D : Type 0} (s : SharedState D) (rs : List Command) where
 -- ---- what the refusals leave of the log
 
 pub off-trace : (l : LogState) (rs : List Command) → (with_off l rs).trace ≡ l.trace
-off-trace l rs = all-trace l rs (map answer_in (each_refused OffPlan rs))
+off-trace l rs = all-trace l rs (map served_answer (each_refused OffPlan rs))
     ∙ ap (λ ls. l.trace ++ ls) (refused-lines OffPlan refl rs) ∙ append-nil l.trace
 
 -- the log that was left is this one
 pub off-log : (l l' : LogState) (rs qs : List Command) (ss : List Served) → l'
-    ≡ with_all_unclaimed l qs (map answer_in ss) → qs ≡ rs → ss ≡ each_refused OffPlan rs → l' ≡ with_off l rs
-off-log l l' rs qs ss is same refused = is ∙ ap (λ ps. with_all_unclaimed l ps (map answer_in ss)) same
-    ∙ ap (λ ts. with_all_unclaimed l rs (map answer_in ts)) refused
+    ≡ with_all_unclaimed l qs (map served_answer ss) → qs ≡ rs → ss ≡ each_refused OffPlan rs → l' ≡ with_off l rs
+off-log l l' rs qs ss is same refused = is ∙ ap (λ ps. with_all_unclaimed l ps (map served_answer ss)) same
+    ∙ ap (λ ts. with_all_unclaimed l rs (map served_answer ts)) refused
 
 pub off-shared : {D : Type 0} (s t : SharedState D) → s ≡ t
     → (l : LogState) (plan : Option (List Request)) (rs : List Command) → l ≡ with_off s.log (refused_off plan t rs)
@@ -143,10 +143,10 @@ off-shared {D = D} s t same l plan rs is =
 -- what the log asks of these refusals
 pub record OffFits (m : Contents) (l : LogState) (rs : List Command) : Type 0 where
   pub whole : length (each_refused OffPlan rs) ≡ length rs
-  pub are_so : AreAnswersTo (end_of m l.trace) rs (map answer_in (each_refused OffPlan rs))
+  pub are_so : AreAnswersTo (end_of m l.trace) rs (map served_answer (each_refused OffPlan rs))
   pub apart : AreOneOfEach rs
   pub free : AreFreeFor l.places rs
-  pub none : lines_left (map answer_in (each_refused OffPlan rs)) ≡ 0
+  pub none : lines_left (map served_answer (each_refused OffPlan rs)) ≡ 0
 
 pub off-fits : (m : Contents) (l : LogState) (test : Command → Bool) (rs : List Command) → AreOneOfEach rs
     → AreFreeFor l.places rs → OffFits m l (picked test rs)
@@ -255,7 +255,7 @@ module _ {D : Type 0} (s : SharedState D) where
   admit-free None rs apart free = free
   admit-free (Some plan) rs apart free =
       let f = is_picked (Some plan) (is_asked s) false in let g = is_picked (Some plan) (is_asked s) true in
-      parted-free s.log (picked f rs) (picked g rs) (map answer_in (each_refused OffPlan (picked f rs)))
+      parted-free s.log (picked f rs) (picked g rs) (map served_answer (each_refused OffPlan (picked f rs)))
       (parted f g (λ r. one-test (if is_asked s then has_command (Some plan) r else true)) rs apart)
       (those-free s.log.places (map g rs) rs free)
 
@@ -270,7 +270,7 @@ module _ {D : Type 0} (s : SharedState D) where
   admit-limit : (plan : Option (List Request)) (rs : List Command) → (with_refused_off plan s rs).log.limit
       ≡ s.log.limit
   admit-limit plan rs =
-      let off = refused_off plan s rs in all-limit s.log off (map answer_in (each_refused OffPlan off))
+      let off = refused_off plan s rs in all-limit s.log off (map served_answer (each_refused OffPlan off))
 
   pub admit-room : (plan : Option (List Request)) (rs : List Command)
       → (length s.log.trace < s.log.limit → length s.log.trace + length rs ≤ s.log.limit)
@@ -299,28 +299,30 @@ module _ (m : Contents) (plan : Option (List Request)) where
   keeps-all trace (r ∷ rs) [] k on = keeps-none trace [] k refl
   keeps-all trace (r ∷ rs) (x ∷ xs) k on =
       subst (λ (ls : List Line). KeepsTo m plan ls)
-      (append_assoc trace (lines_of (Commands r) x) (lines_all rs xs))
-      (keeps-all (trace ++ lines_of (Commands r) x) rs xs
+      (append_assoc trace (left_lines (Commands r) x) (lines_all rs xs))
+      (keeps-all (trace ++ left_lines (Commands r) x) rs xs
       (keeps-line m trace (Commands r) x plan k on.0) on.1)
 
   -- of members with these answers, of which so many were served
   module _ {D : Type 0} (e f : EngineState D) (qs rs : List Command) (xs : List (Result Outcome Refusal))
-      (ss : List Served) (same : lines_all qs xs ≡ lines_all rs (map answer_in ss)) (trace : List Line)
+      (ss : List Served) (same : lines_all qs xs ≡ lines_all rs (map served_answer ss)) (trace : List Line)
       (k : KeepsTo m plan trace) where
     keeps-alike : (refusal : Refusal) → leaves_line (Err refusal) ≡ false → ss ≡ each_refused refusal rs
-        → KeepsTo m plan (trace ++ lines_all rs (map answer_in ss))
-    keeps-alike refusal lineless alike = keeps-none trace (lines_all rs (map answer_in ss)) k
-        (ap (λ ts. lines_all rs (map answer_in ts)) alike ∙ refused-lines refusal lineless rs)
+        → KeepsTo m plan (trace ++ lines_all rs (map served_answer ss))
+    keeps-alike refusal lineless alike = keeps-none trace (lines_all rs (map served_answer ss)) k
+        (ap (λ ts. lines_all rs (map served_answer ts)) alike ∙ refused-lines refusal lineless rs)
 
     keeps_by : (b : Bool) (room n : ℕ) → e.failed ≡ b → room ≡ n → MembersAnswered e room rs ss f
-        → (e.failed ≡ false → 0 < room → AreOnPlan plan qs) → KeepsTo m plan (trace ++ lines_all rs (map answer_in ss))
+        → (e.failed ≡ false → 0 < room → AreOnPlan plan qs)
+        → KeepsTo m plan (trace ++ lines_all rs (map served_answer ss))
     keeps_by true room n dead is a on = keeps-alike Failed refl ((a.dead dead).dead dead).0
     keeps_by false room zero alive is a on = keeps-alike TraceFull refl (a.full alive is).0
     keeps_by false room (suc n) alive is a on = subst (λ (ls : List Line). KeepsTo m plan (trace ++ ls)) same
         (keeps-all trace qs xs k (on alive (omega (arith, is))))
 
     pub keeps-members : (room : ℕ) → MembersAnswered e room rs ss f
-        → (e.failed ≡ false → 0 < room → AreOnPlan plan qs) → KeepsTo m plan (trace ++ lines_all rs (map answer_in ss))
+        → (e.failed ≡ false → 0 < room → AreOnPlan plan qs)
+        → KeepsTo m plan (trace ++ lines_all rs (map served_answer ss))
     keeps-members room a on = keeps_by e.failed room room refl refl a on
 
 -- what holds of the members that are served holds by their names

@@ -16,10 +16,10 @@ use Rattle.im_glass.specs.Panes.{PaneView}
 use Rattle.im_controller.specs.Groups.{those, AreRoomless, changes_put_all, next_answer, answers_left, spread}
 use Rattle.im_trace.specs.Log.{sender_of}
 use Rattle.im_queue.specs.Members.{AreOneOfEach, AreSureBehind, IsSure, are_joined, IsCut}
-use Rattle.im_controller.specs.Groups.{answer_in}
+use Rattle.im_controller.specs.Groups.{served_answer}
 use Rattle.im_controller.specs.Groups.{lines_left}
 use Rattle.im_controller.proofs.SureLemmas.{sure-behind}
-use Rattle.im_trace.specs.Lines.{lines_of}
+use Rattle.im_trace.specs.Lines.{left_lines}
 use Rattle.im_controller.specs.Lends.{is_taken}
 use Rattle.im_controller.proofs.GroupLemmas.{Fits, few_lines}
 use Rattle.im_controller.proofs.PutLemmas.{lines_all, taken-none, left-none}
@@ -86,10 +86,10 @@ those-sure m (false ∷ bs) (r ∷ rs) sure = sure-behind m (those bs rs) (those
 
 -- ---- the answers to all, by those to the ones that are lent
 
-few-served : (ss : List Served) (n : ℕ) → length ss ≡ n → lines_left (map answer_in ss) ≤ n
-few-served ss n is = omega (arith, few_lines (map answer_in ss), many ss, is)
+few-served : (ss : List Served) (n : ℕ) → length ss ≡ n → lines_left (map served_answer ss) ≤ n
+few-served ss n is = omega (arith, few_lines (map served_answer ss), many ss, is)
   where
-    many : (ss : List Served) → length (map answer_in ss) ≡ length ss
+    many : (ss : List Served) → length (map served_answer ss) ≡ length ss
     many [] = refl
     many (s ∷ ss) = omega (arith, many ss)
 
@@ -128,13 +128,13 @@ spread-fits (true ∷ bs) (r ∷ rs) (s ∷ ss) m n c left none fits =
 
 pub spread-lines : (bs : List Bool) (rs : List Command) (ss : List Served) (c : Contents) (left : ℕ)
     → AreRoomless c left bs rs → length ss ≡ length (those bs rs)
-    → lines_all rs (map answer_in (spread bs ss)) ≡ lines_all (those bs rs) (map answer_in ss)
+    → lines_all rs (map served_answer (spread bs ss)) ≡ lines_all (those bs rs) (map served_answer ss)
 spread-lines [] rs ss c left none whole = rw none refl
 spread-lines (b ∷ bs) [] ss c left none whole = absurd none
 spread-lines (false ∷ bs) (r ∷ rs) ss c left none whole = spread-lines bs rs ss c left none.1 whole
 spread-lines (true ∷ bs) (r ∷ rs) [] c left none whole = absurd (omega (arith, whole))
 spread-lines (true ∷ bs) (r ∷ rs) (s ∷ ss) c left none whole =
-    ap (λ l. lines_of (Commands r) (answer_in s) ++ l)
+    ap (λ l. left_lines (Commands r) (served_answer s) ++ l)
     (spread-lines bs rs ss c (places_behind c left r) none (omega (arith, whole)))
 
 -- where there is no place, all are lent
@@ -180,7 +180,7 @@ spread-room xs bs ss ss0 i all within few =
 
 pub spread-left : (bs : List Bool) (rs : List Command) (ss : List Served) (c : Contents) (left : ℕ)
     → AreRoomless c left bs rs → length ss ≡ length (those bs rs)
-    → lines_left (map answer_in (spread bs ss)) ≡ lines_left (map answer_in ss)
+    → lines_left (map served_answer (spread bs ss)) ≡ lines_left (map served_answer ss)
 spread-left [] rs [] c left none whole = refl
 spread-left [] rs (s ∷ ss) c left none whole = absurd (omega (arith, whole))
 spread-left (b ∷ bs) [] ss c left none whole = absurd none

@@ -16,39 +16,41 @@ use Rattle.im_types.specs.Groups.{as_served}
 use Rattle.im_laws.proofs.Tests.{true_false}
 use Rattle.im_laws.proofs.AcceptLemmas.{unaccepted-leaves, accepted-ok}
 use Rattle.im_engine.specs.State.{EngineState}
-use Rattle.im_groups.specs.Commands.{places, answer_with, contents_with, places_behind, answers_with, contents_after}
+use Rattle.im_groups.specs.Commands.{places, answer_with, contents_with, places_behind, answers_with}
+use Rattle.im_groups.specs.Commands.{contents_after_all}
 use Rattle.im_groups.proofs.CommandLemmas.{at-after}
 use Rattle.im_engine.specs.Commands.{commands_put, after_commands, each_refused, answers_in_turn, CommandsAnswered}
 use Rattle.im_trace.specs.Lines.{leaves_line, memory_after}
-use Rattle.im_controller.specs.Groups.{answer_in, IsAnswerTo, AreAnswersTo, memory_after_all, lines_left}
+use Rattle.im_controller.specs.Groups.{served_answer, IsAnswerTo, AreAnswersTo, memory_after_all, lines_left}
 use Rattle.im_controller.specs.Groups.{MembersAnswered}
 use Rattle.im_controller.proofs.LendLemmas.{ok-leaves, same_by}
 
 -- what the log asks of the answers to a group, from one memory to another
 pub record Fits (m : Contents) (rs : List Command) (ss : List Served) (n : Contents) : Type 0 where
   pub whole : length ss ≡ length rs
-  pub are_so : AreAnswersTo m rs (map answer_in ss)
-  pub ends : memory_after_all m rs (map answer_in ss) ≡ n
-  pub few : lines_left (map answer_in ss) ≤ length rs
+  pub are_so : AreAnswersTo m rs (map served_answer ss)
+  pub ends : memory_after_all m rs (map served_answer ss) ≡ n
+  pub few : lines_left (map served_answer ss) ≤ length rs
 
 -- all are refused alike, with no line
 module _ (e : Refusal) (lineless : leaves_line (Err e) ≡ false) where
   stays : (m : Contents) (r : Command) → memory_after m (Commands r) (Err e) ≡ m
   stays m r = ap (λ b. if b then (step m r).contents else m) lineless
 
-  alike_so : (m : Contents) (rs : List Command) → AreAnswersTo m rs (map answer_in (each_refused e rs))
+  alike_so : (m : Contents) (rs : List Command) → AreAnswersTo m rs (map served_answer (each_refused e rs))
   alike_so m [] = tt
   alike_so m (r ∷ rs) = (
     (λ told. absurd (true_false (sym told ∙ lineless))),
-    subst (λ (n : Contents). AreAnswersTo n rs (map answer_in (each_refused e rs))) (sym (stays m r)) (alike_so m rs),
+    subst (λ (n : Contents). AreAnswersTo n rs (map served_answer (each_refused e rs))) (sym (stays m r))
+        (alike_so m rs),
   )
 
-  alike_ends : (m : Contents) (rs : List Command) → memory_after_all m rs (map answer_in (each_refused e rs)) ≡ m
+  alike_ends : (m : Contents) (rs : List Command) → memory_after_all m rs (map served_answer (each_refused e rs)) ≡ m
   alike_ends m [] = refl
-  alike_ends m (r ∷ rs) = ap (λ n. memory_after_all n rs (map answer_in (each_refused e rs))) (stays m r)
+  alike_ends m (r ∷ rs) = ap (λ n. memory_after_all n rs (map served_answer (each_refused e rs))) (stays m r)
       ∙ alike_ends m rs
 
-  pub alike_none : (rs : List Command) → lines_left (map answer_in (each_refused e rs)) ≡ 0
+  pub alike_none : (rs : List Command) → lines_left (map served_answer (each_refused e rs)) ≡ 0
   alike_none [] = refl
   alike_none (r ∷ rs) =
       let none : (if leaves_line (Err e) then 1 else 0) ≡ 0 = ap {B = ℕ} (λ b. if b then 1 else 0) lineless in
@@ -106,20 +108,20 @@ members-so m left (r ∷ rs) = (
 )
 
 members-after : (m : Contents) (left : ℕ) (rs : List Command) → memory_after_all m rs (answers_with m left rs)
-    ≡ contents_after m left rs
+    ≡ contents_after_all m left rs
 members-after m left [] = refl
 members-after m left (r ∷ rs) =
     ap (λ (n : Contents). memory_after_all n rs (answers_with (contents_with m left r) (places_behind m left r) rs))
     (sym (member-after m left r))
     ∙ members-after (contents_with m left r) (places_behind m left r) rs
 
-answer_served : (a : Result Outcome Refusal) → answer_in (as_served a) ≡ a
+answer_served : (a : Result Outcome Refusal) → served_answer (as_served a) ≡ a
 answer_served (Ok outcome) = refl
 answer_served (Err refusal) = refl
 
-pub answers_served : (xs : List (Result Outcome Refusal)) → map answer_in (map as_served xs) ≡ xs
+pub answers_served : (xs : List (Result Outcome Refusal)) → map served_answer (map as_served xs) ≡ xs
 answers_served [] = refl
-answers_served (x ∷ xs) = ap (λ y. y ∷ map answer_in (map as_served xs)) (answer_served x)
+answers_served (x ∷ xs) = ap (λ y. y ∷ map served_answer (map as_served xs)) (answer_served x)
     ∙ ap (λ ys. x ∷ ys) (answers_served xs)
 
 whole_served : (xs : List (Result Outcome Refusal)) → length (map as_served xs) ≡ length xs
@@ -139,7 +141,7 @@ few_lines (x ∷ xs) = omega (arith, few_lines xs, at_most (leaves_line x))
     at_most false = omega arith
 
 members_fit : (m : Contents) (left : ℕ) (rs : List Command)
-    → Fits m rs (map as_served (answers_with m left rs)) (contents_after m left rs)
+    → Fits m rs (map as_served (answers_with m left rs)) (contents_after_all m left rs)
 members_fit m left rs =
     let xs = answers_with m left rs in let same = answers_served xs in
     record {
@@ -194,17 +196,17 @@ module _ {D : Type 0} (e f : EngineState D) (rs : List Command) (ss : List Serve
   members-fit room a = members_by e.failed room room refl refl a
 
   none_left : (refusal : Refusal) → leaves_line (Err refusal) ≡ false → ss ≡ each_refused refusal rs
-      → lines_left (map answer_in ss) ≡ 0
-  none_left refusal lineless same = ap (λ ts. lines_left (map answer_in ts)) same ∙ alike_none refusal lineless rs
+      → lines_left (map served_answer ss) ≡ 0
+  none_left refusal lineless same = ap (λ ts. lines_left (map served_answer ts)) same ∙ alike_none refusal lineless rs
 
   room_by : (b : Bool) (room n : ℕ) → e.failed ≡ b → room ≡ n → MembersAnswered e room rs ss f
-      → (lines_left (map answer_in ss) ≡ 0) ⊎ ((0 < room) × (lines_left (map answer_in ss) ≤ length rs))
+      → (lines_left (map served_answer ss) ≡ 0) ⊎ ((0 < room) × (lines_left (map served_answer ss) ≤ length rs))
   room_by true room n dead is a = inl (none_left Failed refl ((a.dead dead).dead dead).0)
   room_by false room zero alive is a = inl (none_left TraceFull refl (a.full alive is).0)
   room_by false room (suc n) alive is a = inr
       (omega (arith, is), (fits_by false alive (a.served (omega (arith, is)))).few)
 
   -- no line is left, or there is room for as many as there are members
-  pub members-room : (room : ℕ) → MembersAnswered e room rs ss f → (lines_left (map answer_in ss) ≡ 0)
-      ⊎ ((0 < room) × (lines_left (map answer_in ss) ≤ length rs))
+  pub members-room : (room : ℕ) → MembersAnswered e room rs ss f → (lines_left (map served_answer ss) ≡ 0)
+      ⊎ ((0 < room) × (lines_left (map served_answer ss) ≤ length rs))
   members-room room a = room_by e.failed room room refl refl a

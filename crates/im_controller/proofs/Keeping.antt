@@ -11,7 +11,7 @@ use Rattle.im_types.specs.declared.commands.Call.TheVariants.{Command as Command
 use Rattle.im_types.specs.declared.refusals.Refusal.{Refusal}
 use Rattle.im_types.specs.Contents.{Contents}
 use Rattle.im_types.specs.Trace.{end_of}
-use Rattle.im_trace.specs.Lines.{leaves_line, lines_of}
+use Rattle.im_trace.specs.Lines.{leaves_line, left_lines}
 use Rattle.im_trace.specs.Log.{sender_of, UnclaimedState, LogState, with_unclaimed}
 use Rattle.im_queue.specs.Members.{AreOfOthers, AreOneOfEach, AreFreeFor}
 use Rattle.im_controller.specs.Groups.{with_all_unclaimed, AreAnswersTo}
@@ -37,7 +37,7 @@ left_by : (b : Bool) (r : Command) (x : Result Outcome Refusal) → length (line
 left_by true r x = refl
 left_by false r x = refl
 
-left_is : (r : Command) (x : Result Outcome Refusal) → length (lines_of (Commands r) x)
+left_is : (r : Command) (x : Result Outcome Refusal) → length (left_lines (Commands r) x)
     ≡ (if leaves_line x then 1 else 0)
 left_is r x = left_by (leaves_line x) r x
 
@@ -63,7 +63,7 @@ module _ (m : Contents) (l0 : LogState) (rs0 : List Command) (xs0 : List (Result
         are_so = subst (λ (s : Contents). AreAnswersTo s rs xs) (sym now) k.are_so.1;
         apart = k.apart.1;
         free = free_after l.places (sender_of r) _ rs k.apart.0 k.free.1;
-        room = omega (arith, k.room, length-append l.trace (lines_of (Commands r) x), left_is r x);
+        room = omega (arith, k.room, length-append l.trace (left_lines (Commands r) x), left_is r x);
       }
 
   -- the same, by the place of the next member

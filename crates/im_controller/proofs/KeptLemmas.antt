@@ -19,7 +19,7 @@ use Rattle.im_types.specs.Meaning.{Means, accept_each}
 use Rattle.im_types.specs.Run.{after, accepted}
 use Rattle.im_types.specs.Step.{step, is_accepted}
 use Rattle.im_types.specs.Trace.{end_of}
-use Rattle.im_laws.specs.Traces.{command_in, commands_of}
+use Rattle.im_laws.specs.Traces.{commands_of_call, commands_of}
 use Rattle.im_laws.proofs.Tests.{true_false, true_or_false, below_or_from}
 use Rattle.im_laws.proofs.AcceptLemmas.{accepted-ok}
 use Rattle.im_laws.proofs.RunLemmas.{after-append, accepted-append, after-accepted}
@@ -43,12 +43,12 @@ use Rattle.im_groups.specs.Commands.{commands_at, takes_place}
 use Rattle.im_groups.proofs.CommandLemmas.{at-after, at-accepted}
 use Rattle.im_engine.proofs.Keeping.{accept_both, accept_one}
 use Rattle.im_engine.proofs.Running.{Failures, failures_more, failures_turned}
-use Rattle.im_trace.specs.Lines.{leaves_line, line_of, lines_of, time_at, times_of, NeverGoBack}
+use Rattle.im_trace.specs.Lines.{leaves_line, line_of, left_lines, time_at, times_of, NeverGoBack}
 use Rattle.im_trace.specs.Log.{TimedLog, GoesOnAt}
 use Rattle.im_trace.proofs.TimeLemmas.{time-later, time-new, none-back, more-back}
-use Rattle.im_controller.specs.Groups.{answer_in, MembersAnswered}
+use Rattle.im_controller.specs.Groups.{served_answer, MembersAnswered}
 use Rattle.im_controller.specs.Lends.{IsTurnFault, told_turn}
-use Rattle.im_controller.specs.Kept.{Begun, begun_in, accepted_in, MeansSome, MeansAll, MeansFrom, HasKept}
+use Rattle.im_controller.specs.Kept.{Begun, begun_by, accepted_in, MeansSome, MeansEach, MeansFrom, HasKept}
 use Rattle.im_controller.specs.Kept.{IsLeftAt, KeepsSince, IsOriginOf}
 use Rattle.im_controller.specs.State.{OpeningState}
 use Rattle.im_trace.specs.Origin.{Origin}
@@ -126,8 +126,8 @@ module _ {D : Type 0} (failures : D → ℕ) (e f : EngineState D) where
 commands-append : (earlier later : List Line) → commands_of (earlier ++ later)
     ≡ commands_of earlier ++ commands_of later
 commands-append [] later = refl
-commands-append (line ∷ earlier) later = ap (λ l. command_in line.call ++ l) (commands-append earlier later)
-    ∙ sym (append_assoc (command_in line.call) (commands_of earlier) (commands_of later))
+commands-append (line ∷ earlier) later = ap (λ l. commands_of_call line.call ++ l) (commands-append earlier later)
+    ∙ sym (append_assoc (commands_of_call line.call) (commands_of earlier) (commands_of later))
 
 pub accepted-after : (m : Contents) (trace : List Line) → after m (accepted_in m trace) ≡ end_of m trace
 accepted-after m trace = after-accepted m (commands_of trace) ∙ sym (end_of-commands m trace)
@@ -141,22 +141,22 @@ accepted-more m e trace more ends =
 
 -- of a line
 module _ (m : Contents) (c : Command) (a : Result Outcome Refusal) where
-  lineless : leaves_line a ≡ false → accepted_in m (lines_of (Commands c) a) ≡ []
+  lineless : leaves_line a ≡ false → accepted_in m (left_lines (Commands c) a) ≡ []
   lineless none = ap (λ b. accepted_in m (if b then line_of (Commands c) a ∷ [] else [])) none
 
-  unaccepted : is_accepted m c ≡ false → accepted_in m (lines_of (Commands c) a) ≡ []
+  unaccepted : is_accepted m c ≡ false → accepted_in m (left_lines (Commands c) a) ≡ []
   unaccepted un = by_line (leaves_line a)
     where
       by_line : (b : Bool) → accepted_in m (if b then line_of (Commands c) a ∷ [] else []) ≡ []
       by_line true = ap (λ b. if b then c ∷ [] else []) un
       by_line false = refl
 
-  lined : leaves_line a ≡ true → is_accepted m c ≡ true → accepted_in m (lines_of (Commands c) a) ≡ c ∷ []
+  lined : leaves_line a ≡ true → is_accepted m c ≡ true → accepted_in m (left_lines (Commands c) a) ≡ c ∷ []
   lined some is = ap (λ b. accepted_in m (if b then line_of (Commands c) a ∷ [] else [])) some
       ∙ ap (λ b. if b then c ∷ [] else []) is
 
 -- of a group's members
-one_put : (m : Contents) (left : ℕ) (r : Command) → accepted_in m (lines_of (Commands r) (answer_with m left r))
+one_put : (m : Contents) (left : ℕ) (r : Command) → accepted_in m (left_lines (Commands r) (answer_with m left r))
     ≡ command_at m left r
 one_put m left r = by_tests (is_accepted m r) (nat_lt 0 left) refl refl
   where
@@ -166,7 +166,7 @@ one_put m left r = by_tests (is_accepted m r) (nat_lt 0 left) refl refl
         ∙ ap (λ x. if x then Err JournalFull else (step m r).answer) none
 
     by_tests : (b c : Bool) → is_accepted m r ≡ b → nat_lt 0 left ≡ c
-        → accepted_in m (lines_of (Commands r) (answer_with m left r)) ≡ (if b && c then r ∷ [] else [])
+        → accepted_in m (left_lines (Commands r) (answer_with m left r)) ≡ (if b && c then r ∷ [] else [])
     by_tests false c new some = unaccepted m r (answer_with m left r) new
     by_tests true false new some =
         let none : (left == 0) ≡ true = grind (arith, nat_tests) in
@@ -181,7 +181,7 @@ all_put : (m : Contents) (left : ℕ) (rs : List Command) → accepted_in m (lin
 all_put m left [] = refl
 all_put m left (r ∷ rs) =
     let t = contents_with m left r in let now = places_behind m left r in
-    accepted-more m t (lines_of (Commands r) (answer_with m left r)) (lines_all rs (answers_with t now rs))
+    accepted-more m t (left_lines (Commands r) (answer_with m left r)) (lines_all rs (answers_with t now rs))
     (one-end m left r)
     ∙ ap (λ l. l ++ accepted_in t (lines_all rs (answers_with t now rs))) (one_put m left r)
     ∙ ap (λ l. command_at m left r ++ l) (all_put t now rs)
@@ -220,19 +220,19 @@ MeansBoth e cs file = Means e.memory e.count 0 file ⊎ Means (after e.memory cs
 
 module _ (m : Contents) (count : ℕ) (told : List Command) where
   all_told : (n : Contents) (c : ℕ) (file : List ℕ) → n ≡ after m told → c ≡ count + length told → Means n c 0 file
-      → MeansAll m count told file
+      → MeansEach m count told file
   all_told n c file same counted means =
       subst (λ (k : List Command). Means (after m k) (count + length told) 0 file)
       (sym (take_all (length told) told (omega arith)))
       (subst (λ (x : Contents). Means x (count + length told) 0 file) same
       (subst (λ (k : ℕ). Means n k 0 file) counted means))
 
-  some_told : (file : List ℕ) → MeansAll m count told file → MeansSome m count told file
+  some_told : (file : List ℕ) → MeansEach m count told file → MeansSome m count told file
   some_told file means = (length told, omega arith, means)
 
 module _ (m : Contents) (count : ℕ) where
   all_from : (commands : List Command) (least : ℕ) (file : List ℕ) → least ≤ length commands
-      → MeansAll m count commands file → MeansFrom m count commands least file
+      → MeansEach m count commands file → MeansFrom m count commands least file
   all_from commands least file few means = (length commands, few, omega arith, means)
 
   longer_from : (told more : List Command) (least : ℕ) (file : List ℕ) → MeansFrom m count told least file
@@ -299,7 +299,7 @@ module _ {D : Type 0} (disk : Ghosts D) (b : Begun) (m : Contents) (plan : Optio
     counted : e.count ≡ b.count + length told
     counted = it.kept.count alive
 
-    both : (file : List ℕ) → MeansBoth e cs file → MeansAll m b.count told file ⊎ MeansAll m b.count (told ++ cs) file
+    both : (file : List ℕ) → MeansBoth e cs file → MeansEach m b.count told file ⊎ MeansEach m b.count (told ++ cs) file
     both file (inl image) = inl (all_told m b.count told e.memory e.count file ends counted image)
     both file (inr image) = inr
         (all_told m b.count (told ++ cs) (after e.memory cs) (e.count + length cs) file
@@ -381,7 +381,7 @@ module _ {D : Type 0} (disk : Ghosts D) (b : Begun) (m : Contents) (plan : Optio
     kept_more = by_failed f.failed refl
 
   -- where nothing was acknowledged yet
-  pub kept_start : (e : EngineState D) → begun_in disk.now disk.past disk.failures e ≡ b → e.memory ≡ m
+  pub kept_start : (e : EngineState D) → begun_by disk.now disk.past disk.failures e ≡ b → e.memory ≡ m
       → e.failed ≡ false
       → LeavesNow (now e.disk) (MeansState e) → ((many time : ℕ) → held many time → ⊥) → Has [] e
   kept_start e is same alive means none =
@@ -420,9 +420,9 @@ module _ {D : Type 0} (disk : Ghosts D) (b : Begun) (m : Contents) (plan : Optio
           (last : LeavesNow (now f.disk) (MeansEither e c))
           (means : f.failed ≡ false → LeavesNow (now f.disk) (MeansState f)) (on : IsOnPlan plan (Commands c)) where
         abbrev Next : Type 0
-        Next = Has (told ++ accepted_in e.memory (lines_of (Commands c) a)) f
+        Next = Has (told ++ accepted_in e.memory (left_lines (Commands c) a)) f
 
-        stays : f ≡ e → accepted_in e.memory (lines_of (Commands c) a) ≡ [] → Next
+        stays : f ≡ e → accepted_in e.memory (left_lines (Commands c) a) ≡ [] → Next
         stays same none = kept_same told _ e f same (ap (λ l. told ++ l) none ∙ append-nil told) it
 
         counts : Failures failures e f
@@ -430,7 +430,7 @@ module _ {D : Type 0} (disk : Ghosts D) (b : Begun) (m : Contents) (plan : Optio
 
         goes : is_accepted e.memory c ≡ true
             → (f.failed ≡ false → (f.memory ≡ (step e.memory c).contents) × (f.count ≡ e.count + 1))
-            → accepted_in e.memory (lines_of (Commands c) a) ≡ (if f.failed then [] else c ∷ []) → Next
+            → accepted_in e.memory (left_lines (Commands c) a) ≡ (if f.failed then [] else c ∷ []) → Next
         goes is far lines =
             subst (λ (l : List Command). Has (told ++ l) f) (sym lines)
             (kept_more told (c ∷ []) e f it alive ends (accept_one e.memory c is)
@@ -489,7 +489,7 @@ module _ {D : Type 0} (disk : Ghosts D) (b : Begun) (m : Contents) (plan : Optio
         puts = commands_put e rs
 
         abbrev NextAll : Type 0
-        NextAll = Has (told ++ accepted_in e.memory (lines_all rs (map answer_in ss))) f
+        NextAll = Has (told ++ accepted_in e.memory (lines_all rs (map served_answer ss))) f
 
         group_after : (after_commands e rs).memory ≡ after e.memory puts
         group_after = sym (at-after e.memory (places e.count e.room) rs)
@@ -504,15 +504,15 @@ module _ {D : Type 0} (disk : Ghosts D) (b : Begun) (m : Contents) (plan : Optio
             (subst (λ (n : ℕ). Means (after_commands e rs).memory n 0 file) group_count
             (meant (after_commands e rs) file image)))
 
-        lines_done : ss ≡ answers_in_turn e rs → accepted_in e.memory (lines_all rs (map answer_in ss)) ≡ puts
+        lines_done : ss ≡ answers_in_turn e rs → accepted_in e.memory (lines_all rs (map served_answer ss)) ≡ puts
         lines_done is =
-            ap (λ xs. accepted_in e.memory (lines_all rs (map answer_in xs))) is
+            ap (λ xs. accepted_in e.memory (lines_all rs (map served_answer xs))) is
             ∙ ap (λ xs. accepted_in e.memory (lines_all rs xs))
             (answers_served (answers_with e.memory (places e.count e.room) rs))
             ∙ all_put e.memory (places e.count e.room) rs
 
         group_goes : (f.failed ≡ false → (f.memory ≡ (after_commands e rs).memory)
-            × (f.count ≡ (after_commands e rs).count)) → accepted_in e.memory (lines_all rs (map answer_in ss))
+            × (f.count ≡ (after_commands e rs).count)) → accepted_in e.memory (lines_all rs (map served_answer ss))
             ≡ (if f.failed then [] else puts) → NextAll
         group_goes far lines =
             subst (λ (l : List Command). Has (told ++ l) f) (sym lines)
@@ -535,7 +535,7 @@ module _ {D : Type 0} (disk : Ghosts D) (b : Begun) (m : Contents) (plan : Optio
             (lines_done done.0 ∙ sym (ap (λ x. if x then [] else puts) living)))
             (λ doubt. let dead : f.failed ≡ true = ap (λ (x : EngineState D). x.failed) doubt.1 in
             group_goes (λ living. absurd (true_false (sym dead ∙ living)))
-            (ap (λ xs. accepted_in e.memory (lines_all rs (map answer_in xs))) doubt.0
+            (ap (λ xs. accepted_in e.memory (lines_all rs (map served_answer xs))) doubt.0
             ∙ ap (accepted_in e.memory) (refused-lines Device refl rs)
             ∙ sym (ap (λ x. if x then [] else puts) dead)))
             (answered.put alive (omega (arith, ap length some)))
@@ -551,16 +551,16 @@ module _ {D : Type 0} (disk : Ghosts D) (b : Begun) (m : Contents) (plan : Optio
       (last : e.failed ≡ false → LeavesNow (now f.disk) (MeansCommands e rs))
       (means : f.failed ≡ false → LeavesNow (now f.disk) (MeansState f)) where
     refused : (r : Refusal) → leaves_line (Err r) ≡ false → ss ≡ each_refused r rs → f ≡ e
-        → Has (told ++ accepted_in e.memory (lines_all rs (map answer_in ss))) f
+        → Has (told ++ accepted_in e.memory (lines_all rs (map served_answer ss))) f
     refused r none is same =
         kept_same told _ e f same
         (ap (λ l. told ++ l)
-        (ap (λ xs. accepted_in e.memory (lines_all rs (map answer_in xs))) is
+        (ap (λ xs. accepted_in e.memory (lines_all rs (map served_answer xs))) is
         ∙ ap (accepted_in e.memory) (refused-lines r none rs)) ∙ append-nil told) it
 
     by_room : (dead : Bool) (room n : ℕ) → e.failed ≡ dead → room ≡ n → MembersAnswered e room rs ss f
         → (e.failed ≡ false → 0 < room → AreOnPlan plan rs)
-        → Has (told ++ accepted_in e.memory (lines_all rs (map answer_in ss))) f
+        → Has (told ++ accepted_in e.memory (lines_all rs (map served_answer ss))) f
     by_room true room n dead is a on = let it = (a.dead dead).dead dead in refused Failed refl it.0 it.1
     by_room false room zero alive is a on = let full = a.full alive is in refused TraceFull refl full.0 full.1
     by_room false room (suc n) alive is a on = kept_group e f alive told it ends rs ss
@@ -568,7 +568,7 @@ module _ {D : Type 0} (disk : Ghosts D) (b : Begun) (m : Contents) (plan : Optio
 
     pub kept_members : (room : ℕ) → MembersAnswered e room rs ss f
         → (e.failed ≡ false → 0 < room → AreOnPlan plan rs)
-        → Has (told ++ accepted_in e.memory (lines_all rs (map answer_in ss))) f
+        → Has (told ++ accepted_in e.memory (lines_all rs (map served_answer ss))) f
     kept_members room a on = by_room e.failed room room refl refl a on
 
   -- the lines of a trace more
@@ -579,7 +579,7 @@ module _ {D : Type 0} (disk : Ghosts D) (b : Begun) (m : Contents) (plan : Optio
 
   -- a line of a collect more
   pub kept_looked : (e : EngineState D) (trace trace' : List Line) (element number : ℕ) (a : Result Outcome Refusal)
-      → trace' ≡ trace ++ lines_of (Collect element number) a → Has (accepted_in m trace) e
+      → trace' ≡ trace ++ left_lines (Collect element number) a → Has (accepted_in m trace) e
       → Has (accepted_in m trace') e
   kept_looked e trace trace' element number a is it =
       subst (λ (l : List Command). Has l e)
@@ -724,7 +724,7 @@ module _ {D : Type 0} (disk : Ghosts D) (b : Begun) (m : Contents) (plan : Optio
 
   -- before the first line
   pub keeps_first : (trace : List Line) (times : List ℕ) (e : EngineState D) → trace ≡ [] → times ≡ []
-      → begun_in disk.now disk.past disk.failures e ≡ b → e.memory ≡ m → e.failed ≡ false
+      → begun_by disk.now disk.past disk.failures e ≡ b → e.memory ≡ m → e.failed ≡ false
       → LeavesNow (disk.now e.disk) (MeansState e)
       → KeepsSince disk b m plan trace times e
   keeps_first trace times e none no_times is same alive means = rw (none, no_times) (keeps_still [] [] e refl none-back

@@ -15,7 +15,7 @@ use Rattle.im_glass.specs.Panes.{PaneView}
 use Rattle.im_trace.specs.Log.{LogState}
 use Rattle.im_controller.specs.State.{SharedState}
 use Rattle.im_queue.specs.Members.{AreOneOfEach, AreSureBehind, IsCut}
-use Rattle.im_controller.specs.Groups.{answer_in, with_all_unclaimed, lines_left}
+use Rattle.im_controller.specs.Groups.{served_answer, with_all_unclaimed, lines_left}
 use Rattle.im_controller.specs.Groups.{MembersAnswered, places_with}
 use Rattle.im_controller.specs.Groups.{those, AreRoomless, changes_put_all, spread, LendsGroup}
 use Rattle.im_controller.proofs.GroupLemmas.{Fits, members-fit, members-room}
@@ -47,9 +47,9 @@ module _ {D : Type 0} (e f : EngineState D) (room : ℕ) (members : List Command
       (subst (λ (rs : List Command). Fits e.memory rs ss f.memory) it.lent_is fits-lent))
 
   pub group-room : (limit lines : ℕ) → room ≡ limit - lines → lines ≤ limit
-      → (lines < limit → lines + length members ≤ limit) → lines + lines_left (map answer_in answers) ≤ limit
+      → (lines < limit → lines + length members ≤ limit) → lines + lines_left (map served_answer answers) ≤ limit
   group-room limit lines is few enough =
-      let same = ap (λ xs. lines_left (map answer_in xs)) it.answers_is
+      let same = ap (λ xs. lines_left (map served_answer xs)) it.answers_is
       ∙ spread-left roomy members ss e.memory (places_with e room) it.roomless whole-lent in
       ⊎_elim
       (λ none. omega (arith, none, same, few))
@@ -58,18 +58,18 @@ module _ {D : Type 0} (e f : EngineState D) (room : ℕ) (members : List Command
 
   module _ (agrees : WaitingAgrees e.memory) (cut : IsCut members) (apart : AreOneOfEach members)
       (sure : AreSureBehind e.memory members) where
-    shows-lent : GroupShows e.memory (lines_all lent (map answer_in ss))
+    shows-lent : GroupShows e.memory (lines_all lent (map served_answer ss))
         (changes_put_all e.memory (places_with e room) lent) f.failed
     shows-lent = members-shown e f lent ss agrees (subst IsCut (sym it.lent_is) (those-cut roomy members cut))
         (subst AreOneOfEach (sym it.lent_is) (those-apart roomy members apart))
         (subst (λ (rs : List Command). AreSureBehind e.memory rs) (sym it.lent_is)
         (those-sure e.memory roomy members sure)) room it.answered
 
-    pub lines-same : lines_all members (map answer_in answers) ≡ lines_all lent (map answer_in ss)
+    pub lines-same : lines_all members (map served_answer answers) ≡ lines_all lent (map served_answer ss)
     lines-same =
-        ap (λ xs. lines_all members (map answer_in xs)) it.answers_is
+        ap (λ xs. lines_all members (map served_answer xs)) it.answers_is
         ∙ spread-lines roomy members ss e.memory (places_with e room) it.roomless whole-lent
-        ∙ ap (λ rs. lines_all rs (map answer_in ss)) (sym it.lent_is)
+        ∙ ap (λ rs. lines_all rs (map served_answer ss)) (sym it.lent_is)
 
     was-alive : (b : Bool) → e.failed ≡ b → f.failed ≡ false → e.failed ≡ false
     was-alive false is alive = is
@@ -78,7 +78,7 @@ module _ {D : Type 0} (e f : EngineState D) (room : ℕ) (members : List Command
 
     -- what the pane shows then, and what was put ahead
     pub record GroupPane (m : Contents) (l : LogState) (p r : PaneView) : Type 0 where
-      pub shown_is : r.shown ≡ shown_by m (with_all_unclaimed l members (map answer_in answers)).trace
+      pub shown_is : r.shown ≡ shown_by m (with_all_unclaimed l members (map served_answer answers)).trace
       pub ahead : f.failed ≡ false → r.ahead ≡ []
       pub cells : r.cells ≡ p.cells
       pub alive : f.failed ≡ false → r.shown ≡ p.shown ++ changes_put_all e.memory (places_with e room) lent
@@ -93,14 +93,14 @@ module _ {D : Type 0} (e f : EngineState D) (room : ℕ) (members : List Command
     group-pane m contents l p q r places failed same left ends shown none put is all hidden =
         let changes = ap (λ (n : Contents). changes_put_all n places lent) same
         ∙ ap (λ (n : ℕ). changes_put_all e.memory n lent) left in
-        let lines = lines_all members (map answer_in answers) in
+        let lines = lines_all members (map served_answer answers) in
         let pane = pane-shows p q r (changes_put_all contents places lent) (changes_of e.memory lines) put failed
         (λ living. none (was-alive e.failed refl (sym is ∙ living))) all hidden
         (λ living. changes ∙ shows-lent.alive (sym is ∙ living) ∙ ap (changes_of e.memory) (sym lines-same))
         (λ dead. ap (changes_of e.memory) lines-same ∙ shows-lent.dead (sym is ∙ dead)) in
         record {
           shown_is = pane.is ∙ shown-grows m e.memory l.trace lines p.shown _ ends shown refl
-              ∙ ap (shown_by m) (sym (all-trace l members (map answer_in answers)));
+              ∙ ap (shown_by m) (sym (all-trace l members (map served_answer answers)));
           ahead = λ living. pane.ahead (is ∙ living);
           cells = pane.cells;
           alive = λ living. pane.is
@@ -112,7 +112,7 @@ module _ {D : Type 0} (e f : EngineState D) (room : ℕ) (members : List Command
 pub lends-group : {D : Type 0} (s s' : SharedState D) (members : List Command) (roomy : List Bool)
     (lent : List Command) (ss answers : List Served) (room : ℕ)
     → Group s.engine s'.engine room members roomy lent ss answers → room ≡ s.log.limit - length s.log.trace
-    → s'.log ≡ with_all_unclaimed s.log members (map answer_in answers) → s'.servers ≡ s.servers
+    → s'.log ≡ with_all_unclaimed s.log members (map served_answer answers) → s'.servers ≡ s.servers
     → (s'.engine.failed ≡ false → s'.shown
     ≡ s.shown ++ changes_put_all s.engine.memory (places_with s.engine room) lent)
     → (s'.engine.failed ≡ true → s'.shown ≡ s.shown)

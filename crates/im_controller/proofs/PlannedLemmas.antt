@@ -18,7 +18,7 @@ use Rattle.im_plans.specs.Runs.{IsPlannedCall, IsPlannedRun}
 use Rattle.im_plans.proofs.Laws.{planned-last, planned-kept, planned-waits, planned-served, planned-grows}
 use Rattle.im_plans.proofs.UnderWayLemmas.{goes-on}
 use Rattle.im_planning.proofs.MakingLemmas.{in_plan}
-use Rattle.im_trace.specs.Lines.{leaves_line, line_of, lines_of}
+use Rattle.im_trace.specs.Lines.{leaves_line, line_of, left_lines}
 use Rattle.im_trace.specs.Log.{ReceiptState, IsProof, IsOfTrace}
 use Rattle.im_controller.specs.Planned.{has_request, has_command, IsOnPlan, StartsBy, KeepsTo, TellsBy, TellsOf}
 use Rattle.im_controller.specs.Planned.{EndsAsPlanned, EndsBy}
@@ -41,7 +41,7 @@ module _ (m : Contents) (trace : List Line) (call : Call) (a : Result Outcome Re
   keeps_by plan false k on = subst (λ (ls : List Line). KeepsTo m (Some plan) ls) (sym (append-nil trace)) k
 
   pub keeps-line : (plan : Option (List Request)) → KeepsTo m plan trace → IsOnPlan plan call
-      → KeepsTo m plan (trace ++ lines_of call a)
+      → KeepsTo m plan (trace ++ left_lines call a)
   keeps-line None k on = tt
   keeps-line (Some plan) k on = keeps_by plan (leaves_line a) k on
 

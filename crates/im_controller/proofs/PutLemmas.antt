@@ -22,10 +22,10 @@ use Rattle.im_laws.proofs.AcceptLemmas.{accepted-ok}
 use Rattle.im_groups.specs.Commands.{places, takes_place, answer_with, contents_with, places_behind, answers_with}
 use Rattle.im_engine.specs.State.{EngineState}
 use Rattle.im_engine.specs.Commands.{commands_put, each_refused, answers_in_turn, CommandsAnswered}
-use Rattle.im_trace.specs.Lines.{leaves_line, line_of, lines_of}
+use Rattle.im_trace.specs.Lines.{leaves_line, line_of, left_lines}
 use Rattle.im_trace.specs.Log.{LogState, with_unclaimed}
 use Rattle.im_queue.specs.Members.{AreOneOfEach, IsCut, AreSureBehind}
-use Rattle.im_controller.specs.Groups.{answer_in, with_all_unclaimed}
+use Rattle.im_controller.specs.Groups.{served_answer, with_all_unclaimed}
 use Rattle.im_controller.specs.Groups.{MembersAnswered}
 use Rattle.im_controller.specs.Groups.{places_with, changes_put_all}
 use Rattle.im_controller.specs.Lends.{is_taken, changes_put}
@@ -40,14 +40,14 @@ use Rattle.im_controller.proofs.ShownLemmas.{unaccepted-lines, lineless-lines, l
 abbrev pub lines_all : List Command → List (Result Outcome Refusal) → List Line
 lines_all [] xs = []
 lines_all (r ∷ rs) [] = []
-lines_all (r ∷ rs) (x ∷ xs) = lines_of (Commands r) x ++ lines_all rs xs
+lines_all (r ∷ rs) (x ∷ xs) = left_lines (Commands r) x ++ lines_all rs xs
 
 pub all-trace : (l : LogState) (rs : List Command) (xs : List (Result Outcome Refusal))
     → (with_all_unclaimed l rs xs).trace ≡ l.trace ++ lines_all rs xs
 all-trace l [] xs = sym (append-nil l.trace)
 all-trace l (r ∷ rs) [] = sym (append-nil l.trace)
 all-trace l (r ∷ rs) (x ∷ xs) = all-trace (with_unclaimed l r x) rs xs
-    ∙ append_assoc l.trace (lines_of (Commands r) x) (lines_all rs xs)
+    ∙ append_assoc l.trace (left_lines (Commands r) x) (lines_all rs xs)
 
 -- ---- one member
 
@@ -66,7 +66,7 @@ module _ (m n : Contents) (left : ℕ) (r : Command) (like : IsLike m n r) where
       ∙ ap (λ x. if b && x then Err JournalFull else (step m r).answer) none
 
   one-by : (b c : Bool) → is_accepted m r ≡ b → nat_lt 0 left ≡ c
-      → changes_of m (lines_of (Commands r) (answer_with m left r)) ≡ changes_put n left r
+      → changes_of m (left_lines (Commands r) (answer_with m left r)) ≡ changes_put n left r
   one-by false c new some = unaccepted-lines m r (answer_with m left r) (leaves_line (answer_with m left r)) new
       ∙ sym (put-is false c new some)
   one-by true false new some =
@@ -81,13 +81,13 @@ module _ (m n : Contents) (left : ℕ) (r : Command) (like : IsLike m n r) where
       ∙ like.changes ∙ ap (λ b. if b then change_by n r ∷ [] else []) (sym like.accepts ∙ new)
       ∙ sym (put-is true true new some)
 
-  one-lines : changes_of m (lines_of (Commands r) (answer_with m left r)) ≡ changes_put n left r
+  one-lines : changes_of m (left_lines (Commands r) (answer_with m left r)) ≡ changes_put n left r
   one-lines = one-by (is_accepted m r) (nat_lt 0 left) refl refl
 
   one-left : places_behind m left r ≡ places_behind n left r
   one-left = ap (λ (b : Bool). if b then left - 1 else left) taken-is
 
-pub one-end : (m : Contents) (left : ℕ) (r : Command) → end_of m (lines_of (Commands r) (answer_with m left r))
+pub one-end : (m : Contents) (left : ℕ) (r : Command) → end_of m (left_lines (Commands r) (answer_with m left r))
     ≡ contents_with m left r
 one-end m left r = end-lines m [] (Commands r) (answer_with m left r) ∙ sym (member-after m left r)
 
@@ -100,8 +100,8 @@ group-lines m n left (r ∷ rs) agrees cut apart sure like =
     let t = contents_with m left r in let now = places_behind m left r in
     let rest = group-lines t n now rs (with-agrees m left r agrees) cut.1 apart.1 (sure-behind n rs sure)
     (like-after m n left r rs agrees apart.0 cut.0 sure like.1) in
-    changes-append m (lines_of (Commands r) (answer_with m left r)) (lines_all rs (answers_with t now rs))
-    ∙ ap (λ l. l ++ changes_of (end_of m (lines_of (Commands r) (answer_with m left r)))
+    changes-append m (left_lines (Commands r) (answer_with m left r)) (lines_all rs (answers_with t now rs))
+    ∙ ap (λ l. l ++ changes_of (end_of m (left_lines (Commands r) (answer_with m left r)))
     (lines_all rs (answers_with t now rs))) (one-lines m n left r like.0)
     ∙ ap (λ e. changes_put n left r ++ changes_of e (lines_all rs (answers_with t now rs))) (one-end m left r)
     ∙ ap (λ l. changes_put n left r ++ l)
@@ -110,11 +110,11 @@ group-lines m n left (r ∷ rs) agrees cut apart sure like =
 -- ---- a group
 
 pub refused-lines : (e : Refusal) → leaves_line (Err e) ≡ false → (rs : List Command)
-    → lines_all rs (map answer_in (each_refused e rs)) ≡ []
+    → lines_all rs (map served_answer (each_refused e rs)) ≡ []
 refused-lines e lineless [] = refl
 refused-lines e lineless (r ∷ rs) = ap
     (λ b. (if b then line_of (Commands r) (Err e) ∷ [] else []) ++ lines_all rs
-    (map answer_in (each_refused e rs))) lineless ∙ refused-lines e lineless rs
+    (map served_answer (each_refused e rs))) lineless ∙ refused-lines e lineless rs
 
 pub left-none : (m : Contents) (r : Command) → places_behind m 0 r ≡ 0
 left-none m r = ap (λ (b : Bool). if b then 0 - 1 else 0) (and_false (is_accepted m r))
@@ -136,12 +136,12 @@ pub record GroupShows (m : Contents) (lines : List Line) (changes : List Change)
 module _ {D : Type 0} (e f : EngineState D) (rs : List Command) (ss : List Served) (agrees : WaitingAgrees e.memory)
     (cut : IsCut rs) (apart : AreOneOfEach rs) (sure : AreSureBehind e.memory rs) where
   abbrev Shows : ℕ → Type 0
-  Shows room = GroupShows e.memory (lines_all rs (map answer_in ss))
+  Shows room = GroupShows e.memory (lines_all rs (map served_answer ss))
       (changes_put_all e.memory (places_with e room) rs) f.failed
 
   none-shown : (refusal : Refusal) → leaves_line (Err refusal) ≡ false → ss ≡ each_refused refusal rs
-      → changes_of e.memory (lines_all rs (map answer_in ss)) ≡ []
-  none-shown refusal lineless is = ap (λ xs. changes_of e.memory (lines_all rs (map answer_in xs))) is
+      → changes_of e.memory (lines_all rs (map served_answer ss)) ≡ []
+  none-shown refusal lineless is = ap (λ xs. changes_of e.memory (lines_all rs (map served_answer xs))) is
       ∙ ap (changes_of e.memory) (refused-lines refusal lineless rs)
 
   failed-of : {a b : EngineState D} → a ≡ b → a.failed ≡ b.failed
@@ -164,7 +164,7 @@ module _ {D : Type 0} (e f : EngineState D) (rs : List Command) (ss : List Serve
     alive = λ _.
         ap (λ k. changes_put_all e.memory k rs) (places-some room n alive some)
         ∙ sym (group-lines e.memory e.memory (places e.count e.room) rs agrees cut apart sure (like-self e.memory rs))
-        ∙ sym (ap (λ xs. changes_of e.memory (lines_all rs (map answer_in xs))) is
+        ∙ sym (ap (λ xs. changes_of e.memory (lines_all rs (map served_answer xs))) is
         ∙ ap (λ xs. changes_of e.memory (lines_all rs xs))
         (answers_served (answers_with e.memory (places e.count e.room) rs)));
     dead = λ dead. absurd (true_false (sym dead ∙ lives));

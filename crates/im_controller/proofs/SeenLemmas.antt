@@ -9,7 +9,7 @@ use Rattle.im_types.specs.declared.refusals.Refusal.{Refusal}
 use Rattle.im_types.specs.declared.refusals.Refusal.TheVariants.{Stalled}
 use Rattle.im_types.specs.Trace.{told}
 use Rattle.im_laws.proofs.Tests.{below_or_from}
-use Rattle.im_trace.specs.Lines.{Counts, GoesOnTo, lines_of}
+use Rattle.im_trace.specs.Lines.{LineCounts, GoesOnTo, left_lines}
 use Rattle.im_trace.specs.Log.{LogState}
 use Rattle.im_controller.specs.State.{SharedState}
 use Rattle.im_controller.specs.Waits.{SeesFound}
@@ -25,10 +25,10 @@ same-trace : {D : Type 0} (s s' : SharedState D) (last : List Line) → s' ≡ s
 same-trace s s' last same none = ap (λ t. t.log.trace) same ∙ sym (append-nil s.log.trace)
     ∙ ap (λ ls. s.log.trace ++ ls) (sym none)
 
-module _ {D : Type 0} (marks : Line → Bool) (s s' : SharedState D) (t t' : Counts) (e n : ℕ)
+module _ {D : Type 0} (marks : Line → Bool) (s s' : SharedState D) (t t' : LineCounts) (e n : ℕ)
     (a : Result Entry Refusal) (l : Looks marks s t e n a s' t') where
   abbrev found : Result Entry Refusal → List Line
-  found b = lines_of (Collect e n) (told b)
+  found b = left_lines (Collect e n) (told b)
 
   looks-alive : s.engine.failed ≡ false → (length s.log.trace < s.log.limit) ⊎ (s.log.limit ≤ length s.log.trace)
       → s'.log.trace ≡ s.log.trace ++ found a
@@ -39,7 +39,7 @@ module _ {D : Type 0} (marks : Line → Bool) (s s' : SharedState D) (t t' : Cou
   looks-by true dead = let is = l.dead dead in same-trace s s' (found a) is.1 (ap found is.0)
   looks-by false alive = looks-alive alive (below_or_from (length s.log.trace) s.log.limit)
 
-  pub looks-trace : s'.log.trace ≡ s.log.trace ++ lines_of (Collect e n) (told a)
+  pub looks-trace : s'.log.trace ≡ s.log.trace ++ left_lines (Collect e n) (told a)
   looks-trace = looks-by s.engine.failed refl
 
 -- a collect that is refused with no line

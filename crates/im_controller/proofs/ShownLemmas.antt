@@ -23,7 +23,7 @@ use Rattle.im_disk.specs.declared.disk.Disk.{Ghosts}
 use Rattle.im_engine.specs.State.{EngineState}
 use Rattle.im_engine.specs.Run.{Answered}
 use Rattle.im_glass.specs.Panes.{PaneView}
-use Rattle.im_trace.specs.Lines.{Counts, leaves_line, line_of, lines_of, memory_after, counts_after}
+use Rattle.im_trace.specs.Lines.{LineCounts, leaves_line, line_of, left_lines, memory_after, counts_after}
 use Rattle.im_trace.specs.Log.{ReceiptState, IsToldOf, plain, receipt_for, with_line}
 use Rattle.im_trace.proofs.ToldLemmas.{shown-append, plain-receipt}
 use Rattle.im_controller.specs.Planned.{has_command}
@@ -61,10 +61,11 @@ module _ (m : Contents) (command : Command) (answer : Result Outcome Refusal) wh
   unaccepted-shows (Ok outcome) un = unaccepted-none un
   unaccepted-shows (Err refusal) un = refl
 
-  pub lineless-lines : leaves_line answer ≡ false → changes_of m (lines_of (Commands command) answer) ≡ []
+  pub lineless-lines : leaves_line answer ≡ false → changes_of m (left_lines (Commands command) answer) ≡ []
   lineless-lines none = ap (λ b. changes_of m (if b then line_of (Commands command) answer ∷ [] else [])) none
 
-  pub lined-lines : leaves_line answer ≡ true → changes_of m (lines_of (Commands command) answer) ≡ changes_at m command
+  pub lined-lines : leaves_line answer ≡ true
+      → changes_of m (left_lines (Commands command) answer) ≡ changes_at m command
   lined-lines some = ap (λ b. changes_of m (if b then line_of (Commands command) answer ∷ [] else [])) some
       ∙ append-nil (changes_at m command)
 
@@ -78,7 +79,7 @@ module _ (m : Contents) (command : Command) (answer : Result Outcome Refusal) wh
 -- what is shown of a command, by what the engine comes to
 pub record IsShownOf (m : Contents) (room : ℕ) (command : Command) (answer : Result Outcome Refusal)
     (failed : Bool) : Type 0 where
-  pub lines : changes_of m (lines_of (Commands command) answer) ≡ shows m command answer
+  pub lines : changes_of m (left_lines (Commands command) answer) ≡ shows m command answer
   pub alive : failed ≡ false → changes_put m room command ≡ shows m command answer
   pub dead : failed ≡ true → shows m command answer ≡ []
 
@@ -176,7 +177,7 @@ pub told-all : (m : Contents) (trace : List Line) (told : List Change) → told 
 told-all m trace told is = ([], append-nil (shown_by m trace) ∙ sym is)
 
 -- a command that the engine was lent to
-module _ {D : Type 0} (disk : Ghosts D) (k : Origin) (s s' : SharedState D) (t t' : Counts) (command : Command)
+module _ {D : Type 0} (disk : Ghosts D) (k : Origin) (s s' : SharedState D) (t t' : LineCounts) (command : Command)
     (a : Result Outcome Refusal) (answer : Result ReceiptState Refusal) where
   abbrev time : ℕ
   time = length (disk.past s'.engine.disk)
@@ -184,7 +185,7 @@ module _ {D : Type 0} (disk : Ghosts D) (k : Origin) (s s' : SharedState D) (t t
   pub lends-served : answer ≡ receipt_for s'.log.trace time s'.shown command a → s.engine.failed ≡ false
       → length s.log.trace < s.log.limit → has_command k.plan command ≡ true
       → Answered s.engine command a s'.engine → s'.log ≡ with_line s.log (Commands command) a → s'.servers ≡ s.servers
-      → t' ≡ counts_after k.marks t (lines_of (Commands command) a) → s'.shown
+      → t' ≡ counts_after k.marks t (left_lines (Commands command) a) → s'.shown
       ≡ s.shown ++ shows s.engine.memory command a → Lends disk k s t command answer s' t'
   lends-served is alive room has answered log servers tally shown =
       let same : a ≡ plain answer = sym (ap plain is ∙ plain-receipt s'.log.trace time s'.shown command a) in record {
@@ -195,7 +196,7 @@ module _ {D : Type 0} (disk : Ghosts D) (k : Origin) (s s' : SharedState D) (t t
           subst (λ (x : Result Outcome Refusal). Answered s.engine command x s'.engine) same answered,
           record { log = log ∙ ap (with_line s.log (Commands command)) same; servers = servers },
         );
-        tally = tally ∙ ap (λ x. counts_after k.marks t (lines_of (Commands command) x)) same;
+        tally = tally ∙ ap (λ x. counts_after k.marks t (left_lines (Commands command) x)) same;
         shown = shown ∙ ap (λ x. s.shown ++ shows s.engine.memory command x) same;
         receipt = is ∙ ap (receipt_for s'.log.trace time s'.shown command) same;
       }
@@ -217,7 +218,7 @@ module _ {D : Type 0} (m : Contents) (old new : EngineState D) (command : Comman
       → (failed : Bool) → failed ≡ new.failed
       → (failed ≡ false → r ≡ record q { shown = q.shown ++ q.ahead; ahead = [] }) → (failed ≡ true → r ≡ q)
       → (trace trace' : List Line) → end_of m trace ≡ old.memory → p.shown ≡ shown_by m trace → trace'
-      ≡ trace ++ lines_of (Commands command) a
+      ≡ trace ++ left_lines (Commands command) a
       → ShowsLent m trace' p r failed (shows old.memory command a)
   lend-shown contents left same room p q r none put failed is all hidden trace trace' ends shown grows =
       let it = answered-shown old new command a answered living in
@@ -242,10 +243,10 @@ opened-glance m trace shown (Some g) is seen = (
 
 -- a question shows nothing
 pub looked-shown : (m : Contents) (trace : List Line) (element number : ℕ) (answer : Result Outcome Refusal)
-    → shown_by m trace ≡ shown_by m (trace ++ lines_of (Collect element number) answer)
+    → shown_by m trace ≡ shown_by m (trace ++ left_lines (Collect element number) answer)
 looked-shown m trace element number answer =
     sym (append-nil (shown_by m trace)) ∙ ap (λ l. shown_by m trace ++ l) (none (leaves_line answer))
-    ∙ sym (shown-append m trace (lines_of (Collect element number) answer))
+    ∙ sym (shown-append m trace (left_lines (Collect element number) answer))
   where
     none : (b : Bool) → ◌≡◌ {A = List Change} []
         (changes_of (end_of m trace) (if b then line_of (Collect element number) answer ∷ [] else []))

@@ -14,7 +14,7 @@ use Rattle.im_types.specs.Plan.{result_of}
 use Rattle.im_types.specs.Run.{after, accepted}
 use Rattle.im_types.specs.Step.{step, is_accepted}
 use Rattle.im_types.specs.Trace.{answer_to}
-use Rattle.im_laws.specs.Traces.{command_in, commands_of}
+use Rattle.im_laws.specs.Traces.{commands_of_call, commands_of}
 use Rattle.im_plans.specs.Runs.{IsPlannedCall, IsPlannedRun, IsResultOrWaits, entry_for}
 use Rattle.im_plans.specs.UnderWay.{PlanGoesOn}
 use Rattle.im_plans.proofs.UnderWayLemmas.{goes-on, result-stays}
@@ -46,7 +46,7 @@ module _ (plan : List Request) where
     where
       by_call : (call : Call) → IsPlannedCall plan call
           → ((n : Contents) → AreOnPlan (Some plan) (accepted_in n trace ++ more))
-          → AreOnPlan (Some plan) (accepted m (command_in call ++ commands_of trace) ++ more)
+          → AreOnPlan (Some plan) (accepted m (commands_of_call call ++ commands_of trace) ++ more)
       by_call (Commands c) is rest = if-on (is_accepted m c) c (accepted_in (step m c).contents trace) more is
           (rest (step m c).contents)
       by_call (Collect element number) is rest = rest m

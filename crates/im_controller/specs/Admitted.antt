@@ -6,7 +6,7 @@ use Rattle.im_types.specs.declared.refusals.Refusal.TheVariants.{OffPlan}
 use Rattle.im_engine.specs.Commands.{each_refused}
 use Rattle.im_trace.specs.Log.{LogState}
 use Rattle.im_controller.specs.State.{SharedState}
-use Rattle.im_controller.specs.Groups.{those, answer_in, with_all_unclaimed}
+use Rattle.im_controller.specs.Groups.{those, served_answer, with_all_unclaimed}
 use Rattle.im_controller.specs.Planned.{has_command}
 
 -- whether a plan is asked at all: it isn't if the engine has failed or the trace is full, since all members are refused
@@ -35,7 +35,7 @@ refused_off (Some plan) s cs = picked (is_picked (Some plan) (is_asked s) false)
 
 -- the log after these commands were refused with `OffPlan`; the answers wait for their ports
 abbrev pub with_off : LogState → List Command → LogState
-with_off l cs = with_all_unclaimed l cs (map answer_in (each_refused OffPlan cs))
+with_off l cs = with_all_unclaimed l cs (map served_answer (each_refused OffPlan cs))
 
 -- what lies under the lock after the members that the plan doesn't have were refused; the answers wait for their ports
 abbrev pub with_refused_off : {D : Type 0} → Option (List Request) → SharedState D → List Command → SharedState D

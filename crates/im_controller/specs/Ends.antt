@@ -3,12 +3,12 @@ use Rattle.std.specs.Prelude.{◌≡◌, ◌↔◌, ℕ, ◌+◌, Bool, List, Is
 use Rattle.std.specs.List.{AllByRecursion}
 use mathlib.Core.List.{IsPrefix}
 use Rattle.im_trace.specs.Origin.{Origin}
-use Rattle.im_trace.specs.Lines.{Counts}
-use Rattle.im_trace.specs.Ends.{IsCounted, RecordingState}
+use Rattle.im_trace.specs.Lines.{LineCounts}
+use Rattle.im_trace.specs.Ends.{CountsTrace, RecordingState}
 use Rattle.im_controller.specs.State.{PortState}
 
 -- how many lines these ports were told, and how many of these are marked
-abbrev pub told_to_all : List PortState → Counts
+abbrev pub told_to_all : List PortState → LineCounts
 told_to_all ports = record { lines = sum_by (λ p. p.told.lines) ports; marked = sum_by (λ p. p.told.marked) ports }
 
 -- Of a controller's ports these came back, and some weren't given out. Whether all came that were given out, and
@@ -22,4 +22,4 @@ pub record HaveCome (origin : Origin) (trace : RecordingState) (back : List Port
   pub exactly : IsTrue came ↔ (length back + left ≡ origin.ports)
   pub whole : length back ≡ origin.ports → IsTrue came
   -- where all came, they were told all lines and all marked lines if no line waits, and fewer lines if one waits
-  pub counted : IsTrue came → IsCounted origin.marks trace.items claimed (told_to_all back)
+  pub counted : IsTrue came → CountsTrace origin.marks trace.items claimed (told_to_all back)

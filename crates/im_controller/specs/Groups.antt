@@ -15,7 +15,7 @@ use Rattle.im_types.specs.Trace.{answer_to}
 use Rattle.im_groups.specs.Commands.{places, places_behind}
 use Rattle.im_engine.specs.State.{EngineState}
 use Rattle.im_engine.specs.Commands.{CommandsAnswered, each_refused}
-use Rattle.im_trace.specs.Lines.{Counts, leaves_line, lines_of, memory_after, counts_after}
+use Rattle.im_trace.specs.Lines.{LineCounts, leaves_line, left_lines, memory_after, counts_after}
 use Rattle.im_trace.specs.Log.{ReceiptState, LogState, plain, IsOf, with_unclaimed}
 use Rattle.im_controller.specs.State.{SharedState}
 use Rattle.im_controller.specs.Lends.{is_taken, changes_put}
@@ -23,10 +23,10 @@ use Rattle.im_controller.specs.Lends.{is_taken, changes_put}
 -- ---- what the members are answered
 
 -- what a member was answered
-abbrev pub answer_in : Served → Result Outcome Refusal
-answer_in (Done outcome) = Ok outcome
-answer_in (Refused refusal) = Err refusal
-answer_in Unserved = Err NoMemory
+abbrev pub served_answer : Served → Result Outcome Refusal
+served_answer (Done outcome) = Ok outcome
+served_answer (Refused refusal) = Err refusal
+served_answer Unserved = Err NoMemory
 
 -- the log with the answers to these commands, one after another
 abbrev pub with_all_unclaimed : LogState → List Command → List (Result Outcome Refusal) → LogState
@@ -122,7 +122,7 @@ pub record LendsGroup {D : Type 0} (s : SharedState D) (members : List Command) 
       → (lent ≡ each_refused TraceFull (those roomy members)) × (s'.engine ≡ s.engine)
   pub dead : s.engine.failed ≡ true → CommandsAnswered s.engine (those roomy members) lent s'.engine
   pub served : length s.log.trace < s.log.limit → CommandsAnswered s.engine (those roomy members) lent s'.engine
-  pub log : s'.log ≡ with_all_unclaimed s.log members (map answer_in answers)
+  pub log : s'.log ≡ with_all_unclaimed s.log members (map served_answer answers)
   pub servers : s'.servers ≡ s.servers
   -- all that the group changed is shown then, or nothing if the engine has failed
   pub shown : s'.engine.failed ≡ false
@@ -132,6 +132,8 @@ pub record LendsGroup {D : Type 0} (s : SharedState D) (members : List Command) 
 
 -- what a port gets while it holds the lock once: nothing yet, or the answer to its command, and then the line is
 -- counted
-abbrev pub Holds : (Line → Bool) → Counts → Command → Option (Result ReceiptState Refusal) → Counts → Type 0
-Holds marks t c None t' = t' ≡ t
-Holds marks t c (Some answer) t' = (t' ≡ counts_after marks t (lines_of (Commands c) (plain answer))) × IsOf c answer
+abbrev pub CountsAnswer : (Line → Bool) → LineCounts → Command → Option (Result ReceiptState Refusal) → LineCounts
+    → Type 0
+CountsAnswer marks t c None t' = t' ≡ t
+CountsAnswer marks t c (Some answer) t' =
+    (t' ≡ counts_after marks t (left_lines (Commands c) (plain answer))) × IsOf c answer

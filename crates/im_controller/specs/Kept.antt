@@ -20,8 +20,8 @@ use Rattle.im_controller.specs.Planned.{AreOnPlan}
 use Rattle.im_controller.specs.State.{OpeningState}
 
 -- an engine when its trace begins, given what is known of its disk
-abbrev pub begun_in : {D : Type 0} → (D → Moment) → (D → List Moment) → (D → ℕ) → EngineState D → Begun
-begun_in now past failures e =
+abbrev pub begun_by : {D : Type 0} → (D → Moment) → (D → List Moment) → (D → ℕ) → EngineState D → Begun
+begun_by now past failures e =
     record { now = now e.disk; past = past e.disk; failures = failures e.disk; count = e.count; failed = e.failed }
 
 -- A controller that is made of this opening begins there. Its disk is honest then only if what the origin has of that
@@ -33,7 +33,7 @@ pub record IsOriginOf {D : Type 0} (disk : Ghosts D) (opening : OpeningState D) 
   pub marked : opening.marked_name ≡ origin.marked_name
   pub ports : opening.ports ≡ origin.ports
   pub book : opening.book ≡ origin.book
-  pub begun : begun_in disk.now disk.past disk.failures opening.engine ≡ origin.begun
+  pub begun : begun_by disk.now disk.past disk.failures opening.engine ≡ origin.begun
   pub honest : disk.honest opening.engine.disk → origin.honest
 
 -- where a controller begins that is made of this opening, if these lines are marked
@@ -46,7 +46,7 @@ origin_of disk marks opening = record {
   marked_name = opening.marked_name;
   ports = opening.ports;
   book = opening.book;
-  begun = begun_in disk.now disk.past disk.failures opening.engine;
+  begun = begun_by disk.now disk.past disk.failures opening.engine;
   honest = disk.honest opening.engine.disk;
 }
 
@@ -63,8 +63,8 @@ abbrev pub MeansSome : Contents → ℕ → List Command → List ℕ → Type 0
 MeansSome m count commands file = (many : ℕ) × (many ≤ length commands) × MeansThrough m count commands many file
 
 -- the file means the memory after all these commands
-abbrev pub MeansAll : Contents → ℕ → List Command → List ℕ → Type 0
-MeansAll m count commands file = MeansThrough m count commands (length commands) file
+abbrev pub MeansEach : Contents → ℕ → List Command → List ℕ → Type 0
+MeansEach m count commands file = MeansThrough m count commands (length commands) file
 
 -- Since the trace began these commands were acknowledged. If a call of the disk has failed, others are in doubt. A
 -- crash leaves the memory after a prefix of all of them. Now it has all acknowledged commands, and those in doubt all
@@ -79,7 +79,7 @@ pub record HasKept {D : Type 0} (now : D → Moment) (past : D → List Moment) 
   pub count : engine.failed ≡ false → engine.count ≡ b.count + length told
   pub leaves : Leaves b.now (now engine.disk) b.past (past engine.disk) (MeansSome m b.count (told ++ doubt))
   pub last : LeavesNow (now engine.disk)
-      (λ file. MeansAll m b.count told file ⊎ MeansAll m b.count (told ++ doubt) file)
+      (λ file. MeansEach m b.count told file ⊎ MeansEach m b.count (told ++ doubt) file)
   -- the count of failures rose if the engine has failed, and stayed if it hasn't
   pub rose : engine.failed ≡ true → Rises b.failures (failures engine.disk)
   pub stayed : engine.failed ≡ false → failures engine.disk ≡ b.failures

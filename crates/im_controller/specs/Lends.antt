@@ -22,18 +22,18 @@ use Rattle.im_checkpoint.specs.declared.checkpoint.TurnDone.TheVariants.{Idle}
 use Rattle.im_engine.specs.Run.{Answered, TurnAnswered}
 use Rattle.im_queue.specs.declared.servers.Ask.{Ask}
 use Rattle.im_queue.specs.declared.servers.Ask.TheVariants.{Go, Wait}
-use Rattle.im_queue.specs.declared.servers.Server.{Server}
-use Rattle.im_queue.specs.declared.servers.Server.TheVariants.{Unmade, Active, Waits}
+use Rattle.im_queue.specs.declared.servers.ServerState.{ServerState}
+use Rattle.im_queue.specs.declared.servers.ServerState.TheVariants.{Unmade, Active, Waits}
 use Rattle.im_controller.specs.declared.tellers.Standing.{Standing}
 use Rattle.im_trace.specs.Origin.{Origin}
-use Rattle.im_trace.specs.Lines.{Counts, lines_of, counts_after}
+use Rattle.im_trace.specs.Lines.{LineCounts, left_lines, counts_after}
 use Rattle.im_trace.specs.Log.{ReceiptState, plain, receipt_for, with_line}
-use Rattle.im_queue.specs.Servers.{entry_at, is_answered, is_waiting, are_stuck, with_server}
+use Rattle.im_queue.specs.Servers.{entry_under, is_answered, is_waiting_server, are_stuck, with_server}
 use Rattle.im_controller.specs.Planned.{has_command}
 use Rattle.im_controller.specs.State.{SharedState, PortState}
 
 -- a call's line, if it leaves one, is in the log; the servers stay
-pub record Leaves {D : Type 0} (s : SharedState D) (call : Call) (answer : Result Outcome Refusal)
+pub record LeavesLine {D : Type 0} (s : SharedState D) (call : Call) (answer : Result Outcome Refusal)
     (s' : SharedState D) : Type 0 where
   pub log : s'.log ≡ with_line s.log call answer
   pub servers : s'.servers ≡ s.servers
@@ -60,8 +60,9 @@ pub record IsRoomless {D : Type 0} (s : SharedState D) (command : Command) (answ
 
 -- A command that is lent to the engine, with its answer. It is refused first if the engine has failed, and then if the
 -- trace is full.
-pub record Lends {D : Type 0} (disk : Ghosts D) (origin : Origin) (s : SharedState D) (t : Counts) (command : Command)
-    (answer : Result ReceiptState Refusal) (s' : SharedState D) (t' : Counts) : Type 0 where
+pub record Lends {D : Type 0} (disk : Ghosts D) (origin : Origin) (s : SharedState D) (t : LineCounts)
+    (command : Command)
+    (answer : Result ReceiptState Refusal) (s' : SharedState D) (t' : LineCounts) : Type 0 where
   pub dead : s.engine.failed ≡ true → (answer ≡ Err Failed) × (s' ≡ s)
   pub full : s.engine.failed ≡ false → s.log.limit ≤ length s.log.trace → (answer ≡ Err TraceFull) × (s' ≡ s)
   -- then if there is a plan that doesn't have its operation under its number
@@ -70,10 +71,10 @@ pub record Lends {D : Type 0} (disk : Ghosts D) (origin : Origin) (s : SharedSta
   -- Else the engine answers it, and its line is left if the answer is an outcome or a refusal of numbers. Or the pane
   -- has no room for its change.
   pub served : s.engine.failed ≡ false → length s.log.trace < s.log.limit → has_command origin.plan command ≡ true →
-      (Answered s.engine command (plain answer) s'.engine × Leaves s (Commands command) (plain answer) s')
+      (Answered s.engine command (plain answer) s'.engine × LeavesLine s (Commands command) (plain answer) s')
       ⊎ IsRoomless s command answer s'
   -- its port has counted the line, if there is one; an outcome has the trace that ends in the line
-  pub tally : t' ≡ counts_after origin.marks t (lines_of (Commands command) (plain answer))
+  pub tally : t' ≡ counts_after origin.marks t (left_lines (Commands command) (plain answer))
   -- The change of an accepted command is shown if it has an outcome. The outcome has what is shown then, and the time:
   -- how many moments the disk had had.
   pub shown : s'.shown ≡ s.shown ++ shows s.engine.memory command (plain answer)
@@ -81,14 +82,14 @@ pub record Lends {D : Type 0} (disk : Ghosts D) (origin : Origin) (s : SharedSta
       ≡ receipt_for s'.log.trace (length (disk.past s'.engine.disk)) s'.shown command (plain answer)
 
 -- A collect, with the refusals in the same order. The engine stays, and the line is left.
-pub record Looks {D : Type 0} (marks : Line → Bool) (s : SharedState D) (t : Counts) (element number : ℕ)
-    (answer : Result Entry Refusal) (s' : SharedState D) (t' : Counts) : Type 0 where
+pub record Looks {D : Type 0} (marks : Line → Bool) (s : SharedState D) (t : LineCounts) (element number : ℕ)
+    (answer : Result Entry Refusal) (s' : SharedState D) (t' : LineCounts) : Type 0 where
   pub dead : s.engine.failed ≡ true → (answer ≡ Err Failed) × (s' ≡ s)
   pub full : s.engine.failed ≡ false → s.log.limit ≤ length s.log.trace → (answer ≡ Err TraceFull) × (s' ≡ s)
   pub found : s.engine.failed ≡ false → length s.log.trace < s.log.limit →
-      (answer ≡ entry_at s.engine.memory element number) × Leaves s (Collect element number) (told answer) s'
+      (answer ≡ entry_under s.engine.memory element number) × LeavesLine s (Collect element number) (told answer) s'
       × (s'.engine ≡ s.engine)
-  pub tally : t' ≡ counts_after marks t (lines_of (Collect element number) (told answer))
+  pub tally : t' ≡ counts_after marks t (left_lines (Collect element number) (told answer))
   pub shown : s'.shown ≡ s.shown
 
 -- a turn of a checkpoint, as its lender is told; it is `JournalFull` if there is nothing to do although the journal is
@@ -113,10 +114,10 @@ pub record LendsTurn {D : Type 0} (s : SharedState D) (answer : Result TurnDone 
 
 -- how things stand: how many servers wait for an entry, and how many more commands the journal has room for
 abbrev pub standing_in : {D : Type 0} → SharedState D → Standing
-standing_in s = record { waits = count_by is_waiting s.servers; room = s.engine.room }
+standing_in s = record { waits = count_by is_waiting_server s.servers; room = s.engine.room }
 
 -- what lies under the lock after an element's server, if it is active or waits, does something else
-abbrev pub with_server_at : {D : Type 0} → SharedState D → ℕ → Server → SharedState D
+abbrev pub with_server_at : {D : Type 0} → SharedState D → ℕ → ServerState → SharedState D
 with_server_at s element server =
     record { engine = s.engine; log = s.log; servers = with_server s.servers element server; shown = s.shown }
 
@@ -135,14 +136,14 @@ pub record MakesPort {D : Type 0} (s : SharedState D) (element : ℕ) (answer : 
 pub record BeginsWait {D : Type 0} (s : SharedState D) (element number : ℕ) (answer : Result Ask Refusal)
     (s' : SharedState D) : Type 0 where
   pub dead : s.engine.failed ≡ true → (answer ≡ Err Failed) × (s' ≡ with_server_at s element Active)
-  pub refused : (refusal : Refusal) → s.engine.failed ≡ false → entry_at s.engine.memory element number ≡ Err refusal
+  pub refused : (refusal : Refusal) → s.engine.failed ≡ false → entry_under s.engine.memory element number ≡ Err refusal
       → (answer ≡ Err refusal) × (s' ≡ with_server_at s element Active)
-  pub ready : s.engine.failed ≡ false → is_answered (entry_at s.engine.memory element number) ≡ true
+  pub ready : s.engine.failed ≡ false → is_answered (entry_under s.engine.memory element number) ≡ true
       → (answer ≡ Ok Go) × (s' ≡ with_server_at s element Active)
   -- each active server waits, the caller's included, and none of their entries is answered
-  pub stalled : s.engine.failed ≡ false → entry_at s.engine.memory element number ≡ Ok Waiting
+  pub stalled : s.engine.failed ≡ false → entry_under s.engine.memory element number ≡ Ok Waiting
       → are_stuck s.engine.memory element 0 s.servers ≡ true
       → (answer ≡ Err Stalled) × (s' ≡ with_server_at s element Active)
-  pub waits : s.engine.failed ≡ false → entry_at s.engine.memory element number ≡ Ok Waiting
+  pub waits : s.engine.failed ≡ false → entry_under s.engine.memory element number ≡ Ok Waiting
       → are_stuck s.engine.memory element 0 s.servers ≡ false
       → (answer ≡ Ok Wait) × (s' ≡ with_server_at s element (Waits number))

@@ -4,16 +4,16 @@ use Rattle.im_types.specs.declared.commands.Request.{Request}
 use Rattle.im_types.specs.declared.commands.Line.{Line}
 use Rattle.im_types.specs.declared.changes.Change.{Change}
 use Rattle.im_engine.specs.State.{EngineState}
-use Rattle.im_queue.specs.declared.servers.Server.{Server}
+use Rattle.im_queue.specs.declared.servers.ServerState.{ServerState}
 use Rattle.im_trace.specs.Books.{BookNames}
-use Rattle.im_trace.specs.Lines.{Counts}
+use Rattle.im_trace.specs.Lines.{LineCounts}
 use Rattle.im_trace.specs.Log.{LogState}
 
 -- what lies under the lock: the engine, its log, what each element's server does, and the changes that are shown
 pub record SharedState (D : Type 0) : Type 0 where
   pub engine : EngineState D
   pub log : LogState
-  pub servers : List Server
+  pub servers : List ServerState
   pub shown : List Change
 
 -- an engine with room for a trace, before it has a name: how many ports there are, which ledgers count the lines and
@@ -38,7 +38,7 @@ is_recorded (Some room) = true
 is_recorded None = false
 
 -- an engine with room for a trace of so many lines, or for one that isn't recorded, and with a plan or without
-pub record Begins {D : Type 0} (room : Option ℕ) (plan : Option (List Request)) (e : EngineState D)
+pub record OpensAs {D : Type 0} (room : Option ℕ) (plan : Option (List Request)) (e : EngineState D)
     (o : OpeningState D) : Type 0 where
   pub engine : o.engine ≡ e
   pub limit : o.limit ≡ most_lines room
@@ -48,5 +48,5 @@ pub record Begins {D : Type 0} (room : Option ℕ) (plan : Option (List Request)
 -- a port: its element, how many lines it was told, and how much of the trace it has seen
 pub record PortState : Type 0 where
   pub element : ℕ
-  pub told : Counts
+  pub told : LineCounts
   pub history : List Line

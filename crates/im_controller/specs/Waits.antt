@@ -8,15 +8,15 @@ use Rattle.im_types.specs.declared.commands.Line.{Line}
 use Rattle.im_types.specs.declared.refusals.Refusal.{Refusal}
 use Rattle.im_types.specs.declared.refusals.Refusal.TheVariants.{Failed, TraceFull, Stalled}
 use Rattle.im_types.specs.Trace.{told}
-use Rattle.im_trace.specs.Lines.{Counts, GoesOnTo, lines_of, counts_after}
+use Rattle.im_trace.specs.Lines.{LineCounts, GoesOnTo, left_lines, counts_after}
 use Rattle.im_trace.specs.Log.{FoundState}
-use Rattle.im_queue.specs.Servers.{entry_at, is_answered, are_stuck}
+use Rattle.im_queue.specs.Servers.{entry_under, is_answered, are_stuck}
 use Rattle.im_controller.specs.State.{SharedState}
 
 -- what was found, without the trace
-abbrev pub entry_of : Result FoundState Refusal → Result Entry Refusal
-entry_of (Ok found) = Ok found.entry
-entry_of (Err refusal) = Err refusal
+abbrev pub found_entry : Result FoundState Refusal → Result Entry Refusal
+found_entry (Ok found) = Ok found.entry
+found_entry (Err refusal) = Err refusal
 
 -- what was found is of this element and number
 abbrev pub IsFoundOf : ℕ → ℕ → Result FoundState Refusal → Type 0
@@ -34,36 +34,36 @@ IsAwaited (Ok found) = is_answered (Ok found.entry) ≡ true
 IsAwaited (Err refusal) = Unit {0}
 
 -- a port that awaits an answer holds the lock once: it is told nothing yet, or the answer, and then the line is counted
-abbrev pub Awaits : (Line → Bool) → Counts → ℕ → ℕ → Option (Result FoundState Refusal) → Counts → Type 0
+abbrev pub Awaits : (Line → Bool) → LineCounts → ℕ → ℕ → Option (Result FoundState Refusal) → LineCounts → Type 0
 Awaits marks t element number None t' = t' ≡ t
 Awaits marks t element number (Some answer) t' =
-    (t' ≡ counts_after marks t (lines_of (Collect element number) (told (entry_of answer))))
+    (t' ≡ counts_after marks t (left_lines (Collect element number) (told (found_entry answer))))
     × IsFoundOf element number answer × IsAwaited answer
 
 -- the same, without the trace
 abbrev pub entry_told : Option (Result FoundState Refusal) → Option (Result Entry Refusal)
 entry_told None = None
-entry_told (Some answer) = Some (entry_of answer)
+entry_told (Some answer) = Some (found_entry answer)
 
 -- why it is told that, given what lay under the lock before
-pub record IsTold {D : Type 0} (s : SharedState D) (element number : ℕ)
+pub record TellsWhy {D : Type 0} (s : SharedState D) (element number : ℕ)
     (answer : Option (Result FoundState Refusal)) : Type 0 where
   pub dead : s.engine.failed ≡ true → answer ≡ Some (Err Failed)
-  pub stalled : s.engine.failed ≡ false → entry_at s.engine.memory element number ≡ Ok Waiting
+  pub stalled : s.engine.failed ≡ false → entry_under s.engine.memory element number ≡ Ok Waiting
       → are_stuck s.engine.memory element 0 s.servers ≡ true → answer ≡ Some (Err Stalled)
-  pub waits : s.engine.failed ≡ false → entry_at s.engine.memory element number ≡ Ok Waiting
+  pub waits : s.engine.failed ≡ false → entry_under s.engine.memory element number ≡ Ok Waiting
       → are_stuck s.engine.memory element 0 s.servers ≡ false → answer ≡ None
   -- else the entry is answered or there is none; that is told, with its line
-  pub full : s.engine.failed ≡ false → entry_at s.engine.memory element number ≢ Ok Waiting
+  pub full : s.engine.failed ≡ false → entry_under s.engine.memory element number ≢ Ok Waiting
       → s.log.limit ≤ length s.log.trace → answer ≡ Some (Err TraceFull)
-  pub found : s.engine.failed ≡ false → entry_at s.engine.memory element number ≢ Ok Waiting
-      → length s.log.trace < s.log.limit → entry_told answer ≡ Some (entry_at s.engine.memory element number)
+  pub found : s.engine.failed ≡ false → entry_under s.engine.memory element number ≢ Ok Waiting
+      → length s.log.trace < s.log.limit → entry_told answer ≡ Some (entry_under s.engine.memory element number)
 
 -- What a port has seen of the trace, once it was told what is kept under a number: the collect's line, if it left one,
 -- stands after all that the port saw before, and what was found has the same trace.
 abbrev pub SeesEntry : List Line → ℕ → ℕ → Result FoundState Refusal → List Line → Type 0
 SeesEntry seen element number answer seen' =
-    GoesOnTo seen (lines_of (Collect element number) (told (entry_of answer))) seen' × IsFoundAt seen' answer
+    GoesOnTo seen (left_lines (Collect element number) (told (found_entry answer))) seen' × IsFoundAt seen' answer
 
 -- the same, while it awaits an answer: it sees no more as long as it is told nothing
 abbrev pub SeesFound : List Line → ℕ → ℕ → Option (Result FoundState Refusal) → List Line → Type 0

@@ -5,14 +5,14 @@ ghost use mathlib.Core.List.{IsPrefix};
 ghost use Rattle.im_types.specs.Trace.{IsLegal};
 ghost use Rattle.im_types.specs.Changes.{opening};
 ghost use Rattle.im_types.specs.declared.commands.Call.TheVariants.{Command as Commands};
-ghost use Rattle.im_trace.specs.Lines.{EndsIn, line_of, lines_of, counts_after};
+ghost use Rattle.im_trace.specs.Lines.{EndsIn, line_of, left_lines, counts_after};
 ghost use Rattle.im_trace.specs.Log.{SeesAnswer, SeesReceipt, plain};
-ghost use Rattle.im_controller.specs.Groups.{Holds};
+ghost use Rattle.im_controller.specs.Groups.{CountsAnswer};
 ghost use Rattle.im_controller.specs.Planned.{TellsOf};
 ghost use Rattle.im_controller.specs.Lends.{IsTurnFault};
 
 use crate::groups::hold;
-use crate::keeper::{Kept, keep_once, mark_ended};
+use crate::keeper::{KeeperStep, keep_once, mark_ended};
 use crate::ports::Port;
 use crate::shared::Shared;
 use crate::sleepers::{Sleepers, make_glance, make_port, stands_for, who_is_answered, who_sleeps};
@@ -135,7 +135,7 @@ impl<D: Disk, K: Name> Controller<D, K> {
             // Read before the lock is let go: whoever changes something after this rings later.
             let seen = self.work.read(rt);
             let _lock = MutexGuard::unlock(guard);
-            if matches!(kept, Ok(Kept::Pressed)) {
+            if matches!(kept, Ok(KeeperStep::Pressed)) {
                 continue;
             }
             self.turns.pass_on(rt, turn, &[]);
@@ -143,9 +143,9 @@ impl<D: Disk, K: Name> Controller<D, K> {
                 teller.tell(standing);
             }
             match kept {
-                Ok(Kept::Ended) => return Ok(()),
-                Ok(Kept::Worked) | Ok(Kept::Pressed) => {}
-                Ok(Kept::Idle) => self.work.wait_past(rt, seen),
+                Ok(KeeperStep::Ended) => return Ok(()),
+                Ok(KeeperStep::Worked) | Ok(KeeperStep::Pressed) => {}
+                Ok(KeeperStep::Idle) => self.work.wait_past(rt, seen),
                 Err(refusal) => {
                     self.answers.ring_all(rt);
                     return Err(refusal);
@@ -177,7 +177,7 @@ impl<D: Disk, K: Name> Controller<D, K> {
         ensures legal { IfOk result (λ r. IsLegal K.origin.memory r.history) }
         ensures last { IfOk result (λ r. EndsIn r.history (line_of (Commands r.command) (plain result))) }
         ensures counts { port.new.told
-            ≡ counts_after K.origin.marks port.old.told (lines_of (Commands command.now) (plain result)) }
+            ≡ counts_after K.origin.marks port.old.told (left_lines (Commands command.now) (plain result)) }
         ensures order { SeesReceipt port.old.history command.now result port.new.history }
         ensures element { port.new.element ≡ port.old.element }
     {
@@ -198,7 +198,7 @@ impl<D: Disk, K: Name> Controller<D, K> {
         port: &mut Port<K>,
         command: &Command,
     ) -> Option<Result<Receipt<K>, Refusal>>
-        ensures holds { Holds K.origin.marks port.old.told command.now result port.new.told }
+        ensures holds { CountsAnswer K.origin.marks port.old.told command.now result port.new.told }
         ensures planned { IfSome result (TellsOf K.origin.memory K.origin.plan) }
         ensures order { SeesAnswer port.old.history command.now result port.new.history }
         ensures element { port.new.element ≡ port.old.element }

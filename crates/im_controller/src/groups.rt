@@ -2,7 +2,7 @@
 ghost use Rattle.std.specs.Prelude.{◌≡◌, ◌<◌, ◌≤◌, ◌+◌, [], false, length, IfSome};
 ghost use Rattle.im_engine.specs.Commands.{CommandsAnswered, ServesCommands};
 ghost use Rattle.im_queue.specs.Members.{AreOneOfEach, AreFreeFor, AreSureBehind, IsCut};
-ghost use Rattle.im_controller.specs.Groups.{MembersAnswered, LendsGroup, Holds, those};
+ghost use Rattle.im_controller.specs.Groups.{MembersAnswered, LendsGroup, CountsAnswer, those};
 ghost use Rattle.im_controller.specs.Runs.{LendsRuns};
 ghost use Rattle.im_trace.specs.Log.{SeesAnswer};
 ghost use Rattle.im_controller.specs.Planned.{AreOnPlan, TellsOf};
@@ -175,7 +175,7 @@ fn claim<D: Disk, K: Name>(
     port: &mut Port<K>,
     command: &Command,
 ) -> Option<Result<Receipt<K>, Refusal>>
-    ensures holds { Holds K.origin.marks port.old.told command.now result port.new.told }
+    ensures holds { CountsAnswer K.origin.marks port.old.told command.now result port.new.told }
     ensures planned { IfSome result (TellsOf K.origin.memory K.origin.plan) }
     ensures order { SeesAnswer port.old.history command.now result port.new.history }
     ensures element { port.new.element ≡ port.old.element }
@@ -195,7 +195,7 @@ pub(crate) fn hold<D: Disk, K: Name, R: Wait>(
     port: &mut Port<K>,
     command: &Command,
 ) -> Option<Result<Receipt<K>, Refusal>>
-    ensures holds { Holds K.origin.marks port.old.told command.now result port.new.told }
+    ensures holds { CountsAnswer K.origin.marks port.old.told command.now result port.new.told }
     ensures planned { IfSome result (TellsOf K.origin.memory K.origin.plan) }
     ensures order { SeesAnswer port.old.history command.now result port.new.history }
     ensures element { port.new.element ≡ port.old.element }

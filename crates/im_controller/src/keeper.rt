@@ -29,7 +29,7 @@ pub(crate) enum Keeper {
 
 // What the checkpointing thread did while it held the lock once.
 #[derive(Clone, Copy)]
-pub(crate) enum Kept {
+pub(crate) enum KeeperStep {
     Ended,
     Worked,
     Pressed, // It worked, and the journal is still short of room.
@@ -88,20 +88,20 @@ fn is_turn_made<D: Disk, K: Name>(shared: &mut Shared<D, K>) -> bool {
 }
 
 // Makes one turn for the checkpointing thread while it holds the lock once, unless the controller has ended.
-pub(crate) fn keep_once<D: Disk, K: Name>(shared: &mut Shared<D, K>) -> Result<Kept, Refusal>
+pub(crate) fn keep_once<D: Disk, K: Name>(shared: &mut Shared<D, K>) -> Result<KeeperStep, Refusal>
     ensures { IfErr result IsTurnFault }
 {
     if matches!(shared.keeper, Keeper::Ended) {
-        return Ok(Kept::Ended);
+        return Ok(KeeperStep::Ended);
     }
     shared.keeper = Keeper::Works;
     match lend_turn(shared) {
         Ok(TurnDone::Idle) => Ok(fall_asleep(shared)),
         Ok(_) => {
             if is_pressed(shared, 0) {
-                return Ok(Kept::Pressed);
+                return Ok(KeeperStep::Pressed);
             }
-            Ok(Kept::Worked)
+            Ok(KeeperStep::Worked)
         }
         Err(refusal) => {
             if refusal == Refusal::JournalFull {
@@ -113,9 +113,9 @@ pub(crate) fn keep_once<D: Disk, K: Name>(shared: &mut Shared<D, K>) -> Result<K
 }
 
 // Puts the checkpointing thread to sleep. Whoever lends next wakes it.
-fn fall_asleep<D: Disk, K: Name>(shared: &mut Shared<D, K>) -> Kept {
+fn fall_asleep<D: Disk, K: Name>(shared: &mut Shared<D, K>) -> KeeperStep {
     shared.keeper = Keeper::Sleeps;
-    Kept::Idle
+    KeeperStep::Idle
 }
 
 // Ends the loops that keep checkpoints.

@@ -25,9 +25,9 @@ mod tellers; // Who is told how things stand.
 
 pub use controller::Controller;
 pub use finishing::{Finished, finish};
-pub use im_queue::{Ask, Server, stuck_is_each};
+pub use im_queue::{Ask, ServerState, stuck_is_each};
 pub use im_trace::{
-    Found, Lines, Marked, Name, Prefix, Receipt, Recording, Shown, Since, Tally, Traced, When,
+    Found, LineLedger, Marked, Name, Prefix, Receipt, Recording, Shown, Since, Tally, Traced, When,
 };
 pub use looks::{begin_wait, look};
 pub use opening::Opening;

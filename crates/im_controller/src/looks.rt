@@ -7,11 +7,11 @@ ghost use Rattle.im_types.specs.declared.commands.Outcome.TheVariants.{Entry as 
 ghost use Rattle.im_trace.specs.Lines.{EndsIn, line_of};
 ghost use Rattle.im_controller.specs.Lends.{Looks, BeginsWait};
 ghost use Rattle.im_controller.specs.Planned.{TellsFound};
-ghost use Rattle.im_controller.specs.Waits.{Awaits, SeesEntry, SeesFound, IsTold, IsFoundAt, IsFoundOf, entry_of};
+ghost use Rattle.im_controller.specs.Waits.{Awaits, SeesEntry, SeesFound, TellsWhy, IsFoundAt, IsFoundOf, found_entry};
 
 use crate::shared::Shared;
 use im_disk::Disk;
-use im_queue::{Ask, Server};
+use im_queue::{Ask, ServerState};
 use im_trace::{Found, Name, Prefix, Tally};
 use im_types::{Call, Entry, Outcome, Refusal};
 
@@ -85,24 +85,24 @@ pub fn begin_wait<D: Disk, K: Name>(
     ensures begins { BeginsWait shared.old element number result shared.new }
 {
     if shared.engine.failed() {
-        shared.servers.change(element, Server::Active);
+        shared.servers.change(element, ServerState::Active);
         return Err(Refusal::Failed);
     }
     match shared.engine.memory().collect(element, number) {
         Ok(Entry::Answered(_)) => {
-            shared.servers.change(element, Server::Active);
+            shared.servers.change(element, ServerState::Active);
             Ok(Ask::Go)
         }
         Ok(Entry::Waiting) => {
             if shared.servers.are_stuck(shared.engine.memory(), element) {
-                shared.servers.change(element, Server::Active);
+                shared.servers.change(element, ServerState::Active);
                 return Err(Refusal::Stalled);
             }
-            shared.servers.change(element, Server::Waits(number));
+            shared.servers.change(element, ServerState::Waits(number));
             Ok(Ask::Wait)
         }
         Err(refusal) => {
-            shared.servers.change(element, Server::Active);
+            shared.servers.change(element, ServerState::Active);
             Err(refusal)
         }
     }
@@ -115,7 +115,7 @@ pub(crate) fn find<D: Disk, K: Name>(
     element: u16,
     number: u64,
 ) -> Result<Found<K>, Refusal>
-    ensures looks { Looks K.origin.marks shared.old tally.old element number (entry_of result) shared.new tally.new }
+    ensures looks { Looks K.origin.marks shared.old tally.old element number (found_entry result) shared.new tally.new }
     ensures found { IsFoundOf element number result }
     ensures planned { TellsFound K.origin.memory K.origin.plan result }
     ensures own { IsFoundAt shared.new.log.trace result }
@@ -134,7 +134,7 @@ pub(crate) fn find_seen<D: Disk, K: Name>(
     element: u16,
     number: u64,
 ) -> Result<Found<K>, Refusal>
-    ensures looks { Looks K.origin.marks shared.old tally.old element number (entry_of result) shared.new tally.new }
+    ensures looks { Looks K.origin.marks shared.old tally.old element number (found_entry result) shared.new tally.new }
     ensures found { IsFoundOf element number result }
     ensures planned { TellsFound K.origin.memory K.origin.plan result }
     ensures order { SeesEntry seen.old element number result seen.new }
@@ -154,7 +154,7 @@ pub(crate) fn ask_once<D: Disk, K: Name>(
     number: u64,
 ) -> Option<Result<Found<K>, Refusal>>
     ensures awaits { Awaits K.origin.marks tally.old element number result tally.new }
-    ensures told { IsTold shared.old element number result }
+    ensures told { TellsWhy shared.old element number result }
     ensures planned { IfSome result (TellsFound K.origin.memory K.origin.plan) }
     ensures order { SeesFound seen.old element number result seen.new }
 {

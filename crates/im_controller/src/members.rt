@@ -4,7 +4,8 @@ ghost use Rattle.im_types.specs.Trace.{end_of};
 ghost use Rattle.im_engine.specs.Commands.{each_refused};
 ghost use Rattle.im_queue.specs.Members.{AreOneOfEach, AreFreeFor};
 ghost use Rattle.im_trace.specs.Log.{GoesOnAt};
-ghost use Rattle.im_controller.specs.Groups.{answer_in, with_all_unclaimed, AreAnswersTo, memory_after_all, lines_left};
+ghost use Rattle.im_controller.specs.Groups.{served_answer, with_all_unclaimed, AreAnswersTo, memory_after_all};
+ghost use Rattle.im_controller.specs.Groups.{lines_left};
 ghost use Rattle.im_controller.specs.Groups.{spread, next_answer, answers_left};
 
 use arrayvec::ArrayVec;
@@ -14,7 +15,7 @@ use im_types::{Command, Outcome, Refusal, Served};
 
 // Returns what a member was answered.
 fn answer_in(served: Served) -> Result<Outcome, Refusal>
-    ensures { result ≡ answer_in served }
+    ensures { result ≡ served_answer served }
 {
     match served {
         Served::Done(outcome) => Ok(outcome),
@@ -33,14 +34,15 @@ pub(crate) fn keep_all<D: Disk, K: Name>(
     disk: &D,
 )
     requires whole { length served.now ≡ length members.now }
-    requires are_so { AreAnswersTo (end_of K.origin.memory log.old.state.trace) members.now (map answer_in served.now) }
+    requires are_so { AreAnswersTo (end_of K.origin.memory log.old.state.trace) members.now
+        (map served_answer served.now) }
     requires apart { AreOneOfEach members.now }
     requires free { AreFreeFor log.old.state.places members.now }
-    requires room { length log.old.state.trace + lines_left (map answer_in served.now) ≤ log.old.state.limit }
-    ensures log { log.new.state ≡ with_all_unclaimed log.old.state members.now (map answer_in served.now) }
+    requires room { length log.old.state.trace + lines_left (map served_answer served.now) ≤ log.old.state.limit }
+    ensures log { log.new.state ≡ with_all_unclaimed log.old.state members.now (map served_answer served.now) }
     ensures times { GoesOnAt (length (D.past disk.now)) log.old log.new }
     ensures end { end_of K.origin.memory log.new.state.trace
-        ≡ memory_after_all (end_of K.origin.memory log.old.state.trace) members.now (map answer_in served.now) }
+        ≡ memory_after_all (end_of K.origin.memory log.old.state.trace) members.now (map served_answer served.now) }
 {
     for i in 0..members.len() {
         log.keep(&members[i], answer_in(served[i]), begins && i == 0, disk);

@@ -5,7 +5,7 @@ ghost use Rattle.im_plans.specs.UnderWay.{PlanGoesOn};
 ghost use Rattle.im_types.specs.Changes.{opening};
 ghost use Rattle.im_controller.specs.Kept.{IsOriginOf};
 ghost use Rattle.im_controller.specs.Planned.{MayStart};
-ghost use Rattle.im_controller.specs.State.{Begins, is_recorded, most_lines};
+ghost use Rattle.im_controller.specs.State.{OpensAs, is_recorded, most_lines};
 ghost use Rattle.im_queue.specs.Servers.{is_unmade};
 
 use crate::controller::Controller;
@@ -29,7 +29,7 @@ use std::sync::Wait;
 /// controller that has no name yet.
 pub struct Opening<D: Disk> {
     engine: Engine<D>,
-    parts: Parts,
+    parts: OpeningParts,
     pane: Unnamed,
     plan: Option<Plan>,
 }
@@ -60,7 +60,7 @@ impl<D: Disk> Model for Opening<D> {
 
 // What takes memory.
 #[derive(Drop)]
-struct Parts {
+struct OpeningParts {
     log: NewLog,
     servers: Servers,
     inbox: Inbox,
@@ -82,12 +82,12 @@ fn new_log(alloc: Global, room: Option<usize>, elements: u16) -> Result<NewLog, 
 }
 
 // Makes room for the given numbers of lines and of elements.
-fn make_parts(alloc: Global, room: Option<usize>, elements: u16) -> Result<Parts, AllocError>
+fn make_parts(alloc: Global, room: Option<usize>, elements: u16) -> Result<OpeningParts, AllocError>
     ensures limit { IfOk result (λ p. (p.log.limit ≡ most_lines room) × (p.log.recorded ≡ is_recorded room)) }
     ensures ports { IfOk result (λ p. p.log.ports ≡ elements) }
     ensures unmade { IfOk result (λ p. p.log.ports ≡ count_by is_unmade p.servers) }
 {
-    Ok(Parts {
+    Ok(OpeningParts {
         log: new_log(alloc, room, elements)?,
         servers: Servers::new(alloc, elements)?,
         inbox: Inbox::new(alloc, elements)?,
@@ -127,7 +127,7 @@ pub(crate) fn begin<D: Disk + Drop, R: Wait>(
     engine: Engine<D>,
     room: Option<usize>,
 ) -> Result<Opening<D>, (Refusal, Engine<D>)>
-    ensures found { IfOk result (λ o. Begins room None engine o) }
+    ensures found { IfOk result (λ o. OpensAs room None engine o) }
     ensures ports { IfOk result (λ o. o.ports ≡ length engine.memory.windows) }
     ensures refused { IfErr result (λ e. (e.0 ≡ NoMemory) × (e.1 ≡ engine)) }
 {
@@ -147,13 +147,13 @@ pub(crate) fn begin<D: Disk + Drop, R: Wait>(
 
 // A plan, and whether a run before may have begun it.
 #[derive(Drop)]
-pub(crate) struct Asked {
+pub(crate) struct AskedPlan {
     pub(crate) plan: Plan,
     pub(crate) begun: bool,
 }
 
 // Returns whether a plan may be started under. It is under way then.
-fn may_start(asked: &Asked, memory: &Memory) -> bool
+fn may_start(asked: &AskedPlan, memory: &Memory) -> bool
     ensures starts { result ≡ true → PlanGoesOn memory.now.contents asked.now.plan }
     ensures exactly { IsTrue result ↔ MayStart asked.now.begun memory.now.contents asked.now.plan }
 {
@@ -171,10 +171,10 @@ pub(crate) fn begin_planned<D: Disk + Drop, R: Wait>(
     rt: &R,
     alloc: Global,
     engine: Engine<D>,
-    asked: Asked,
+    asked: AskedPlan,
     room: Option<usize>,
 ) -> Result<Opening<D>, (Refusal, Engine<D>)>
-    ensures found { IfOk result (λ o. Begins room (Some asked.plan) engine o) }
+    ensures found { IfOk result (λ o. OpensAs room (Some asked.plan) engine o) }
     ensures ports { IfOk result (λ o. o.ports ≡ length engine.memory.windows) }
     ensures starts { OnOk result (PlanGoesOn engine.memory asked.plan × MayStart asked.begun engine.memory asked.plan) }
     ensures bad { IfErr result (λ e. (e.0 ≡ BadPlan) ↔ (MayStart asked.begun engine.memory asked.plan → ⊥)) }
@@ -219,7 +219,7 @@ impl<D: Disk> Opening<D> {
             pane,
             plan,
         } = self;
-        let Parts {
+        let OpeningParts {
             log,
             servers,
             inbox,

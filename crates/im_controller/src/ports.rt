@@ -5,10 +5,10 @@ ghost use Rattle.im_types.specs.declared.commands.Command.TheVariants.{Request a
 ghost use Rattle.im_types.specs.declared.commands.Outcome.TheVariants.{Entry as Tells};
 ghost use Rattle.im_types.specs.declared.refusals.Refusal.TheVariants.{JournalFull};
 ghost use Rattle.im_types.specs.Trace.{IsLegal, told};
-ghost use Rattle.im_trace.specs.Lines.{EndsIn, line_of, lines_of, counts_after};
+ghost use Rattle.im_trace.specs.Lines.{EndsIn, line_of, left_lines, counts_after};
 ghost use Rattle.im_trace.specs.Log.{SeesReceipt, plain};
 ghost use Rattle.im_controller.specs.Lends.{IsTurnFault};
-ghost use Rattle.im_controller.specs.Waits.{entry_of, IsFoundOf, IsAwaited, SeesEntry};
+ghost use Rattle.im_controller.specs.Waits.{found_entry, IsFoundOf, IsAwaited, SeesEntry};
 ghost use Rattle.im_controller.specs.Planned.{TellsOf, TellsFound};
 
 use crate::controller::Controller;
@@ -74,7 +74,7 @@ impl<K: Name> Port<K> {
         ensures legal { IfOk result (λ r. IsLegal K.origin.memory r.history) }
         ensures last { IfOk result (λ r. EndsIn r.history (line_of (Commands r.command) (Ok r.outcome))) }
         ensures counts { self.new.told ≡ counts_after K.origin.marks self.old.told
-            (lines_of (Commands (Asks (record { element = self.old.element; number = number; op = op })))
+            (left_lines (Commands (Asks (record { element = self.old.element; number = number; op = op })))
             (plain result)) }
         ensures element { self.new.element ≡ self.old.element }
         // Its line stands after all that this port has seen: the port's calls have their lines in its own order.
@@ -102,7 +102,7 @@ impl<K: Name> Port<K> {
         ensures legal { IfOk result (λ r. IsLegal K.origin.memory r.history) }
         ensures last { IfOk result (λ r. EndsIn r.history (line_of (Commands r.command) (Ok r.outcome))) }
         ensures counts { self.new.told ≡ counts_after K.origin.marks self.old.told
-            (lines_of (Commands (Confirm self.old.element upto)) (plain result)) }
+            (left_lines (Commands (Confirm self.old.element upto)) (plain result)) }
         ensures element { self.new.element ≡ self.old.element }
         ensures order { SeesReceipt self.old.history (Confirm self.old.element upto) result self.new.history }
     {
@@ -124,7 +124,7 @@ impl<K: Name> Port<K> {
         ensures last { IfOk result (λ f. EndsIn f.history
             (line_of (Collect f.element f.number) (Ok (Tells f.entry)))) }
         ensures counts { self.new.told ≡ counts_after K.origin.marks self.old.told
-            (lines_of (Collect self.old.element number) (told (entry_of result))) }
+            (left_lines (Collect self.old.element number) (told (found_entry result))) }
         ensures element { self.new.element ≡ self.old.element }
         ensures order { SeesEntry self.old.history self.old.element number result self.new.history }
     {
@@ -162,7 +162,7 @@ impl<K: Name> Port<K> {
         ensures last { IfOk result (λ f. EndsIn f.history
             (line_of (Collect f.element f.number) (Ok (Tells f.entry)))) }
         ensures counts { self.new.told ≡ counts_after K.origin.marks self.old.told
-            (lines_of (Collect self.old.element number) (told (entry_of result))) }
+            (left_lines (Collect self.old.element number) (told (found_entry result))) }
         ensures element { self.new.element ≡ self.old.element }
         ensures order { SeesEntry self.old.history self.old.element number result self.new.history }
     {

@@ -12,7 +12,7 @@ use crate::tellers::Standing;
 use arrayvec::ArrayVec;
 use im_disk::Disk;
 use im_glass::Glance;
-use im_queue::Server;
+use im_queue::ServerState;
 use im_trace::{Name, Shown};
 use im_types::Refusal;
 
@@ -126,7 +126,7 @@ fn mark_watched(watched: &mut Vec<bool>, element: u16) -> bool {
 
 // Records that an element's server has ended: nobody waits for it any longer.
 pub(crate) fn retire<D: Disk, K: Name>(shared: &mut Shared<D, K>, element: u16)
-    ensures { shared.new ≡ with_server_at shared.old element Server.Retired }
+    ensures { shared.new ≡ with_server_at shared.old element ServerState.Retired }
 {
-    shared.servers.change(element, Server::Retired);
+    shared.servers.change(element, ServerState::Retired);
 }

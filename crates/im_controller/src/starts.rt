@@ -3,9 +3,9 @@ ghost use Rattle.std.specs.Prelude.{◌≡◌, ◌↔◌, ◌⊎◌, true, false
 ghost use Rattle.im_types.specs.declared.refusals.Refusal.TheVariants.{NoMemory, BadPlan};
 ghost use Rattle.im_types.specs.Plan.{FitsPlan};
 ghost use Rattle.im_plans.specs.UnderWay.{IsPlanUnderWay, PlanGoesOn};
-ghost use Rattle.im_controller.specs.State.{Begins};
+ghost use Rattle.im_controller.specs.State.{OpensAs};
 
-use crate::opening::{Asked, Opening, begin, begin_planned};
+use crate::opening::{AskedPlan, Opening, begin, begin_planned};
 use im_disk::Disk;
 use im_engine::Engine;
 use im_planning::Plan;
@@ -69,7 +69,7 @@ pub fn start_planned<D: Disk + Drop, R: Wait>(
         rt,
         alloc,
         engine,
-        Asked { plan, begun: false },
+        AskedPlan { plan, begun: false },
         Some(trace_room),
     )
 }
@@ -89,7 +89,7 @@ pub fn start_planned_unrecorded<D: Disk + Drop, R: Wait>(
     ensures bad { IfErr result (λ e. (e.0 ≡ BadPlan) ↔ (FitsPlan engine.memory plan → ⊥)) }
     ensures refused { IfErr result (λ e. ((e.0 ≡ NoMemory) ⊎ (e.0 ≡ BadPlan)) × (e.1 ≡ engine)) }
 {
-    let asked = Asked { plan, begun: false };
+    let asked = AskedPlan { plan, begun: false };
     begin_planned(rt, alloc, engine, asked, None)
 }
 
@@ -106,7 +106,7 @@ pub fn resume_planned<D: Disk + Drop, R: Wait>(
     plan: Plan,
     trace_room: usize,
 ) -> Result<Opening<D>, (Refusal, Engine<D>)>
-    ensures found { IfOk result (λ o. Begins (Some trace_room) (Some plan) engine o) }
+    ensures found { IfOk result (λ o. OpensAs (Some trace_room) (Some plan) engine o) }
     ensures ports { IfOk result (λ o. o.ports ≡ length engine.memory.windows) }
     ensures goes_on { OnOk result (PlanGoesOn engine.memory plan) }
     ensures bad { IfErr result (λ e. (e.0 ≡ BadPlan) ↔ (IsPlanUnderWay engine.memory plan → ⊥)) }
@@ -116,7 +116,7 @@ pub fn resume_planned<D: Disk + Drop, R: Wait>(
         rt,
         alloc,
         engine,
-        Asked { plan, begun: true },
+        AskedPlan { plan, begun: true },
         Some(trace_room),
     )
 }
@@ -128,10 +128,10 @@ pub fn resume_planned_unrecorded<D: Disk + Drop, R: Wait>(
     engine: Engine<D>,
     plan: Plan,
 ) -> Result<Opening<D>, (Refusal, Engine<D>)>
-    ensures found { IfOk result (λ o. Begins None (Some plan) engine o × (o.ports ≡ length engine.memory.windows)) }
+    ensures found { IfOk result (λ o. OpensAs None (Some plan) engine o × (o.ports ≡ length engine.memory.windows)) }
     ensures goes_on { OnOk result (PlanGoesOn engine.memory plan) }
     ensures bad { IfErr result (λ e. (e.0 ≡ BadPlan) ↔ (IsPlanUnderWay engine.memory plan → ⊥)) }
     ensures refused { IfErr result (λ e. ((e.0 ≡ NoMemory) ⊎ (e.0 ≡ BadPlan)) × (e.1 ≡ engine)) }
 {
-    begin_planned(rt, alloc, engine, Asked { plan, begun: true }, None)
+    begin_planned(rt, alloc, engine, AskedPlan { plan, begun: true }, None)
 }

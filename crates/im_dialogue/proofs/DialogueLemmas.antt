@@ -12,7 +12,7 @@ use Rattle.im_engine.specs.Run.{MeansBeginning}
 use Rattle.im_text.specs.Printing.{Begins, IsLast}
 use Rattle.im_text.proofs.PrintingLemmas.{take-all}
 use Rattle.im_dialogue.specs.Backups.{Backup}
-use Rattle.im_dialogue.specs.Hearing.{left_after}
+use Rattle.im_dialogue.specs.Hearing.{asked_after}
 use Rattle.im_dialogue.specs.Talk.{Outputs, outputs, put_of, questions_of, texts_of, Talking, TalksOn, TalkEnds}
 use Rattle.im_dialogue.specs.Talk.{with_left}
 use Rattle.im_dialogue.specs.Dialogue.{TalkClosed, Talked}
@@ -75,7 +75,7 @@ module _ {D : Type 0} (watch : Bool) (now : D → Moment) (past : D → List Mom
     pub closed_on : (start engine : EngineState D) (disk : D) (was is : Outputs) (input : Option (List ℕ)) (status : ℕ)
         → disk ≡ engine.disk → start.failed ≡ false
         → (honest start.disk → LeavesNow (now start.disk) (MeansState start))
-        → TalksOn watch now past honest start was engine (with_left (left_after 0 input) is) → honest disk
+        → TalksOn watch now past honest start was engine (with_left (asked_after 0 input) is) → honest disk
         → honest start.disk × TalkClosed watch now past start disk was is status
     closed_on start engine disk was is input status same works means on =
         subst (λ (d : D). honest d → honest start.disk × TalkClosed watch now past start d was is status) (sym same) (λ h.

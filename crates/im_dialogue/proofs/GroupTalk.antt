@@ -20,7 +20,7 @@ use Rattle.im_types.specs.Meaning.{Means}
 use Rattle.im_laws.proofs.RunLemmas.{after-append}
 use Rattle.im_laws.proofs.Tests.{true_or_false}
 use Rattle.im_groups.specs.Commands.{places, takes_place, answer_with, contents_with, places_behind, command_at}
-use Rattle.im_groups.specs.Commands.{contents_after, commands_at, left_after}
+use Rattle.im_groups.specs.Commands.{contents_after_all, commands_at, left_after}
 use Rattle.im_groups.proofs.CommandLemmas.{at-after, commands_behind, few_at}
 use Rattle.im_text.specs.Printing.{Begins}
 use Rattle.im_text.proofs.PrintingLemmas.{true_false}
@@ -28,7 +28,7 @@ use Rattle.im_disk.specs.Moment.{Moment}
 use Rattle.im_disk.specs.Since.{Leaves, LeavesNow}
 use Rattle.im_disk.proofs.SinceLemmas.{leaves_then}
 use Rattle.im_engine.specs.State.{EngineState, MeansState}
-use Rattle.im_engine.specs.Run.{HasRun, MeansAfter, MeansBeginning, put_by_command, is_put as puts}
+use Rattle.im_engine.specs.Run.{HasRun, MeansAfter, MeansBeginning, put_by_command, may_be_put as puts}
 use Rattle.im_engine.specs.Commands.{commands_put, after_commands, MeansCommands, answers_in_turn, CommandsAnswered}
 use Rattle.im_engine.proofs.Accepting.{accepted_answers}
 use Rattle.im_engine.proofs.Running.{means_all}
@@ -419,7 +419,7 @@ module _ {D : Type 0} (now : D → Moment) (past : D → List Moment) (honest : 
   -- what a group comes to that was done
   pub record Done (ss : List Served) : Type 0 where
     pub answers : ss ≡ answers_in_turn old cs
-    pub memory : new.memory ≡ contents_after old.memory (places old.count old.room) cs
+    pub memory : new.memory ≡ contents_after_all old.memory (places old.count old.room) cs
     pub count : new.count ≡ old.count + length (commands_put old cs)
     pub point : point_behind (length (commands_put old cs)) (point_of old) ≡ point_of new
 

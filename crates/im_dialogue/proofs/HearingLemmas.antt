@@ -24,7 +24,7 @@ use Rattle.im_dialogue.specs.declared.lines.TheConstants.{KEPT}
 use Rattle.im_dialogue.specs.Asking.{asked_in, asked_of}
 use Rattle.im_dialogue.specs.Hearing.{AreLines, EndLines, EndsHere, HasReadPart, Hears, HearsAll, HearsSome, IsLinePart}
 use Rattle.im_dialogue.specs.Hearing.{ReadsLine, ReadsMore, ReadsPart, ShowsText, StandsIn, TakesLine, as_asked, asking, but_last}
-use Rattle.im_dialogue.specs.Hearing.{end_at, is_quit, left_after, left_behind, questions_in, questions_left}
+use Rattle.im_dialogue.specs.Hearing.{end_at, is_quit, asked_after, left_behind, questions_in, questions_left}
 use Rattle.im_dialogue.specs.Hearing.{left_at, until_quit}
 
 -- ---- what was heard
@@ -79,7 +79,7 @@ none_heard (Some all) (Some left) it = ap (λ (l : List (Option Question)). Some
 
 -- nothing is left
 pub heard_all : (a : Left) (now : Option (List ℕ)) (xs : List (Option Question)) (status : ℕ)
-    → Hears a (left_after 0 now) xs → HearsAll a xs status
+    → Hears a (asked_after 0 now) xs → HearsAll a xs status
 heard_all None now xs status one = tt
 heard_all (Some all) None xs status one = absurd one
 heard_all (Some all) (Some bytes) xs status one = ([], one, λ zero. refl)
@@ -362,22 +362,22 @@ asked_line (Some bytes) b line (rest, there, is) =
     ∙ ap (λ (l : List (Option Question)). Some (until_quit l)) (sym is)
 
 pub asked_nothing : (a b : Option (List ℕ)) (line : List ℕ) → ReadsLine false a b line
-    → IfSome (questions_left a) (λ l. left_after 0 b ≡ Some l)
+    → IfSome (questions_left a) (λ l. asked_after 0 b ≡ Some l)
 asked_nothing None b line it = tt
 asked_nothing (Some bytes) b line (rest, there, is) =
-    ap (λ (o : Option (List ℕ)). left_after 0 o) there
+    ap (λ (o : Option (List ℕ)). asked_after 0 o) there
     ∙ ap (λ (l : List (Option Question)). Some (until_quit l)) (sym is)
 
 -- what is left, by whether the dialogue continues
-pub left_one : (b : Option (List ℕ)) → left_behind true (option_map questions_in b) ≡ left_after 1 b
+pub left_one : (b : Option (List ℕ)) → left_behind true (option_map questions_in b) ≡ asked_after 1 b
 left_one None = refl
 left_one (Some bytes) = refl
 
-pub left_zero : (b : Option (List ℕ)) → left_behind false (option_map questions_in b) ≡ left_after 0 b
+pub left_zero : (b : Option (List ℕ)) → left_behind false (option_map questions_in b) ≡ asked_after 0 b
 left_zero None = refl
 left_zero (Some bytes) = refl
 
-pub left_some : (many : ℕ) (b : Option (List ℕ)) → (many ≡ 0 → ⊥) → left_after many b ≡ questions_left b
+pub left_some : (many : ℕ) (b : Option (List ℕ)) → (many ≡ 0 → ⊥) → asked_after many b ≡ questions_left b
 left_some many None some = refl
 left_some many (Some bytes) some =
     ap (λ (b : Bool). Some (if b then [] else until_quit (questions_in bytes))) nonzero

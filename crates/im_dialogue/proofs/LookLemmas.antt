@@ -38,7 +38,7 @@ use Rattle.im_laws.proofs.MemoryLemmas.{step-memory}
 use Rattle.im_laws.proofs.RunAgrees.{confirmed_stays}
 use Rattle.im_laws.specs.Cells.{MayChange}
 use Rattle.im_laws.specs.Windows.{TakesNextNumber}
-use Rattle.im_groups.specs.Commands.{contents_after, contents_with, places_behind}
+use Rattle.im_groups.specs.Commands.{contents_after_all, contents_with, places_behind}
 use Rattle.im_laws.proofs.StepAgrees.{AgreesAfter, act-agrees}
 use Rattle.im_laws.proofs.CellLemmas.{act-other}
 use Rattle.im_laws.proofs.AgreementLemmas.{same_waiter-equal}
@@ -253,7 +253,7 @@ waits_with cells elements m left c who a is asks not = ⊎_elim
 
 waits_after : (cells elements : ℕ) (m : Contents) (left : ℕ) (cs : List Command) (who : Waiter) (a : ℕ)
     → IsMemory cells elements m → list_any (asks_at a who) cs ≡ false → kept_waits_at a (kept_for m.windows who) ≡ false
-    → kept_waits_at a (kept_for (contents_after m left cs).windows who) ≡ false
+    → kept_waits_at a (kept_for (contents_after_all m left cs).windows who) ≡ false
 waits_after cells elements m left [] who a is asks not = not
 waits_after cells elements m left (c ∷ cs) who a is asks not =
     waits_after cells elements (contents_with m left c) (places_behind m left c) cs who a
@@ -264,7 +264,7 @@ waits_after cells elements m left (c ∷ cs) who a is asks not =
 pub may_change_there : (cells elements : ℕ) (m : Contents) (left : ℕ) (ahead : List Command) (who : Waiter)
     (c : Command)
     → IsMemory cells elements m → may_change m ahead who c ≡ false
-    → may_change (contents_after m left ahead) [] who c ≡ false
+    → may_change (contents_after_all m left ahead) [] who c ≡ false
 may_change_there cells elements m left ahead who (Confirm element upto) is not = not
 may_change_there cells elements m left ahead who (Asks r) is not = by_op r.op
     (or_right (same_waiter who (asker r)) (may_answer m ahead who r.op) not)
@@ -279,14 +279,14 @@ may_change_there cells elements m left ahead who (Asks r) is not = by_op r.op
     both : (b : Bool) → b ≡ false → (same_waiter who (asker r) || b) ≡ false
     both b e = ap (λ x. x || b) other ∙ e
 
-    no_wait : (a : ℕ) → may_wait m ahead who a ≡ false → may_wait (contents_after m left ahead) [] who a ≡ false
-    no_wait a e = or_no (kept_waits_at a (kept_for (contents_after m left ahead).windows who))
+    no_wait : (a : ℕ) → may_wait m ahead who a ≡ false → may_wait (contents_after_all m left ahead) [] who a ≡ false
+    no_wait a e = or_no (kept_waits_at a (kept_for (contents_after_all m left ahead).windows who))
         (waits_after cells elements m left ahead who a is
         (or_right (kept_waits_at a (kept_for m.windows who)) (list_any (asks_at a who) ahead) e)
         (or_left (kept_waits_at a (kept_for m.windows who)) (list_any (asks_at a who) ahead) e))
 
     by_op : (op : Op) → may_answer m ahead who op ≡ false
-        → (same_waiter who (asker r) || may_answer (contents_after m left ahead) [] who op) ≡ false
+        → (same_waiter who (asker r) || may_answer (contents_after_all m left ahead) [] who op) ≡ false
     by_op (Alloc kind n) e = both false refl
     by_op (Release a) e = both false refl
     by_op (Reset a) e = both false refl

@@ -27,19 +27,19 @@ use Rattle.im_laws.proofs.StepLemmas.{judge-fresh}
 use Rattle.im_laws.proofs.AcceptLemmas.{accepted-fresh}
 use Rattle.im_laws.proofs.CellLemmas.{step-other}
 use Rattle.im_laws.proofs.EntryLemmas.{judge-repeat}
-use Rattle.im_groups.specs.Commands.{answer_with, contents_after, contents_with, left_after, places_behind}
+use Rattle.im_groups.specs.Commands.{answer_with, contents_after_all, contents_with, left_after, places_behind}
 use Rattle.im_dialogue.specs.Looks.{asks_for, may_reach, reaches}
 use Rattle.im_dialogue.proofs.LookLemmas.{confirm_leaves, none_answers, noted, with_either, with_memory}
 
 -- ---- a member more behind others
 
 pub contents_behind : (m : Contents) (left : ℕ) (cs : List Command) (c : Command)
-    → contents_after m left (cs ++ c ∷ []) ≡ contents_with (contents_after m left cs) (left_after m left cs) c
+    → contents_after_all m left (cs ++ c ∷ []) ≡ contents_with (contents_after_all m left cs) (left_after m left cs) c
 contents_behind m left [] c = refl
 contents_behind m left (d ∷ cs) c = contents_behind (contents_with m left d) (places_behind m left d) cs c
 
 pub after_memory : (cells elements : ℕ) (m : Contents) (left : ℕ) (cs : List Command) → IsMemory cells elements m
-    → IsMemory cells elements (contents_after m left cs)
+    → IsMemory cells elements (contents_after_all m left cs)
 after_memory cells elements m left [] is = is
 after_memory cells elements m left (c ∷ cs) is = after_memory cells elements (contents_with m left c)
     (places_behind m left c) cs
@@ -62,7 +62,7 @@ none_step cells elements m (Asks r) who is accepted asks none =
 pub none_after : (cells elements : ℕ) (m : Contents) (left : ℕ) (cs : List Command) (who : Waiter)
     → IsMemory cells elements m
     → list_any (asks_for who) cs ≡ false → kept_for m.windows who ≡ None
-    → kept_for (contents_after m left cs).windows who ≡ None
+    → kept_for (contents_after_all m left cs).windows who ≡ None
 none_after cells elements m left [] who is asks none = none
 none_after cells elements m left (c ∷ cs) who is asks none =
     none_after cells elements (contents_with m left c) (places_behind m left c) cs who
@@ -116,7 +116,7 @@ cell_step cells elements m (Confirm element upto) a is away = by_result (confirm
     by_result (Ok now) = refl
 
 pub cell_after : (cells elements : ℕ) (m : Contents) (left : ℕ) (cs : List Command) (a : ℕ) → IsMemory cells elements m
-    → list_any (may_reach a) cs ≡ false → held_at (contents_after m left cs).cells a ≡ held_at m.cells a
+    → list_any (may_reach a) cs ≡ false → held_at (contents_after_all m left cs).cells a ≡ held_at m.cells a
 cell_after cells elements m left [] a is away = refl
 cell_after cells elements m left (c ∷ cs) a is away =
     cell_after cells elements (contents_with m left c) (places_behind m left c) cs a

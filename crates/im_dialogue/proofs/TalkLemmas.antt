@@ -26,7 +26,7 @@ use Rattle.im_checkpoint.specs.declared.checkpoint.TurnDone.{TurnDone}
 use Rattle.im_checkpoint.proofs.Fitting.{none_or_some}
 use Rattle.im_engine.specs.State.{EngineState, MeansState, MeansEither}
 use Rattle.im_engine.specs.Run.{Answered, TurnAnswered, HasRun, MeansAfter, MeansBeginning, put_by_command}
-use Rattle.im_engine.specs.Run.{is_put as puts}
+use Rattle.im_engine.specs.Run.{may_be_put as puts}
 use Rattle.im_engine.proofs.Accepting.{accepted_answers}
 use Rattle.im_engine.proofs.Running.{AllOrLess, far_on, far_start, far_turned, fails_by_device, leaves_on}
 use Rattle.im_engine.proofs.Running.{leaves_turned, means_all, now_on, went}

@@ -8,7 +8,7 @@ use Rattle.im_types.specs.declared.operations.Waiter.{Waiter}
 use Rattle.im_types.specs.declared.commands.Command.TheVariants.{Request as Asks, Confirm}
 use Rattle.im_script.specs.Grammar.{is_line, number_up_to, words_of}
 use Rattle.im_script.specs.Lines.{action_of}
-use Rattle.im_script.specs.Places.{op_of}
+use Rattle.im_script.specs.Places.{action_op}
 use Rattle.im_dialogue.specs.declared.asking.Question.{Question}
 use Rattle.im_dialogue.specs.declared.asking.Question.TheVariants.{Serve, Look, Window}
 use Rattle.im_dialogue.specs.declared.asking.Question.TheVariants.{Room, Turn, Count, About, Backup, Quit}
@@ -40,7 +40,7 @@ waiter_named word = waiter_by (slice_split (λ byte. byte == 46) word)
 
 -- a request of a script with addresses alone, as it stands after E.N
 abbrev pub op_in : List (List ℕ) → Option Op
-op_in words = option_and_then (op_of []) (action_of [] words)
+op_in words = option_and_then (action_op []) (action_of [] words)
 
 -- room, turn, count, about, stat, help or quit
 abbrev pub asked_by_one : List ℕ → Option Question

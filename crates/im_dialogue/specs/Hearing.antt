@@ -64,8 +64,8 @@ abbrev pub left_behind : Bool → Option (List (Option Question)) → Option (Li
 left_behind goes_on rest = option_map (λ others. if goes_on then until_quit others else []) rest
 
 -- what is left behind that many lines: nothing behind none
-abbrev pub left_after : ℕ → Option (List ℕ) → Option (List (Option Question))
-left_after many known = option_map (λ bytes. if many == 0 then [] else until_quit (questions_in bytes)) known
+abbrev pub asked_after : ℕ → Option (List ℕ) → Option (List (Option Question))
+asked_after many known = option_map (λ bytes. if many == 0 then [] else until_quit (questions_in bytes)) known
 
 -- ---- parts of lines
 

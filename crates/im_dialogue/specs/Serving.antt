@@ -4,7 +4,7 @@ use Rattle.im_disk.specs.declared.disk.Disk.{Ghosts}
 use Rattle.im_dialogue.specs.declared.serving.Dialogue.{Dialogue}
 use Rattle.im_dialogue.specs.Asking.{asked_of}
 use Rattle.im_dialogue.specs.Dialogue.{ClosesTalk}
-use Rattle.im_dialogue.specs.Hearing.{left_after, questions_left}
+use Rattle.im_dialogue.specs.Hearing.{asked_after, questions_left}
 use Rattle.im_dialogue.specs.Talk.{Ends, On, Outputs, TalksLine, TalksThrough, with_input, with_left}
 
 -- a dialogue was served to its end with these bytes as input, and closed, if the disk is honest then
@@ -29,12 +29,13 @@ module _ {D E : Type 0} (disk : Ghosts D) where
       → Type 0
   ServesMany old was known new is now result = MatchResult result
       (λ many. On disk old.setting.watch old.engine (with_input known was) new.engine
-      (with_left (left_after many now) is))
+      (with_left (asked_after many now) is))
       (λ e. Ends disk old.setting.watch old.engine (with_input known was) new.engine is)
 
   -- the dialogue was served to its end
   abbrev pub ServesAll : {T : Type 0} → Dialogue D → Outputs → Option (List ℕ) → Dialogue D → Outputs
       → Option (List ℕ) → Result T E → Type 0
   ServesAll old was known new is now result = MatchResult result
-      (λ done. On disk old.setting.watch old.engine (with_input known was) new.engine (with_left (left_after 0 now) is))
+      (λ done. On disk old.setting.watch old.engine (with_input known was) new.engine
+      (with_left (asked_after 0 now) is))
       (λ e. Ends disk old.setting.watch old.engine (with_input known was) new.engine is)

@@ -10,7 +10,7 @@ use Rattle.im_types.specs.declared.groups.Served.TheVariants as served
 use Rattle.im_types.specs.declared.refusals.Refusal.{Refusal}
 use Rattle.im_types.specs.declared.refusals.Refusal.TheVariants.{NoMemory}
 use Rattle.im_types.specs.Contents.{Contents}
-use Rattle.im_groups.specs.Commands.{places, answer_with, commands_at, contents_after, left_after}
+use Rattle.im_groups.specs.Commands.{places, answer_with, commands_at, contents_after_all, left_after}
 use Rattle.im_engine.specs.State.{EngineState}
 use Rattle.im_dialogue.specs.declared.asking.Question.{Question}
 use Rattle.im_dialogue.specs.declared.asking.Question.TheVariants as asks
@@ -78,7 +78,7 @@ group_start s =
 
 -- the memory after these members
 abbrev pub memory_between : GroupStart → List Command → Contents
-memory_between b ahead = contents_after b.memory b.places ahead
+memory_between b ahead = contents_after_all b.memory b.places ahead
 
 -- how many more commands can be accepted after them
 abbrev pub places_between : GroupStart → List Command → ℕ

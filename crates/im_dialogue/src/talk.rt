@@ -4,7 +4,7 @@ ghost use Rattle.im_dialogue.specs.declared.asking.Question.TheVariants.{Backup,
 ghost use Rattle.im_dialogue.specs.declared.asking.Question.TheVariants.{Serve, Turn, Window};
 ghost use Rattle.im_dialogue.specs.declared.answers.LineAnswer.TheVariants as answer;
 ghost use Rattle.im_dialogue.specs.declared.look.Look.{Look};
-ghost use Rattle.im_turning.specs.Turning.{HasMadeRoom, IsSpent, Leads, point_of};
+ghost use Rattle.im_turning.specs.Turning.{HasMadeRoom, IsSpent, TurnsInto, point_of};
 ghost use Rattle.im_dialogue.specs.Talk.{AnswersOrHalts, GoesOrHalts, KeepsAnswered, KeepsNone, SaysNow, SaysOrHalts};
 ghost use Rattle.im_dialogue.specs.Talk.{about_of, backup_by, is_end};
 
@@ -25,7 +25,7 @@ use im_types::{Command, Refusal};
 // Takes a turn of a checkpoint.
 fn take_turn<D: Disk>(engine: &mut Engine<D>) -> Result<TurnDone, Refusal>
     ensures goes { GoesOrHalts D.Disk engine.old engine.new result }
-    ensures leads { IfOk result (λ done. Leads (point_of engine.old) done (point_of engine.new)) }
+    ensures leads { IfOk result (λ done. TurnsInto (point_of engine.old) done (point_of engine.new)) }
     ensures honest { D.honest engine.new.disk → D.honest engine.old.disk }
 {
     // A crash in this call leaves the memory as it is.

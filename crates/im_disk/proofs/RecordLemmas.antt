@@ -5,8 +5,8 @@ use Rattle.std.proofs.Common.{length-take, length-drop, length-append, Option, S
 use Rattle.std.proofs.lemmas.Bool.{cases_lt}
 use Rattle.std.proofs.lemmas.List.{reverse-append, length-replicate, get_or-replicate, ext_get_or}
 use Rattle.std.specs.declared.alloc.Global.{Global}
-use Rattle.im_disk.specs.declared.record.Call.{Call}
-use Rattle.im_disk.specs.declared.record.Call.TheVariants.{Other, Wrote, Synced}
+use Rattle.im_disk.specs.declared.record.DeviceCall.{DeviceCall}
+use Rattle.im_disk.specs.declared.record.DeviceCall.TheVariants.{Other, Wrote, Synced}
 use Rattle.im_disk.specs.declared.memory.Crash.{Crash}
 use Rattle.im_disk.specs.declared.memory.Crash.TheVariants.{Kept, Lost, Byte}
 use Rattle.im_disk.specs.Moment.{Moment, Outside, Inside, Left, overlaid, written}
@@ -16,11 +16,13 @@ use Rattle.im_disk.specs.Record.{IsSound}
 use Rattle.im_disk.proofs.OverlayLemmas.{length-overlaid, overlaid_outside, overlaid_inside, overlaid_front}
 use Rattle.im_disk.proofs.OverlayLemmas.{overlaid_back, put_back}
 
-newest_first : (calls more : List Call) (call : Call) → more ≡ calls ++ call ∷ [] → reverse more ≡ call ∷ reverse calls
+newest_first : (calls more : List DeviceCall) (call : DeviceCall) → more ≡ calls ++ call ∷ []
+    → reverse more ≡ call ∷ reverse calls
 newest_first calls more call noted = ap reverse noted ∙ reverse-append calls (call ∷ [])
 
 -- one call more, which its undoing takes back
-module _ (b : List ℕ) (calls more : List Call) (begun failures : ℕ) (call : Call) (noted : more ≡ calls ++ call ∷ [])
+module _ (b : List ℕ) (calls more : List DeviceCall) (begun failures : ℕ) (call : DeviceCall)
+    (noted : more ≡ calls ++ call ∷ [])
     (among : begun ≤ length calls) where
   counts : length more - begun ≡ suc (length calls - begun)
   counts = let longer = ap length noted ∙ length-append calls (call ∷ []) in omega arith
@@ -29,7 +31,8 @@ module _ (b : List ℕ) (calls more : List Call) (begun failures : ℕ) (call : 
       ≡ moment_of b (reverse calls) ∷ take (length calls - begun) (past_of b (reverse calls))
   past_more b' undone =
       ap (λ (k : ℕ). take k (past_of b' (reverse more))) counts
-      ∙ ap (λ (l : List Call). take (suc (length calls - begun)) (past_of b' l)) (newest_first calls more call noted)
+      ∙ ap (λ (l : List DeviceCall). take (suc (length calls - begun)) (past_of b' l))
+      (newest_first calls more call noted)
       ∙ ap (λ (x : List ℕ). moment_of x (reverse calls) ∷ take (length calls - begun)
       (past_of x (reverse calls))) undone
 
@@ -44,19 +47,19 @@ module _ (b : List ℕ) (calls more : List Call) (begun failures : ℕ) (call : 
       }
   shown_more b' m s undone now settled =
       let newest = newest_first calls more call noted in
-      let is : moment_of b' (reverse more) ≡ m = ap (λ (l : List Call). moment_of b' l) newest ∙ now in
-      let was : settled_of b' (reverse more) ≡ s = ap (λ (l : List Call). settled_of b' l) newest ∙ settled in
+      let is : moment_of b' (reverse more) ≡ m = ap (λ (l : List DeviceCall). moment_of b' l) newest ∙ now in
+      let was : settled_of b' (reverse more) ≡ s = ap (λ (l : List DeviceCall). settled_of b' l) newest ∙ settled in
       let past = past_more b' undone in
       (λ i. record { moment = is i; past = past i; settled = was i; failures = failures })
 
-pub shown_read : (b : List ℕ) (calls more : List Call) (begun failures : ℕ) → begun ≤ length calls → more
+pub shown_read : (b : List ℕ) (calls more : List DeviceCall) (begun failures : ℕ) → begun ≤ length calls → more
     ≡ calls ++ Other ∷ [] → shown b more begun failures
     ≡ ticked (moment_of b (reverse calls)) (shown b calls begun failures)
 shown_read b calls more begun failures among noted = shown_more b calls more begun failures Other noted among b
     (moment_of b (reverse calls)) (settled_of b (reverse calls)) refl refl refl
 
 -- a write over the old part of n bytes
-module _ (b : List ℕ) (calls more : List Call) (begun failures at n : ℕ) (old : Vec ℕ Global)
+module _ (b : List ℕ) (calls more : List DeviceCall) (begun failures at n : ℕ) (old : Vec ℕ Global)
     (among : begun ≤ length calls) (fits : at + n ≤ length b) (kept : old.items ≡ take n (drop at b))
     (noted : more ≡ calls ++ Wrote at old ∷ []) where
   size : length old.items ≡ n
@@ -88,7 +91,7 @@ module _ (b : List ℕ) (calls more : List Call) (begun failures at n : ℕ) (ol
       (ap (λ (l : List ℕ). settled_of l (reverse calls)) undone)
 
 -- a failed write that was noted, with one failure more
-module _ (b : List ℕ) (calls more : List Call) (begun failures counted at n : ℕ) (old : Vec ℕ Global)
+module _ (b : List ℕ) (calls more : List DeviceCall) (begun failures counted at n : ℕ) (old : Vec ℕ Global)
     (among : begun ≤ length calls) (fits : at + n ≤ length b) (kept : old.items ≡ take n (drop at b))
     (noted : more ≡ calls ++ Wrote at old ∷ []) (count : counted ≡ min (failures + 1) (2 ^ 64 - 1)) where
   pub fails_scarred : (o : Option ℕ) (byte : ℕ) (b' : List ℕ) → o ≡ Some byte → b' ≡ overlaid b at (replicate n byte)
@@ -123,7 +126,7 @@ within_of_same_size : (m n : ℕ) (rs : List (ℕ × ℕ)) → n ≡ m → LieWi
 within_of_same_size m n rs same within = subst (λ (k : ℕ). LieWithin k rs) (sym same) within
 
 -- the same outside the ranges, and so the same once the writes are undone
-settled_same : (b c : List ℕ) (calls : List Call) → LieWithin (length b) (ranges_of calls) → length c ≡ length b
+settled_same : (b c : List ℕ) (calls : List DeviceCall) → LieWithin (length b) (ranges_of calls) → length c ≡ length b
     → ((i : ℕ) → Outside (ranges_of calls) i → get_or c i 0 ≡ get_or b i 0) → settled_of c calls ≡ settled_of b calls
 settled_same b c [] within size same = ext_get_or 0 c b size (λ i lt. same i tt)
 settled_same b c (Other ∷ calls) within size same = settled_same b c calls within size same
@@ -158,7 +161,7 @@ settled_same b c (Wrote at old ∷ calls) within size same = settled_same (overl
         (cases_lt i (at + length old.items)))
         (cases_lt i at)
 
-length-settled : (b : List ℕ) (calls : List Call) → LieWithin (length b) (ranges_of calls)
+length-settled : (b : List ℕ) (calls : List DeviceCall) → LieWithin (length b) (ranges_of calls)
     → length (settled_of b calls) ≡ length b
 length-settled b [] within = refl
 length-settled b (Other ∷ calls) within = length-settled b calls within
@@ -168,7 +171,7 @@ length-settled b (Wrote at old ∷ calls) within =
     length-settled (overlaid b at old.items) calls
     (within_of_same_size (length b) (length (overlaid b at old.items)) (ranges_of calls) size within.1) ∙ size
 
-settled_outside : (b : List ℕ) (calls : List Call) → LieWithin (length b) (ranges_of calls) → (i : ℕ)
+settled_outside : (b : List ℕ) (calls : List DeviceCall) → LieWithin (length b) (ranges_of calls) → (i : ℕ)
     → Outside (ranges_of calls) i → get_or (settled_of b calls) i 0 ≡ get_or b i 0
 settled_outside b [] within i outside = refl
 settled_outside b (Other ∷ calls) within i outside = settled_outside b calls within i outside
@@ -221,7 +224,7 @@ has_byte_filled byte b (r ∷ rs) within =
     (within_of_same_size (length b) (length (overlaid b r.0 (replicate r.1 byte))) rs size within.1))
 
 -- a crash, of a disk with these bytes and calls
-module _ (b : List ℕ) (calls : List Call) (within : LieWithin (length b) (ranges_of (reverse calls))) where
+module _ (b : List ℕ) (calls : List DeviceCall) (within : LieWithin (length b) (ranges_of (reverse calls))) where
   pub left_by_left : (crash : Crash) → Left (moment_of b (reverse calls)) (left_by crash b (reverse calls))
   left_by_left Kept = record { size = refl; same = λ i outside. refl }
   left_by_left Lost = record {

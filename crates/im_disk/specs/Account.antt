@@ -103,15 +103,15 @@ after_call (suc (suc (suc zero))) at ok bytes a = after_write ok at bytes a
 after_call (suc (suc (suc (suc more)))) at ok bytes a = after_sync ok a
 
 -- A call with its answer: its number, an offset or a length, whether it succeeded, and the bytes.
-pub record Event : Type 0 where
+pub record AccountedCall : Type 0 where
   pub call : ℕ
   pub at : ℕ
   pub ok : Bool
   pub bytes : List ℕ
 
 -- the call with these numbers: which call, an offset or a length, and 1 for success
-abbrev pub event_of : List ℕ → List ℕ → Event
-event_of numbers bytes = record {
+abbrev pub accounted_call : List ℕ → List ℕ → AccountedCall
+accounted_call numbers bytes = record {
   call = slice_index numbers 0;
   at = slice_index numbers 1;
   ok = slice_index numbers 2 == 1;
@@ -119,17 +119,17 @@ event_of numbers bytes = record {
 }
 
 -- a file with this first moment after these calls, newest first; its failing calls come to these outcomes
-abbrev pub replay : Moment → List (List ℕ) → List Event → Account
+abbrev pub replay : Moment → List (List ℕ) → List AccountedCall → Account
 replay first outcomes [] = record { now = first; past = []; outcomes = outcomes; agrees = true }
 replay first outcomes (e ∷ earlier) = after_call e.call e.at e.ok e.bytes (replay first outcomes earlier)
 
 -- No sync has failed. After a failed sync nothing more is asked of the file, because what was written may be lost
 -- without another error.
-abbrev pub is_usable : List Event → Bool
+abbrev pub is_usable : List AccountedCall → Bool
 is_usable [] = true
 is_usable (e ∷ earlier) = (e.ok || not (e.call == 4)) && is_usable earlier
 
 -- The length was asked for and answered since the last sync, and so before any later write.
-abbrev pub is_measured : List Event → Bool
+abbrev pub is_measured : List AccountedCall → Bool
 is_measured [] = false
 is_measured (e ∷ earlier) = (e.call == 1 && e.ok) || (not (e.call == 4) && is_measured earlier)

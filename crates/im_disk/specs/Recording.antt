@@ -16,8 +16,8 @@ pub record Recording : Type 0 where
   pub failures : ℕ
 
 -- zero bytes, all of them on the disk
-abbrev pub blank : ℕ → Recording
-blank len = record {
+abbrev pub blank_disk : ℕ → Recording
+blank_disk len = record {
   moment = record { bytes = replicate len 0; ranges = [] };
   past = [];
   settled = replicate len 0;

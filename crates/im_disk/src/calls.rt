@@ -1,6 +1,6 @@
 //! Notes the calls of a file, and says when a call is allowed.
 ghost use Rattle.std.specs.Prelude.{◌≡◌, ◌∷◌, IsTrue};
-ghost use Rattle.im_disk.specs.Account.{event_of, is_measured, is_usable};
+ghost use Rattle.im_disk.specs.Account.{accounted_call, is_measured, is_usable};
 
 use crate::account::Ledger;
 use std::fs::File;
@@ -22,7 +22,7 @@ pub(crate) const SYNCED: u64 = 4;
 // Notes a call of the system. The clause allows none after a failed sync.
 pub(crate) fn note(ledger: &mut Ledger, numbers: &[u64], bytes: &[u8])
     requires usable { IsTrue (is_usable ledger.old.events) }
-    ensures { ledger.new.events ≡ event_of numbers.now bytes.now ∷ ledger.old.events }
+    ensures { ledger.new.events ≡ accounted_call numbers.now bytes.now ∷ ledger.old.events }
 {
     ledger.note(numbers, bytes);
 }
@@ -31,7 +31,7 @@ pub(crate) fn note(ledger: &mut Ledger, numbers: &[u64], bytes: &[u8])
 pub(crate) fn note_written(ledger: &mut Ledger, numbers: &[u64], bytes: &[u8])
     requires usable { IsTrue (is_usable ledger.old.events) }
     requires measured { IsTrue (is_measured ledger.old.events) }
-    ensures { ledger.new.events ≡ event_of numbers.now bytes.now ∷ ledger.old.events }
+    ensures { ledger.new.events ≡ accounted_call numbers.now bytes.now ∷ ledger.old.events }
 {
     note(ledger, numbers, bytes);
 }

@@ -1,7 +1,7 @@
 //! A disk over a file of the operating system.
 ghost use Rattle.std.specs.Prelude.{◌≡◌, ◌+◌, ◌≤◌, ◌∷◌, [], not, nat_lt, is_some, length, replicate};
 ghost use Rattle.std.specs.Prelude.{IsTrue, IsOk, IfOk, OnOk};
-ghost use Rattle.im_disk.specs.Account.{IsHonest, event_of, is_measured, is_usable};
+ghost use Rattle.im_disk.specs.Account.{IsHonest, accounted_call, is_measured, is_usable};
 ghost use Rattle.im_disk.specs.Failing.{is_of_sync};
 
 use crate::account::Ledger;
@@ -232,7 +232,7 @@ fn noted<S: Start>(disk: FileDisk<S>, len: usize) -> FileDisk<S>
     requires failures { ⟦<FileDisk<S> as Disk>⟧.failures disk ≡ 0 }
     requires events { disk.ledger.events ≡ [] }
     ensures failures { ⟦<FileDisk<S> as Disk>⟧.failures result ≡ 0 }
-    ensures events { result.ledger.events ≡ event_of (0 ∷ len ∷ 1 ∷ []) [] ∷ [] }
+    ensures events { result.ledger.events ≡ accounted_call (0 ∷ len ∷ 1 ∷ []) [] ∷ [] }
 {
     let mut disk = disk;
     note(&mut disk.ledger, &[MADE, len as u64, 1], &[]);

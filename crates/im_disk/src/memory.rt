@@ -1,7 +1,7 @@
 //! A disk in memory. It keeps a record of its calls, which gives each past moment.
 ghost use Rattle.std.specs.Prelude.{◌≡◌, ◌+◌, ◌≤◌, ◌∷◌, [], length, take, drop, Ok, IfOk, IfErr, OnOk};
 
-use crate::record::{Call, add, fault, fill, leave, note, put};
+use crate::record::{DeviceCall, add, fault, fill, leave, note, put};
 use crate::{DeviceFault, Disk};
 use im_types::Refusal;
 use std::alloc::Global;
@@ -21,7 +21,7 @@ pub enum Crash {
 /// A disk in memory, always honest. Its calls fail only if the record of calls cannot grow.
 pub struct MemDisk {
     bytes: Vec<u8>,
-    calls: Vec<Call>,
+    calls: Vec<DeviceCall>,
     /// How many of the calls came before the last crash. They still say which ranges are in doubt.
     begun: usize,
     failures: u64,
@@ -52,11 +52,11 @@ impl Model for MemDisk {
 }
 
 impl MemDisk {
-    ghost use Rattle.im_disk.specs.Recording.{blank};
+    ghost use Rattle.im_disk.specs.Recording.{blank_disk};
 
     /// Makes a file of `len` zero bytes, all of them on the disk. Returns `NoMemory` if there is no room for them.
     pub fn new(alloc: Global, len: usize) -> Result<MemDisk, Refusal>
-        ensures blank { IfOk result (λ disk. disk ≡ blank len) }
+        ensures blank { IfOk result (λ disk. disk ≡ blank_disk len) }
         ensures honest { IfOk result (λ disk. ⟦<MemDisk as Disk>⟧.honest disk) }
         ensures refused { IfErr result (λ refusal. refusal ≡ Refusal.NoMemory) }
     {
@@ -107,7 +107,7 @@ impl Disk for MemDisk {
         ensures failures { Counts result self.old.failures self.new.failures }
         ensures honest { ⟦<MemDisk as Disk>⟧.honest self.new }
     {
-        note(&mut self.calls, &mut self.failures, Call::Other)?;
+        note(&mut self.calls, &mut self.failures, DeviceCall::Other)?;
         buf.copy_from_slice(&self.bytes[at..at + buf.len()]);
         Ok(())
     }
@@ -121,7 +121,11 @@ impl Disk for MemDisk {
         let Ok(old) = self.bytes[at..at + bytes.len()].to_vec(*self.bytes.allocator()) else {
             return Err(fault(&mut self.failures));
         };
-        note(&mut self.calls, &mut self.failures, Call::Wrote(at, old))?;
+        note(
+            &mut self.calls,
+            &mut self.failures,
+            DeviceCall::Wrote(at, old),
+        )?;
         put(&mut self.bytes, at, bytes);
         Ok(())
     }
@@ -131,7 +135,7 @@ impl Disk for MemDisk {
         ensures failures { Counts result self.old.failures self.new.failures }
         ensures honest { ⟦<MemDisk as Disk>⟧.honest self.new }
     {
-        note(&mut self.calls, &mut self.failures, Call::Synced)
+        note(&mut self.calls, &mut self.failures, DeviceCall::Synced)
     }
 }
 
@@ -165,7 +169,7 @@ impl MemDisk {
         let Ok(old) = self.bytes[at..at + len].to_vec(*self.bytes.allocator()) else {
             return failure;
         };
-        if let Err(_) = add(&mut self.calls, Call::Wrote(at, old)) {
+        if let Err(_) = add(&mut self.calls, DeviceCall::Wrote(at, old)) {
             return failure;
         }
         if let Some(byte) = byte {
@@ -181,7 +185,7 @@ impl MemDisk {
         ensures failures { Rises self.old.failures self.new.failures × (self.old.failures ≤ self.new.failures) }
         ensures honest { ⟦<MemDisk as Disk>⟧.honest self.new }
     {
-        let _ = add(&mut self.calls, Call::Other);
+        let _ = add(&mut self.calls, DeviceCall::Other);
         fault(&mut self.failures)
     }
 }

@@ -8,7 +8,7 @@ use crate::{Crash, DeviceFault};
 use std::alloc::AllocError;
 
 #[derive(Drop)]
-pub(crate) enum Call {
+pub(crate) enum DeviceCall {
     /// A read, or a failed call that changed nothing.
     Other,
     /// A write at this offset. These are the bytes that it replaced.
@@ -27,7 +27,7 @@ pub(crate) fn fault(failures: &mut u64) -> DeviceFault
 }
 
 /// Adds the call to the record, if it can grow.
-pub(crate) fn add(calls: &mut Vec<Call>, call: Call) -> Result<(), AllocError>
+pub(crate) fn add(calls: &mut Vec<DeviceCall>, call: DeviceCall) -> Result<(), AllocError>
     ensures ok { OnOk result (calls.new.items ≡ calls.old.items ++ call ∷ []) }
     ensures err { OnErr result (calls.new.items ≡ calls.old.items) }
 {
@@ -36,7 +36,11 @@ pub(crate) fn add(calls: &mut Vec<Call>, call: Call) -> Result<(), AllocError>
 }
 
 /// Adds the call to the record, or counts a failure.
-pub(crate) fn note(calls: &mut Vec<Call>, failures: &mut u64, call: Call) -> Result<(), DeviceFault>
+pub(crate) fn note(
+    calls: &mut Vec<DeviceCall>,
+    failures: &mut u64,
+    call: DeviceCall,
+) -> Result<(), DeviceFault>
     ensures ok { OnOk result (calls.new.items ≡ calls.old.items ++ call ∷ []) }
     ensures ok_count { OnOk result (failures.new ≡ failures.old) }
     ensures err { OnErr result (calls.new.items ≡ calls.old.items) }
@@ -65,39 +69,39 @@ pub(crate) fn fill(bytes: &mut Vec<u8>, at: usize, len: usize, byte: u8)
 }
 
 /// Undoes the writes since the last sync, the newest first.
-fn undo(bytes: &mut Vec<u8>, calls: &[Call])
+fn undo(bytes: &mut Vec<u8>, calls: &[DeviceCall])
     requires { LieWithin (length bytes.old.items) (ranges_of (reverse calls.now)) }
     ensures { bytes.new.items ≡ settled_of bytes.old.items (reverse calls.now) }
 {
     let mut rest = calls;
     while let Some((call, earlier)) = rest.split_last() {
         match call {
-            Call::Other => {}
-            Call::Wrote(at, old) => put(bytes, *at, old),
-            Call::Synced => return,
+            DeviceCall::Other => {}
+            DeviceCall::Wrote(at, old) => put(bytes, *at, old),
+            DeviceCall::Synced => return,
         }
         rest = earlier;
     }
 }
 
 /// Fills each range written since the last sync with the byte.
-fn fill_all(bytes: &mut Vec<u8>, calls: &[Call], byte: u8)
+fn fill_all(bytes: &mut Vec<u8>, calls: &[DeviceCall], byte: u8)
     requires { LieWithin (length bytes.old.items) (ranges_of (reverse calls.now)) }
     ensures { bytes.new.items ≡ filled byte bytes.old.items (ranges_of (reverse calls.now)) }
 {
     let mut rest = calls;
     while let Some((call, earlier)) = rest.split_last() {
         match call {
-            Call::Other => {}
-            Call::Wrote(at, old) => fill(bytes, *at, old.len(), byte),
-            Call::Synced => return,
+            DeviceCall::Other => {}
+            DeviceCall::Wrote(at, old) => fill(bytes, *at, old.len(), byte),
+            DeviceCall::Synced => return,
         }
         rest = earlier;
     }
 }
 
 /// Turns the bytes into what a crash of this kind leaves.
-pub(crate) fn leave(bytes: &mut Vec<u8>, calls: &[Call], crash: Crash)
+pub(crate) fn leave(bytes: &mut Vec<u8>, calls: &[DeviceCall], crash: Crash)
     requires { LieWithin (length bytes.old.items) (ranges_of (reverse calls.now)) }
     ensures { bytes.new.items ≡ left_by crash bytes.old.items (reverse calls.now) }
 {

@@ -20,7 +20,7 @@ use Rattle.im_laws.proofs.MemoryLemmas.{step-cell_count, step-window_count}
 use Rattle.im_journal.specs.Holding.{JournalState, IsJournal, room_after, longer}
 use Rattle.im_image.specs.Reading.{HasSizes}
 use Rattle.im_checkpoint.specs.Step.{CheckpointState}
-use Rattle.im_groups.specs.Commands.{answer_with, contents_with, places_behind, answers_with, contents_after}
+use Rattle.im_groups.specs.Commands.{answer_with, contents_with, places_behind, answers_with, contents_after_all}
 use Rattle.im_groups.specs.Commands.{takes_place, takes_at, most_pages_at}
 use Rattle.im_memory.specs.Covering.{most_pages}
 use Rattle.im_laws.proofs.Tests.{and_both}
@@ -156,13 +156,13 @@ answers_next m left xs cs i d a m2 left2 within answer contents less =
 pub contents_next : (m : Contents) (left : ℕ) (cs : List Command) (i : ℕ) (d : Command) (m2 : Contents) (left2 : ℕ)
     → i < length cs
     → m2 ≡ contents_with m left (get_or cs i d) → left2 ≡ places_behind m left (get_or cs i d)
-    → contents_after m2 left2 (drop (i + 1) cs) ≡ contents_after m left (drop i cs)
+    → contents_after_all m2 left2 (drop (i + 1) cs) ≡ contents_after_all m left (drop i cs)
 contents_next m left cs i d m2 left2 within contents less =
     let next : i + 1 ≡ suc i = omega arith in
-    ap (λ (n : Contents). contents_after n left2 (drop (i + 1) cs)) contents
-    ∙ ap (λ (n : ℕ). contents_after (contents_with m left (get_or cs i d)) n (drop (i + 1) cs)) less
-    ∙ ap (λ (n : ℕ). contents_after m left (get_or cs i d ∷ drop n cs)) next
-    ∙ ap (λ (l : List Command). contents_after m left l) (sym (drop-cons cs i d within))
+    ap (λ (n : Contents). contents_after_all n left2 (drop (i + 1) cs)) contents
+    ∙ ap (λ (n : ℕ). contents_after_all (contents_with m left (get_or cs i d)) n (drop (i + 1) cs)) less
+    ∙ ap (λ (n : ℕ). contents_after_all m left (get_or cs i d ∷ drop n cs)) next
+    ∙ ap (λ (l : List Command). contents_after_all m left l) (sym (drop-cons cs i d within))
 
 some_taken : (m : Contents) (left : ℕ) (cs : List Command) (i : ℕ) → i < length cs
     → ◌≡◌ {A = List Bool} [] (takes_at m left (drop i cs)) → ⊥

@@ -31,7 +31,8 @@ use Rattle.im_engine.specs.declared.run.Answer.TheVariants.{Served as Told, Grou
 use Rattle.im_engine.specs.declared.run.Answer.TheVariants.{Swept as DidSweep}
 use Rattle.im_engine.specs.State.{EngineState, MeansState, MeansEither, with_command}
 use Rattle.im_engine.specs.Groups.{reached_in, group_put, answers_in, GroupAnswered, GroupFaults}
-use Rattle.im_engine.specs.Run.{Answered, TurnTaken, TurnAnswered, EventAnswered, has_device, is_put, put_by_command}
+use Rattle.im_engine.specs.Run.{Answered, TurnTaken, TurnAnswered, EventAnswered, has_device, may_be_put}
+use Rattle.im_engine.specs.Run.{put_by_command}
 use Rattle.im_engine.specs.Run.{HasRun, MeansAfter, MeansBeginning, MeansAllOrInDoubt, IsDevice, HasDevice, HasCause}
 use Rattle.im_engine.proofs.Accepting.{Answers, accepted_answers}
 use Rattle.im_engine.proofs.Acknowledging.{answers-no_device, some-device, failed-no_device}
@@ -44,8 +45,8 @@ AllOrLess s commands file = MeansAllOrInDoubt (Unit {0}) s commands file
 abbrev pub All : {D : Type 0} → EngineState D → List Command → List ℕ → Type 0
 All s commands file = MeansAfter s commands (length commands) file
 
-not_put : (m : Contents) (c : Command) (a : Result Outcome Refusal) → is_put a ≡ false → put_by_command m c a ≡ []
-not_put m c a e = by_test (is_accepted m c) (is_put a) e
+not_put : (m : Contents) (c : Command) (a : Result Outcome Refusal) → may_be_put a ≡ false → put_by_command m c a ≡ []
+not_put m c a e = by_test (is_accepted m c) (may_be_put a) e
   where
     by_test : (b p : Bool) → p ≡ false → (if b && p then c ∷ [] else []) ≡ []
     by_test b true e = absurd (cc)
@@ -54,11 +55,11 @@ not_put m c a e = by_test (is_accepted m c) (is_put a) e
 
 not_accepted : (m : Contents) (c : Command) (a : Result Outcome Refusal) → is_accepted m c ≡ false
     → put_by_command m c a ≡ []
-not_accepted m c a e = ap (λ (b : Bool). if b && is_put a then c ∷ [] else []) e
+not_accepted m c a e = ap (λ (b : Bool). if b && may_be_put a then c ∷ [] else []) e
 
-is_one : (m : Contents) (c : Command) (a : Result Outcome Refusal) → is_accepted m c ≡ true → is_put a ≡ true
+is_one : (m : Contents) (c : Command) (a : Result Outcome Refusal) → is_accepted m c ≡ true → may_be_put a ≡ true
     → put_by_command m c a ≡ c ∷ []
-is_one m c a e p = ap (λ (b : Bool). if b && is_put a then c ∷ [] else []) e
+is_one m c a e p = ap (λ (b : Bool). if b && may_be_put a then c ∷ [] else []) e
     ∙ ap (λ (b : Bool). if b then c ∷ [] else []) p
 
 -- what is meant is meant with no room
@@ -99,7 +100,7 @@ module _ {D : Type 0} (old mid new : EngineState D) (put : List Command) (c : Co
       → Went mid new c more
   put_more f accepted (inl done) =
       let answers : Answers (step mid.memory c).answer = accepted_answers mid.memory c accepted in
-      let is : is_put a ≡ true = ap (λ (x : Result Outcome Refusal). is_put x) (done.0 ∙ answers.1) in
+      let is : may_be_put a ≡ true = ap (λ (x : Result Outcome Refusal). may_be_put x) (done.0 ∙ answers.1) in
       inr (
         sym (same_one f)
             ∙ is_one mid.memory c a accepted is,
@@ -108,7 +109,7 @@ module _ {D : Type 0} (old mid new : EngineState D) (put : List Command) (c : Co
             (ap (λ (s : EngineState D). s.memory) done.1, ap (λ (s : EngineState D). s.count) done.1),
       )
   put_more f accepted (inr fault) =
-      let is : is_put a ≡ true = ap (λ (x : Result Outcome Refusal). is_put x) fault.0 in
+      let is : may_be_put a ≡ true = ap (λ (x : Result Outcome Refusal). may_be_put x) fault.0 in
       let dead : new.failed ≡ true = ap (λ (s : EngineState D). s.failed) fault.1 in
       inr (sym (same_one f) ∙ is_one mid.memory c a accepted is, f, λ g. absurd (cc))
 
@@ -117,7 +118,7 @@ module _ {D : Type 0} (old mid new : EngineState D) (put : List Command) (c : Co
       (λ none. inl (
         (it.full f accepted none).1,
         not_put (after old.memory put) c a
-            (ap (λ (x : Result Outcome Refusal). is_put x) (it.full f accepted none).0),
+            (ap (λ (x : Result Outcome Refusal). may_be_put x) (it.full f accepted none).0),
       ))
       (λ some. put_more f accepted (it.put f accepted some))
       (none_or_some mid.room)
@@ -127,7 +128,7 @@ module _ {D : Type 0} (old mid new : EngineState D) (put : List Command) (c : Co
       (λ dead. inl (
         (it.dead dead).1,
         not_put (after old.memory put) c a
-            (ap (λ (x : Result Outcome Refusal). is_put x) (it.dead dead).0),
+            (ap (λ (x : Result Outcome Refusal). may_be_put x) (it.dead dead).0),
       ))
       (λ f. ⊎_elim
       (λ accepted. accepted_went f accepted)

@@ -21,7 +21,7 @@ use Rattle.im_checkpoint.specs.Keeping.{IsBetween, StepFits, Fits, MeansWith}
 use Rattle.im_checkpoint.specs.Step.{changed_in}
 use Rattle.im_checkpoint.specs.Turns.{AddsAtMost}
 use Rattle.im_engine.specs.State.{EngineState, engine_of}
-use Rattle.im_groups.specs.Commands.{places, contents_after, commands_at, most_pages_with}
+use Rattle.im_groups.specs.Commands.{places, contents_after_all, commands_at, most_pages_with}
 use Rattle.im_groups.proofs.CommandLemmas.{few_at, at-after, at-accepts}
 use Rattle.im_engine.specs.Groups.{reached_in, calls_for_group, GroupCalls}
 use Rattle.im_engine.specs.Commands.{commands_put, MeansCommands, each_refused, answers_in_turn}
@@ -80,29 +80,29 @@ module _ {D : Type 0} (d : D) (c : PagedCheckpoint) (m : MemoryState) (j : Journ
   pub last_for : j.count + length cmds ≤ LAST
   last_for = omega (arith, few, known.to_last)
 
-  pub accepts : accept_each m.contents cmds ≡ Some (contents_after m.contents (places j.count j.room) cs)
+  pub accepts : accept_each m.contents cmds ≡ Some (contents_after_all m.contents (places j.count j.room) cs)
   accepts = ap (λ (l : List Command). accept_each m.contents l) cmds_are
       ∙ at-accepts m.contents (places j.count j.room) cs
 
   -- the files mean what the engine is without the group, or with it
   pub means_group : (file : List ℕ) → MeansWith m.contents j file
-      ⊎ MeansWith (contents_after m.contents (places j.count j.room) cs) (longer (length cmds) j) file
+      ⊎ MeansWith (contents_after_all m.contents (places j.count j.room) cs) (longer (length cmds) j) file
       → MeansCommands here cs file
   means_group file either = ⊎_elim
       (λ old. inl old)
-      (λ new. inr (subst (λ (l : List Command). Means (contents_after m.contents (places j.count j.room) cs)
+      (λ new. inr (subst (λ (l : List Command). Means (contents_after_all m.contents (places j.count j.room) cs)
       (j.count + length l) (room_after j.count (length l) j.room) file) cmds_are new))
       either
 
   -- a memory that no command changes
-  none_after : cmds ≡ [] → contents_after m.contents (places j.count j.room) cs ≡ m.contents
+  none_after : cmds ≡ [] → contents_after_all m.contents (places j.count j.room) cs ≡ m.contents
   none_after none = sym (at-after m.contents (places j.count j.room) cs)
       ∙ ap (λ (l : List Command). after m.contents l) (sym cmds_are ∙ none)
 
   -- the disk has the group, and its members acted
   pub group_done : f ≡ false → (d2 : D) (c2 : PagedCheckpoint) (m2 : MemoryState) (j2 : JournalState)
       → j2 ≡ longer (length cmds) j → (cmds ≡ [] → d2 ≡ d) → c2.state ≡ c.state
-      → m2.contents ≡ contents_after m.contents (places j.count j.room) cs → (answers : List Served)
+      → m2.contents ≡ contents_after_all m.contents (places j.count j.room) cs → (answers : List Served)
       → answers ≡ answers_in_turn here cs
       → AddsAtMost (most_pages_with m.contents (places j.count j.room) cs) (changed_in c) (changed_in c2)
       → CommandsAnswered here cs answers (engine_of d2 c2 m2 j2 f)

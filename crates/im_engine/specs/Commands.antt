@@ -12,7 +12,7 @@ use Rattle.im_disk.specs.declared.disk.Disk.{Ghosts}
 use Rattle.im_disk.specs.Since.{LeavesWithin, LeavesNow}
 use Rattle.im_journal.specs.Holding.{room_after}
 use Rattle.im_checkpoint.specs.Turns.{AddsAtMost}
-use Rattle.im_groups.specs.Commands.{places, answers_with, contents_after, commands_at, takes_at}
+use Rattle.im_groups.specs.Commands.{places, answers_with, contents_after_all, commands_at, takes_at}
 use Rattle.im_groups.specs.Commands.{most_pages_with}
 use Rattle.im_engine.specs.State.{EngineState, MeansState}
 use Rattle.im_engine.specs.Groups.{GroupCalls, GroupFaults, calls_for_group}
@@ -29,7 +29,7 @@ pub record AreJudged (m : Contents) (left : ℕ) (members : List Command) (told 
 -- the engine after these commands, one after another
 abbrev pub after_commands : {D : Type 0} → EngineState D → List Command → EngineState D
 after_commands s members = let n = length (commands_put s members) in record s {
-  memory = contents_after s.memory
+  memory = contents_after_all s.memory
       (places s.count s.room) members;
   count = s.count + n;
   room = room_after s.count n s.room;

@@ -120,9 +120,9 @@ pub record GroupFaults (before after : Bool) (old new : ℕ) : Type 0 where
 -- ---- requests by the places that are left
 
 -- the request is accepted at this memory, and there is a place for it
-abbrev pub takes : Contents → ℕ → Request → Bool
-takes m left r = is_accepted m (Asks r) && nat_lt 0 left
+abbrev pub takes_request : Contents → ℕ → Request → Bool
+takes_request m left r = is_accepted m (Asks r) && nat_lt 0 left
 
 -- the places that are left after it
 abbrev pub left_with : Contents → ℕ → Request → ℕ
-left_with m left r = if takes m left r then left - 1 else left
+left_with m left r = if takes_request m left r then left - 1 else left

@@ -12,7 +12,7 @@ ghost use Rattle.im_image.specs.Reading.{HasSizes};
 ghost use Rattle.im_memory.specs.Covering.{most_pages};
 ghost use Rattle.im_checkpoint.specs.Keeping.{paged, IsKept};
 ghost use Rattle.im_groups.specs.Commands.{places, answer_with, contents_with, places_behind, answers_with};
-ghost use Rattle.im_groups.specs.Commands.{contents_after, takes_place};
+ghost use Rattle.im_groups.specs.Commands.{contents_after_all, takes_place};
 ghost use Rattle.im_groups.specs.Commands.{most_pages_at, most_pages_with};
 ghost use Rattle.im_engine.specs.Groups.{FitsGroup, GroupPut, LeavesAllOrNone, KeepsAfter, StaysBut};
 ghost use Rattle.im_engine.specs.Commands.{AreJudged, each_refused};
@@ -217,7 +217,7 @@ pub(crate) fn act_all(
     requires sizes { HasSizes checkpoint.old.state.header.sizes memory.old.contents }
     ensures answers { served.new.items
         ≡ map as_served (answers_with memory.old.contents places members.now.all.now) }
-    ensures contents { memory.new.contents ≡ contents_after memory.old.contents places members.now.all.now }
+    ensures contents { memory.new.contents ≡ contents_after_all memory.old.contents places members.now.all.now }
     ensures sizes { HasSizes checkpoint.new.state.header.sizes memory.new.contents }
     ensures stays { StaysBut (most_pages_with memory.old.contents places members.now.all.now)
         checkpoint.old checkpoint.new }

@@ -30,7 +30,7 @@ use Rattle.im_types.specs.Act.{is_waiting_cell, act}
 use Rattle.im_types.specs.Step.{Stepped, asker, step, step_request, is_accepted}
 use Rattle.im_types.specs.Run.{accepted}
 use Rattle.im_types.specs.Trace.{contents_after, end_of}
-use Rattle.im_laws.specs.Traces.{command_in, commands_of}
+use Rattle.im_laws.specs.Traces.{commands_of_call, commands_of}
 use Rattle.im_laws.proofs.OpLemmas.{same_kind-equal}
 use Rattle.im_laws.proofs.PlaceLemmas.{get_or-fill, get_or-change_each, place-free}
 use Rattle.im_laws.proofs.AgreementLemmas.{held_at-set, held_at-within}
@@ -324,7 +324,7 @@ length-changes_of m (line ∷ trace) = by_call line.call (length-changes_of (con
     by_call : (call : Call) → length (changes_of (contents_after m call) trace)
         ≡ length (accepted (contents_after m call) (commands_of trace))
         → length (changes_in m call ++ changes_of (contents_after m call) trace)
-        ≡ length (accepted m (command_in call ++ commands_of trace))
+        ≡ length (accepted m (commands_of_call call ++ commands_of trace))
     by_call (Commands command) e = by_test (is_accepted m command) command
         (changes_of (step m command).contents trace) (accepted (step m command).contents (commands_of trace)) e
     by_call (Collect element number) e = e

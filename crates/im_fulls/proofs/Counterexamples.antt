@@ -14,7 +14,7 @@ use Rattle.im_types.specs.declared.changes.Change.TheVariants.{Same, Full as Fil
 use Rattle.im_types.specs.Contents.{Contents, empty_contents}
 use Rattle.im_types.specs.Trace.{end_of}
 use Rattle.im_types.specs.Changes.{changes_at}
-use Rattle.im_laws.specs.Examples.{sixteen_cells, asks, told, waits}
+use Rattle.im_laws.specs.Examples.{sixteen_cells, asks, told_reply, told_waits}
 use Rattle.im_fulls.specs.Groups.{AreBefore, after_requests}
 
 abbrev request : ℕ → ℕ → Op → Request
@@ -22,10 +22,10 @@ request element number op = record { element = element; number = number; op = op
 
 -- one cell, empty; and one that a reader waits for
 abbrev one_cell : Contents
-one_cell = end_of sixteen_cells (asks 0 1 (Alloc I 1) (told (Base 0)) ∷ [])
+one_cell = end_of sixteen_cells (asks 0 1 (Alloc I 1) (told_reply (Base 0)) ∷ [])
 
 abbrev one_reader : Contents
-one_reader = end_of sixteen_cells (asks 0 1 (Alloc I 1) (told (Base 0)) ∷ asks 1 1 (Fetch 0) waits ∷ [])
+one_reader = end_of sixteen_cells (asks 0 1 (Alloc I 1) (told_reply (Base 0)) ∷ asks 1 1 (Fetch 0) told_waits ∷ [])
 
 -- what is read from a change, so that two can be told apart
 abbrev kind_of : List Change → ℕ

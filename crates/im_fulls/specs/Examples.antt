@@ -6,19 +6,19 @@ use Rattle.im_types.specs.declared.operations.Reply.TheVariants.{Base, Stored, C
 use Rattle.im_types.specs.declared.commands.Line.{Line}
 use Rattle.im_types.specs.declared.changes.Change.{Change}
 use Rattle.im_types.specs.declared.changes.Change.TheVariants.{Same, Full as Fills, Gone}
-use Rattle.im_laws.specs.Examples.{asks, collects, told}
+use Rattle.im_laws.specs.Examples.{asks, collects, told_reply}
 
 -- two cells are stored to, one of them twice; their block is reset, stored to again, and released
 abbrev pub stored_and_released : List Line
 stored_and_released =
-    asks 0 1 (Alloc I 2) (told (Base 0))
-    ∷ asks 1 1 (Store 0 5) (told Stored)
-    ∷ collects 1 1 (told Stored)
-    ∷ asks 1 2 (Store 1 6) (told Stored)
-    ∷ asks 2 1 (Store 0 5) (told Clash)
-    ∷ asks 0 2 (Reset 0) (told Cleared)
-    ∷ asks 2 2 (Store 1 7) (told Stored)
-    ∷ asks 0 3 (Release 0) (told Released)
+    asks 0 1 (Alloc I 2) (told_reply (Base 0))
+    ∷ asks 1 1 (Store 0 5) (told_reply Stored)
+    ∷ collects 1 1 (told_reply Stored)
+    ∷ asks 1 2 (Store 1 6) (told_reply Stored)
+    ∷ asks 2 1 (Store 0 5) (told_reply Clash)
+    ∷ asks 0 2 (Reset 0) (told_reply Cleared)
+    ∷ asks 2 2 (Store 1 7) (told_reply Stored)
+    ∷ asks 0 3 (Release 0) (told_reply Released)
     ∷ []
 
 -- one change for each command; a question has none

@@ -7,7 +7,7 @@ use mathlib.Core.List.{IsPrefix}
 use prog.Atomic.{either}
 use Rattle.logbook.specs.Pages.{Cell, cell, keeps, no_nib, step, Moves, Goes}
 use Rattle.im_types.specs.declared.changes.Change.{Change}
-use Rattle.im_glass.specs.Books.{IsCounted, Adds}
+use Rattle.im_glass.specs.Books.{CountsChanges, AddsChange}
 use Rattle.im_glass.proofs.PrefixLemmas.{prefix_whole}
 
 abbrev pub shown : List Change → List Change
@@ -18,8 +18,8 @@ moved xs ys n = Unit {0}
 
 pub adds_goes : (log v : List Change) (e : Change) (old : ℕ) → length v ≡ old → IsPrefix v log
     → (b : Bool) → (length log == old) ≡ b
-    → Goes IsCounted shown moved 0 (v, (no_nib, None)) (λ n. either (n == old) (old + 1) n)
-    (Adds (step 0 old (old + 1) e) (v, (no_nib, None))) ((length log, true) ∷ (0, true) ∷ []) log
+    → Goes CountsChanges shown moved 0 (v, (no_nib, None)) (λ n. either (n == old) (old + 1) n)
+    (AddsChange (step 0 old (old + 1) e) (v, (no_nib, None))) ((length log, true) ∷ (0, true) ∷ []) log
 adds_goes log v e old len pre true is =
     let here : length log ≡ old = grind (arith, nat_tests) in
     let same : v ≡ log = prefix_whole v log pre (omega arith) in
@@ -47,10 +47,10 @@ adds_goes log v e old len pre false is =
 
 -- whatever the book is, the exchange adds the change to all that was seen, or finds that the history is longer
 pub adds_moves : (v : List Change) (e : Change) (old : ℕ) → length v ≡ old
-    → Moves IsCounted shown moved 0 (v, (no_nib, None)) (λ n. either (n == old) (old + 1) n)
-    (Adds (step 0 old (old + 1) e) (v, (no_nib, None)))
+    → Moves CountsChanges shown moved 0 (v, (no_nib, None)) (λ n. either (n == old) (old + 1) n)
+    (AddsChange (step 0 old (old + 1) e) (v, (no_nib, None)))
 adds_moves v e old len cs log kept pre away =
     let P : List Cell → Type 0 = λ c. (0 < length c) × ((cell c 0).1 ≡ true)
-    × Goes IsCounted shown moved 0 (v, (no_nib, None)) (λ n. either (n == old) (old + 1) n)
-    (Adds (step 0 old (old + 1) e) (v, (no_nib, None))) c log in
+    × Goes CountsChanges shown moved 0 (v, (no_nib, None)) (λ n. either (n == old) (old + 1) n)
+    (AddsChange (step 0 old (old + 1) e) (v, (no_nib, None))) c log in
     subst P (sym kept.words) (omega arith, refl, adds_goes log v e old len pre (length log == old) refl)

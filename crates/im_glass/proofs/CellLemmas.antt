@@ -4,7 +4,7 @@ use Rattle.std.proofs.Common.{true, false, Option, Some, None, refl, ap, ◌∙�
 use Rattle.im_types.specs.declared.changes.Change.{Change}
 use Rattle.im_types.specs.declared.changes.Change.TheVariants.{Same, Full, Gone}
 use Rattle.im_types.specs.Place.{fill}
-use Rattle.im_glass.specs.Cells.{cell_seen, cells_seen, written}
+use Rattle.im_glass.specs.Cells.{cell_seen, cells_seen, cells_written}
 
 pub cells_length : (fulls : List Bool) (values : List ℕ) → length fulls ≡ length values
     → length (cells_seen fulls values) ≡ length fulls
@@ -68,7 +68,7 @@ length-filled (c ∷ cells) zero zero = refl
 length-filled (c ∷ cells) zero (suc n) = ap suc (length-filled cells zero n)
 length-filled (c ∷ cells) (suc base) n = ap suc (length-filled cells base n)
 
-pub length-written : (cells : List (Option ℕ)) (change : Change) → length (written cells change) ≡ length cells
+pub length-written : (cells : List (Option ℕ)) (change : Change) → length (cells_written cells change) ≡ length cells
 length-written cells Same = refl
 length-written cells (Full a v) = length-set cells a (Some v)
 length-written cells (Gone base n) = length-filled cells base n

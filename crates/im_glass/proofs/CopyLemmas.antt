@@ -12,7 +12,7 @@ use Rattle.im_types.specs.declared.changes.Change.TheVariants.{Same, Full, Gone}
 use Rattle.im_types.specs.Changes.{is_among, is_below, changed, value_after}
 use Rattle.im_fulls.proofs.ChangeLemmas.{get_or-emptied}
 use Rattle.im_glass.specs.declared.copies.Ahead.{Ahead}
-use Rattle.im_glass.specs.Cells.{written}
+use Rattle.im_glass.specs.Cells.{cells_written}
 use Rattle.im_glass.specs.Copies.{History, CopyState, IsKeptCopy, FollowEach, ChangeNothing, AddsOne, applied_to}
 use Rattle.im_glass.specs.Copies.{after_all, changes_ahead}
 use Rattle.im_glass.proofs.CellLemmas.{length-written}
@@ -38,7 +38,7 @@ get_or-filled cells b v below a = by_test (a == b) refl
 -- the cells after one more change
 pub written-kept : (cells : List (Option ℕ)) (changes : List Change) (change : Change)
     → ((a : ℕ) → get_or cells a None ≡ value_after a None changes)
-    → is_below (length cells) change ≡ true → (a : ℕ) → get_or (written cells change) a None
+    → is_below (length cells) change ≡ true → (a : ℕ) → get_or (cells_written cells change) a None
     ≡ value_after a None (changes ++ change ∷ [])
 written-kept cells changes Same kept below a = kept a ∙ sym (value_after-more a changes Same)
 written-kept cells changes (Full b v) kept below a =
@@ -130,7 +130,7 @@ pub brought : (all : List Ahead) (book : Book) (s : CopyState) → s.0.book ≡ 
     → Brought book (s.0.log ++ changes_ahead all) (length s.1) (after_all s all)
 brought [] book s b kept h = record { log = sym (append-nil s.0.log); book_is = b; kept = kept; cells = refl }
 brought (ahead ∷ all) book s b kept h =
-    let next : CopyState = (ahead.seen, written s.1 ahead.change, ahead.count) in
+    let next : CopyState = (ahead.seen, cells_written s.1 ahead.change, ahead.count) in
     let is : applied_to s ahead ≡ next = rw h.3 refl in
     let same = length-written s.1 ahead.change in
     let kept' : IsKeptCopy next = record {

@@ -8,30 +8,30 @@ use Rattle.logbook.specs.Pages.{Book}
 use Rattle.im_glass.specs.declared.copies.Copy.{Copy}
 use Rattle.im_glass.specs.declared.rule.Known.{Known}
 use Rattle.im_glass.specs.Copies.{History, IsKeptCopy}
-use Rattle.im_glass.specs.Rule.{state_of, IsOf, IsShown, SeesShown, newcomer}
+use Rattle.im_glass.specs.Rule.{copy_state, IsKnownOf, IsShownCopy, SeesShown, newcomer}
 
-none-known : (book : Book) → IsOf newcomer book
+none-known : (book : Book) → IsKnownOf newcomer book
 none-known book s e = absurd (cc)
 
 known-set : (book : Book) (knowns : List Known) (seat : ℕ) (now : Known)
-    → ((j : ℕ) (u : Known) → get_elem? knowns j ≡ some u → IsOf u book) → IsOf now book
-    → (j : ℕ) (u : Known) → get_elem? (set knowns seat now) j ≡ some u → IsOf u book
+    → ((j : ℕ) (u : Known) → get_elem? knowns j ≡ some u → IsKnownOf u book) → IsKnownOf now book
+    → (j : ℕ) (u : Known) → get_elem? (set knowns seat now) j ≡ some u → IsKnownOf u book
 known-set book knowns seat now others mine j u e =
-    ⊎_elim (λ (t : (j ≡ seat) × (now ≡ u)). subst (λ (k : Known). IsOf k book) t.1 mine)
+    ⊎_elim (λ (t : (j ≡ seat) × (now ≡ u)). subst (λ (k : Known). IsKnownOf k book) t.1 mine)
     (λ (t : (j ≢ seat) × (get_elem? knowns j ≡ some u)). others j u t.1) (at_set knowns seat j now u e)
 
 -- one more reader
-pub admits : Admits IsShown newcomer
+pub admits : Admits IsShownCopy newcomer
 admits copy knowns h = (
   h.0,
   λ seat known at. ⊎_elim (h.1 seat known)
-      (λ (e : newcomer ≡ known). subst (λ (k : Known). IsOf k copy.seen.book) e (none-known copy.seen.book))
+      (λ (e : newcomer ≡ known). subst (λ (k : Known). IsKnownOf k copy.seen.book) e (none-known copy.seen.book))
       (at_snoc knowns newcomer known seat at),
 )
 
 -- a look, and a change of what is shown
 pub moves : (seat : ℕ) (known : Known) (old new : Copy) → new.seen.book ≡ old.seen.book
-    → (IsKeptCopy (state_of old) → IsKeptCopy (state_of new)) → TurnsAt IsShown seat known old new SeesShown
+    → (IsKeptCopy (copy_state old) → IsKeptCopy (copy_state new)) → TurnsAt IsShownCopy seat known old new SeesShown
 moves seat known old new same keep knowns h at =
     let now : Known = record { seen = Some new.seen } in
     let kept = keep h.0 in (
@@ -44,20 +44,21 @@ moves seat known old new same keep knowns h at =
       (refl, kept, λ s e. h.1 seat known at s e ∙ sym same),
     )
 
-pub looks : (seat : ℕ) (known : Known) → Turns IsShown seat known (λ copy. copy) SeesShown
+pub looks : (seat : ℕ) (known : Known) → Turns IsShownCopy seat known (λ copy. copy) SeesShown
 looks seat known copy = moves seat known copy copy refl (λ k. k)
 
 -- a note is cut off, and taken in
-pub forks : (seat : ℕ) (known : Known) → Forks IsShown seat known known known
+pub forks : (seat : ℕ) (known : Known) → Forks IsShownCopy seat known known known
 forks seat known copy knowns h at = (
   h.0,
   λ j u e.
       ⊎_elim (known-set copy.seen.book knowns seat known h.1 (h.1 seat known at) j u)
-      (λ (same : known ≡ u). subst (λ (k : Known). IsOf k copy.seen.book) same (h.1 seat known at))
+      (λ (same : known ≡ u). subst (λ (k : Known). IsKnownOf k copy.seen.book) same (h.1 seat known at))
       (at_snoc (set knowns seat known) known u j e),
 )
 
-pub merges : (seat : ℕ) (known : Known) (other : ℕ) (note : Known) → Merges IsShown seat known other note note newcomer
+pub merges : (seat : ℕ) (known : Known) (other : ℕ) (note : Known)
+    → Merges IsShownCopy seat known other note note newcomer
 merges seat known other note copy knowns h at apart there =
     let theirs = ⊎_elim (λ (t : (other ≡ seat) × (note ≡ note)). absurd (apart t.0))
     (λ (t : (other ≢ seat) × (get_elem? knowns other ≡ some note)). h.1 other note t.1)

@@ -16,7 +16,7 @@ cells_seen (full ∷ fulls) [] = []
 cells_seen (full ∷ fulls) (value ∷ values) = cell_seen full value ∷ cells_seen fulls values
 
 -- the cells after a change
-abbrev pub written : List (Option ℕ) → Change → List (Option ℕ)
-written cells Same = cells
-written cells (Fills a v) = slice_set cells a (Some v)
-written cells (Gone base n) = fill cells base n None
+abbrev pub cells_written : List (Option ℕ) → Change → List (Option ℕ)
+cells_written cells Same = cells
+cells_written cells (Fills a v) = slice_set cells a (Some v)
+cells_written cells (Gone base n) = fill cells base n None

@@ -7,7 +7,7 @@ use Rattle.im_types.specs.declared.changes.Change.{Change}
 use Rattle.im_types.specs.Changes.{value_after, is_below}
 use Rattle.im_glass.specs.declared.book.InOrder.{InOrder}
 use Rattle.im_glass.specs.declared.copies.Ahead.{Ahead}
-use Rattle.im_glass.specs.Cells.{written}
+use Rattle.im_glass.specs.Cells.{cells_written}
 
 -- a prefix of the list of changes
 abbrev pub History : Type 0
@@ -20,7 +20,7 @@ CopyState = History × List (Option ℕ) × ℕ
 -- a copy after a change that was put ahead; a change that isn't of its cells alone leaves it as it is
 abbrev pub applied_to : CopyState → Ahead → CopyState
 applied_to s ahead =
-    if is_below (length s.1) ahead.change then (ahead.seen, written s.1 ahead.change, ahead.count) else s
+    if is_below (length s.1) ahead.change then (ahead.seen, cells_written s.1 ahead.change, ahead.count) else s
 
 -- a copy after all that was put ahead
 abbrev pub after_all : CopyState → List Ahead → CopyState

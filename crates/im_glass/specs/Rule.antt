@@ -8,26 +8,26 @@ use Rattle.im_glass.specs.declared.rule.Known.{Known}
 use Rattle.im_glass.specs.Copies.{History, CopyState, IsKeptCopy}
 
 -- a copy, as its state
-abbrev pub state_of : Copy → CopyState
-state_of copy = (copy.seen, copy.cells, copy.count)
+abbrev pub copy_state : Copy → CopyState
+copy_state copy = (copy.seen, copy.cells, copy.count)
 
 -- a copy that is kept, and of this book
 abbrev pub IsKeptOf : Book → Copy → Type 0
-IsKeptOf book copy = (copy.seen.book ≡ book) × IsKeptCopy (state_of copy)
+IsKeptOf book copy = (copy.seen.book ≡ book) × IsKeptCopy (copy_state copy)
 
 -- what it has seen, if anything, is of this book
-abbrev pub IsOf : Known → Book → Type 0
-IsOf known book = (seen : History) → known.seen ≡ Some seen → seen.book ≡ book
+abbrev pub IsKnownOf : Known → Book → Type 0
+IsKnownOf known book = (seen : History) → known.seen ≡ Some seen → seen.book ≡ book
 
 -- what is shown is kept, and each who has seen it knows its book
-abbrev pub IsShown : Copy → List Known → Type 0
-IsShown copy knowns =
-    IsKeptCopy (state_of copy)
-    × ((seat : ℕ) (known : Known) → get_elem? knowns seat ≡ some known → IsOf known copy.seen.book)
+abbrev pub IsShownCopy : Copy → List Known → Type 0
+IsShownCopy copy knowns =
+    IsKeptCopy (copy_state copy)
+    × ((seat : ℕ) (known : Known) → get_elem? knowns seat ≡ some known → IsKnownOf known copy.seen.book)
 
 -- a look sees what is then shown, which is kept and of the book that was known
 abbrev pub SeesShown : Known → Copy → Copy → Known → Type 0
-SeesShown known old new now = (now.seen ≡ Some new.seen) × IsKeptCopy (state_of new) × IsOf known new.seen.book
+SeesShown known old new now = (now.seen ≡ Some new.seen) × IsKeptCopy (copy_state new) × IsKnownOf known new.seen.book
 
 -- one who has seen nothing
 abbrev pub newcomer : Known

@@ -15,9 +15,9 @@ pub struct InOrder;
 impl Rule<Change, u64> for InOrder {
     ghost use Rattle.std.specs.Prelude.{[]};
     ghost use base.Fml.{ftrue};
-    ghost use Rattle.im_glass.specs.Books.{IsCounted};
+    ghost use Rattle.im_glass.specs.Books.{CountsChanges};
 
-    ghost holds = { λ cells log. IsCounted cells log };
+    ghost holds = { λ cells log. CountsChanges cells log };
 
     ghost first = { [] };
 
@@ -43,9 +43,9 @@ impl Gain<Change, u64> for Nothing {
 pub struct Add;
 
 impl Play<Change, u64> for Add {
-    ghost use Rattle.im_glass.specs.Books.{Adds};
+    ghost use Rattle.im_glass.specs.Books.{AddsChange};
 
-    ghost then = { Adds };
+    ghost then = { AddsChange };
 }
 
 impl Plain<Change, Change, u64> for Add {

@@ -3,7 +3,7 @@ ghost use Rattle.std.specs.Prelude.{◌≡◌, ◌<◌, ◌≤◌, ◌+◌, ℕ,
 ghost use Rattle.std.specs.Prelude.{slice_set, true, IfOk};
 ghost use Rattle.im_types.specs.Place.{fill};
 ghost use Rattle.im_types.specs.Changes.{is_below};
-ghost use Rattle.im_glass.specs.Cells.{written};
+ghost use Rattle.im_glass.specs.Cells.{cells_written};
 
 use im_types::Change;
 use std::alloc::{AllocError, Global};
@@ -99,7 +99,7 @@ impl FullCells {
     /// Makes a change in the cells.
     pub fn change(&mut self, change: Change)
         requires { is_below (length self.old) change ≡ true }
-        ensures { self.new ≡ written self.old change }
+        ensures { self.new ≡ cells_written self.old change }
     {
         match change {
             Change::Same => {}

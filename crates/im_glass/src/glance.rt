@@ -5,12 +5,12 @@ ghost use Rattle.left_right.specs.Sides.{view};
 ghost use Rattle.im_types.specs.Changes.{value_after};
 ghost use Rattle.im_types.specs.declared.refusals.Refusal.TheVariants as Refusal;
 ghost use Rattle.im_glass.specs.Copies.{IsKeptCopy};
-ghost use Rattle.im_glass.specs.Rule.{HasSeen, state_of};
+ghost use Rattle.im_glass.specs.Rule.{HasSeen, copy_state};
 
 use crate::book::{Beginning, PaneName};
 use crate::copies::{Ahead, Copy, History};
 use crate::pane::Told;
-use crate::rule::{Known, Notes, Sees, Shows};
+use crate::rule::{Known, Sees, ShownNotes, Shows};
 use core::mem::replace_with;
 use im_types::Refusal;
 use left_right::reader::Reader;
@@ -62,7 +62,7 @@ impl<J: PaneName> Model for Glance<J> {
 impl Spare {
     // Makes one more reader, which has seen what is shown.
     pub(crate) fn new(writer: &mut Writer<Copy, Ahead, Known, Shows>) -> Result<Spare, AllocError>
-        requires kept { IsKeptCopy (state_of writer.old.desk.shown.value) }
+        requires kept { IsKeptCopy (copy_state writer.old.desk.shown.value) }
         requires known { (view writer.old.desk.place).seen ≡ Some writer.old.desk.shown.value.seen }
         ensures found { IfOk result (λ s. s ≡ writer.old.desk.shown.value.seen.book) }
         ensures same { (writer.new.desk.shown ≡ writer.old.desk.shown) × (writer.new.log ≡ writer.old.log)
@@ -73,7 +73,7 @@ impl Spare {
         let seen = shown.seen.again();
         let count = shown.count;
         let mut reader = writer.factory().reader()?;
-        reader.learn::<Notes>(writer.tell::<Notes>());
+        reader.learn::<ShownNotes>(writer.tell::<ShownNotes>());
         Ok(Spare {
             reader,
             count,

@@ -39,7 +39,7 @@ impl<J: PaneName> Model for Pane<J> {
     ghost use Rattle.left_right.specs.Sides.{view as known};
     ghost use Rattle.im_types.specs.Changes.{is_below};
     ghost use Rattle.im_glass.specs.Copies.{IsKeptCopy};
-    ghost use Rattle.im_glass.specs.Rule.{state_of};
+    ghost use Rattle.im_glass.specs.Rule.{copy_state};
     ghost use Rattle.im_glass.specs.Panes.{PaneView};
 
     ghost Value = { PaneView };
@@ -55,7 +55,7 @@ impl<J: PaneName> Model for Pane<J> {
         (p.all ≡ p.both.desk.shown.value.seen.log)
         × (drop p.both.behind p.both.log.items ≡ [])
         × (p.both.desk.shown.value.seen.book ≡ J.book)
-        × IsKeptCopy (state_of p.both.desk.shown.value)
+        × IsKeptCopy (copy_state p.both.desk.shown.value)
         × ((known p.both.desk.place).seen ≡ Some p.both.desk.shown.value.seen)
         × AllByRecursion (λ b. b ≡ J.book) p.spare.items
         × AllByRecursion (λ c. is_below (length p.both.desk.shown.value.cells) c ≡ true) p.ahead.items

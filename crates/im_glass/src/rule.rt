@@ -13,9 +13,9 @@ pub struct Known {
 pub struct Shows;
 
 impl Protocol<Copy, Known> for Shows {
-    ghost use Rattle.im_glass.specs.Rule.{IsShown, newcomer};
+    ghost use Rattle.im_glass.specs.Rule.{IsShownCopy, newcomer};
 
-    ghost holds = { IsShown };
+    ghost holds = { IsShownCopy };
 
     ghost first = { newcomer };
 }
@@ -30,15 +30,15 @@ impl Outcome<Copy, Known> for Sees {
 }
 
 // What the one who shows tells a reader.
-pub struct Notes;
+pub struct ShownNotes;
 
-impl Split<Known> for Notes {
+impl Split<Known> for ShownNotes {
     ghost left = { λ known. known };
 
     ghost right = { λ known. known };
 }
 
-impl Join<Known> for Notes {
+impl Join<Known> for ShownNotes {
     ghost use Rattle.im_glass.specs.Rule.{newcomer};
 
     ghost both = { λ known note. note };

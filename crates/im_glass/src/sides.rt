@@ -5,7 +5,7 @@ ghost use Rattle.std.specs.List.{AllByRecursion};
 ghost use Rattle.left_right.specs.Sides.{view};
 ghost use Rattle.im_types.specs.Changes.{is_below};
 ghost use Rattle.im_glass.specs.Copies.{IsKeptCopy, ChangeNothing, FollowEach, AddsOne, after_all, changes_ahead};
-ghost use Rattle.im_glass.specs.Rule.{state_of, IsKeptOf};
+ghost use Rattle.im_glass.specs.Rule.{copy_state, IsKeptOf};
 
 use crate::book::{Beginning, Book, PaneName};
 use crate::cells::FullCells;
@@ -34,7 +34,7 @@ pub(crate) fn copies<R: Wait>(
 ) -> Result<Both, AllocError>
     requires readers { 0 < readers }
     requires none { seen.log ≡ [] }
-    ensures state { IfOk result (λ w. state_of w.desk.shown.value ≡ (seen, replicate cells None, 0)) }
+    ensures state { IfOk result (λ w. copy_state w.desk.shown.value ≡ (seen, replicate cells None, 0)) }
     ensures known { IfOk result (λ w. (view w.desk.place).seen ≡ Some w.desk.shown.value.seen) }
     ensures none { IfOk result (λ w. drop w.behind w.log.items ≡ []) }
 {
@@ -56,7 +56,7 @@ pub(crate) fn copies<R: Wait>(
 fn new_copies(alloc: Global, seen: &History, cells: u32, readers: u16) -> Result<Both, AllocError>
     requires readers { 0 < readers }
     requires none { seen.now.log ≡ [] }
-    ensures state { IfOk result (λ w. state_of w.desk.shown.value ≡ (seen.now, replicate cells None, 0)) }
+    ensures state { IfOk result (λ w. copy_state w.desk.shown.value ≡ (seen.now, replicate cells None, 0)) }
     ensures none { IfOk result (λ w. drop w.behind w.log.items ≡ []) }
 {
     let first = Copy {
@@ -74,9 +74,9 @@ fn new_copies(alloc: Global, seen: &History, cells: u32, readers: u16) -> Result
 
 // Shows changes that change nothing.
 fn show_nothing<R: Wait>(rt: &R, both: Both) -> Both
-    requires kept { IsKeptCopy (state_of both.desk.shown.value) }
-    requires idle { ChangeNothing (state_of both.desk.shown.value) (drop both.behind both.log.items) }
-    ensures state { state_of result.desk.shown.value ≡ state_of both.desk.shown.value }
+    requires kept { IsKeptCopy (copy_state both.desk.shown.value) }
+    requires idle { ChangeNothing (copy_state both.desk.shown.value) (drop both.behind both.log.items) }
+    ensures state { copy_state result.desk.shown.value ≡ copy_state both.desk.shown.value }
     ensures known { (view result.desk.place).seen ≡ Some result.desk.shown.value.seen }
     ensures none { drop result.behind result.log.items ≡ [] }
 {
@@ -85,10 +85,10 @@ fn show_nothing<R: Wait>(rt: &R, both: Both) -> Both
 
 // Puts ahead changes that change nothing, so that there is room for that many afterwards.
 fn make_room(both: &mut Both, seen: &History) -> Result<(), AllocError>
-    requires shown { state_of both.old.desk.shown.value ≡ (seen.now, both.old.desk.shown.value.cells, 0) }
+    requires shown { copy_state both.old.desk.shown.value ≡ (seen.now, both.old.desk.shown.value.cells, 0) }
     requires none { drop both.old.behind both.old.log.items ≡ [] }
     ensures same { both.new.desk ≡ both.old.desk }
-    ensures idle { ChangeNothing (state_of both.old.desk.shown.value) (drop both.new.behind both.new.log.items) }
+    ensures idle { ChangeNothing (copy_state both.old.desk.shown.value) (drop both.new.behind both.new.log.items) }
 {
     for _place in 0..GROUPS {
         let ahead = Ahead {
@@ -110,7 +110,7 @@ pub(crate) fn spare_readers(
     both: &mut Both,
     readers: u16,
 ) -> Result<Vec<Spare>, AllocError>
-    requires kept { IsKeptCopy (state_of both.old.desk.shown.value) }
+    requires kept { IsKeptCopy (copy_state both.old.desk.shown.value) }
     requires known { (view both.old.desk.place).seen ≡ Some both.old.desk.shown.value.seen }
     ensures count { IfOk result (λ spare. length spare.items ≡ readers) }
     ensures book { IfOk result (λ spare. AllByRecursion (λ b. b ≡ both.old.desk.shown.value.seen.book) spare.items) }
@@ -127,11 +127,11 @@ pub(crate) fn spare_readers(
 
 // Shows what is put ahead.
 fn publish<R: Wait>(rt: &R, both: Both) -> (Both, ())
-    requires kept { IsKeptCopy (after_all (state_of both.desk.shown.value) (drop both.behind both.log.items)) }
-    requires book { (after_all (state_of both.desk.shown.value) (drop both.behind both.log.items)).0.book
+    requires kept { IsKeptCopy (after_all (copy_state both.desk.shown.value) (drop both.behind both.log.items)) }
+    requires book { (after_all (copy_state both.desk.shown.value) (drop both.behind both.log.items)).0.book
         ≡ both.desk.shown.value.seen.book }
-    ensures state { state_of result.0.desk.shown.value
-        ≡ after_all (state_of both.desk.shown.value) (drop both.behind both.log.items) }
+    ensures state { copy_state result.0.desk.shown.value
+        ≡ after_all (copy_state both.desk.shown.value) (drop both.behind both.log.items) }
     ensures known { (view result.0.desk.place).seen ≡ Some result.0.desk.shown.value.seen }
     ensures none { drop result.0.behind result.0.log.items ≡ [] }
 {

@@ -28,7 +28,7 @@ impl Model for Unnamed {
     ghost use Rattle.std.specs.List.{AllByRecursion};
     ghost use Rattle.left_right.specs.Sides.{view as known};
     ghost use Rattle.im_glass.specs.Copies.{IsKeptCopy};
-    ghost use Rattle.im_glass.specs.Rule.{state_of};
+    ghost use Rattle.im_glass.specs.Rule.{copy_state};
     ghost use Rattle.im_glass.specs.Panes.{UnnamedView};
 
     ghost Value = { UnnamedView };
@@ -44,7 +44,7 @@ impl Model for Unnamed {
         (drop u.both.behind u.both.log.items ≡ [])
         × (u.book.seen.log ≡ u.both.desk.shown.value.seen.log)
         × (u.both.desk.shown.value.seen.book ≡ u.book.seen.book)
-        × IsKeptCopy (state_of u.both.desk.shown.value)
+        × IsKeptCopy (copy_state u.both.desk.shown.value)
         × ((known u.both.desk.place).seen ≡ Some u.both.desk.shown.value.seen)
         × AllByRecursion (λ b. b ≡ u.book.seen.book) u.spare.items
         × (u.ahead.items ≡ [])

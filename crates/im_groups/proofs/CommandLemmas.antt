@@ -10,7 +10,8 @@ use Rattle.im_types.specs.Run.{after}
 use Rattle.im_types.specs.Meaning.{accept_each}
 use Rattle.im_laws.proofs.Tests.{and_both}
 use Rattle.im_laws.proofs.GroupLemmas.{above_zero}
-use Rattle.im_groups.specs.Commands.{takes_place, contents_with, places_behind, command_at, contents_after, left_after}
+use Rattle.im_groups.specs.Commands.{takes_place, contents_with, places_behind, command_at, contents_after_all}
+use Rattle.im_groups.specs.Commands.{left_after}
 use Rattle.im_groups.specs.Commands.{commands_at, takes_at}
 use Rattle.im_groups.specs.Ahead.{AreAccepted}
 
@@ -31,7 +32,7 @@ few_at m left (c ∷ cs) = by_test (takes_place m left c) refl
         ≡ left = ap (λ (b : Bool). if b then left - 1 else left) e in omega (arith, rest, same)
 
 pub at-after : (m : Contents) (left : ℕ) (cs : List Command) → after m (commands_at m left cs)
-    ≡ contents_after m left cs
+    ≡ contents_after_all m left cs
 at-after m left [] = refl
 at-after m left (c ∷ cs) = by_test (takes_place m left c) refl
     ∙ at-after (contents_with m left c) (places_behind m left c) cs
@@ -62,30 +63,30 @@ at-accepted m left (c ∷ cs) = by_test (takes_place m left c) refl
 
 -- and they come to what the members come to
 pub at-accepts : (m : Contents) (left : ℕ) (cs : List Command) → accept_each m (commands_at m left cs)
-    ≡ Some (contents_after m left cs)
+    ≡ Some (contents_after_all m left cs)
 at-accepts m left cs = at-accepted m left cs ∙ ap Some (at-after m left cs)
 
 -- ---- a member more behind others
 
 pub left_behind : (m : Contents) (left : ℕ) (cs : List Command) (c : Command)
-    → left_after m left (cs ++ c ∷ []) ≡ places_behind (contents_after m left cs) (left_after m left cs) c
+    → left_after m left (cs ++ c ∷ []) ≡ places_behind (contents_after_all m left cs) (left_after m left cs) c
 left_behind m left [] c = refl
 left_behind m left (d ∷ cs) c = left_behind (contents_with m left d) (places_behind m left d) cs c
 
 pub commands_behind : (m : Contents) (left : ℕ) (cs : List Command) (c : Command)
     → commands_at m left (cs ++ c ∷ [])
-    ≡ commands_at m left cs ++ command_at (contents_after m left cs) (left_after m left cs) c
+    ≡ commands_at m left cs ++ command_at (contents_after_all m left cs) (left_after m left cs) c
 commands_behind m left [] c = append-nil (command_at m left c)
 commands_behind m left (d ∷ cs) c =
     ap (λ (l : List Command). command_at m left d ++ l)
     (commands_behind (contents_with m left d) (places_behind m left d) cs c)
     ∙ sym (append_assoc (command_at m left d) (commands_at (contents_with m left d) (places_behind m left d) cs)
-    (command_at (contents_after (contents_with m left d) (places_behind m left d) cs)
+    (command_at (contents_after_all (contents_with m left d) (places_behind m left d) cs)
     (left_after (contents_with m left d) (places_behind m left d) cs) c))
 
 pub takes_behind : (m : Contents) (left : ℕ) (cs : List Command) (c : Command)
     → takes_at m left (cs ++ c ∷ []) ≡ takes_at m left cs
-    ++ takes_place (contents_after m left cs) (left_after m left cs) c ∷ []
+    ++ takes_place (contents_after_all m left cs) (left_after m left cs) c ∷ []
 takes_behind m left [] c = refl
 takes_behind m left (d ∷ cs) c = ap (λ (l : List Bool). takes_place m left d ∷ l)
     (takes_behind (contents_with m left d) (places_behind m left d) cs c)

@@ -9,7 +9,7 @@ use Rattle.im_types.specs.declared.commands.Command.TheVariants.{Request as Asks
 use Rattle.im_types.specs.Contents.{Contents}
 use Rattle.im_types.specs.Step.{is_accepted}
 use Rattle.im_types.specs.Run.{after}
-use Rattle.im_groups.specs.Commands.{contents_after, left_after, command_at, commands_at, takes_place, takes_at}
+use Rattle.im_groups.specs.Commands.{contents_after_all, left_after, command_at, commands_at, takes_place, takes_at}
 use Rattle.im_groups.specs.Ahead.{IsUnsure, ServesPrefix}
 use Rattle.im_groups.proofs.CommandLemmas.{at-after, commands_behind, left_behind, takes_behind}
 
@@ -34,7 +34,7 @@ pub judged-next : (m : Contents) (places : ℕ) (members ahead cs ds : List Comm
 judged-next m places members ahead cs ds left left2 i d b within few same cs_are left_is b_is ds_are left2_is =
     let x = get_or members i d in
     let front = take i members in
-    let c = contents_after m places front in
+    let c = contents_after_all m places front in
     let l = left_after m places front in
     let more : take (i + 1) members ≡ front ++ x ∷ [] = take_more members i d within in
     let verdict : b ≡ is_accepted c x = b_is ∙ ap (λ n. is_accepted (after m n) x) (same ∙ cs_are)
@@ -59,7 +59,7 @@ pub taken-next : (m : Contents) (places : ℕ) (members ahead cs : List Command)
 taken-next m places members ahead cs ts left i d b taken within same cs_are left_is ts_are b_is taken_is =
     let x = get_or members i d in
     let front = take i members in
-    let c = contents_after m places front in
+    let c = contents_after_all m places front in
     let more : take (i + 1) members ≡ front ++ x ∷ [] = take_more members i d within in
     let verdict : b ≡ is_accepted c x = b_is ∙ ap (λ n. is_accepted (after m n) x) (same ∙ cs_are)
     ∙ ap (λ n. is_accepted n x) (at-after m places front) in

@@ -20,7 +20,7 @@ use Rattle.im_laws.proofs.Tests.{and_both}
 use Rattle.im_laws.proofs.GroupLemmas.{same_test, above_zero, below_last, counted-one}
 use Rattle.im_groups.specs.Commands.{places, takes_place, answer_with, contents_with, places_behind, command_at}
 use Rattle.im_groups.specs.Commands.{answers_with}
-use Rattle.im_groups.specs.Commands.{contents_after, commands_at}
+use Rattle.im_groups.specs.Commands.{contents_after_all, commands_at}
 
 -- the places at what was reached
 abbrev pub places_of : Reached → ℕ
@@ -93,11 +93,11 @@ answers_by s (r ∷ rs) it =
     it))
 
 pub contents_by : (s : Reached) (rs : List Request) → IsCounted s → (reached_by_all s rs).contents
-    ≡ contents_after s.contents (places_of s) (map Asks rs)
+    ≡ contents_after_all s.contents (places_of s) (map Asks rs)
 contents_by s [] it = refl
 contents_by s (r ∷ rs) it = contents_by (reached_by_one s r) rs (counted-one s r it)
-    ∙ ap (λ (m : Contents). contents_after m (places_of (reached_by_one s r)) (map Asks rs)) (one_contents s r it)
-    ∙ ap (λ (n : ℕ). contents_after (contents_with s.contents (places_of s) (Asks r)) n (map Asks rs)) (one_places s
+    ∙ ap (λ (m : Contents). contents_after_all m (places_of (reached_by_one s r)) (map Asks rs)) (one_contents s r it)
+    ∙ ap (λ (n : ℕ). contents_after_all (contents_with s.contents (places_of s) (Asks r)) n (map Asks rs)) (one_places s
     r it)
 
 -- the commands that the members put on the disk

@@ -42,10 +42,10 @@ answers_with m left (command ∷ commands) = answer_with m left command ∷ answ
     (places_behind m left command) commands
 
 -- the memory after all members
-abbrev pub contents_after : Contents → ℕ → List Command → Contents
-contents_after m left [] = m
-contents_after m left (command ∷ commands) =
-    contents_after (contents_with m left command) (places_behind m left command)
+abbrev pub contents_after_all : Contents → ℕ → List Command → Contents
+contents_after_all m left [] = m
+contents_after_all m left (command ∷ commands) =
+    contents_after_all (contents_with m left command) (places_behind m left command)
     commands
 
 -- the places that are left after all members

@@ -10,7 +10,7 @@ use Rattle.im_types.specs.declared.operations.Waiter.{Waiter}
 use Rattle.im_types.specs.Place.{begins_free, fill, change_each, IsLeastFree}
 use Rattle.im_types.specs.declared.cells.Cell.TheVariants.{Empty}
 use Rattle.im_cell.specs.declared.slots.Slot.{Slot}
-use Rattle.im_cell.specs.Slots.{slot_at, block_at, is_waiting, with_cell, empty_slot, block_with_base, is_quiet_block}
+use Rattle.im_cell.specs.Slots.{slot_at, slot_block, is_waiting_slot, with_cell, empty_slot, block_from, is_quiet_block}
 use Rattle.im_cell.specs.Slots.{is_releasable, length_of, length_at}
 use Rattle.im_arena.specs.Lists.{Shown}
 use Rattle.im_istore.specs.Agreement.{has_some, Agree}
@@ -24,7 +24,7 @@ get_or-same (suc n) (suc a) x = get_or-same n a x
 pub Agree-start : (n : ℕ) (arena : Shown) → arena.held.lists ≡ replicate n [] → Agree (replicate n None) arena
 Agree-start n arena e = record {
   lists = ap length e ∙ length-replicate n [] ∙ sym (length-replicate n None);
-  each = λ a. ap is_waiting (get_or-same n a None) ∙ ap has_some (sym (get_or-same n a []))
+  each = λ a. ap is_waiting_slot (get_or-same n a None) ∙ ap has_some (sym (get_or-same n a []))
       ∙ ap (λ (lists : List (List Waiter)). has_some (get_or lists a [])) (sym e);
 }
 
@@ -40,26 +40,29 @@ length-fill (old ∷ slots) zero (suc n) slot = ap suc (length-fill slots zero n
 length-fill (old ∷ slots) (suc base) n slot = ap suc (length-fill slots base n slot)
 
 -- slots that nobody waits for are written by one that nobody waits for
-fill-quiet : (slots : List (Option Slot)) (base n : ℕ) (slot : Option Slot) → is_waiting slot ≡ false
-    → list_any is_waiting (take n (drop base slots)) ≡ false
-    → (a : ℕ) → is_waiting (slot_at (fill slots base n slot) a) ≡ is_waiting (slot_at slots a)
+fill-quiet : (slots : List (Option Slot)) (base n : ℕ) (slot : Option Slot) → is_waiting_slot slot ≡ false
+    → list_any is_waiting_slot (take n (drop base slots)) ≡ false
+    → (a : ℕ) → is_waiting_slot (slot_at (fill slots base n slot) a) ≡ is_waiting_slot (slot_at slots a)
 fill-quiet [] base n slot quiet none a = refl
 fill-quiet (old ∷ slots) zero zero slot quiet none a = refl
-fill-quiet (old ∷ slots) zero (suc n) slot quiet none zero = quiet ∙ sym (neither (is_waiting old) _ none).0
+fill-quiet (old ∷ slots) zero (suc n) slot quiet none zero = quiet ∙ sym (neither (is_waiting_slot old) _ none).0
 fill-quiet (old ∷ slots) zero (suc n) slot quiet none (suc a) = fill-quiet slots zero n slot quiet
-    (neither (is_waiting old) _ none).1 a
+    (neither (is_waiting_slot old) _ none).1 a
 fill-quiet (old ∷ slots) (suc base) n slot quiet none zero = refl
 fill-quiet (old ∷ slots) (suc base) n slot quiet none (suc a) = fill-quiet slots base n slot quiet none a
 
-Agree-filled : (slots : List (Option Slot)) (arena : Shown) (base n : ℕ) (slot : Option Slot) → is_waiting slot ≡ false
-    → list_any is_waiting (take n (drop base slots)) ≡ false → Agree slots arena → Agree (fill slots base n slot) arena
+Agree-filled : (slots : List (Option Slot)) (arena : Shown) (base n : ℕ) (slot : Option Slot)
+    → is_waiting_slot slot ≡ false
+    → list_any is_waiting_slot (take n (drop base slots)) ≡ false → Agree slots arena
+    → Agree (fill slots base n slot) arena
 Agree-filled slots arena base n slot quiet none agree = record {
   lists = agree.lists ∙ sym (length-fill slots base n slot);
   each = λ a. fill-quiet slots base n slot quiet none a ∙ agree.each a;
 }
 
 -- nobody waits for a free cell
-free-quiet : (slots : List (Option Slot)) (n : ℕ) → IsTrue (begins_free n slots) → list_any is_waiting (take n slots)
+free-quiet : (slots : List (Option Slot)) (n : ℕ) → IsTrue (begins_free n slots)
+    → list_any is_waiting_slot (take n slots)
     ≡ false
 free-quiet slots zero free = refl
 free-quiet [] (suc n) free = refl
@@ -78,13 +81,13 @@ not_true false e = refl
 
 quiet_if : (slots : List (Option Slot)) (a : ℕ) (block : Block) (b : Bool)
     → is_quiet_block slots a (if b then Some block else None) ≡ true
-    → list_any is_waiting (take block.length (drop a slots)) ≡ false
+    → list_any is_waiting_slot (take block.length (drop a slots)) ≡ false
 quiet_if slots a block true e = not_true _ e
 quiet_if slots a block false e = absurd (cc)
 
 releasable-quiet : (slots : List (Option Slot)) (a : ℕ) (block : Option Block)
-    → is_quiet_block slots a (block_with_base a block) ≡ true
-    → list_any is_waiting (take (length_of block) (drop a slots)) ≡ false
+    → is_quiet_block slots a (block_from a block) ≡ true
+    → list_any is_waiting_slot (take (length_of block) (drop a slots)) ≡ false
 releasable-quiet slots a None e = absurd (cc)
 releasable-quiet slots a (Some block) e = quiet_if slots a block (block.base == a) e
 
@@ -92,19 +95,21 @@ pub Agree-released : (slots : List (Option Slot)) (arena : Shown) (base : ℕ) �
     → Agree slots arena
     → Agree (fill slots base (length_at slots base) None) arena
 Agree-released slots arena base e agree = Agree-filled slots arena base (length_at slots base) None refl
-    (releasable-quiet slots base (block_at slots base) e) agree
+    (releasable-quiet slots base (slot_block slots base) e) agree
 
 -- slots that nobody waits for are emptied
-emptied-quiet : (slots : List (Option Slot)) (base n : ℕ) → list_any is_waiting (take n (drop base slots)) ≡ false
-    → (a : ℕ) → is_waiting (slot_at (change_each (with_cell Empty) slots base n) a) ≡ is_waiting (slot_at slots a)
+emptied-quiet : (slots : List (Option Slot)) (base n : ℕ) → list_any is_waiting_slot (take n (drop base slots)) ≡ false
+    → (a : ℕ) → is_waiting_slot (slot_at (change_each (with_cell Empty) slots base n) a)
+    ≡ is_waiting_slot (slot_at slots a)
 emptied-quiet [] base n none a = refl
 emptied-quiet (old ∷ slots) zero zero none a = refl
-emptied-quiet (old ∷ slots) zero (suc n) none zero = quiet old ∙ sym (neither (is_waiting old) _ none).0
+emptied-quiet (old ∷ slots) zero (suc n) none zero = quiet old ∙ sym (neither (is_waiting_slot old) _ none).0
   where
-    quiet : (o : Option Slot) → is_waiting (with_cell Empty o) ≡ false
+    quiet : (o : Option Slot) → is_waiting_slot (with_cell Empty o) ≡ false
     quiet None = refl
     quiet (Some slot) = refl
-emptied-quiet (old ∷ slots) zero (suc n) none (suc a) = emptied-quiet slots zero n (neither (is_waiting old) _ none).1 a
+emptied-quiet (old ∷ slots) zero (suc n) none (suc a) =
+    emptied-quiet slots zero n (neither (is_waiting_slot old) _ none).1 a
 emptied-quiet (old ∷ slots) (suc base) n none zero = refl
 emptied-quiet (old ∷ slots) (suc base) n none (suc a) = emptied-quiet slots base n none a
 
@@ -120,7 +125,7 @@ pub Agree-emptied : (slots : List (Option Slot)) (arena : Shown) (base : ℕ) �
     → Agree (change_each (with_cell Empty) slots base (length_at slots base)) arena
 Agree-emptied slots arena base e agree = record {
   lists = agree.lists ∙ sym (length-change_each slots base (length_at slots base));
-  each = λ a. emptied-quiet slots base (length_at slots base) (releasable-quiet slots base (block_at slots base) e) a
+  each = λ a. emptied-quiet slots base (length_at slots base) (releasable-quiet slots base (slot_block slots base) e) a
       ∙ agree.each a;
 }
 

@@ -7,16 +7,16 @@ use Rattle.im_types.specs.declared.operations.Waiter.{Waiter}
 use Rattle.im_types.specs.Contents.{CellState, Held, held_at}
 use Rattle.im_cell.specs.declared.slots.Slot.{Slot}
 use Rattle.im_types.specs.declared.cells.Cell.TheVariants.{Full}
-use Rattle.im_cell.specs.Slots.{slot_at, cell_at, cell_in, is_waiting, is_waiting_cell}
+use Rattle.im_cell.specs.Slots.{slot_at, cell_at, slot_cell, is_waiting_slot, cell_waits}
 use Rattle.im_arena.specs.Lists.{Lists, Shown, list_at, with_list}
-use Rattle.im_istore.specs.Joined.{state_of, held_of, joined, cells_of}
+use Rattle.im_istore.specs.Joined.{state_of, held_of, joined_cells, cells_of}
 use Rattle.im_istore.specs.Agreement.{has_some, Agree, AgreeBut}
 
 abbrev pub list_of : List (List Waiter) → ℕ → List Waiter
 list_of lists a = get_or lists a []
 
 pub held_at-joined : (slots : List (Option Slot)) (lists : List (List Waiter)) (a : ℕ)
-    → held_at (joined slots lists) a ≡ held_of (slot_at slots a) (list_of lists a)
+    → held_at (joined_cells slots lists) a ≡ held_of (slot_at slots a) (list_of lists a)
 held_at-joined [] lists a = refl
 held_at-joined (slot ∷ slots) [] zero = refl
 held_at-joined (slot ∷ slots) [] (suc a) = held_at-joined slots [] a
@@ -29,8 +29,8 @@ held_at-cells slots arena a = held_at-joined slots arena.held.lists a
 
 joined-set : (slots : List (Option Slot)) (lists : List (List Waiter)) (a : ℕ) (slot : Option Slot)
     (waiters : List Waiter)
-    → length lists ≡ length slots → joined (set slots a slot) (set lists a waiters)
-    ≡ set (joined slots lists) a (held_of slot waiters)
+    → length lists ≡ length slots → joined_cells (set slots a slot) (set lists a waiters)
+    ≡ set (joined_cells slots lists) a (held_of slot waiters)
 joined-set [] lists a slot waiters e = refl
 joined-set (was ∷ slots) [] a slot waiters e = absurd (omega arith)
 joined-set (was ∷ slots) (old ∷ lists) zero slot waiters e = refl
@@ -65,21 +65,21 @@ module _ (arena new : Shown) (a : ℕ) (waiters : List Waiter) (is : new.held �
   module _ (slots : List (Option Slot)) (slot : Option Slot) where
     pub cells-set : length arena.held.lists ≡ length slots → cells_of (set slots a slot) new
         ≡ set (cells_of slots arena) a (held_of slot waiters)
-    cells-set same = ap (λ (h : Lists). joined (set slots a slot) h.lists) is
+    cells-set same = ap (λ (h : Lists). joined_cells (set slots a slot) h.lists) is
         ∙ joined-set slots arena.held.lists a slot waiters same
 
-    pub Agree-set : Agree slots arena → a < length slots → is_waiting slot ≡ has_some waiters
+    pub Agree-set : Agree slots arena → a < length slots → is_waiting_slot slot ≡ has_some waiters
         → Agree (set slots a slot) new
     Agree-set agree lt same = record {
       lists = length-lists ∙ agree.lists ∙ sym (length-set slots a slot);
       each = λ b. elim (cases_eq b a) [
         | inl at ↦
-            ap (λ x. is_waiting (slot_at (set slots a slot) x)) at
-            ∙ ap is_waiting (get_or-set_same slots a slot None lt)
+            ap (λ x. is_waiting_slot (slot_at (set slots a slot) x)) at
+            ∙ ap is_waiting_slot (get_or-set_same slots a slot None lt)
             ∙ same ∙ ap has_some (sym (list_at-same (omega (arith, agree.lists))))
             ∙ ap (λ x. has_some (list_at new.held x)) (sym at)
         | inr other ↦
-            ap is_waiting (get_or-set_other slots a b slot None other) ∙ agree.each b
+            ap is_waiting_slot (get_or-set_other slots a b slot None other) ∙ agree.each b
             ∙ ap has_some (sym (list_at-other b other))
       ];
     }
@@ -93,7 +93,7 @@ module _ (arena new : Shown) (a : ℕ) (waiters : List Waiter) (is : new.held �
       full = but.full;
     }
 
-    held_of-full : (slot : Option Slot) (v : ℕ) (some others : List Waiter) → cell_in slot ≡ Some (Full v)
+    held_of-full : (slot : Option Slot) (v : ℕ) (some others : List Waiter) → slot_cell slot ≡ Some (Full v)
         → held_of slot some ≡ held_of slot others
     held_of-full None v some others e = absurd (cc)
     held_of-full (Some slot) v some others e =
@@ -128,8 +128,8 @@ cells_there slots arena a slot same = cells-set arena arena a (list_at arena.hel
 -- another slot and another list at an address
 pub joined_there : (slots : List (Option Slot)) (lists : List (List Waiter)) (a : ℕ) (slot : Option Slot)
     (waiters : List Waiter)
-    → length lists ≡ length slots → joined (set slots a slot) (set lists a waiters)
-    ≡ set (joined slots lists) a (held_of slot waiters)
+    → length lists ≡ length slots → joined_cells (set slots a slot) (set lists a waiters)
+    ≡ set (joined_cells slots lists) a (held_of slot waiters)
 joined_there slots lists a slot waiters same = joined-set slots lists a slot waiters same
 
 -- what is there already, put there
@@ -138,9 +138,9 @@ pub same_there : (cells : List (Option Held)) (a : ℕ) (held : Option Held) →
 same_there cells a held is = ap (set cells a) (sym is) ∙ set-get_or cells a None
 
 -- a full cell doesn't wait
-is_waiting-full : (slot : Option Slot) (v : ℕ) → cell_in slot ≡ Some (Full v) → is_waiting slot ≡ false
+is_waiting-full : (slot : Option Slot) (v : ℕ) → slot_cell slot ≡ Some (Full v) → is_waiting_slot slot ≡ false
 is_waiting-full None v e = refl
-is_waiting-full (Some slot) v e = let is_full : slot.cell ≡ Full v = cc in ap is_waiting_cell is_full
+is_waiting-full (Some slot) v e = let is_full : slot.cell ≡ Full v = cc in ap cell_waits is_full
 
 -- once the readers of a full cell are off its list, all agree
 pub Agree-drained : (slots : List (Option Slot)) (arena : Shown) (a : ℕ) → AgreeBut a slots arena
@@ -149,7 +149,7 @@ Agree-drained slots arena a but none = record {
   lists = but.lists;
   each = λ b. elim (cases_eq b a) [
     | inl at ↦
-        ap (λ x. is_waiting (slot_at slots x)) at ∙ is_waiting-full (slot_at slots a) but.full.0 but.full.1
+        ap (λ x. is_waiting_slot (slot_at slots x)) at ∙ is_waiting-full (slot_at slots a) but.full.0 but.full.1
         ∙ ap has_some (sym none) ∙ ap (λ x. has_some (list_at arena.held x)) (sym at)
     | inr other ↦ but.others b other
   ];
@@ -160,8 +160,8 @@ pub AgreeBut-filled : (slots : List (Option Slot)) (arena : Shown) (a : ℕ) (sl
     → Agree slots arena → a < length slots → slot.cell ≡ Full v → AgreeBut a (set slots a (Some slot)) arena
 AgreeBut-filled slots arena a slot v agree lt is_full = record {
   lists = agree.lists ∙ sym (length-set slots a (Some slot));
-  others = λ b other. ap is_waiting (get_or-set_other slots a b (Some slot) None other) ∙ agree.each b;
-  full = (v, ap cell_in (get_or-set_same slots a (Some slot) None lt) ∙ ap (λ cell. Some cell) is_full);
+  others = λ b other. ap is_waiting_slot (get_or-set_other slots a b (Some slot) None other) ∙ agree.each b;
+  full = (v, ap slot_cell (get_or-set_same slots a (Some slot) None lt) ∙ ap (λ cell. Some cell) is_full);
 }
 
 -- a full cell has a list

@@ -5,13 +5,13 @@ use Rattle.im_types.specs.Contents.{waiters_of, waiters_in, waiters_at}
 use Rattle.im_types.specs.declared.cells.Cell.{Cell}
 use Rattle.im_types.specs.declared.cells.Cell.TheVariants.{Empty, Waiting, Full, Clashed}
 use Rattle.im_cell.specs.declared.slots.Slot.{Slot}
-use Rattle.im_cell.specs.Slots.{slot_at, is_waiting, is_waiting_cell}
+use Rattle.im_cell.specs.Slots.{slot_at, is_waiting_slot, cell_waits}
 use Rattle.im_arena.specs.Lists.{Shown, list_at}
 use Rattle.im_istore.specs.Joined.{state_of, held_of, cells_of}
 use Rattle.im_istore.specs.Agreement.{has_some, Agree}
 use Rattle.im_istore.proofs.Cells.{held_at-cells}
 
-waiters_of-state : (cell : Cell) (waiters : List Waiter) → is_waiting_cell cell ≡ has_some waiters
+waiters_of-state : (cell : Cell) (waiters : List Waiter) → cell_waits cell ≡ has_some waiters
     → waiters_of (state_of cell waiters) ≡ waiters
 waiters_of-state Empty waiters e = refl
 waiters_of-state Waiting waiters e = refl
@@ -20,7 +20,7 @@ waiters_of-state (Full v) (waiter ∷ waiters) e = absurd (cc)
 waiters_of-state (Clashed v) [] e = refl
 waiters_of-state (Clashed v) (waiter ∷ waiters) e = absurd (cc)
 
-waiters_in-held : (slot : Option Slot) (waiters : List Waiter) → is_waiting slot ≡ has_some waiters
+waiters_in-held : (slot : Option Slot) (waiters : List Waiter) → is_waiting_slot slot ≡ has_some waiters
     → waiters_in (held_of slot waiters) ≡ waiters
 waiters_in-held None [] e = refl
 waiters_in-held None (waiter ∷ waiters) e = absurd (cc)

@@ -3,7 +3,7 @@ use Rattle.std.specs.Prelude.{◌≡◌, ◌≢◌, ℕ, List, [], ◌∷◌, le
 use Rattle.im_types.specs.declared.operations.Waiter.{Waiter}
 use Rattle.im_types.specs.declared.cells.Cell.TheVariants.{Full}
 use Rattle.im_cell.specs.declared.slots.Slot.{Slot}
-use Rattle.im_cell.specs.Slots.{slot_at, cell_at, is_waiting}
+use Rattle.im_cell.specs.Slots.{slot_at, cell_at, is_waiting_slot}
 use Rattle.im_arena.specs.Lists.{Shown, list_at}
 
 -- whether a list has a waiter
@@ -13,7 +13,7 @@ has_some (waiter ∷ waiters) = true
 
 -- the cell at an address waits if and only if its list has a waiter; the list of an address in no block is empty
 abbrev pub AgreeAt : ℕ → List (Option Slot) → Shown → Type 0
-AgreeAt a slots arena = is_waiting (slot_at slots a) ≡ has_some (list_at arena.held a)
+AgreeAt a slots arena = is_waiting_slot (slot_at slots a) ≡ has_some (list_at arena.held a)
 
 -- each cell has a list, and waits if and only if that list isn't empty
 pub record Agree (slots : List (Option Slot)) (arena : Shown) : Type 0 where

@@ -22,11 +22,11 @@ held_of None waiters = None
 held_of (Some slot) waiters = Some (record { block = slot.block; state = state_of slot.cell waiters })
 
 -- each slot with the list of its address
-abbrev pub joined : List (Option Slot) → List (List Waiter) → List (Option Held)
-joined [] lists = []
-joined (slot ∷ slots) [] = held_of slot [] ∷ joined slots []
-joined (slot ∷ slots) (waiters ∷ lists) = held_of slot waiters ∷ joined slots lists
+abbrev pub joined_cells : List (Option Slot) → List (List Waiter) → List (Option Held)
+joined_cells [] lists = []
+joined_cells (slot ∷ slots) [] = held_of slot [] ∷ joined_cells slots []
+joined_cells (slot ∷ slots) (waiters ∷ lists) = held_of slot waiters ∷ joined_cells slots lists
 
 -- the cells of a table and an arena
 abbrev pub cells_of : List (Option Slot) → Shown → List (Option Held)
-cells_of slots arena = joined slots arena.held.lists
+cells_of slots arena = joined_cells slots arena.held.lists

@@ -9,7 +9,7 @@ use Rattle.im_types.specs.declared.commands.Command.{Command}
 use Rattle.im_types.specs.declared.refusals.Refusal.{Refusal}
 use Rattle.im_types.specs.Bytes.{open_gate}
 use Rattle.im_types.specs.Slot.{is_open, sequence_of}
-use Rattle.im_types.specs.Journal.{slot_at, slot, Tail, tail}
+use Rattle.im_types.specs.Journal.{slot_offset, slot, Tail, tail}
 use Rattle.im_disk.specs.Moment.{Moment, Left, written, synced}
 use Rattle.im_disk.specs.Since.{SameBut, LeavesOnly, LeavesNow}
 use Rattle.im_disk.specs.Gate.{HasThere, MayOpen}
@@ -55,7 +55,7 @@ module _ {j : JournalState} {commands : List Command} {m0 : Moment} (next : IsNe
   g = length commands
 
   abbrev at : ℕ
-  at = slot_at j.ring j.count
+  at = slot_offset j.ring j.count
 
   some_slots : 0 < j.ring.slots
   some_slots = omega (arith, next.known.enough_slots)
@@ -182,10 +182,10 @@ module _ {j : JournalState} {commands : List Command} {m0 : Moment} (next : IsNe
         (λ k less. same_body j.ring (j.count + k) c m1.bytes but.size
         (λ i low high. but.same i (behind_gate i (j.count + k) low high))) w.bodies
       where
-        behind_gate : (i s : ℕ) → slot_at j.ring s < i → i < slot_at j.ring s + 64 → (i < at) ⊎ (at + 1 ≤ i)
+        behind_gate : (i s : ℕ) → slot_offset j.ring s < i → i < slot_offset j.ring s + 64 → (i < at) ⊎ (at + 1 ≤ i)
         behind_gate i s low high = ⊎_elim
-            (λ (before : slot_at j.ring j.count ≤ slot_at j.ring s). inr (omega (arith, before, low)))
-            (λ (after : slot_at j.ring s + 64 ≤ slot_at j.ring j.count). inl (omega (arith, after, high)))
+            (λ (before : slot_offset j.ring j.count ≤ slot_offset j.ring s). inr (omega (arith, before, low)))
+            (λ (after : slot_offset j.ring s + 64 ≤ slot_offset j.ring j.count). inl (omega (arith, after, high)))
             (no_gate_behind j.ring j.count s)
 
     may_gate : (c : List ℕ) → SameBut at 1 m1.bytes c → MayAppend j commands m0 c
@@ -270,20 +270,21 @@ module _ {D : Type 0} (now : D → Moment) (past : D → List Moment)
       (may_bodies next))
 
   module _ (w : AreWritten s.ring s.count commands (now d0) (now d1)) (d2 : D) where
-    may : (c : List ℕ) → MayOpen (slot_at s.ring s.count) (now d1) c → May s c
+    may : (c : List ℕ) → MayOpen (slot_offset s.ring s.count) (now d1) c → May s c
     may = may_open next (now d1) w leaves.after
 
-    pub gate_leaves : LeavesOnly now past d1 d2 (MayOpen (slot_at s.ring s.count) (now d1))
+    pub gate_leaves : LeavesOnly now past d1 d2 (MayOpen (slot_offset s.ring s.count) (now d1))
         → LeavesOnly now past d0 d2 (MayAppend j commands (now d0))
     gate_leaves opens = subst (λ (x : JournalState). LeavesOnly now past d0 d2 (May x)) is (record {
       within = leaves_then (now d0) (now d1) (now d2) (past d0) (past d1) (past d2)
-          (MayWriteBodies s.ring s.count (length commands) (now d0)) (MayOpen (slot_at s.ring s.count) (now d1)) (May s)
+          (MayWriteBodies s.ring s.count (length commands) (now d0)) (MayOpen (slot_offset s.ring s.count) (now d1))
+          (May s)
           leaves.within opens.within (may_bodies next) may;
       after = λ c left. may c (opens.after c left);
     })
 
     pub group_adds : (longer_j : JournalState) → longer_j ≡ longer (length commands) s → now d2
-        ≡ synced (written (slot_at s.ring s.count) (open_gate ∷ []) (now d1))
+        ≡ synced (written (slot_offset s.ring s.count) (open_gate ∷ []) (now d1))
         → Adds j longer_j commands (now d0) (now d2)
     group_adds longer_j longer_is opened = subst
         (λ (x : JournalState). Adds x longer_j commands (now d0) (now d2)) is

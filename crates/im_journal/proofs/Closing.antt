@@ -2,7 +2,7 @@
 use Rattle.std.proofs.Common.{◌≡◌, ◌≢◌, ◌⊎◌, inl, inr, ⊎_elim, ℕ, ◌+◌, ◌-◌, ◌*◌, ◌<◌, ◌≤◌, List, [], ◌∷◌, length}
 use Rattle.std.proofs.Common.{get_or, refl, sym, ◌∙◌, ap, subst, arith}
 use Rattle.std.proofs.lemmas.Bool.{cases_lt, cases_eq}
-use Rattle.im_types.specs.Journal.{Ring, slot_at}
+use Rattle.im_types.specs.Journal.{Ring, slot_offset}
 use Rattle.im_disk.specs.Moment.{Moment, Left, Torn, Shaken, MayTick, overlaid, written, synced}
 use Rattle.im_disk.specs.Since.{SameBut, LeavesOnly, LeavesNow, Calls}
 use Rattle.im_disk.proofs.OverlayLemmas.{length-overlaid, overlaid_outside, overlaid_inside}
@@ -26,10 +26,10 @@ none_yet r s n c = record { size = refl; same = λ i out. refl }
 
 -- one byte more, a gate among them
 one_more : (r : Ring) (s n k : ℕ) → k < n → (c d e : List ℕ) → SameButGates r s n c d
-    → SameBut (slot_at r (s + k)) 1 d e → SameButGates r s n c e
+    → SameBut (slot_offset r (s + k)) 1 d e → SameButGates r s n c e
 one_more r s n k low c d e so_far but = record {
   size = but.size ∙ so_far.size;
-  same = λ i out. but.same i (beside i (slot_at r (s + k)) (out k low)) ∙ so_far.same i out;
+  same = λ i out. but.same i (beside i (slot_offset r (s + k)) (out k low)) ∙ so_far.same i out;
 }
 
 module _ {D : Type 0} (now : D → Moment) (past : D → List Moment) (r : Ring) (s n : ℕ) (d0 : D) where
@@ -52,7 +52,7 @@ module _ {D : Type 0} (now : D → Moment) (past : D → List Moment) (r : Ring)
       (inside : r.base + 64 * r.slots ≤ length (now d0).bytes) (so_far : IsClosing now past r s n i d0 d)
       (bytes : List ℕ) (is_bytes : bytes ≡ closed_gate ∷ []) (d1 : D) where
     abbrev at : ℕ
-    at = slot_at r (s + i)
+    at = slot_offset r (s + i)
 
     one : length bytes ≡ 1
     one = ap length is_bytes
@@ -103,18 +103,19 @@ module _ {D : Type 0} (now : D → Moment) (past : D → List Moment) (r : Ring)
           ∙ ap (λ (k : ℕ). get_or bytes k 0) none
           ∙ ap (λ (l : List ℕ). get_or l 0 0) is_bytes
 
-      earlier : (k : ℕ) → k < i + 1 → slot_at r (s + k) ≢ at → k < i
+      earlier : (k : ℕ) → k < i + 1 → slot_offset r (s + k) ≢ at → k < i
       earlier k low other = ⊎_elim
-          (λ (here : k ≡ i). absurd (other (ap (λ (x : ℕ). slot_at r (s + x)) here)))
+          (λ (here : k ≡ i). absurd (other (ap (λ (x : ℕ). slot_offset r (s + x)) here)))
           (λ (before : k ≢ i). omega (arith, low))
           (cases_eq k i)
 
       still_closed : HasClosed r s (i + 1) (now d1).bytes
       still_closed k low = ⊎_elim
-          (λ (here : slot_at r (s + k) ≡ at). ap (λ (b : ℕ). get_or (now d1).bytes b 0) here ∙ there)
-          (λ (other : slot_at r (s + k) ≢ at). outside.same (slot_at r (s + k)) (beside (slot_at r (s + k)) at other)
+          (λ (here : slot_offset r (s + k) ≡ at). ap (λ (b : ℕ). get_or (now d1).bytes b 0) here ∙ there)
+          (λ (other : slot_offset r (s + k) ≢ at). outside.same (slot_offset r (s + k))
+          (beside (slot_offset r (s + k)) at other)
           ∙ so_far.closed k (earlier k low other))
-          (cases_eq (slot_at r (s + k)) at)
+          (cases_eq (slot_offset r (s + k)) at)
 
       pub closing_next : MayTick (Torn at (length bytes)) (now d) (now d1) (past d) (past d1) → past d1
           ≡ now d ∷ past d → IsClosing now past r s n (i + 1) d0 d1
@@ -140,7 +141,7 @@ module _ {D : Type 0} (now : D → Moment) (past : D → List Moment) (r : Ring)
     pub synced_shut : n ≤ i → now d1 ≡ synced (now d) → AreShut r s n (now d0) (now d1)
     synced_shut all is = record {
       kept = subst (λ (l : List ℕ). SameButGates r s n (now d0).bytes l) (sym same_bytes) so_far.kept;
-      closed = λ k low. ap (λ (l : List ℕ). get_or l (slot_at r (s + k)) 0) same_bytes
+      closed = λ k low. ap (λ (l : List ℕ). get_or l (slot_offset r (s + k)) 0) same_bytes
           ∙ so_far.closed k (omega (arith, low, all));
       calm = ap (λ (x : Moment). x.ranges) is;
     }

@@ -6,7 +6,7 @@ use Rattle.im_types.specs.declared.TheConstants.{LAST, MAX_GROUP}
 use Rattle.im_types.specs.declared.commands.Command.{Command}
 use Rattle.im_types.specs.declared.commands.Command.TheVariants.{Request as Asks, Confirm}
 use Rattle.im_types.specs.Slot.{is_open, sequence_of, group_of, slot_body, read_in, FitsCommand}
-use Rattle.im_types.specs.Journal.{Ring, slot_at, slot, continues, with_first, if_true, leads, commands_in}
+use Rattle.im_types.specs.Journal.{Ring, slot_offset, slot, continues, with_first, if_true, leads, commands_in}
 use Rattle.im_journal.specs.Groups.{HasBodies, AllFit, SameButGroup, count_at}
 use Rattle.im_journal.proofs.Spelling.{sequence_of-spelled, group_of-spelled, read_in-spelled}
 use Rattle.im_journal.proofs.Slots.{or_at, not_in, same_slot, goes_on}
@@ -136,9 +136,9 @@ fits_push (first ∷ commands) c fits one = (fits.0, fits_push commands c fits.1
 
 -- a slot beside those of a group stays where the group is written
 pub beside_group : (r : Ring) (n g i : ℕ) (d c : List ℕ) → 0 < g → SameButGroup r n g d c
-    → ((k j : ℕ) → k < g → slot_at r i ≤ j → j < slot_at r i + 64 → (j < slot_at r (n + k))
-    ⊎ (slot_at r (n + k) + 64 ≤ j)) → slot r i c ≡ slot r i d
+    → ((k j : ℕ) → k < g → slot_offset r i ≤ j → j < slot_offset r i + 64 → (j < slot_offset r (n + k))
+    ⊎ (slot_offset r (n + k) + 64 ≤ j)) → slot r i c ≡ slot r i d
 beside_group r n g i d c some same beside = same_slot r i c d same.size (λ j lo hi. same.same j
-    (λ is. let first : n ≡ n + 0 = omega arith in not_in j (slot_at r (n + 0)) (beside 0 j some lo hi)
-    (is ∙ ap (λ (m : ℕ). slot_at r m) first))
-    (λ k less. or_at j (slot_at r (n + k)) (beside k j less lo hi)))
+    (λ is. let first : n ≡ n + 0 = omega arith in not_in j (slot_offset r (n + 0)) (beside 0 j some lo hi)
+    (is ∙ ap (λ (m : ℕ). slot_offset r m) first))
+    (λ k less. or_at j (slot_offset r (n + k)) (beside k j less lo hi)))

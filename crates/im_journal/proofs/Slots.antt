@@ -8,7 +8,7 @@ use Rattle.std.proofs.lemmas.List.{ext_get_or, drop-take, drop-drop}
 use Rattle.im_types.specs.declared.TheConstants.{LAST}
 use Rattle.im_types.specs.Bytes.{open_gate}
 use Rattle.im_types.specs.Slot.{is_open, sequence_of}
-use Rattle.im_types.specs.Journal.{Ring, slot_at, slot, continues}
+use Rattle.im_types.specs.Journal.{Ring, slot_offset, slot, continues}
 
 -- numbers less than k apart have different remainders
 apart : (k a b : ℕ) → 0 < k → a < b → b < a + k → a % k ≡ b % k → ⊥
@@ -19,12 +19,13 @@ apart k a b some lt near same = ⊎_elim
 
 module _ (r : Ring) (some : 0 < r.slots) where
   -- a slot lies in the ring
-  pub slot_inside : (s : ℕ) → slot_at r s + 64 ≤ r.base + 64 * r.slots
+  pub slot_inside : (s : ℕ) → slot_offset r s + 64 ≤ r.base + 64 * r.slots
   slot_inside s = let low : s % r.slots < r.slots = mod-lt s some in omega arith
 
   -- so their slots don't touch
-  beside : (a b i : ℕ) → (a % r.slots ≡ b % r.slots → ⊥) → slot_at r a ≤ i → i < slot_at r a + 64 → (i < slot_at r b)
-      ⊎ (slot_at r b + 64 ≤ i)
+  beside : (a b i : ℕ) → (a % r.slots ≡ b % r.slots → ⊥) → slot_offset r a ≤ i → i < slot_offset r a + 64
+      → (i < slot_offset r b)
+      ⊎ (slot_offset r b + 64 ≤ i)
   beside a b i differ low high = ⊎_elim
       (λ (first : a % r.slots < b % r.slots). inl (omega arith))
       (λ (ge : b % r.slots ≤ a % r.slots). ⊎_elim
@@ -33,12 +34,14 @@ module _ (r : Ring) (some : 0 < r.slots) where
       (cases_lt (b % r.slots) (a % r.slots)))
       (cases_lt (a % r.slots) (b % r.slots))
 
-  pub away : (a b i : ℕ) → a < b → b < a + r.slots → slot_at r a ≤ i → i < slot_at r a + 64 → (i < slot_at r b)
-      ⊎ (slot_at r b + 64 ≤ i)
+  pub away : (a b i : ℕ) → a < b → b < a + r.slots → slot_offset r a ≤ i → i < slot_offset r a + 64
+      → (i < slot_offset r b)
+      ⊎ (slot_offset r b + 64 ≤ i)
   away a b i lt near low high = beside a b i (apart r.slots a b some lt near) low high
 
-  pub away_after : (a b i : ℕ) → b < a → a < b + r.slots → slot_at r a ≤ i → i < slot_at r a + 64 → (i < slot_at r b)
-      ⊎ (slot_at r b + 64 ≤ i)
+  pub away_after : (a b i : ℕ) → b < a → a < b + r.slots → slot_offset r a ≤ i → i < slot_offset r a + 64
+      → (i < slot_offset r b)
+      ⊎ (slot_offset r b + 64 ≤ i)
   away_after a b i lt near low high = beside a b i (λ e. apart r.slots b a some lt near (sym e)) low high
 
 -- a byte beside a slot is no part of it
@@ -52,93 +55,95 @@ not_in i a (inr ge) is = absurd (omega (arith, ge, is))
 
 -- a slot is its 64 bytes
 pub same_slot : (r : Ring) (s : ℕ) (c d : List ℕ) → length c ≡ length d
-    → ((i : ℕ) → slot_at r s ≤ i → i < slot_at r s + 64 → get_or c i 0 ≡ get_or d i 0) → slot r s c ≡ slot r s d
+    → ((i : ℕ) → slot_offset r s ≤ i → i < slot_offset r s + 64 → get_or c i 0 ≡ get_or d i 0) → slot r s c ≡ slot r s d
 unfolding slot
-same_slot r s c d size same = ext_get_or 0 (take 64 (drop (slot_at r s) c))
-    (take 64 (drop (slot_at r s) d)) lengths each
+same_slot r s c d size same = ext_get_or 0 (take 64 (drop (slot_offset r s) c))
+    (take 64 (drop (slot_offset r s) d)) lengths each
   where
-    lengths : length (take 64 (drop (slot_at r s) c)) ≡ length (take 64 (drop (slot_at r s) d))
+    lengths : length (take 64 (drop (slot_offset r s) c)) ≡ length (take 64 (drop (slot_offset r s) d))
     lengths = omega (
       arith,
-      length-take 64 (drop (slot_at r s) c),
-      length-drop (slot_at r s) c,
+      length-take 64 (drop (slot_offset r s) c),
+      length-drop (slot_offset r s) c,
       length-take 64
-          (drop (slot_at r s) d),
-      length-drop (slot_at r s) d,
+          (drop (slot_offset r s) d),
+      length-drop (slot_offset r s) d,
     )
 
-    each : (i : ℕ) → i < length (take 64 (drop (slot_at r s) c)) → get_or (take 64 (drop (slot_at r s) c)) i 0
-        ≡ get_or (take 64 (drop (slot_at r s) d)) i 0
+    each : (i : ℕ) → i < length (take 64 (drop (slot_offset r s) c)) → get_or (take 64 (drop (slot_offset r s) c)) i 0
+        ≡ get_or (take 64 (drop (slot_offset r s) d)) i 0
     each i lt =
-        let short : i < 64 = omega (arith, length-take 64 (drop (slot_at r s) c)) in
-        get_or-take 64 (drop (slot_at r s) c) i 0 short ∙ get_or-drop (slot_at r s) c i 0
-        ∙ same (slot_at r s + i) (omega arith) (omega arith)
-        ∙ sym (get_or-take 64 (drop (slot_at r s) d) i 0 short ∙ get_or-drop (slot_at r s) d i 0)
+        let short : i < 64 = omega (arith, length-take 64 (drop (slot_offset r s) c)) in
+        get_or-take 64 (drop (slot_offset r s) c) i 0 short ∙ get_or-drop (slot_offset r s) c i 0
+        ∙ same (slot_offset r s + i) (omega arith) (omega arith)
+        ∙ sym (get_or-take 64 (drop (slot_offset r s) d) i 0 short ∙ get_or-drop (slot_offset r s) d i 0)
 
 -- what is behind its gate is 63 of them
 pub same_body : (r : Ring) (s : ℕ) (c d : List ℕ) → length c ≡ length d
-    → ((i : ℕ) → slot_at r s < i → i < slot_at r s + 64 → get_or c i 0 ≡ get_or d i 0) → drop 1 (slot r s c)
+    → ((i : ℕ) → slot_offset r s < i → i < slot_offset r s + 64 → get_or c i 0 ≡ get_or d i 0) → drop 1 (slot r s c)
     ≡ drop 1 (slot r s d)
 unfolding slot
 same_body r s c d size same =
-    drop-take 1 63 (drop (slot_at r s) c) ∙ ap (λ (l : List ℕ). take 63 l) (drop-drop 1 (slot_at r s) c)
-    ∙ ext_get_or 0 (take 63 (drop (slot_at r s + 1) c)) (take 63 (drop (slot_at r s + 1) d)) lengths each
-    ∙ sym (drop-take 1 63 (drop (slot_at r s) d) ∙ ap (λ (l : List ℕ). take 63 l) (drop-drop 1 (slot_at r s) d))
+    drop-take 1 63 (drop (slot_offset r s) c) ∙ ap (λ (l : List ℕ). take 63 l) (drop-drop 1 (slot_offset r s) c)
+    ∙ ext_get_or 0 (take 63 (drop (slot_offset r s + 1) c)) (take 63 (drop (slot_offset r s + 1) d)) lengths each
+    ∙ sym (drop-take 1 63 (drop (slot_offset r s) d) ∙ ap (λ (l : List ℕ). take 63 l) (drop-drop 1 (slot_offset r s) d))
   where
-    lengths : length (take 63 (drop (slot_at r s + 1) c)) ≡ length (take 63 (drop (slot_at r s + 1) d))
+    lengths : length (take 63 (drop (slot_offset r s + 1) c)) ≡ length (take 63 (drop (slot_offset r s + 1) d))
     lengths = omega (
       arith,
       size,
-      length-take 63 (drop (slot_at r s + 1) c),
+      length-take 63 (drop (slot_offset r s + 1) c),
       length-drop
-          (slot_at r s + 1) c,
-      length-take 63 (drop (slot_at r s + 1) d),
-      length-drop (slot_at r s + 1) d,
+          (slot_offset r s + 1) c,
+      length-take 63 (drop (slot_offset r s + 1) d),
+      length-drop (slot_offset r s + 1) d,
     )
 
-    each : (i : ℕ) → i < length (take 63 (drop (slot_at r s + 1) c))
-        → get_or (take 63 (drop (slot_at r s + 1) c)) i 0 ≡ get_or (take 63 (drop (slot_at r s + 1) d)) i 0
+    each : (i : ℕ) → i < length (take 63 (drop (slot_offset r s + 1) c))
+        → get_or (take 63 (drop (slot_offset r s + 1) c)) i 0 ≡ get_or (take 63 (drop (slot_offset r s + 1) d)) i 0
     each i lt =
-        let short : i < 63 = omega (arith, lt, length-take 63 (drop (slot_at r s + 1) c)) in
-        get_or-take 63 (drop (slot_at r s + 1) c) i 0 short ∙ get_or-drop (slot_at r s + 1) c i 0
-        ∙ same (slot_at r s + 1 + i) (omega arith) (omega (arith, short))
-        ∙ sym (get_or-take 63 (drop (slot_at r s + 1) d) i 0 short ∙ get_or-drop (slot_at r s + 1) d i 0)
+        let short : i < 63 = omega (arith, lt, length-take 63 (drop (slot_offset r s + 1) c)) in
+        get_or-take 63 (drop (slot_offset r s + 1) c) i 0 short ∙ get_or-drop (slot_offset r s + 1) c i 0
+        ∙ same (slot_offset r s + 1 + i) (omega arith) (omega (arith, short))
+        ∙ sym (get_or-take 63 (drop (slot_offset r s + 1) d) i 0 short ∙ get_or-drop (slot_offset r s + 1) d i 0)
 
 pub body_is : (r : Ring) (s : ℕ) (file bytes : List ℕ) → length bytes ≡ 63
-    → take (length bytes) (drop (slot_at r s + 1) file) ≡ bytes → drop 1 (slot r s file) ≡ bytes
+    → take (length bytes) (drop (slot_offset r s + 1) file) ≡ bytes → drop 1 (slot r s file) ≡ bytes
 unfolding slot
 body_is r s file bytes long e =
-    drop-take 1 63 (drop (slot_at r s) file)
-    ∙ ap (λ (l : List ℕ). take 63 l) (drop-drop 1 (slot_at r s) file)
-    ∙ ap (λ (n : ℕ). take n (drop (slot_at r s + 1) file)) (sym long) ∙ e
+    drop-take 1 63 (drop (slot_offset r s) file)
+    ∙ ap (λ (l : List ℕ). take 63 l) (drop-drop 1 (slot_offset r s) file)
+    ∙ ap (λ (n : ℕ). take n (drop (slot_offset r s + 1) file)) (sym long) ∙ e
 
 -- a slot's gate is its first byte
-gate_of : (r : Ring) (s : ℕ) (file : List ℕ) → get_or (slot r s file) 0 0 ≡ get_or file (slot_at r s) 0
+gate_of : (r : Ring) (s : ℕ) (file : List ℕ) → get_or (slot r s file) 0 0 ≡ get_or file (slot_offset r s) 0
 unfolding slot
-gate_of r s file = get_or-take 64 (drop (slot_at r s) file) 0 0 (omega arith) ∙ get_or-drop (slot_at r s) file 0 0
+gate_of r s file =
+    get_or-take 64 (drop (slot_offset r s) file) 0 0 (omega arith) ∙ get_or-drop (slot_offset r s) file 0 0
     ∙ ap (λ (k : ℕ). get_or file k 0) (omega arith)
 
-pub closed_gate : (r : Ring) (s : ℕ) (file : List ℕ) → get_or file (slot_at r s) 0 ≢ open_gate
+pub closed_gate : (r : Ring) (s : ℕ) (file : List ℕ) → get_or file (slot_offset r s) 0 ≢ open_gate
     → is_open (slot r s file) ≡ false
 closed_gate r s file shut = ne_eqb (get_or (slot r s file) 0 0) open_gate (λ e. shut (sym (gate_of r s file) ∙ e))
 
-pub opened_gate : (r : Ring) (s : ℕ) (file : List ℕ) → get_or file (slot_at r s) 0 ≡ open_gate
+pub opened_gate : (r : Ring) (s : ℕ) (file : List ℕ) → get_or file (slot_offset r s) 0 ≡ open_gate
     → is_open (slot r s file) ≡ true
 opened_gate r s file is = eq-eqb (get_or (slot r s file) 0 0) open_gate (gate_of r s file ∙ is)
 
-pub same_gate : (r : Ring) (s : ℕ) (c d : List ℕ) → get_or c (slot_at r s) 0 ≡ get_or d (slot_at r s) 0
+pub same_gate : (r : Ring) (s : ℕ) (c d : List ℕ) → get_or c (slot_offset r s) 0 ≡ get_or d (slot_offset r s) 0
     → is_open (slot r s c) ≡ is_open (slot r s d)
 same_gate r s c d same = ap (λ (b : ℕ). b == open_gate) (gate_of r s c ∙ same ∙ sym (gate_of r s d))
 
 -- no slot's gate is behind the gate of a slot
-pub no_gate_behind : (r : Ring) (a b : ℕ) → (slot_at r a ≤ slot_at r b) ⊎ (slot_at r b + 64 ≤ slot_at r a)
+pub no_gate_behind : (r : Ring) (a b : ℕ)
+    → (slot_offset r a ≤ slot_offset r b) ⊎ (slot_offset r b + 64 ≤ slot_offset r a)
 no_gate_behind r a b = ⊎_elim
     (λ (low : b % r.slots < a % r.slots). inr (omega (arith, low)))
     (λ (high : a % r.slots ≤ b % r.slots). inl (omega (arith, high)))
     (cases_lt (b % r.slots) (a % r.slots))
 
 pub gate_closed : (r : Ring) (s : ℕ) (file : List ℕ) → is_open (slot r s file) ≡ false
-    → get_or file (slot_at r s) 0 ≢ open_gate
+    → get_or file (slot_offset r s) 0 ≢ open_gate
 gate_closed r s file shut e = clash (sym (eq-eqb (get_or (slot r s file) 0 0) open_gate (gate_of r s file ∙ e)) ∙ shut)
   where
     clash : true ≡ false → ⊥

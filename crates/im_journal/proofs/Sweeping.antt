@@ -9,7 +9,7 @@ use Rattle.im_types.specs.declared.TheConstants.{LAST}
 use Rattle.im_types.specs.declared.commands.Command.{Command}
 use Rattle.im_types.specs.Bytes.{open_gate}
 use Rattle.im_types.specs.Slot.{is_open, sequence_of}
-use Rattle.im_types.specs.Journal.{Ring, slot_at, slot, closed_from, room_of, tail}
+use Rattle.im_types.specs.Journal.{Ring, slot_offset, slot, closed_from, room_of, tail}
 use Rattle.im_disk.specs.Moment.{Moment}
 use Rattle.im_disk.specs.Since.{SameBut, LeavesOnly}
 use Rattle.im_disk.proofs.SinceLemmas.{left_now, left_settled, only_weaker}
@@ -23,13 +23,13 @@ use Rattle.im_journal.proofs.Sweeps.{tail_swept, boundaries_swept, no_less}
 
 -- a slot's sequence number doesn't depend on its gate
 sequence_bytes : (r : Ring) (s : ℕ) (c : List ℕ) (i : ℕ) → i < 8 → get_or (take 8 (drop 8 (slot r s c))) i 0
-    ≡ get_or c (slot_at r s + (8 + i)) 0
+    ≡ get_or c (slot_offset r s + (8 + i)) 0
 unfolding slot
 sequence_bytes r s c i low =
-    get_or-take 8 (drop 8 (take 64 (drop (slot_at r s) c))) i 0 low
-    ∙ get_or-drop 8 (take 64 (drop (slot_at r s) c)) i 0
-    ∙ get_or-take 64 (drop (slot_at r s) c) (8 + i) 0 (omega (arith, low))
-    ∙ get_or-drop (slot_at r s) c (8 + i) 0
+    get_or-take 8 (drop 8 (take 64 (drop (slot_offset r s) c))) i 0 low
+    ∙ get_or-drop 8 (take 64 (drop (slot_offset r s) c)) i 0
+    ∙ get_or-take 64 (drop (slot_offset r s) c) (8 + i) 0 (omega (arith, low))
+    ∙ get_or-drop (slot_offset r s) c (8 + i) 0
 
 sequence_size : (r : Ring) (s : ℕ) (c d : List ℕ) → length d ≡ length c → length (take 8 (drop 8 (slot r s d)))
     ≡ length (take 8 (drop 8 (slot r s c)))
@@ -37,18 +37,18 @@ unfolding slot
 sequence_size r s c d size = omega (
   arith,
   size,
-  length-take 8 (drop 8 (take 64 (drop (slot_at r s) d))),
-  length-drop 8 (take 64 (drop (slot_at r s) d)),
-  length-take 64 (drop (slot_at r s) d),
-  length-drop (slot_at r s) d,
-  length-take 8 (drop 8 (take 64 (drop (slot_at r s) c))),
-  length-drop 8 (take 64 (drop (slot_at r s) c)),
-  length-take 64 (drop (slot_at r s) c),
-  length-drop (slot_at r s) c,
+  length-take 8 (drop 8 (take 64 (drop (slot_offset r s) d))),
+  length-drop 8 (take 64 (drop (slot_offset r s) d)),
+  length-take 64 (drop (slot_offset r s) d),
+  length-drop (slot_offset r s) d,
+  length-take 8 (drop 8 (take 64 (drop (slot_offset r s) c))),
+  length-drop 8 (take 64 (drop (slot_offset r s) c)),
+  length-take 64 (drop (slot_offset r s) c),
+  length-drop (slot_offset r s) c,
 )
 
 same_sequence : (r : Ring) (s : ℕ) (c d : List ℕ) → length d ≡ length c
-    → ((i : ℕ) → i < 8 → get_or d (slot_at r s + (8 + i)) 0 ≡ get_or c (slot_at r s + (8 + i)) 0)
+    → ((i : ℕ) → i < 8 → get_or d (slot_offset r s + (8 + i)) 0 ≡ get_or c (slot_offset r s + (8 + i)) 0)
     → sequence_of (slot r s d) ≡ sequence_of (slot r s c)
 unfolding sequence_of
 same_sequence r s c d size same = ap (λ (l : List ℕ). little_number 8 l)
@@ -73,16 +73,17 @@ module _ (j : JournalState) (known : IsJournal j) (n : ℕ) (low : j.count < LAS
     stays : (s : ℕ) → j.first ≤ s → s < next → slot j.ring s d ≡ slot j.ring s c
     stays s from to = same_slot j.ring s d c but.size (λ b lo hi. but.same b (λ k less is. apart k b less is lo hi))
       where
-        apart : (k b : ℕ) → k < n → b ≡ slot_at j.ring (next + k) → slot_at j.ring s ≤ b → b < slot_at j.ring s + 64 → ⊥
+        apart : (k b : ℕ) → k < n → b ≡ slot_offset j.ring (next + k) → slot_offset j.ring s ≤ b
+            → b < slot_offset j.ring s + 64 → ⊥
         apart k b less is lo hi = ⊎_elim
-            (λ (before : b < slot_at j.ring (next + k)). absurd (omega (arith, before, is)))
-            (λ (behind : slot_at j.ring (next + k) + 64 ≤ b). absurd (omega (arith, behind, is)))
+            (λ (before : b < slot_offset j.ring (next + k)). absurd (omega (arith, before, is)))
+            (λ (behind : slot_offset j.ring (next + k) + 64 ≤ b). absurd (omega (arith, behind, is)))
             (away j.ring some_slots s (next + k) b (omega (arith, to))
             (omega (arith, from, less, few, known.once_round, known.begun)) lo hi)
 
     sequences_stay : (s : ℕ) → sequence_of (slot j.ring s d) ≡ sequence_of (slot j.ring s c)
     sequences_stay s = same_sequence j.ring s c d but.size
-        (λ i less. but.same (slot_at j.ring s + (8 + i)) (λ k few_k is. absurd (omega (arith, less, is))))
+        (λ i less. but.same (slot_offset j.ring s + (8 + i)) (λ k few_k is. absurd (omega (arith, less, is))))
 
     -- the known room's gates
     count_is : j.first + length commands ≡ j.count
@@ -120,7 +121,7 @@ module _ (j : JournalState) (known : IsJournal j) (n : ℕ) (low : j.count < LAS
           subst (λ (s : ℕ). is_open (slot j.ring s d) ≡ false) at
           (closed_gate j.ring (next + (k - j.room)) d
           (λ is. absurd
-          (clash (get_or d (slot_at j.ring (next + (k - j.room))) 0)
+          (clash (get_or d (slot_offset j.ring (next + (k - j.room))) 0)
           (closed (k - j.room) (omega (arith, less, behind))) is))))
           (cases_lt k j.room)
         where

@@ -9,7 +9,7 @@ use Rattle.im_types.specs.declared.TheConstants.{LAST, MAX_GROUP}
 use Rattle.im_types.specs.declared.commands.Command.{Command}
 use Rattle.im_types.specs.Bytes.{open_gate}
 use Rattle.im_types.specs.Slot.{is_open}
-use Rattle.im_types.specs.Journal.{Ring, slot_at, slot, continues, run_from, run, commands_in, is_boundary}
+use Rattle.im_types.specs.Journal.{Ring, slot_offset, slot, continues, run_from, run, commands_in, is_boundary}
 use Rattle.im_types.specs.Journal.{IsBoundary, closed_from, are_stale, behind, ends_stale, room_of, Tail, tail_if}
 use Rattle.im_types.specs.Journal.{tail}
 use Rattle.im_disk.specs.Since.{SameBut}
@@ -128,7 +128,7 @@ module _ (r : Ring) (some : 0 < r.slots) (first n g : ℕ) (d c : List ℕ) (t :
   closed_here = let zeroth : n + 0
       ≡ n = omega arith in subst (λ (x : ℕ). is_open (slot r x d) ≡ false) zeroth (closed_there 0 more)
 
-  pub next_closed : get_or d (slot_at r n) 0 ≢ open_gate
+  pub next_closed : get_or d (slot_offset r n) 0 ≢ open_gate
   next_closed = gate_closed r n d closed_here
 
   -- the slots before the group and behind it stay
@@ -142,14 +142,15 @@ module _ (r : Ring) (some : 0 < r.slots) (first n g : ℕ) (d c : List ℕ) (t :
 
   -- and so do the gates of followers
   follower_gate : (i : ℕ) → 0 < i → i < g → is_open (slot r (n + i) c) ≡ is_open (slot r (n + i) d)
-  follower_gate i low high = same_gate r (n + i) c d (same.same (slot_at r (n + i)) other (λ m less. no_body m))
+  follower_gate i low high = same_gate r (n + i) c d (same.same (slot_offset r (n + i)) other (λ m less. no_body m))
     where
-      other : slot_at r (n + i) ≢ slot_at r n
-      other is = not_in (slot_at r (n + i)) (slot_at r n)
-          (away_after r some (n + i) n (slot_at r (n + i)) (omega (arith, low)) (omega (arith, high, fits))
+      other : slot_offset r (n + i) ≢ slot_offset r n
+      other is = not_in (slot_offset r (n + i)) (slot_offset r n)
+          (away_after r some (n + i) n (slot_offset r (n + i)) (omega (arith, low)) (omega (arith, high, fits))
           (omega arith) (omega arith)) is
 
-      no_body : (m : ℕ) → (slot_at r (n + i) ≤ slot_at r (n + m)) ⊎ (slot_at r (n + m) + 64 ≤ slot_at r (n + i))
+      no_body : (m : ℕ) → (slot_offset r (n + i) ≤ slot_offset r (n + m))
+          ⊎ (slot_offset r (n + m) + 64 ≤ slot_offset r (n + i))
       no_body m = no_gate_behind r (n + i) (n + m)
 
   -- the slots behind the group
@@ -157,7 +158,7 @@ module _ (r : Ring) (some : 0 < r.slots) (first n g : ℕ) (d c : List ℕ) (t :
   stale_same m s low high = same_stale r m s first c d
       (λ i lo hi. after i (omega (arith, low, lo)) (omega (arith, high, hi)))
 
-  module _ (shut : get_or c (slot_at r n) 0 ≢ open_gate) where
+  module _ (shut : get_or c (slot_offset r n) 0 ≢ open_gate) where
     shut_n : is_open (slot r n c) ≡ false
     shut_n = closed_gate r n c shut
 

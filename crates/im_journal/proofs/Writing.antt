@@ -3,7 +3,7 @@ use Rattle.std.proofs.Common.{◌≡◌, ◌⊎◌, inl, inr, ℕ, ◌+◌, ◌*
 use Rattle.std.proofs.Common.{drop, refl, sym, ◌∙◌, ap, subst, arith, length-append}
 use Rattle.im_types.specs.declared.commands.Command.{Command}
 use Rattle.im_types.specs.Slot.{slot_body, FitsCommand}
-use Rattle.im_types.specs.Journal.{Ring, slot_at, slot}
+use Rattle.im_types.specs.Journal.{Ring, slot_offset, slot}
 use Rattle.im_disk.specs.Moment.{Moment, Left, Torn, MayTick, overlaid, written}
 use Rattle.im_disk.specs.Since.{SameBut, LeavesOnly, LeavesNow, Calls}
 use Rattle.im_disk.proofs.OverlayLemmas.{length-overlaid, overlaid_outside, overlaid_part}
@@ -26,10 +26,10 @@ none_yet r s n c = record { size = refl; same = λ i out. refl }
 
 -- a body more
 one_more : (r : Ring) (s n k : ℕ) → k < n → (c d e : List ℕ) → SameButBodies r s n c d
-    → SameBut (slot_at r (s + k) + 1) 63 d e → SameButBodies r s n c e
+    → SameBut (slot_offset r (s + k) + 1) 63 d e → SameButBodies r s n c e
 one_more r s n k low c d e so_far but = record {
   size = but.size ∙ so_far.size;
-  same = λ i out. but.same i (outside i (slot_at r (s + k)) (out k low)) ∙ so_far.same i out;
+  same = λ i out. but.same i (outside i (slot_offset r (s + k)) (out k low)) ∙ so_far.same i out;
 }
   where
     outside : (i a : ℕ) → (i ≤ a) ⊎ (a + 64 ≤ i) → (i < a + 1) ⊎ (a + 1 + 63 ≤ i)
@@ -58,7 +58,7 @@ module _ {D : Type 0} (now : D → Moment) (past : D → List Moment) (r : Ring)
       (so_far : IsWriting now past r s n commands d0 d)
       (bytes : List ℕ) (long : length bytes ≡ 63) (d1 : D) where
     abbrev at : ℕ
-    at = slot_at r (s + i)
+    at = slot_offset r (s + i)
 
     pub fits_body : at + 1 + length bytes ≤ length (now d).bytes
     fits_body = omega (arith, long, slot_inside r some (s + i), so_far.kept.size, inside)
@@ -118,7 +118,7 @@ module _ {D : Type 0} (now : D → Moment) (past : D → List Moment) (r : Ring)
       earlier : (k : ℕ) → k < i → slot r (s + k) (now d1).bytes ≡ slot r (s + k) (now d).bytes
       earlier k low = same_slot r (s + k) (now d1).bytes (now d).bytes outside.size
           (λ b lo hi. outside.same b
-          (far b (slot_at r (s + i))
+          (far b (slot_offset r (s + i))
           (away r some (s + k) (s + i) b (omega (arith, low)) (omega (arith, few, round)) lo hi)))
         where
           far : (b a : ℕ) → (b < a) ⊎ (a + 64 ≤ b) → (b < a + 1) ⊎ (a + 1 + 63 ≤ b)

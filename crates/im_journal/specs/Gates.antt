@@ -1,6 +1,6 @@
 -- Closing the gates of a ring's slots.
 use Rattle.std.specs.Prelude.{◌≡◌, ℕ, ◌+◌, ◌*◌, ◌^◌, ◌<◌, List, [], length, slice_index}
-use Rattle.im_types.specs.Journal.{Ring, slot_at}
+use Rattle.im_types.specs.Journal.{Ring, slot_offset}
 use Rattle.im_disk.specs.Moment.{Moment, Left}
 
 -- the byte that closes a gate; any byte but that of an open gate would do
@@ -14,7 +14,7 @@ IsRing base slots = (0 < slots) × (base + 64 * slots < 2 ^ 63)
 -- the files agree outside the gates of n slots, from the slot of sequence number s on
 pub record SameButGates (ring : Ring) (s n : ℕ) (c d : List ℕ) : Type 0 where
   pub size : length d ≡ length c
-  pub same : (i : ℕ) → ((k : ℕ) → k < n → i ≡ slot_at ring (s + k) → ⊥) → slice_index d i ≡ slice_index c i
+  pub same : (i : ℕ) → ((k : ℕ) → k < n → i ≡ slot_offset ring (s + k) → ⊥) → slice_index d i ≡ slice_index c i
 
 -- outside those gates, the file is one that could be left
 pub record MayClose (ring : Ring) (s n : ℕ) (m : Moment) (file : List ℕ) : Type 0 where
@@ -24,7 +24,7 @@ pub record MayClose (ring : Ring) (s n : ℕ) (m : Moment) (file : List ℕ) : T
 
 -- those gates are closed
 abbrev pub HasClosed : Ring → ℕ → ℕ → List ℕ → Type 0
-HasClosed ring s n file = (k : ℕ) → k < n → slice_index file (slot_at ring (s + k)) ≡ closed_gate
+HasClosed ring s n file = (k : ℕ) → k < n → slice_index file (slot_offset ring (s + k)) ≡ closed_gate
 
 -- Those gates are closed on the disk for good, and all other bytes are as they were.
 pub record AreShut (ring : Ring) (s n : ℕ) (old new : Moment) : Type 0 where

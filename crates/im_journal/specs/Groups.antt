@@ -3,7 +3,7 @@ use Rattle.std.specs.Prelude.{◌≡◌, ◌≢◌, ◌⊎◌, ℕ, zero, suc, �
 use Rattle.im_types.specs.declared.TheConstants.{LAST, MAX_GROUP}
 use Rattle.im_types.specs.declared.commands.Command.{Command}
 use Rattle.im_types.specs.Slot.{slot_body, FitsCommand}
-use Rattle.im_types.specs.Journal.{Ring, slot_at, slot}
+use Rattle.im_types.specs.Journal.{Ring, slot_offset, slot}
 use Rattle.im_disk.specs.Moment.{Moment, Left}
 use Rattle.im_journal.specs.Gates.{IsRing}
 
@@ -33,7 +33,7 @@ AllFit (command ∷ commands) = FitsCommand command × AllFit commands
 
 -- byte i isn't behind the gate of any of n slots, from the slot of sequence number s on
 abbrev pub IsNoBody : Ring → ℕ → ℕ → ℕ → Type 0
-IsNoBody ring s n i = (k : ℕ) → k < n → (i ≤ slot_at ring (s + k)) ⊎ (slot_at ring (s + k) + 64 ≤ i)
+IsNoBody ring s n i = (k : ℕ) → k < n → (i ≤ slot_offset ring (s + k)) ⊎ (slot_offset ring (s + k) + 64 ≤ i)
 
 -- the files agree outside what is behind the gates of n slots, from the slot of sequence number s on
 pub record SameButBodies (ring : Ring) (s n : ℕ) (c d : List ℕ) : Type 0 where
@@ -43,7 +43,7 @@ pub record SameButBodies (ring : Ring) (s n : ℕ) (c d : List ℕ) : Type 0 whe
 -- the files agree outside that and the gate of the first of these slots: the bytes of a group
 pub record SameButGroup (ring : Ring) (s n : ℕ) (c d : List ℕ) : Type 0 where
   pub size : length d ≡ length c
-  pub same : (i : ℕ) → i ≢ slot_at ring s → IsNoBody ring s n i → slice_index d i ≡ slice_index c i
+  pub same : (i : ℕ) → i ≢ slot_offset ring s → IsNoBody ring s n i → slice_index d i ≡ slice_index c i
 
 -- outside those bodies, the file is one that could be left
 pub record MayWriteBodies (ring : Ring) (s n : ℕ) (m : Moment) (file : List ℕ) : Type 0 where

@@ -41,8 +41,8 @@ pub record JournalState : Type 0 where
   pub room : ℕ
 
 -- a journal with these numbers
-abbrev pub state_of : ℕ → ℕ → ℕ → ℕ → ℕ → JournalState
-state_of base slots first count room = record {
+abbrev pub journal_state : ℕ → ℕ → ℕ → ℕ → ℕ → JournalState
+journal_state base slots first count room = record {
   ring = record { base = base; slots = slots };
   first = first;
   count = count;

@@ -32,13 +32,13 @@ pub struct Journal {
 }
 
 impl Model for Journal {
-    ghost use Rattle.im_journal.specs.Holding.{JournalState, IsJournal, state_of};
+    ghost use Rattle.im_journal.specs.Holding.{JournalState, IsJournal, journal_state};
 
     ghost Value = { JournalState };
 
-    ghost view = { λ j. state_of j.base j.slots j.first j.count j.room };
+    ghost view = { λ j. journal_state j.base j.slots j.first j.count j.room };
 
-    ghost invariant = { λ j. IsJournal (state_of j.base j.slots j.first j.count j.room) };
+    ghost invariant = { λ j. IsJournal (journal_state j.base j.slots j.first j.count j.room) };
 }
 
 // Whether there is room for so many commands, and a count.

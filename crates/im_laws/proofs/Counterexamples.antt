@@ -42,7 +42,8 @@ use Rattle.im_laws.specs.Requests.{after_request, IsAnswered, IsNew, IsServed}
 use Rattle.im_laws.specs.Entries.{IsTold}
 use Rattle.im_laws.specs.Windows.{IsForgotten, TakesNextNumber, MovesBase}
 use Rattle.im_laws.specs.Traces.{commands_of, command_answers}
-use Rattle.im_laws.specs.Examples.{sixteen_cells, waiter, asks, told, waits, three_readers, one_store, three_takers}
+use Rattle.im_laws.specs.Examples.{sixteen_cells, waiter, asks, told_reply, told_waits, three_readers, one_store}
+use Rattle.im_laws.specs.Examples.{three_takers}
 use Rattle.im_laws.specs.Examples.{edges, full_window}
 use Rattle.im_laws.proofs.Tests.{true_false, some_none}
 use Rattle.im_laws.proofs.Instances.{end_of-memory}
@@ -370,7 +371,8 @@ a_trace_goes_on_from_the_other :
 unfolding empty_contents
 a_trace_goes_on_from_the_other law =
     differ 0 1 refl (ap base_told
-    (law sixteen_cells (asks 0 1 (Alloc I 1) (told (Base 0)) ∷ []) (asks 1 1 (Alloc M 2) (told (Base 0)) ∷ [])
+    (law sixteen_cells (asks 0 1 (Alloc I 1) (told_reply (Base 0)) ∷ [])
+    (asks 1 1 (Alloc M 2) (told_reply (Base 0)) ∷ [])
     ((refl, tt), (refl, tt))).1.0)
 
 -- `trace_grows`: a trace that isn't legal isn't made so by a good last line.
@@ -380,7 +382,7 @@ a_good_line_mends_no_trace :
 unfolding empty_contents
 a_good_line_mends_no_trace law =
     differ 5 0 refl (ap base_told
-    (law sixteen_cells (asks 0 1 (Alloc I 1) (told (Base 5)) ∷ []) (asks 1 1 (Fetch 0) waits) refl).0)
+    (law sixteen_cells (asks 0 1 (Alloc I 1) (told_reply (Base 5)) ∷ []) (asks 1 1 (Fetch 0) told_waits) refl).0)
 
 -- `trace_is_a_run`: a trace that isn't legal has other answers than the run.
 an_illegal_trace_is_no_run :
@@ -388,7 +390,7 @@ an_illegal_trace_is_no_run :
 unfolding empty_contents
 an_illegal_trace_is_no_run law = differ 5 0 refl
     (ap (λ (all : List (Result Outcome Refusal)). base_told (first_of all))
-    (law sixteen_cells (asks 0 1 (Alloc I 1) (told (Base 5)) ∷ [])))
+    (law sixteen_cells (asks 0 1 (Alloc I 1) (told_reply (Base 5)) ∷ [])))
 
 -- ---- waiters
 

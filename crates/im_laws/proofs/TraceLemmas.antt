@@ -9,7 +9,7 @@ use Rattle.im_types.specs.declared.refusals.Refusal.{Refusal}
 use Rattle.im_types.specs.Contents.{Contents}
 use Rattle.im_types.specs.Run.{after, answers}
 use Rattle.im_types.specs.Trace.{answer_to, contents_after, IsLegal, end_of}
-use Rattle.im_laws.specs.Traces.{command_in, commands_of, answer_to_command, command_answers}
+use Rattle.im_laws.specs.Traces.{commands_of_call, commands_of, answer_to_command, command_answers}
 
 pub end_of-append : (m : Contents) (earlier later : List Line) → end_of m (earlier ++ later)
     ≡ end_of (end_of m earlier) later
@@ -40,7 +40,7 @@ end_of-commands m [] = refl
 end_of-commands m (line ∷ trace) = end_of-commands (contents_after m line.call) trace ∙ by_call line.call
   where
     by_call : (call : Call) → after (contents_after m call) (commands_of trace)
-        ≡ after m (command_in call ++ commands_of trace)
+        ≡ after m (commands_of_call call ++ commands_of trace)
     by_call (Commands command) = refl
     by_call (Collect element number) = refl
 
@@ -53,6 +53,7 @@ command_answers-legal m (line ∷ trace) legal = by_call line.call line.answer l
   where
     by_call : (call : Call) (answer : Result Outcome Refusal) → answer ≡ answer_to m call
         → command_answers trace ≡ answers (contents_after m call) (commands_of trace)
-        → answer_to_command call answer ++ command_answers trace ≡ answers m (command_in call ++ commands_of trace)
+        → answer_to_command call answer ++ command_answers trace
+        ≡ answers m (commands_of_call call ++ commands_of trace)
     by_call (Commands command) answer is rest = λ i. is i ∷ rest i
     by_call (Collect element number) answer is rest = rest

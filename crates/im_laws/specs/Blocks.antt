@@ -25,7 +25,7 @@ abbrev pub EachCellOf : List (Option Held) → ℕ → (ℕ → Block → Type 0
 EachCellOf cells a Fact = (b : ℕ) (block : Block) → block_at cells b ≡ Some block → block.base ≡ a → Fact b block
 
 -- the reply of the block with this base, whatever change of its cells was asked for
-abbrev pub IsRefused : List (Option Held) → ℕ → Reply → Type 0
-IsRefused cells a reply =
+abbrev pub TellsOnly : List (Option Held) → ℕ → Reply → Type 0
+TellsOnly cells a reply =
     (after : Block → List (Option Held)) (meant : Reply)
     → unless_waited_for after meant cells a (block_with_base a (held_at cells a)) ≡ only_tells cells reply

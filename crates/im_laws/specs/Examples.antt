@@ -50,12 +50,12 @@ abbrev pub collects : ℕ → ℕ → Result Outcome Refusal → Line
 collects element number answer = record { call = Collect element number; answer = answer }
 
 -- the answer to a request that has this reply
-abbrev pub told : Reply → Result Outcome Refusal
-told reply = Ok (Tells (Answered reply))
+abbrev pub told_reply : Reply → Result Outcome Refusal
+told_reply reply = Ok (Tells (Answered reply))
 
 -- the answer to a request that is deferred
-abbrev pub waits : Result Outcome Refusal
-waits = Ok (Tells Waiting)
+abbrev pub told_waits : Result Outcome Refusal
+told_waits = Ok (Tells Waiting)
 
 -- the answer to a confirmation that succeeds
 abbrev pub confirmed : Result Outcome Refusal
@@ -64,191 +64,191 @@ confirmed = Ok Confirmed
 -- three readers wait
 abbrev pub three_readers : List Line
 three_readers =
-    asks 0 1 (Alloc I 1) (told (Base 0))
-    ∷ asks 1 1 (Fetch 0) waits
-    ∷ asks 2 1 (Fetch 0) waits
-    ∷ asks 1 2 (Fetch 0) waits
+    asks 0 1 (Alloc I 1) (told_reply (Base 0))
+    ∷ asks 1 1 (Fetch 0) told_waits
+    ∷ asks 2 1 (Fetch 0) told_waits
+    ∷ asks 1 2 (Fetch 0) told_waits
     ∷ []
 
 -- one store answers all of them
 abbrev pub one_store : List Line
 one_store =
     three_readers
-    ++ asks 3 1 (Store 0 7) (told Stored)
-    ∷ collects 1 1 (told (Value 7))
-    ∷ collects 2 1 (told (Value 7))
-    ∷ collects 1 2 (told (Value 7))
+    ++ asks 3 1 (Store 0 7) (told_reply Stored)
+    ∷ collects 1 1 (told_reply (Value 7))
+    ∷ collects 2 1 (told_reply (Value 7))
+    ∷ collects 1 2 (told_reply (Value 7))
     ∷ []
 
 -- a second store clashes for good, even with the same value
 abbrev pub second_store : List Line
 second_store =
-    asks 0 1 (Alloc I 1) (told (Base 0))
-    ∷ asks 1 1 (Store 0 5) (told Stored)
-    ∷ asks 1 2 (Fetch 0) (told (Value 5))
-    ∷ asks 1 3 (Store 0 5) (told Clash)
-    ∷ asks 1 4 (Fetch 0) (told Clash)
-    ∷ collects 1 2 (told (Value 5))
+    asks 0 1 (Alloc I 1) (told_reply (Base 0))
+    ∷ asks 1 1 (Store 0 5) (told_reply Stored)
+    ∷ asks 1 2 (Fetch 0) (told_reply (Value 5))
+    ∷ asks 1 3 (Store 0 5) (told_reply Clash)
+    ∷ asks 1 4 (Fetch 0) (told_reply Clash)
+    ∷ collects 1 2 (told_reply (Value 5))
     ∷ []
 
 -- takers are served in their order of arrival
 abbrev pub three_takers : List Line
 three_takers =
-    asks 0 1 (Alloc M 1) (told (Base 0))
-    ∷ asks 3 1 (Take 0) waits
-    ∷ asks 1 1 (Take 0) waits
-    ∷ asks 2 1 (Take 0) waits
-    ∷ asks 4 1 (Put 0 10) (told Stored)
-    ∷ asks 4 2 (Put 0 20) (told Stored)
-    ∷ collects 3 1 (told (Value 10))
-    ∷ collects 1 1 (told (Value 20))
-    ∷ collects 2 1 waits
-    ∷ asks 4 3 (Put 0 30) (told Stored)
-    ∷ collects 2 1 (told (Value 30))
+    asks 0 1 (Alloc M 1) (told_reply (Base 0))
+    ∷ asks 3 1 (Take 0) told_waits
+    ∷ asks 1 1 (Take 0) told_waits
+    ∷ asks 2 1 (Take 0) told_waits
+    ∷ asks 4 1 (Put 0 10) (told_reply Stored)
+    ∷ asks 4 2 (Put 0 20) (told_reply Stored)
+    ∷ collects 3 1 (told_reply (Value 10))
+    ∷ collects 1 1 (told_reply (Value 20))
+    ∷ collects 2 1 told_waits
+    ∷ asks 4 3 (Put 0 30) (told_reply Stored)
+    ∷ collects 2 1 (told_reply (Value 30))
     ∷ []
 
 -- a put on a full cell clashes
 abbrev pub second_put : List Line
 second_put =
-    asks 0 1 (Alloc M 1) (told (Base 0))
-    ∷ asks 1 1 (Put 0 1) (told Stored)
-    ∷ asks 1 2 (Put 0 2) (told Clash)
-    ∷ asks 1 3 (Take 0) (told Clash)
+    asks 0 1 (Alloc M 1) (told_reply (Base 0))
+    ∷ asks 1 1 (Put 0 1) (told_reply Stored)
+    ∷ asks 1 2 (Put 0 2) (told_reply Clash)
+    ∷ asks 1 3 (Take 0) (told_reply Clash)
     ∷ []
 
 -- lengths and addresses that don't fit
 abbrev pub edges : List Line
 edges =
-    asks 0 1 (Alloc I 16) (told (Base 0))
-    ∷ asks 0 2 (Alloc I 1) (told NoSpace)
-    ∷ asks 0 3 (Alloc I 0) (told BadLength)
-    ∷ asks 0 4 (Alloc M 17) (told NoSpace)
-    ∷ asks 1 1 (Fetch 16) (told NoCell)
-    ∷ asks 1 2 (Fetch 0xFFFF_FFFF) (told NoCell)
+    asks 0 1 (Alloc I 16) (told_reply (Base 0))
+    ∷ asks 0 2 (Alloc I 1) (told_reply NoSpace)
+    ∷ asks 0 3 (Alloc I 0) (told_reply BadLength)
+    ∷ asks 0 4 (Alloc M 17) (told_reply NoSpace)
+    ∷ asks 1 1 (Fetch 16) (told_reply NoCell)
+    ∷ asks 1 2 (Fetch 0xFFFF_FFFF) (told_reply NoCell)
     ∷ []
 
 -- the least hole that is large enough is taken
 abbrev pub least_hole : List Line
 least_hole =
-    asks 0 1 (Alloc I 2) (told (Base 0))
-    ∷ asks 0 2 (Alloc I 3) (told (Base 2))
-    ∷ asks 0 3 (Alloc M 2) (told (Base 5))
-    ∷ asks 0 4 (Release 2) (told Released)
-    ∷ asks 0 5 (Alloc I 4) (told (Base 7))
-    ∷ asks 0 6 (Alloc I 3) (told (Base 2))
-    ∷ asks 0 7 (Release 3) (told NoBlock)
-    ∷ asks 1 1 (Fetch 5) (told WrongKind)
+    asks 0 1 (Alloc I 2) (told_reply (Base 0))
+    ∷ asks 0 2 (Alloc I 3) (told_reply (Base 2))
+    ∷ asks 0 3 (Alloc M 2) (told_reply (Base 5))
+    ∷ asks 0 4 (Release 2) (told_reply Released)
+    ∷ asks 0 5 (Alloc I 4) (told_reply (Base 7))
+    ∷ asks 0 6 (Alloc I 3) (told_reply (Base 2))
+    ∷ asks 0 7 (Release 3) (told_reply NoBlock)
+    ∷ asks 1 1 (Fetch 5) (told_reply WrongKind)
     ∷ []
 
 -- a block with a waiting cell stays, and that answer is kept
 abbrev pub waiting_block : List Line
 waiting_block =
-    asks 0 1 (Alloc I 1) (told (Base 0))
-    ∷ asks 1 1 (Fetch 0) waits
-    ∷ asks 0 2 (Release 0) (told StillWaiting)
-    ∷ asks 2 1 (Store 0 9) (told Stored)
-    ∷ asks 0 3 (Release 0) (told Released)
-    ∷ asks 0 2 (Release 0) (told StillWaiting)
-    ∷ asks 1 2 (Fetch 0) (told NoCell)
-    ∷ collects 1 1 (told (Value 9))
-    ∷ asks 0 4 (Alloc I 1) (told (Base 0))
-    ∷ asks 1 3 (Fetch 0) waits
+    asks 0 1 (Alloc I 1) (told_reply (Base 0))
+    ∷ asks 1 1 (Fetch 0) told_waits
+    ∷ asks 0 2 (Release 0) (told_reply StillWaiting)
+    ∷ asks 2 1 (Store 0 9) (told_reply Stored)
+    ∷ asks 0 3 (Release 0) (told_reply Released)
+    ∷ asks 0 2 (Release 0) (told_reply StillWaiting)
+    ∷ asks 1 2 (Fetch 0) (told_reply NoCell)
+    ∷ collects 1 1 (told_reply (Value 9))
+    ∷ asks 0 4 (Alloc I 1) (told_reply (Base 0))
+    ∷ asks 1 3 (Fetch 0) told_waits
     ∷ []
 
 -- a request that comes again acts once
 abbrev pub sent_again : List Line
 sent_again =
-    asks 0 1 (Alloc I 1) (told (Base 0))
-    ∷ asks 1 1 (Fetch 0) waits
-    ∷ asks 1 1 (Fetch 0) waits
+    asks 0 1 (Alloc I 1) (told_reply (Base 0))
+    ∷ asks 1 1 (Fetch 0) told_waits
+    ∷ asks 1 1 (Fetch 0) told_waits
     ∷ asks 1 1 (Fetch 1) (Err Mismatch)
     ∷ asks 1 3 (Fetch 0) (Err Gap)
     ∷ asks 1 0 (Fetch 0) (Err Forgotten)
     ∷ asks 16 1 (Fetch 0) (Err NoElement)
-    ∷ asks 2 1 (Store 0 3) (told Stored)
-    ∷ asks 1 1 (Fetch 0) (told (Value 3))
+    ∷ asks 2 1 (Store 0 3) (told_reply Stored)
+    ∷ asks 1 1 (Fetch 0) (told_reply (Value 3))
     ∷ []
 
 -- n fetches of cell 0 by element 1, from this number on, each of which waits
 abbrev pub fetches_that_wait : ℕ → ℕ → List Line
 fetches_that_wait zero number = []
-fetches_that_wait (suc more) number = asks 1 number (Fetch 0) waits ∷ fetches_that_wait more (number + 1)
+fetches_that_wait (suc more) number = asks 1 number (Fetch 0) told_waits ∷ fetches_that_wait more (number + 1)
 
 -- sixty-four waiting entries fill a window, and none leaves it before it is answered
 abbrev pub full_window : List Line
 full_window =
-    asks 0 1 (Alloc I 1) (told (Base 0))
+    asks 0 1 (Alloc I 1) (told_reply (Base 0))
     ∷ fetches_that_wait 64 1
     ++ asks 1 65 (Fetch 0) (Err WindowFull)
     ∷ confirms 1 2 (Err NotAnswered)
     ∷ confirms 1 66 (Err Gap)
-    ∷ asks 2 1 (Store 0 8) (told Stored)
+    ∷ asks 2 1 (Store 0 8) (told_reply Stored)
     ∷ confirms 1 65 confirmed
     ∷ asks 1 1 (Fetch 0) (Err Forgotten)
-    ∷ asks 1 65 (Fetch 0) (told (Value 8))
+    ∷ asks 1 65 (Fetch 0) (told_reply (Value 8))
     ∷ confirms 1 1 confirmed
     ∷ []
 
 -- a block that is reset while a request waits for a cell of it, and when none waits
 abbrev pub block_reset : List Line
 block_reset =
-    asks 0 1 (Alloc I 2) (told (Base 0))
-    ∷ asks 1 1 (Store 0 5) (told Stored)
-    ∷ asks 1 2 (Store 0 6) (told Clash)
-    ∷ asks 0 2 (Reset 0) (told Cleared)
-    ∷ asks 1 3 (Fetch 0) waits
-    ∷ asks 0 3 (Reset 0) (told StillWaiting)
-    ∷ asks 1 4 (Store 0 6) (told Stored)
-    ∷ collects 1 3 (told (Value 6))
-    ∷ asks 0 4 (Reset 1) (told NoBlock)
+    asks 0 1 (Alloc I 2) (told_reply (Base 0))
+    ∷ asks 1 1 (Store 0 5) (told_reply Stored)
+    ∷ asks 1 2 (Store 0 6) (told_reply Clash)
+    ∷ asks 0 2 (Reset 0) (told_reply Cleared)
+    ∷ asks 1 3 (Fetch 0) told_waits
+    ∷ asks 0 3 (Reset 0) (told_reply StillWaiting)
+    ∷ asks 1 4 (Store 0 6) (told_reply Stored)
+    ∷ collects 1 3 (told_reply (Value 6))
+    ∷ asks 0 4 (Reset 1) (told_reply NoBlock)
     ∷ []
 
 -- one cell and one element
 abbrev pub least_memory : List Line
 least_memory =
-    asks 0 1 (Alloc I 1) (told (Base 0))
-    ∷ asks 0 2 (Fetch 0) waits
-    ∷ asks 0 3 (Store 0 0) (told Stored)
-    ∷ collects 0 2 (told (Value 0))
+    asks 0 1 (Alloc I 1) (told_reply (Base 0))
+    ∷ asks 0 2 (Fetch 0) told_waits
+    ∷ asks 0 3 (Store 0 0) (told_reply Stored)
+    ∷ collects 0 2 (told_reply (Value 0))
     ∷ asks 1 1 (Fetch 0) (Err NoElement)
     ∷ []
 
 -- fetches before a store, after it, and after a second one
 abbrev pub fetches : List Line
 fetches =
-    asks 0 1 (Alloc I 1) (told (Base 0))
-    ∷ asks 1 1 (Fetch 0) waits
-    ∷ asks 2 1 (Store 0 7) (told Stored)
-    ∷ asks 1 2 (Fetch 0) (told (Value 7))
-    ∷ asks 2 2 (Store 0 7) (told Clash)
-    ∷ asks 1 3 (Fetch 0) (told Clash)
+    asks 0 1 (Alloc I 1) (told_reply (Base 0))
+    ∷ asks 1 1 (Fetch 0) told_waits
+    ∷ asks 2 1 (Store 0 7) (told_reply Stored)
+    ∷ asks 1 2 (Fetch 0) (told_reply (Value 7))
+    ∷ asks 2 2 (Store 0 7) (told_reply Clash)
+    ∷ asks 1 3 (Fetch 0) (told_reply Clash)
     ∷ []
 
 -- takes that come before their puts, and then puts that outnumber the takes
 abbrev pub takes_and_puts : List Line
 takes_and_puts =
-    asks 0 1 (Alloc M 1) (told (Base 0))
-    ∷ asks 1 1 (Take 0) waits
-    ∷ asks 1 2 (Take 0) waits
-    ∷ asks 2 1 (Put 0 10) (told Stored)
-    ∷ asks 2 2 (Put 0 20) (told Stored)
-    ∷ asks 2 3 (Put 0 30) (told Stored)
-    ∷ asks 2 4 (Put 0 40) (told Clash)
-    ∷ asks 1 3 (Take 0) (told Clash)
-    ∷ asks 2 5 (Put 0 50) (told Clash)
+    asks 0 1 (Alloc M 1) (told_reply (Base 0))
+    ∷ asks 1 1 (Take 0) told_waits
+    ∷ asks 1 2 (Take 0) told_waits
+    ∷ asks 2 1 (Put 0 10) (told_reply Stored)
+    ∷ asks 2 2 (Put 0 20) (told_reply Stored)
+    ∷ asks 2 3 (Put 0 30) (told_reply Stored)
+    ∷ asks 2 4 (Put 0 40) (told_reply Clash)
+    ∷ asks 1 3 (Take 0) (told_reply Clash)
+    ∷ asks 2 5 (Put 0 50) (told_reply Clash)
     ∷ []
 
 -- two lives at one address, and an entry that was dropped
 abbrev pub two_lives : List Line
 two_lives =
-    asks 0 1 (Alloc I 1) (told (Base 0))
-    ∷ asks 1 1 (Store 0 5) (told Stored)
-    ∷ asks 1 2 (Fetch 0) (told (Value 5))
+    asks 0 1 (Alloc I 1) (told_reply (Base 0))
+    ∷ asks 1 1 (Store 0 5) (told_reply Stored)
+    ∷ asks 1 2 (Fetch 0) (told_reply (Value 5))
     ∷ confirms 1 3 confirmed
-    ∷ asks 0 2 (Release 0) (told Released)
-    ∷ asks 0 3 (Alloc I 2) (told (Base 0))
-    ∷ asks 1 3 (Fetch 0) waits
-    ∷ asks 1 4 (Fetch 1) waits
+    ∷ asks 0 2 (Release 0) (told_reply Released)
+    ∷ asks 0 3 (Alloc I 2) (told_reply (Base 0))
+    ∷ asks 1 3 (Fetch 0) told_waits
+    ∷ asks 1 4 (Fetch 1) told_waits
     ∷ []
 
 -- for each request of a life, the entry that the laws give, if they give one, beside the last entry that it had

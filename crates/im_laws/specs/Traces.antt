@@ -8,14 +8,14 @@ use Rattle.im_types.specs.declared.commands.Line.{Line}
 use Rattle.im_types.specs.declared.refusals.Refusal.{Refusal}
 
 -- the command of a call, if it is one
-abbrev pub command_in : Call → List Command
-command_in (Commands command) = command ∷ []
-command_in (Collect element number) = []
+abbrev pub commands_of_call : Call → List Command
+commands_of_call (Commands command) = command ∷ []
+commands_of_call (Collect element number) = []
 
 -- the commands of a trace, in order
 abbrev pub commands_of : List Line → List Command
 commands_of [] = []
-commands_of (line ∷ lines) = command_in line.call ++ commands_of lines
+commands_of (line ∷ lines) = commands_of_call line.call ++ commands_of lines
 
 -- an answer to a command, if it is one
 abbrev pub answer_to_command : Call → Result Outcome Refusal → List (Result Outcome Refusal)

@@ -7,14 +7,16 @@ use Rattle.std.proofs.lemmas.Bool.{false≢true}
 use Rattle.im_disk.specs.Moment.{Moment, Left, synced}
 use Rattle.im_listed.specs.declared.step.Step.{Step}
 use Rattle.im_listed.specs.History.{CallHistory, later}
-use Rattle.im_listed.specs.Listing.{Task, Settles, task_of, stepped, carried, Listing, later_with, listing_of, no_range}
+use Rattle.im_listed.specs.Listing.{FileStep, Settles, task_of, stepped, carried, Listing, later_with, listing_of}
+use Rattle.im_listed.specs.Listing.{no_range}
 use Rattle.im_listed.specs.Listing.{is_calm, settled, Accounts, Agrees}
 
-carried_more : (m : Moment) (ts : List Task) (t : Task) → carried m (ts ++ t ∷ []) ≡ stepped t (carried m ts)
+carried_more : (m : Moment) (ts : List FileStep) (t : FileStep) → carried m (ts ++ t ∷ []) ≡ stepped t (carried m ts)
 carried_more m [] t = refl
 carried_more m (x ∷ xs) t = carried_more (stepped x m) xs t
 
-accounts_more : (d : Listing) (t : Task) → Accounts d → Accounts (later_with (stepped t d.now) (d.steps ++ t ∷ []) d)
+accounts_more : (d : Listing) (t : FileStep) → Accounts d
+    → Accounts (later_with (stepped t d.now) (d.steps ++ t ∷ []) d)
 accounts_more d t a =
     let size = length-append d.steps (t ∷ []) in
     let ends : stepped t d.now ≡ carried d.begun (d.steps ++ t ∷ []) = ap (λ (m : Moment). stepped t m) a.ends
@@ -25,22 +27,23 @@ accounts_more d t a =
           (λ last. inl (
             omega arith,
             subst (λ (m : Moment). Left m file) (sym ends)
-                (subst (λ (ts : List Task). Left (carried d.begun ts) file)
+                (subst (λ (ts : List FileStep). Left (carried d.begun ts) file)
                 (take_all many (d.steps ++ t ∷ []) (omega arith)) left),
           ))
           (λ early. inr (a.way many file early
-          (subst (λ (ts : List Task). Left (carried d.begun ts) file)
+          (subst (λ (ts : List FileStep). Left (carried d.begun ts) file)
           (take-append-le many d.steps (t ∷ []) early) left)))
           (cases_lt (length d.steps) many);
     }
 
-pub agrees_more : (bytes new_bytes : List ℕ) (steps new_steps : List Step) (calm : Bool) (h : CallHistory) (t : Task)
+pub agrees_more : (bytes new_bytes : List ℕ) (steps new_steps : List Step) (calm : Bool) (h : CallHistory)
+    (t : FileStep)
     → Agrees bytes steps calm h → map task_of new_steps ≡ map task_of steps ++ t ∷ [] → new_bytes
     ≡ (stepped t h.now).bytes → Agrees new_bytes new_steps (is_calm (stepped t h.now)) (later (stepped t h.now) h)
 agrees_more bytes new_bytes steps new_steps calm h t a more same = record {
   same = same;
   calm_is = refl;
-  accounts = subst (λ (ts : List Task). Accounts
+  accounts = subst (λ (ts : List FileStep). Accounts
       (record { now = stepped t h.now; past = h.now ∷ h.past; begun = h.begun; steps = ts; failed = false }))
       (sym more) (accounts_more (listing_of h steps false) t a.accounts);
 }
@@ -70,7 +73,7 @@ agrees_synced bytes steps new_steps false h a more =
 agrees_synced bytes steps new_steps true h a same = record {
   same = a.same;
   calm_is = refl;
-  accounts = subst (λ (ts : List Task). Accounts
+  accounts = subst (λ (ts : List FileStep). Accounts
       (record { now = synced h.now; past = h.now ∷ h.past; begun = h.begun; steps = ts; failed = false })) (sym same)
       (accounts_later (listing_of h steps false) (calm_synced h.now (sym a.calm_is)) a.accounts);
 }

@@ -10,7 +10,7 @@ use Rattle.im_groups.specs.Ahead.{ServesPrefix}
 use Rattle.im_engine.specs.State.{EngineState, MeansState, IsFirstFault}
 use Rattle.im_engine.specs.Commands.{CommandsAnswered, MeansCommands, commands_put}
 use Rattle.im_engine.specs.Run.{is_device}
-use Rattle.im_listed.specs.Listing.{Task, Listing, carried, LeftOnTheWay, with_no_steps}
+use Rattle.im_listed.specs.Listing.{FileStep, Listing, carried, LeftOnTheWay, with_no_steps}
 
 -- an engine over a caller's bytes, and whether a call of the disk failed, here or at the caller
 pub record ImageState : Type 0 where
@@ -22,7 +22,7 @@ abbrev pub begun_in : ImageState → EngineState Listing
 begun_in s = record s.engine { disk = with_no_steps s.engine.disk }
 
 -- what the caller has to carry out after a call: nothing, if a step was lost
-abbrev pub steps_of : ImageState → List Task
+abbrev pub steps_of : ImageState → List FileStep
 steps_of s = if s.lost then [] else s.engine.disk.steps
 
 -- the answer says that a call of the disk failed

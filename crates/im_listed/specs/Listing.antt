@@ -7,22 +7,22 @@ use Rattle.im_listed.specs.declared.step.Step.TheVariants.{Write, Sync}
 use Rattle.im_listed.specs.History.{CallHistory, given}
 
 -- a step on the file: write these bytes at this place, or put all that was written on the disk
-pub data Task : Type 0 where
-  Puts : ℕ → List ℕ → Task
-  Settles : Task
+pub data FileStep : Type 0 where
+  Puts : ℕ → List ℕ → FileStep
+  Settles : FileStep
 
 -- the step of the code as a task
-abbrev pub task_of : Step → Task
+abbrev pub task_of : Step → FileStep
 task_of (Write place bytes) = Puts place bytes.items
 task_of Sync = Settles
 
 -- what carrying out one step makes of a file
-abbrev pub stepped : Task → Moment → Moment
+abbrev pub stepped : FileStep → Moment → Moment
 stepped (Puts place bytes) m = written place bytes m
 stepped Settles m = synced m
 
 -- what carrying out these steps in their order makes of a file
-abbrev pub carried : Moment → List Task → Moment
+abbrev pub carried : Moment → List FileStep → Moment
 carried m [] = m
 carried m (t ∷ ts) = carried (stepped t m) ts
 
@@ -34,7 +34,7 @@ pub record Listing : Type 0 where
   -- the file when the list was last emptied
   pub begun : Moment
   -- the writes and syncs since, oldest first
-  pub steps : List Task
+  pub steps : List FileStep
   -- a call has failed, because the list could not grow
   pub failed : Bool
 
@@ -44,7 +44,7 @@ listing_of h steps failed =
     record { now = h.now; past = h.past; begun = h.begun; steps = map task_of steps; failed = failed }
 
 -- a moment later, with these steps
-abbrev pub later_with : Moment → List Task → Listing → Listing
+abbrev pub later_with : Moment → List FileStep → Listing → Listing
 later_with m steps d = record { now = m; past = d.now ∷ d.past; begun = d.begun; steps = steps; failed = d.failed }
 
 -- with an empty list
@@ -65,7 +65,7 @@ abbrev pub is_calm : Moment → Bool
 is_calm m = no_range m.ranges
 
 -- the steps with one more sync, if something was written since the last one
-abbrev pub settled : Bool → List Task → List Task
+abbrev pub settled : Bool → List FileStep → List FileStep
 settled calm steps = if calm then steps else steps ++ Settles ∷ []
 
 -- only a failure happened
@@ -77,7 +77,7 @@ abbrev pub ListsStep : {T E : Type 0} → Result T E → Listing → Listing →
 ListsStep result told old new = MatchResult result (λ _. new ≡ told) (λ _. new ≡ broken old)
 
 -- After any prefix of these steps, from this moment on, each file that a crash may leave has P.
-abbrev pub LeftOnTheWay : Moment → List Task → (List ℕ → Type 0) → Type 0
+abbrev pub LeftOnTheWay : Moment → List FileStep → (List ℕ → Type 0) → Type 0
 LeftOnTheWay m steps P =
     (many : ℕ) (file : List ℕ) → many ≤ length steps → Left (carried m (take many steps)) file → P file
 

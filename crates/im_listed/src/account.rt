@@ -6,24 +6,24 @@ ghost use Rattle.im_listed.specs.History.{ListedCall, listed_call};
 use std::marker::{Model, PhantomData};
 
 #[derive(Drop)]
-pub(crate) struct Ledger {
+pub(crate) struct StepLedger {
     marker: PhantomData<u8>,
     pub(crate) ghost events: { List ListedCall },
 }
 
-impl Model for Ledger {
+impl Model for StepLedger {
     ghost also_owns = { λ _. ftrue };
 }
 
 // It owns nothing, so it may move to another thread.
-unsafe impl Send for Ledger {}
+unsafe impl Send for StepLedger {}
 
-impl Ledger {
+impl StepLedger {
     // An empty list.
-    pub(crate) fn new() -> Ledger
+    pub(crate) fn new() -> StepLedger
         ensures { result.events ≡ [] }
     {
-        Ledger {
+        StepLedger {
             marker: PhantomData,
         }
     }

@@ -6,7 +6,7 @@ ghost use Rattle.im_listed.specs.Listing.{Puts, task_of, over, with_no_steps, la
 ghost use Rattle.im_listed.specs.Listing.{Accounts};
 ghost use Rattle.im_listed.specs.Numbers.{told_number};
 
-use crate::account::Ledger;
+use crate::account::StepLedger;
 use crate::step::Step;
 use im_disk::{DeviceFault, Disk};
 use im_engine::Empties;
@@ -36,7 +36,7 @@ pub struct Listed {
     steps: Vec<Step>,
     calm: bool,
     failed: bool,
-    ledger: Ledger,
+    ledger: StepLedger,
 }
 
 impl Model for Listed {
@@ -96,7 +96,7 @@ impl Listed {
         ensures honest { ⟦<Listed as Disk>⟧.honest result }
     {
         let alloc = *bytes.allocator();
-        let mut ledger = Ledger::new();
+        let mut ledger = StepLedger::new();
         ledger.note(&[GIVEN, 0], &bytes);
         Listed {
             bytes,

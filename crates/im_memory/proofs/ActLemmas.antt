@@ -16,15 +16,16 @@ use Rattle.im_types.specs.Act.{release_block, emptied, reset_block, block_with_b
 use Rattle.im_types.specs.Place.{place, fill, change_each, IsLeastFree}
 use Rattle.im_laws.proofs.PlaceLemmas.{place-free}
 use Rattle.im_cell.specs.declared.slots.Slot.{Slot}
-use Rattle.im_cell.specs.Slots.{is_waiting, with_cell, empty_slot, block_at, is_quiet_block, is_releasable, length_of}
+use Rattle.im_cell.specs.Slots.{is_waiting_slot, with_cell, empty_slot, slot_block, is_quiet_block, is_releasable}
+use Rattle.im_cell.specs.Slots.{length_of}
 use Rattle.im_cell.specs.Slots.{length_at}
-use Rattle.im_cell.specs.Slots.{block_with_base as slot_with_base}
+use Rattle.im_cell.specs.Slots.{block_from as slot_with_base}
 use Rattle.im_arena.specs.Lists.{Shown}
 use Rattle.im_istore.specs.Joined.{held_of, cells_of}
 use Rattle.im_istore.specs.Agreement.{Agree}
 use Rattle.im_istore.proofs.Blocks.{Agree-placed, Agree-released, Agree-emptied}
 use Rattle.im_types.specs.declared.cells.Cell.TheVariants.{Empty}
-use Rattle.im_laws.specs.Blocks.{IsRefused}
+use Rattle.im_laws.specs.Blocks.{TellsOnly}
 use Rattle.im_memory.specs.declared.acts.Resumed.TheVariants.{Nobody}
 use Rattle.im_memory.specs.declared.acts.Acted.{Acted}
 use Rattle.im_memory.specs.Resuming.{telling, HasActed}
@@ -87,27 +88,27 @@ module _ (slots : List (Option Slot)) (arena : Shown) (agree : Agree slots arena
     abbrev asked : Option Block
     asked = block_with_base a (held_at cells a)
 
-    found-at : (o : Option Block) → slot_with_base a (block_at slots a) ≡ o → asked ≡ o
+    found-at : (o : Option Block) → slot_with_base a (slot_block slots a) ≡ o → asked ≡ o
     found-at o e = with_base-cells slots arena a ∙ e
 
-    pub absent-refused : None ≡ block_at slots a → IsRefused cells a NoBlock
+    pub absent-refused : None ≡ slot_block slots a → TellsOnly cells a NoBlock
     absent-refused e after reply = ap (unless_waited_for after reply cells a)
         (found-at None (ap (slot_with_base a) (sym e)))
 
-    pub inner-refused : (block : Block) → Some block ≡ block_at slots a → block.base ≢ a → IsRefused cells a NoBlock
+    pub inner-refused : (block : Block) → Some block ≡ slot_block slots a → block.base ≢ a → TellsOnly cells a NoBlock
     inner-refused block e inner after reply =
         let t : (block.base == a) ≡ false = grind (arith, nat_tests) in
         ap (unless_waited_for after reply cells a)
         (found-at None (ap (slot_with_base a) (sym e) ∙ ap (λ b. cond b (Some block) None) t))
 
-    own : (block : Block) → Some block ≡ block_at slots a → block.base ≡ a → slot_with_base a (block_at slots a)
+    own : (block : Block) → Some block ≡ slot_block slots a → block.base ≡ a → slot_with_base a (slot_block slots a)
         ≡ Some block
     own block e base =
         let t : (block.base == a) ≡ true = grind (arith, nat_tests) in
         ap (slot_with_base a) (sym e) ∙ ap (λ b. cond b (Some block) None) t
 
-    becomes : (block : Block) → slot_with_base a (block_at slots a) ≡ Some block → (b : Bool)
-        → list_any is_waiting (take block.length (drop a slots)) ≡ b
+    becomes : (block : Block) → slot_with_base a (slot_block slots a) ≡ Some block → (b : Bool)
+        → list_any is_waiting_slot (take block.length (drop a slots)) ≡ b
         → (after : Block → List (Option Held)) (reply : Reply)
         → unless_waited_for after reply cells a asked
         ≡ cond b (only_tells cells StillWaiting)
@@ -118,13 +119,13 @@ module _ (slots : List (Option Slot)) (arena : Shown) (agree : Agree slots arena
         (record { cells = after block; entry = Answered reply; resumed = [] }))
         (any_waiting-cells slots arena agree a block.length ∙ w)
 
-    pub waiting-refused : (block : Block) → Some block ≡ block_at slots a → block.base ≡ a → is_releasable slots a
-        ≡ false → IsRefused cells a StillWaiting
+    pub waiting-refused : (block : Block) → Some block ≡ slot_block slots a → block.base ≡ a → is_releasable slots a
+        ≡ false → TellsOnly cells a StillWaiting
     waiting-refused block e base stays =
         becomes block (own block e base) true
         (not_false _ (sym (ap (is_quiet_block slots a) (own block e base)) ∙ stays))
 
-    pub refused-HasActed : (reply : Reply) → IsRefused cells a reply
+    pub refused-HasActed : (reply : Reply) → TellsOnly cells a reply
         → (after : Block → List (Option Held)) (meant : Reply)
         → HasActed slots arena (telling reply) (unless_waited_for after meant cells a asked)
     refused-HasActed reply refused after meant = tells-HasActed reply _ (refused after meant)
@@ -132,22 +133,22 @@ module _ (slots : List (Option Slot)) (arena : Shown) (agree : Agree slots arena
     -- the block whose cells may change
     pub record IsFound : Type 0 where
       pub block : Block
-      pub found : slot_with_base a (block_at slots a) ≡ Some block
-      pub at : Some block ≡ block_at slots a
+      pub found : slot_with_base a (slot_block slots a) ≡ Some block
+      pub at : Some block ≡ slot_block slots a
       pub base : block.base ≡ a
-      pub nobody : list_any is_waiting (take block.length (drop a slots)) ≡ false
+      pub nobody : list_any is_waiting_slot (take block.length (drop a slots)) ≡ false
 
     pub releasable-found : true ≡ is_releasable slots a → IsFound
-    releasable-found r = by_block (block_at slots a) refl (sym r)
+    releasable-found r = by_block (slot_block slots a) refl (sym r)
       where
-        by_base : (block : Block) → block_at slots a ≡ Some block → (t : Bool) → (block.base == a) ≡ t
+        by_base : (block : Block) → slot_block slots a ≡ Some block → (t : Bool) → (block.base == a) ≡ t
             → is_quiet_block slots a (cond t (Some block) None) ≡ true → IsFound
         by_base block e true t r =
             let base : block.base ≡ a = grind (arith, nat_tests) in
             record { block = block; found = own block (sym e) base; at = sym e; base = base; nobody = not_true _ r }
         by_base block e false t r = absurd (cc)
 
-        by_block : (o : Option Block) → block_at slots a ≡ o → is_quiet_block slots a (slot_with_base a o) ≡ true
+        by_block : (o : Option Block) → slot_block slots a ≡ o → is_quiet_block slots a (slot_with_base a o) ≡ true
             → IsFound
         by_block None e r = absurd (cc)
         by_block (Some block) e r = by_base block e (block.base == a) refl r
@@ -176,7 +177,8 @@ module _ (slots : List (Option Slot)) (arena : Shown) (agree : Agree slots arena
           (telling Cleared) (reset_block cells a asked)
       reset-HasActed = record {
         cells = cells-emptied slots arena agree a (length_at slots a)
-            (ap (λ (o : Option Block). list_any is_waiting (take (length_of o) (drop a slots))) (sym it.at) ∙ it.nobody)
+            (ap (λ (o : Option Block). list_any is_waiting_slot (take (length_of o) (drop a slots)))
+            (sym it.at) ∙ it.nobody)
             ∙ ap (λ (o : Option Block). change_each emptied cells a (length_of o)) (sym it.at)
             ∙ sym (ap (λ (acted : ActedCells). acted.cells) same);
         told = sym (ap (λ (acted : ActedCells). acted.entry) same);

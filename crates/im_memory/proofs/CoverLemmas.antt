@@ -20,8 +20,8 @@ use Rattle.im_types.specs.Act.{Served, Acted as ActedCells, same_kind, only_tell
 use Rattle.im_types.specs.Act.{block_with_base, fetch, take_from, store, put}
 use Rattle.im_types.specs.Place.{place}
 use Rattle.im_cell.specs.declared.slots.Slot.{Slot}
-use Rattle.im_cell.specs.Slots.{slot_at, block_at, is_waiting, is_waiting_cell}
-use Rattle.im_cell.specs.Slots.{block_with_base as slot_with_base}
+use Rattle.im_cell.specs.Slots.{slot_at, slot_block, is_waiting_slot, cell_waits}
+use Rattle.im_cell.specs.Slots.{block_from as slot_with_base}
 use Rattle.im_arena.specs.Lists.{Shown, list_at, ends_at, first_in, last_in}
 use Rattle.im_istore.specs.Joined.{state_of, held_of, cells_of}
 use Rattle.im_istore.specs.Access.{access_in, replies_to}
@@ -32,7 +32,7 @@ use Rattle.im_pages.specs.PageSets.{has, with_pages}
 use Rattle.im_memory.specs.State.{MemoryState, rows_of}
 use Rattle.im_memory.specs.Touched.{IsOther, Places, nowhere, cell_alone, addresses, first_at, last_at, next_at}
 use Rattle.im_memory.specs.Touched.{nodes_from, nodes_behind, by_fetch, by_take, by_put, by_store, at_kind, places_at}
-use Rattle.im_memory.specs.Touched.{places_from, places_of, elements_in, touched}
+use Rattle.im_memory.specs.Touched.{made_places, places_of, elements_in, touched}
 use Rattle.im_memory.specs.Changing.{places_in}
 use Rattle.im_memory.specs.Covering.{AreIn, HasPlaces, Covers, KeepsOutside, most_at, block_pages, with_cells}
 use Rattle.im_memory.proofs.CellsLemmas.{no_list, place-cells, with_base-cells}
@@ -165,9 +165,9 @@ module _ (kind : Kind) where
       ap (λ t. (cond t (serve_cell cells a slot.block (serve (state_of slot.cell waiters)))
       (only_tells cells WrongKind)).resumed) is.0 ∙ ap (λ c. (serve (state_of c waiters)).resumed) is.1
 
-  ok-waits : (at : Option Slot) (cell : Cell) → access_in kind at ≡ Ok cell → is_waiting at ≡ is_waiting_cell cell
+  ok-waits : (at : Option Slot) (cell : Cell) → access_in kind at ≡ Ok cell → is_waiting_slot at ≡ cell_waits cell
   ok-waits None cell e = absurd (cc)
-  ok-waits (Some slot) cell e = ap is_waiting_cell (ok-kind slot cell e).1
+  ok-waits (Some slot) cell e = ap cell_waits (ok-kind slot cell e).1
 
 some_first : (waiters : List Waiter) → has_some waiters ≡ true → (w : Waiter) × (ws : List Waiter) × (waiters ≡ w ∷ ws)
 some_first [] e = absurd (cc)
@@ -211,7 +211,7 @@ module _ (kind : Kind) (slots : List (Option Slot)) (arena : Shown) (a : ℕ) wh
       ∙ ok-at kind 0 most (slot_at slots a) waiters cell e
 
   -- nobody is on the list of a cell that doesn't wait, and somebody on that of one that does
-  pub nobody : (cell : Cell) → access_in kind (slot_at slots a) ≡ Ok cell → Agree slots arena → is_waiting_cell cell
+  pub nobody : (cell : Cell) → access_in kind (slot_at slots a) ≡ Ok cell → Agree slots arena → cell_waits cell
       ≡ false → waiters ≡ []
   nobody cell e agree quiet = no_list waiters (sym (agree.each a) ∙ ok-waits kind (slot_at slots a) cell e ∙ quiet)
 
@@ -237,7 +237,7 @@ quiet-state P Waiting ws other none empty full clashed = absurd (other refl)
 quiet-state P (Full v) ws other none empty full clashed = full v
 quiet-state P (Clashed v) ws other none empty full clashed = clashed v
 
-pub quiet-cell : (cell : Cell) → cell ≢ Waiting → is_waiting_cell cell ≡ false
+pub quiet-cell : (cell : Cell) → cell ≢ Waiting → cell_waits cell ≡ false
 quiet-cell Empty other = refl
 quiet-cell Waiting other = absurd (other refl)
 quiet-cell (Full v) other = refl
@@ -366,28 +366,28 @@ module _ (slots : List (Option Slot)) (arena : Shown) (a : ℕ) where
   abbrev pub block_in : Option Block
   block_in = block_with_base a (held_at (cells_of slots arena) a)
 
-  pub is-inner : (block : Block) → Some block ≡ block_at slots a → block.base ≢ a → None ≡ block_in
+  pub is-inner : (block : Block) → Some block ≡ slot_block slots a → block.base ≢ a → None ≡ block_in
   is-inner block e base =
       let t : (block.base == a) ≡ false = grind (arith, nat_tests) in
       sym (with_base-cells slots arena a ∙ ap (slot_with_base a) (sym e) ∙ ap (λ b. cond b (Some block) None) t)
 
-  pub is-none : None ≡ block_at slots a → None ≡ block_in
+  pub is-none : None ≡ slot_block slots a → None ≡ block_in
   is-none e = sym (with_base-cells slots arena a ∙ ap (slot_with_base a) (sym e))
 
 -- the cells of a block that is released or reset, and of none
 module _ (slots : List (Option Slot)) (arena : Shown) (a n : ℕ) (set : List Bool) where
-  pub whole-block : (block : Block) → Some block ≡ block_at slots a → block.base ≡ a
+  pub whole-block : (block : Block) → Some block ≡ slot_block slots a → block.base ≡ a
       → AreIn page_of_cell set (addresses block.base block.length)
       → HasPlaces n (places_of (block_with_base a (held_at (cells_of slots arena) a))) set
   whole-block block e base among = subst (λ o. HasPlaces n (places_of o) set) (found-base slots arena a block e base)
       (record { of_cells = among; of_nodes = tt })
 
-  pub whole-inner : (block : Block) → Some block ≡ block_at slots a → block.base ≢ a
+  pub whole-inner : (block : Block) → Some block ≡ slot_block slots a → block.base ≢ a
       → HasPlaces n (places_of (block_with_base a (held_at (cells_of slots arena) a))) set
   whole-inner block e base = subst (λ o. HasPlaces n (places_of o) set) (is-inner slots arena a block e base)
       (record { of_cells = tt; of_nodes = tt })
 
-  pub whole-none : None ≡ block_at slots a
+  pub whole-none : None ≡ slot_block slots a
       → HasPlaces n (places_of (block_with_base a (held_at (cells_of slots arena) a))) set
   whole-none e = subst (λ o. HasPlaces n (places_of o) set) (is-none slots arena a e)
       (record { of_cells = tt; of_nodes = tt })
@@ -396,9 +396,9 @@ module _ (slots : List (Option Slot)) (arena : Shown) (a n : ℕ) (set : List Bo
 module _ (slots : List (Option Slot)) (arena : Shown) (kind : Kind) (length n : ℕ) (set : List Bool) where
   pub alloc-block : (base : ℕ) → Some base ≡ place length slots → AreIn page_of_cell set (addresses base length)
       → HasPlaces n (places_in slots arena (Alloc kind length)) set
-  alloc-block base e among = subst (λ o. HasPlaces n (places_from length o) set)
+  alloc-block base e among = subst (λ o. HasPlaces n (made_places length o) set)
       (e ∙ sym (place-cells slots arena length)) (record { of_cells = among; of_nodes = tt })
 
   pub alloc-none : None ≡ place length slots → HasPlaces n (places_in slots arena (Alloc kind length)) set
-  alloc-none e = subst (λ o. HasPlaces n (places_from length o) set) (e ∙ sym (place-cells slots arena length))
+  alloc-none e = subst (λ o. HasPlaces n (made_places length o) set) (e ∙ sym (place-cells slots arena length))
       (record { of_cells = tt; of_nodes = tt })

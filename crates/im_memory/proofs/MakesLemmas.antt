@@ -17,7 +17,7 @@ use Rattle.im_types.specs.Memory.{IsMemory}
 use Rattle.im_laws.proofs.StepLemmas.{judge-fresh}
 use Rattle.im_cell.specs.declared.slots.Slot.{Slot}
 use Rattle.im_arena.specs.Lists.{Shown}
-use Rattle.im_istore.specs.Joined.{joined, cells_of}
+use Rattle.im_istore.specs.Joined.{joined_cells, cells_of}
 use Rattle.im_istore.specs.Agreement.{Agree}
 use Rattle.im_istore.proofs.Blocks.{Agree-start}
 use Rattle.im_memory.specs.declared.acts.Acted.{Acted}
@@ -121,7 +121,7 @@ module _ (slots : List (Option Slot)) (arena : Shown) (windows : List Window)
         refl
 
 -- nothing in any block, and nobody waits
-joined-replicate : (n : ℕ) → joined (replicate n None) (replicate n []) ≡ replicate n None
+joined-replicate : (n : ℕ) → joined_cells (replicate n None) (replicate n []) ≡ replicate n None
 joined-replicate zero = refl
 joined-replicate (suc n) = ap (λ cells. None ∷ cells) (joined-replicate n)
 
@@ -132,7 +132,7 @@ module _ (cells elements : ℕ) (arena : Shown) (lists : arena.held.lists ≡ re
   contents_of-empty =
       ap (λ (cells : List
       (Option Held)). let m : Contents = record { cells = cells; windows = replicate elements new_window } in m)
-      (ap (λ (lists : List (List Waiter)). joined (replicate cells None) lists) lists ∙ joined-replicate cells)
+      (ap (λ (lists : List (List Waiter)). joined_cells (replicate cells None) lists) lists ∙ joined-replicate cells)
 
   pub makes-empty : 1 ≤ cells → cells ≤ MAX_CELLS → elements ≤ MAX_ELEMENTS → arena.held.nodes ≡ WINDOW * elements
       → MakesMemory (replicate cells None) arena (replicate elements new_window)

@@ -13,15 +13,15 @@ use Rattle.im_types.specs.declared.records.PresenceTag.TheVariants.{Full as TagF
 use Rattle.im_types.specs.declared.records.CellRecord.{CellRecord}
 use Rattle.im_types.specs.declared.records.CellRecord.TheVariants.{Free as FreeCell, Held as BlockCell}
 use Rattle.im_types.specs.declared.records.NodeRecord.{NodeRecord}
-use Rattle.im_types.specs.Chains.{Holds, HasChain, HaveChains}
+use Rattle.im_types.specs.Chains.{ChainHolds, HasChain, HaveChains}
 use Rattle.im_types.specs.Contents.{CellState, Held, Window, Contents}
 use Rattle.im_types.specs.Memory.{IsMemory}
 use Rattle.im_types.specs.Pages.{state_shown, cell_shown, cells_shown}
 use Rattle.im_cell.specs.declared.slots.Slot.{Slot}
-use Rattle.im_cell.specs.Slots.{slot_at, is_waiting, is_waiting_cell, shown_cell, shown_slot}
-use Rattle.im_cell.specs.Slots.{HasBlocks as SlotsHaveBlocks}
+use Rattle.im_cell.specs.Slots.{slot_at, is_waiting_slot, cell_waits, shown_cell, shown_slot}
+use Rattle.im_cell.specs.Slots.{HoldsBlocks as SlotsHaveBlocks}
 use Rattle.im_arena.specs.Lists.{Lists, Shown, list_at, with_list, free}
-use Rattle.im_istore.specs.Joined.{state_of, held_of, joined, cells_of}
+use Rattle.im_istore.specs.Joined.{state_of, held_of, joined_cells, cells_of}
 use Rattle.im_istore.specs.Agreement.{has_some, Agree}
 use Rattle.im_istore.proofs.Cells.{list_of}
 use Rattle.im_memory.specs.MakesMemory.{contents_of, MakesMemory}
@@ -31,14 +31,14 @@ use Rattle.im_memory.proofs.RoomLemmas.{all-fit}
 
 -- somebody stands in a chain
 chain-some : (nodes : List NodeRecord) (chain : List ℕ) (waiters : List Waiter) → 1 ≤ length chain
-    → Holds nodes chain waiters → true ≡ has_some waiters
+    → ChainHolds nodes chain waiters → true ≡ has_some waiters
 chain-some nodes [] waiters some holds = absurd (omega arith)
 chain-some nodes (node ∷ chain) [] some holds = absurd holds
 chain-some nodes (node ∷ chain) (w ∷ waiters) some holds = refl
 
 -- a cell's presence tag says whether somebody waits
 cell-agrees : (nodes : List NodeRecord) (cell : CellRecord) (chain : List ℕ) (waiters : List Waiter)
-    → HasChain nodes cell chain waiters → is_waiting (shown_slot cell) ≡ has_some waiters
+    → HasChain nodes cell chain waiters → is_waiting_slot (shown_slot cell) ≡ has_some waiters
 cell-agrees nodes (FreeCell hole next) chain waiters has = sym (ap has_some has.1)
 cell-agrees nodes (BlockCell block TagEmpty) chain waiters has = sym (ap has_some has.1)
 cell-agrees nodes (BlockCell block
@@ -48,7 +48,7 @@ cell-agrees nodes (BlockCell block (TagClashed v)) chain waiters has = sym (ap h
 
 cells-agree : (nodes : List NodeRecord) (cells : List CellRecord) (chains : List (List ℕ))
     (lists : List (List Waiter)) → HaveChains nodes cells chains lists
-    → (a : ℕ) → is_waiting (slot_at (map shown_slot cells) a) ≡ has_some (list_of lists a)
+    → (a : ℕ) → is_waiting_slot (slot_at (map shown_slot cells) a) ≡ has_some (list_of lists a)
 cells-agree nodes [] [] [] have a = refl
 cells-agree nodes [] [] (waiters ∷ lists) have a = absurd have
 cells-agree nodes [] (chain ∷ chains) lists have a = absurd have
@@ -70,7 +70,7 @@ lists-count nodes (cell ∷ cells) (chain ∷ chains) (waiters ∷ lists) have =
     (lists-count nodes cells chains lists have.1)
 
 -- what is restored of a cell is what its record shows
-state-restored : (tag : PresenceTag) (waiters : List Waiter) → is_waiting_cell (shown_cell tag) ≡ has_some waiters
+state-restored : (tag : PresenceTag) (waiters : List Waiter) → cell_waits (shown_cell tag) ≡ has_some waiters
     → state_of (shown_cell tag) waiters ≡ state_shown tag waiters
 state-restored TagEmpty waiters agree = let none = no_list waiters (sym agree) in ap
     (state_of (shown_cell TagEmpty)) none
@@ -78,21 +78,21 @@ state-restored (TagWaiting first last) waiters agree = refl
 state-restored (TagFull v) waiters agree = refl
 state-restored (TagClashed v) waiters agree = refl
 
-cell-restored : (cell : CellRecord) (waiters : List Waiter) → is_waiting (shown_slot cell) ≡ has_some waiters
+cell-restored : (cell : CellRecord) (waiters : List Waiter) → is_waiting_slot (shown_slot cell) ≡ has_some waiters
     → held_of (shown_slot cell) waiters ≡ cell_shown cell waiters
 cell-restored (FreeCell hole next) waiters agree = refl
 cell-restored (BlockCell block tag) waiters agree = ap
     (λ (state : CellState). Some (record { block = block; state = state })) (state-restored tag waiters agree)
 
 cells-restored : (cells : List CellRecord) (lists : List (List Waiter))
-    → ((a : ℕ) → is_waiting (slot_at (map shown_slot cells) a) ≡ has_some (list_of lists a))
-    → joined (map shown_slot cells) lists ≡ cells_shown cells lists
+    → ((a : ℕ) → is_waiting_slot (slot_at (map shown_slot cells) a) ≡ has_some (list_of lists a))
+    → joined_cells (map shown_slot cells) lists ≡ cells_shown cells lists
 cells-restored [] lists agree = refl
 cells-restored (cell ∷ cells) [] agree =
-    ap (λ held. held ∷ joined (map shown_slot cells) []) (cell-restored cell [] (agree 0))
+    ap (λ held. held ∷ joined_cells (map shown_slot cells) []) (cell-restored cell [] (agree 0))
     ∙ ap (λ held. cell_shown cell [] ∷ held) (cells-restored cells [] (λ a. agree (suc a)))
 cells-restored (cell ∷ cells) (waiters ∷ lists) agree =
-    ap (λ held. held ∷ joined (map shown_slot cells) lists) (cell-restored cell waiters (agree 0))
+    ap (λ held. held ∷ joined_cells (map shown_slot cells) lists) (cell-restored cell waiters (agree 0))
     ∙ ap (λ held. cell_shown cell waiters ∷ held) (cells-restored cells lists (λ a. agree (suc a)))
 
 module _ (cells : List CellRecord) (arena : Shown) (windows : List Window)

@@ -15,11 +15,11 @@ use Rattle.im_laws.proofs.Tests.{zero_or_more, below_or_from}
 use Rattle.im_types.specs.declared.cells.Cell.{Cell}
 use Rattle.im_types.specs.declared.cells.Cell.TheVariants.{Empty, Waiting, Full, Clashed}
 use Rattle.im_cell.specs.declared.slots.Slot.{Slot}
-use Rattle.im_cell.specs.Slots.{slot_at, is_waiting, is_waiting_cell}
+use Rattle.im_cell.specs.Slots.{slot_at, is_waiting_slot, cell_waits}
 use Rattle.im_arena.specs.declared.table.Ends.{Ends}
 use Rattle.im_arena.specs.Lists.{Shown, Threads, IsThreaded, list_at, ends_at, next_in, node_at, first_in, last_in}
 use Rattle.im_arena.specs.Lists.{free_record, link_of}
-use Rattle.im_istore.specs.Joined.{state_of, held_of, joined, cells_of}
+use Rattle.im_istore.specs.Joined.{state_of, held_of, joined_cells, cells_of}
 use Rattle.im_istore.specs.Agreement.{has_some}
 use Rattle.im_istore.proofs.Cells.{list_of}
 use Rattle.im_memory.specs.MakesMemory.{contents_of, MakesMemory}
@@ -34,7 +34,7 @@ abbrev HasEnds : Option Ends → List Waiter → Type 0
 HasEnds ends waiters = (ends ≡ None) ↔ (waiters ≡ [])
 
 -- one cell
-state-shown : (cell : Cell) (ends : Option Ends) (waiters : List Waiter) → is_waiting_cell cell ≡ has_some waiters
+state-shown : (cell : Cell) (ends : Option Ends) (waiters : List Waiter) → cell_waits cell ≡ has_some waiters
     → HasEnds ends waiters → state_shown (tag_shown cell ends) waiters ≡ state_of cell waiters
 state-shown Empty ends waiters agree has = let none = no_list waiters (sym agree) in ap
     (λ waiters. state_of Empty waiters) (sym none)
@@ -44,7 +44,7 @@ state-shown Waiting (Some ends) waiters agree has = refl
 state-shown (Full v) ends waiters agree has = refl
 state-shown (Clashed v) ends waiters agree has = refl
 
-cell-shown : (slot : Option Slot) (ends : Option Ends) (waiters : List Waiter) → is_waiting slot ≡ has_some waiters
+cell-shown : (slot : Option Slot) (ends : Option Ends) (waiters : List Waiter) → is_waiting_slot slot ≡ has_some waiters
     → HasEnds ends waiters → cell_shown (cell_record slot ends) waiters ≡ held_of slot waiters
 cell-shown None ends waiters agree has = refl
 cell-shown (Some slot) ends waiters agree has = ap
@@ -58,7 +58,7 @@ module _ (records : List NodeRecord) where
   abbrev chain_of : Option Ends → List Waiter → List ℕ
   chain_of ends waiters = chain_from next (first_in ends) waiters
 
-  state-chain : (cell : Cell) (ends : Option Ends) (waiters : List Waiter) (slot : Slot) → is_waiting_cell cell
+  state-chain : (cell : Cell) (ends : Option Ends) (waiters : List Waiter) (slot : Slot) → cell_waits cell
       ≡ has_some waiters → HasEnds ends waiters
       → Threads records NONE (first_in ends) (last_in ends) waiters
       → HasChain records (cell_record (Some (record { block = slot.block; cell = cell })) ends)
@@ -78,7 +78,8 @@ module _ (records : List NodeRecord) where
   state-chain (Clashed v) ends waiters slot agree has t = let none = no_list waiters (sym agree) in
       (ap (chain_of ends) none, none)
 
-  cell-chain : (slot : Option Slot) (ends : Option Ends) (waiters : List Waiter) → is_waiting slot ≡ has_some waiters
+  cell-chain : (slot : Option Slot) (ends : Option Ends) (waiters : List Waiter)
+      → is_waiting_slot slot ≡ has_some waiters
       → HasEnds ends waiters
       → Threads records NONE (first_in ends) (last_in ends) waiters
       → HasChain records (cell_record slot ends) (chain_of ends waiters) waiters
@@ -94,7 +95,7 @@ module _ (records : List NodeRecord) where
   record AreEach (slots : List (Option Slot)) (ends : List (Option Ends)) (lists : List (List Waiter)) : Type 0 where
     pub ends_count : length ends ≡ length lists
     pub lists_count : length lists ≡ length slots
-    pub agree : (a : ℕ) → is_waiting (slot_at slots a) ≡ has_some (list_of lists a)
+    pub agree : (a : ℕ) → is_waiting_slot (slot_at slots a) ≡ has_some (list_of lists a)
     pub has : (a : ℕ) → a < length lists → HasEnds (slice_index_or ends a None) (list_of lists a)
     pub threads : (a : ℕ) → a < length lists
         → Threads records NONE (first_in (slice_index_or ends a None)) (last_in (slice_index_or ends a None))
@@ -112,12 +113,13 @@ module _ (records : List NodeRecord) where
   }
 
   cells-shown : (slots : List (Option Slot)) (ends : List (Option Ends)) (lists : List (List Waiter))
-      → AreEach slots ends lists → joined slots lists ≡ cells_shown (cell_records slots ends) lists
+      → AreEach slots ends lists → joined_cells slots lists ≡ cells_shown (cell_records slots ends) lists
   cells-shown [] ends lists each = refl
   cells-shown (slot ∷ slots) ends [] each = absurd (omega (arith, each.lists_count))
   cells-shown (slot ∷ slots) [] (waiters ∷ lists) each = absurd (omega (arith, each.ends_count))
   cells-shown (slot ∷ slots) (e ∷ ends) (waiters ∷ lists) each =
-      ap (λ held. held ∷ joined slots lists) (sym (cell-shown slot e waiters (each.agree 0) (each.has 0 (omega arith))))
+      ap (λ held. held ∷ joined_cells slots lists)
+      (sym (cell-shown slot e waiters (each.agree 0) (each.has 0 (omega arith))))
       ∙ ap (λ cells. cell_shown (cell_record slot e) waiters ∷ cells)
       (cells-shown slots ends lists (rest slot slots e ends waiters lists each))
 

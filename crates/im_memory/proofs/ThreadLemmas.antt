@@ -6,7 +6,7 @@ use Rattle.im_types.specs.declared.TheConstants.{NONE}
 use Rattle.im_types.specs.declared.operations.Waiter.{Waiter}
 use Rattle.im_types.specs.declared.records.NodeRecord.{NodeRecord}
 use Rattle.im_types.specs.declared.records.NodeRecord.TheVariants.{Free as FreeNode, Listed as ListNode}
-use Rattle.im_types.specs.Chains.{first_of, last_of, Holds}
+use Rattle.im_types.specs.Chains.{first_of, last_of, ChainHolds}
 use Rattle.im_types.specs.Records.{IsLink}
 use Rattle.im_laws.proofs.Tests.{some_same}
 use Rattle.im_arena.specs.Chain.{place_from}
@@ -76,7 +76,7 @@ module _ (records : List NodeRecord) where
   first-chain (w ∷ ws) before at last t = refl
 
   pub holds-chain : (ws : List Waiter) (before at last : ℕ) → Threads records before at last ws
-      → Holds records (chain_from next at ws) ws
+      → ChainHolds records (chain_from next at ws) ws
   holds-chain [] before at last t = tt
   holds-chain (w ∷ ws) before at last t =
       let s = step w ws before at last t in (

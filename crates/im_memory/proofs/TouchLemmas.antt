@@ -25,8 +25,8 @@ use Rattle.im_types.specs.Window.{with_window, answer, answer_each, answer_in}
 use Rattle.im_types.specs.Act.{Served, Acted as ActedCells, same_kind, only_tells, serve_cell, at_cell, fetch}
 use Rattle.im_types.specs.Act.{take_from, store, put, block_with_base}
 use Rattle.im_cell.specs.declared.slots.Slot.{Slot}
-use Rattle.im_cell.specs.Slots.{slot_at, block_at, with_cell, length_of, length_at, is_waiting, is_waiting_cell}
-use Rattle.im_cell.specs.Slots.{block_with_base as slot_with_base}
+use Rattle.im_cell.specs.Slots.{slot_at, slot_block, with_cell, length_of, length_at, is_waiting_slot, cell_waits}
+use Rattle.im_cell.specs.Slots.{block_from as slot_with_base}
 use Rattle.im_arena.specs.declared.table.Ends.{Ends}
 use Rattle.im_arena.specs.Chain.{along, place_from}
 use Rattle.im_arena.specs.Lists.{Shown, list_at, ends_at, first_in, last_in, next_in, IsPushed, IsPopped}
@@ -43,14 +43,15 @@ use Rattle.im_memory.specs.Shown.{tag_shown, cell_record, cell_records, records_
 use Rattle.im_memory.specs.State.{rows_of}
 use Rattle.im_memory.specs.Touched.{IsOther, Places, nowhere, cell_alone, addresses, tag_in, first_at, last_at, next_at}
 use Rattle.im_memory.specs.Touched.{nodes_from, nodes_behind, by_fetch, by_take, by_put, by_store, places_at}
-use Rattle.im_memory.specs.Touched.{places_from, places_of, places, elements_told, touched_in, ChangesOnly}
+use Rattle.im_memory.specs.Touched.{made_places, places_of, touched_places, elements_told, touched_in, ChangesOnly}
 use Rattle.im_memory.specs.Changing.{places_in, ChangesAt, IsAway, AreAmong, LeavesOthers}
 use Rattle.im_memory.proofs.CellsLemmas.{place-cells, with_base-cells}
 use Rattle.im_memory.proofs.RecordLemmas.{cell-at}
 
 -- the windows have no say in it
 pub places-rows : (slots : List (Option Slot)) (arena : Shown) (windows : List Window) (op : Op)
-    → places (cells_of slots arena) (records_of slots arena windows) arena.links.spare op ≡ places_in slots arena op
+    → touched_places (cells_of slots arena) (records_of slots arena windows) arena.links.spare op
+    ≡ places_in slots arena op
 places-rows slots arena windows (Alloc kind n) = refl
 places-rows slots arena windows (Release a) = refl
 places-rows slots arena windows (Reset a) = refl
@@ -113,7 +114,7 @@ changed_each slots arena base n = record {
 }
 
 -- the record of a cell that somebody waits for names the ends of its list
-named-cell : (cell : Cell) (ends : Option Ends) → is_waiting_cell cell ≡ true
+named-cell : (cell : Cell) (ends : Option Ends) → cell_waits cell ≡ true
     → (tag_first (tag_shown cell ends) ≡ first_in ends) × (tag_last (tag_shown cell ends) ≡ last_in ends)
 named-cell Empty ends e = absurd (cc)
 named-cell Waiting None e = (refl, refl)
@@ -121,7 +122,7 @@ named-cell Waiting (Some ends) e = (refl, refl)
 named-cell (Full v) ends e = absurd (cc)
 named-cell (Clashed v) ends e = absurd (cc)
 
-named-slot : (at : Option Slot) (ends : Option Ends) → is_waiting at ≡ true
+named-slot : (at : Option Slot) (ends : Option Ends) → is_waiting_slot at ≡ true
     → (tag_first (tag_in (cell_record at ends)) ≡ first_in ends)
     × (tag_last (tag_in (cell_record at ends)) ≡ last_in ends)
 named-slot None ends e = absurd (cc)
@@ -132,7 +133,7 @@ pub named : (slots : List (Option Slot)) (arena : Shown) → Agree slots arena
     → (first_at (rows_of slots arena) a ≡ first_in (ends_at arena.links a))
     × (last_at (rows_of slots arena) a ≡ last_in (ends_at arena.links a))
 named slots arena agree a w ws e =
-    let waits : is_waiting (slot_at slots a) ≡ true = agree.each a ∙ ap has_some e in
+    let waits : is_waiting_slot (slot_at slots a) ≡ true = agree.each a ∙ ap has_some e in
     let both = named-slot (slot_at slots a) (ends_at arena.links a) waits in
     let at = cell-at slots arena.links.ends a in (
       ap (λ (c : CellRecord). tag_first (tag_in c)) at ∙ both.0,
@@ -148,10 +149,10 @@ module _ (slots : List (Option Slot)) (arena : Shown) where
   pub placed-change : (kind : Kind) (n base : ℕ) (slot : Option Slot) → Some base ≡ place n slots
       → ChangesAt (places_in slots arena (Alloc kind n)) slots arena (fill slots base n slot) arena
   placed-change kind n base slot e =
-      subst (λ o. ChangesAt (places_from n o) slots arena (fill slots base n slot) arena)
+      subst (λ o. ChangesAt (made_places n o) slots arena (fill slots base n slot) arena)
       (e ∙ sym (place-cells slots arena n)) (filled slots arena base n slot)
 
-  pub found-base : (a : ℕ) (block : Block) → Some block ≡ block_at slots a → block.base ≡ a → Some block
+  pub found-base : (a : ℕ) (block : Block) → Some block ≡ slot_block slots a → block.base ≡ a → Some block
       ≡ block_with_base a (held_at cells a)
   found-base a block e base =
       let t : (block.base == a) ≡ true = grind (arith, nat_tests) in
@@ -160,18 +161,18 @@ module _ (slots : List (Option Slot)) (arena : Shown) where
   -- what becomes of the cells of a block alone
   block-change : (by : ℕ → ℕ → List (Option Slot))
       → ((base n : ℕ) → ChangesAt (record { cells = addresses base n; nodes = [] }) slots arena (by base n) arena)
-      → (a : ℕ) (block : Block) → Some block ≡ block_at slots a → block.base ≡ a
+      → (a : ℕ) (block : Block) → Some block ≡ slot_block slots a → block.base ≡ a
       → ChangesAt (places_of (block_with_base a (held_at cells a))) slots arena (by a (length_at slots a)) arena
   block-change by among a block e base =
       subst (λ o. ChangesAt (places_of o) slots arena (by a (length_at slots a)) arena) (found-base a block e base)
       (rw (sym base) (subst (λ n. ChangesAt (places_of (Some block)) slots arena (by block.base n) arena)
       (ap length_of e ∙ ap (λ x. length_at slots x) (sym base)) (among block.base block.length)))
 
-  pub released-change : (a : ℕ) (block : Block) → Some block ≡ block_at slots a → block.base ≡ a
+  pub released-change : (a : ℕ) (block : Block) → Some block ≡ slot_block slots a → block.base ≡ a
       → ChangesAt (places_in slots arena (Release a)) slots arena (fill slots a (length_at slots a) None) arena
   released-change = block-change (λ base n. fill slots base n None) (λ base n. filled slots arena base n None)
 
-  pub reset-change : (a : ℕ) (block : Block) → Some block ≡ block_at slots a → block.base ≡ a
+  pub reset-change : (a : ℕ) (block : Block) → Some block ≡ slot_block slots a → block.base ≡ a
       → ChangesAt (places_in slots arena (Reset a)) slots arena
       (change_each (with_cell Empty) slots a (length_at slots a)) arena
   reset-change = block-change (λ base n. change_each (with_cell Empty) slots base n)
@@ -509,7 +510,8 @@ pub served-change : (op : Op) (slots slots2 : List (Option Slot)) (arena arena2 
     (windows windows1 windows2 : List Window) (element : ℕ) (change : Window → Window) (replies : List (Waiter × Reply))
     → ChangesAt (places_in slots arena op) slots arena slots2 arena2 → windows1 ≡ with_window windows element change
     → windows2 ≡ answer_each windows1 replies
-    → ChangesOnly (touched_in (places (cells_of slots arena) (records_of slots arena windows) arena.links.spare op)
+    → ChangesOnly (touched_in
+    (touched_places (cells_of slots arena) (records_of slots arena windows) arena.links.spare op)
     (elements_told element replies)) (records_of slots arena windows) (records_of slots2 arena2 windows2)
 served-change op slots slots2 arena arena2 windows windows1 windows2 element change replies changes noted answered =
     subst (λ p. ChangesOnly (touched_in p (elements_told element replies)) (records_of slots arena windows)

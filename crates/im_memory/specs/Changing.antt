@@ -7,7 +7,7 @@ use Rattle.im_istore.specs.Joined.{cells_of}
 use Rattle.im_memory.specs.State.{rows_of}
 use Rattle.im_memory.specs.declared.acts.Resumed.{Resumed}
 use Rattle.im_memory.specs.declared.acts.Resumed.TheVariants.{Nobody, Taker, Readers}
-use Rattle.im_memory.specs.Touched.{IsOther, Places, places}
+use Rattle.im_memory.specs.Touched.{IsOther, Places, touched_places}
 
 -- a table and an arena change only at these cells and nodes
 pub record ChangesAt (p : Places) (slots : List (Option Slot)) (arena : Shown) (slots2 : List (Option Slot))
@@ -18,7 +18,7 @@ pub record ChangesAt (p : Places) (slots : List (Option Slot)) (arena : Shown) (
 
 -- the cells and nodes whose records an operation on a table and an arena may change
 abbrev pub places_in : List (Option Slot) → Shown → Op → Places
-places_in slots arena op = places (cells_of slots arena) (rows_of slots arena) arena.links.spare op
+places_in slots arena op = touched_places (cells_of slots arena) (rows_of slots arena) arena.links.spare op
 
 -- a node is at no place of a list
 abbrev pub IsAway : Shown → ℕ → ℕ → Type 0

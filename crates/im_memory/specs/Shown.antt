@@ -45,6 +45,6 @@ records_of slots arena windows =
     record { cells = cell_records slots arena.links.ends; nodes = arena.links.records; windows = windows }
 
 -- the links of this memory lead through its lists
-pub record IsShown (slots : List (Option Slot)) (arena : Shown) (windows : List Window) : Type 0 where
+pub record IsShownMemory (slots : List (Option Slot)) (arena : Shown) (windows : List Window) : Type 0 where
   pub makes : MakesMemory slots arena windows
   pub threaded : IsThreaded arena

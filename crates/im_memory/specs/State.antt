@@ -17,8 +17,8 @@ pub record MemoryState : Type 0 where
   pub spare : ℕ
 
 -- the memory state that a table, an arena and windows make
-abbrev pub state_of : List (Option Slot) → Shown → List Window → MemoryState
-state_of slots arena windows = record {
+abbrev pub memory_state : List (Option Slot) → Shown → List Window → MemoryState
+memory_state slots arena windows = record {
   contents = contents_of slots arena windows;
   records = records_of slots arena windows;
   spare = arena.links.spare;

@@ -110,9 +110,9 @@ abbrev pub places_at : Kind → (CellState → Places) → Option Held → Place
 places_at kind by held = at_kind nowhere kind by held
 
 -- the places of n cells from a base on, if there is one
-abbrev pub places_from : ℕ → Option ℕ → Places
-places_from n None = nowhere
-places_from n (Some base) = record { cells = addresses base n; nodes = [] }
+abbrev pub made_places : ℕ → Option ℕ → Places
+made_places n None = nowhere
+made_places n (Some base) = record { cells = addresses base n; nodes = [] }
 
 -- the places of a block's cells, if there is one
 abbrev pub places_of : Option Block → Places
@@ -120,14 +120,14 @@ places_of None = nowhere
 places_of (Some block) = record { cells = addresses block.base block.length; nodes = [] }
 
 -- the places of an operation on these cells, with these records and this spare node
-abbrev pub places : List (Option Held) → Records → ℕ → Op → Places
-places cells r spare (Alloc kind n) = places_from n (place n cells)
-places cells r spare (Release a) = places_of (block_with_base a (held_at cells a))
-places cells r spare (Reset a) = places_of (block_with_base a (held_at cells a))
-places cells r spare (Fetch a) = places_at I (by_fetch spare (last_at r a) a) (held_at cells a)
-places cells r spare (Store a v) = places_at I (by_store r.nodes (first_at r a) a) (held_at cells a)
-places cells r spare (Take a) = places_at M (by_take spare (last_at r a) a) (held_at cells a)
-places cells r spare (Put a v) = places_at M (by_put (first_at r a) a) (held_at cells a)
+abbrev pub touched_places : List (Option Held) → Records → ℕ → Op → Places
+touched_places cells r spare (Alloc kind n) = made_places n (place n cells)
+touched_places cells r spare (Release a) = places_of (block_with_base a (held_at cells a))
+touched_places cells r spare (Reset a) = places_of (block_with_base a (held_at cells a))
+touched_places cells r spare (Fetch a) = places_at I (by_fetch spare (last_at r a) a) (held_at cells a)
+touched_places cells r spare (Store a v) = places_at I (by_store r.nodes (first_at r a) a) (held_at cells a)
+touched_places cells r spare (Take a) = places_at M (by_take spare (last_at r a) a) (held_at cells a)
+touched_places cells r spare (Put a v) = places_at M (by_put (first_at r a) a) (held_at cells a)
 
 -- the elements of the requests that get these replies
 abbrev pub elements_in : List (Waiter × Reply) → List ℕ
@@ -150,7 +150,7 @@ touched_in p elements = record { cells = p.cells; nodes = p.nodes; elements = el
 -- the records that a command may change
 abbrev pub touched : MemoryState → Command → Touched
 touched m (Asks r) =
-    touched_in (places m.contents.cells m.records m.spare r.op)
+    touched_in (touched_places m.contents.cells m.records m.spare r.op)
     (elements_told r.element (act m.contents.cells (asker r) r.op).resumed)
 touched m (Confirm element upto) = touched_in nowhere (element ∷ [])
 

@@ -4,7 +4,7 @@ ghost use Rattle.im_types.specs.declared.operations.Kind.TheVariants.{I, M};
 ghost use Rattle.im_types.specs.Act.{act, allocate, at_cell, block_with_base, put, release_block, reset_block, store};
 ghost use Rattle.im_types.specs.Contents.{held_at};
 ghost use Rattle.im_types.specs.Window.{answer_each};
-ghost use Rattle.im_laws.specs.Blocks.{IsRefused};
+ghost use Rattle.im_laws.specs.Blocks.{TellsOnly};
 ghost use Rattle.im_cell.specs.declared.slots.Slot.{Slot};
 ghost use Rattle.im_cell.specs.Slots.{is_releasable};
 ghost use Rattle.im_arena.specs.Lists.{list_at, free};
@@ -110,7 +110,7 @@ fn allocate(table: &mut CellTable, arena: &Arena, kind: Kind, n: u32) -> Reply
 fn reason(table: &CellTable, arena: &Arena, a: u32) -> Reply
     requires agree { Agree table.now arena.now }
     requires stays { is_releasable table.now a ≡ false }
-    ensures { IsRefused (cells_of table.now arena.now) a result }
+    ensures { TellsOnly (cells_of table.now arena.now) a result }
 {
     match table.block_of(a) {
         Some(block) if block.base == a => Reply::StillWaiting,

@@ -51,13 +51,13 @@ impl Drop for Memory {
 }
 
 impl Model for Memory {
-    ghost use Rattle.im_memory.specs.State.{MemoryState, state_of};
+    ghost use Rattle.im_memory.specs.State.{MemoryState, memory_state};
 
     ghost Value = { MemoryState };
 
     ghost use Rattle.im_memory.specs.MakesMemory.{MakesMemory};
 
-    ghost view = { λ m. state_of m.table m.arena m.sessions };
+    ghost view = { λ m. memory_state m.table m.arena m.sessions };
 
     ghost invariant = { λ m. MakesMemory m.table m.arena m.sessions };
 }

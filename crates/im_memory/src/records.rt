@@ -9,7 +9,7 @@ ghost use Rattle.im_types.specs.Window.{bounds};
 ghost use Rattle.im_types.specs.Pages.{ShowsRecords};
 ghost use Rattle.im_types.specs.Records.{FitsTag, FitsCell, FitsNode};
 ghost use Rattle.im_arena.specs.Lists.{IsThreaded, ends_at};
-ghost use Rattle.im_cell.specs.Slots.{HasBlocks};
+ghost use Rattle.im_cell.specs.Slots.{HoldsBlocks};
 ghost use Rattle.im_memory.specs.MakesMemory.{contents_of, MakesMemory};
 ghost use Rattle.im_memory.specs.Shown.{tag_shown, records_of, AreWithin};
 
@@ -30,13 +30,13 @@ pub struct MemoryRecords<'a> {
 
 impl<'a> Model for MemoryRecords<'a> {
     ghost use Rattle.im_types.specs.Pages.{Records};
-    ghost use Rattle.im_memory.specs.Shown.{records_of, IsShown};
+    ghost use Rattle.im_memory.specs.Shown.{records_of, IsShownMemory};
 
     ghost Value = { Records };
 
     ghost view = { λ r. records_of r.table.now r.arena.now r.sessions.now };
 
-    ghost invariant = { λ r. IsShown r.table.now r.arena.now r.sessions.now };
+    ghost invariant = { λ r. IsShownMemory r.table.now r.arena.now r.sessions.now };
 }
 
 // Shows that the links of an arena lead through its lists. The call does nothing but ask for that law.
@@ -49,7 +49,7 @@ pub(crate) fn are_threaded(arena: &Arena)
 
 // Shows that each block of a table lies within it. The call does nothing but ask for that law.
 fn have_blocks(table: &CellTable)
-    ensures { HasBlocks table.now }
+    ensures { HoldsBlocks table.now }
 {
     let _ = table.block_of(0);
 }

@@ -7,7 +7,7 @@ ghost use Rattle.im_types.specs.Step.{serve, asker};
 ghost use Rattle.im_types.specs.Act.{act};
 ghost use Rattle.im_memory.specs.MakesMemory.{contents_of, MakesMemory};
 ghost use Rattle.im_memory.specs.Shown.{records_of};
-ghost use Rattle.im_memory.specs.State.{state_of};
+ghost use Rattle.im_memory.specs.State.{memory_state};
 ghost use Rattle.im_memory.specs.Touched.{touched, ChangesOnly};
 
 use crate::acts::{act, resume};
@@ -31,7 +31,7 @@ pub(crate) fn serve(
         contents_of table.new arena.new sessions.new
         ≡ (serve m request.now (act m.cells (asker request.now) request.now.op)).contents }
     ensures memory { MakesMemory table.new arena.new sessions.new }
-    ensures changes { let m = state_of table.old arena.old sessions.old in
+    ensures changes { let m = memory_state table.old arena.old sessions.old in
         ChangesOnly (touched m (Command.Request request.now)) m.records (records_of table.new arena.new sessions.new) }
 {
     let who = Waiter {

@@ -4,7 +4,7 @@ use Rattle.std.proofs.Common.{map, sym, refl, ap, ◌∙◌, Option, Some, None}
 use Rattle.std.proofs.Math.Nat.{add-sub_cancel}
 use Rattle.std.proofs.lemmas.List.{take_at}
 use Rattle.std.specs.List.{remove, slice_get}
-use Rattle.im_pipes.specs.declared.rule.Log.{Log}
+use Rattle.im_pipes.specs.declared.rule.PassLog.{PassLog}
 use Rattle.im_pipes.specs.Rule.{log, with_sent}
 use Rattle.im_pipes.specs.Ends.{handed_of, items_of, messages_of}
 
@@ -48,38 +48,39 @@ module _ {T : Type 0} where
   same_log a b c d s t r q sends receives sent received = λ j. log (sends j) (receives j) (sent j) (received j)
 
   -- an item more was sent
-  pub sent_item : (l m : Log T) (x : T) → l ≡ log true false (messages_of false (items_of l.sent)) [] → m
+  pub sent_item : (l m : PassLog T) (x : T) → l ≡ log true false (messages_of false (items_of l.sent)) [] → m
       ≡ with_sent l (Some x)
       → (items_of m.sent ≡ items_of l.sent ++ x ∷ []) × (m ≡ log true false (messages_of false (items_of m.sent)) [])
   sent_item l m x i p =
       let items = items_of l.sent in
-      let e : m.sent ≡ map Some items ++ Some x ∷ [] = ap (λ (k : Log T). k.sent) p
-      ∙ ap (λ (k : Log T). k.sent ++ Some x ∷ []) i in
+      let e : m.sent ≡ map Some items ++ Some x ∷ [] = ap (λ (k : PassLog T). k.sent) p
+      ∙ ap (λ (k : PassLog T). k.sent ++ Some x ∷ []) i in
       let more : items_of m.sent ≡ items ++ x ∷ [] = ap items_of e ∙ items_more items x in
-      let sent : l.sent ++ Some x ∷ [] ≡ map Some (items_of m.sent) = ap (λ (k : Log T). k.sent ++ Some x ∷ []) i
+      let sent : l.sent ++ Some x ∷ [] ≡ map Some (items_of m.sent) = ap (λ (k : PassLog T). k.sent ++ Some x ∷ []) i
       ∙ (sym (map_more items x) ∙ ap (λ k. map Some k) (sym more)) in (
         more,
-        p ∙ same_log _ _ _ _ _ _ _ _ (ap (λ (k : Log T). k.sends) i) (ap (λ (k : Log T). k.receives) i) sent
-            (ap (λ (k : Log T). k.received) i),
+        p ∙ same_log _ _ _ _ _ _ _ _ (ap (λ (k : PassLog T). k.sends) i) (ap (λ (k : PassLog T). k.receives) i) sent
+            (ap (λ (k : PassLog T). k.received) i),
       )
 
   -- the end mark was sent
-  pub sent_mark : (l m : Log T) → l ≡ log true false (messages_of false (items_of l.sent)) [] → m ≡ with_sent l None
+  pub sent_mark : (l m : PassLog T) → l ≡ log true false (messages_of false (items_of l.sent)) [] → m ≡ with_sent l None
       → (items_of m.sent ≡ items_of l.sent) × (m ≡ log true false (messages_of true (items_of m.sent)) [])
   sent_mark l m i p =
       let items = items_of l.sent in
-      let e : m.sent ≡ map Some items ++ None ∷ [] = ap (λ (k : Log T). k.sent) p
-      ∙ ap (λ (k : Log T). k.sent ++ None ∷ []) i in
+      let e : m.sent ≡ map Some items ++ None ∷ [] = ap (λ (k : PassLog T). k.sent) p
+      ∙ ap (λ (k : PassLog T). k.sent ++ None ∷ []) i in
       let same : items_of m.sent ≡ items = ap items_of e ∙ items_marked items in
-      let sent : l.sent ++ None ∷ [] ≡ messages_of true (items_of m.sent) = ap (λ (k : Log T). k.sent ++ None ∷ []) i
+      let sent : l.sent ++ None ∷ [] ≡ messages_of true (items_of m.sent) =
+      ap (λ (k : PassLog T). k.sent ++ None ∷ []) i
       ∙ ap (λ k. map Some k ++ None ∷ []) (sym same) in (
         same,
-        p ∙ same_log _ _ _ _ _ _ _ _ (ap (λ (k : Log T). k.sends) i) (ap (λ (k : Log T). k.receives) i) sent
-            (ap (λ (k : Log T). k.received) i),
+        p ∙ same_log _ _ _ _ _ _ _ _ (ap (λ (k : PassLog T). k.sends) i) (ap (λ (k : PassLog T). k.receives) i) sent
+            (ap (λ (k : PassLog T). k.received) i),
       )
 
   -- what an outlet knows: these items were handed out, and then the end mark where it ended, and those messages are held
-  abbrev pub Knows : Log T → Bool → List T → List (Option T) → Type 0
+  abbrev pub Knows : PassLog T → Bool → List T → List (Option T) → Type 0
   Knows l ended items held = l ≡ log false true [] (messages_of ended items ++ held)
 
   items_of_messages : (ended : Bool) (items : List T) → items_of (messages_of ended items) ≡ items
@@ -91,12 +92,12 @@ module _ {T : Type 0} where
       (sym (ap (λ n. n - length held) (length-append handed held) ∙ add-sub_cancel (length handed) (length held)))
 
   -- so they are those that contracts see
-  pub handed_items : (l : Log T) (ended : Bool) (items : List T) (held : List (Option T)) → Knows l ended items held
+  pub handed_items : (l : PassLog T) (ended : Bool) (items : List T) (held : List (Option T)) → Knows l ended items held
       → items_of (handed_of l.received held) ≡ items
-  handed_items l ended items held k = ap (λ (m : Log T). items_of (handed_of m.received held)) k
+  handed_items l ended items held k = ap (λ (m : PassLog T). items_of (handed_of m.received held)) k
       ∙ (ap items_of (handed_join (messages_of ended items) held) ∙ items_of_messages ended items)
 
-  pub knows_handed : (l : Log T) (ended : Bool) (items : List T) (held : List (Option T)) → Knows l ended items held
+  pub knows_handed : (l : PassLog T) (ended : Bool) (items : List T) (held : List (Option T)) → Knows l ended items held
       → Knows l ended (items_of (handed_of l.received held)) held
   knows_handed l ended items held k = k
       ∙ ap (λ xs. log false true [] (messages_of ended xs ++ held)) (sym (handed_items l ended items held k))
@@ -108,7 +109,7 @@ module _ {T : Type 0} where
   first_of (x ∷ held) others message e r = let h : message ≡ x = cc e in cc (h, r)
 
   -- the first that is held was handed out, an item
-  pub item_next : (l : Log T) (ended : Bool) (items : List T) (held others : List (Option T)) (message : Option T)
+  pub item_next : (l : PassLog T) (ended : Bool) (items : List T) (held others : List (Option T)) (message : Option T)
       (x : T) → Knows l ended items held → ended ≡ false
       → Some message ≡ slice_get held 0 → others ≡ remove held 0 → message ≡ Some x
       → Knows l false (items ++ x ∷ []) others
@@ -119,7 +120,7 @@ module _ {T : Type 0} where
       (sym (append_assoc (map Some items) (Some x ∷ []) others) ∙ ap (λ xs. xs ++ others) (sym (map_more items x))))
 
   -- or the end mark
-  pub mark_next : (l : Log T) (ended : Bool) (items : List T) (held others : List (Option T)) (message : Option T)
+  pub mark_next : (l : PassLog T) (ended : Bool) (items : List T) (held others : List (Option T)) (message : Option T)
       → Knows l ended items held → ended ≡ false
       → Some message ≡ slice_get held 0 → others ≡ remove held 0 → message ≡ None → Knows l true items others
   mark_next l ended items held others message k open_ e r is =
@@ -127,16 +128,16 @@ module _ {T : Type 0} where
       k ∙ ((λ j. log false true [] (messages_of (open_ j) items ++ first j))
       ∙ ap (λ xs. log false true [] xs) (sym (append_assoc (map Some items) (None ∷ []) others)))
 
-  sent_of : (l m both : Log T) (ended : Bool) (items : List T) (held rest : List (Option T))
+  sent_of : (l m both : PassLog T) (ended : Bool) (items : List T) (held rest : List (Option T))
       → Knows m ended items held → both ≡ log true true l.sent m.received → both.sent ≡ both.received ++ rest
       → l.sent ≡ messages_of ended items ++ (held ++ rest)
   sent_of l m both ended items held rest k p t =
-      sym (ap (λ (j : Log T). j.sent) p)
-      ∙ (t ∙ (ap (λ (j : Log T). j.received ++ rest) p
-      ∙ (ap (λ (j : Log T). j.received ++ rest) k ∙ append_assoc (messages_of ended items) held rest)))
+      sym (ap (λ (j : PassLog T). j.sent) p)
+      ∙ (t ∙ (ap (λ (j : PassLog T). j.received ++ rest) p
+      ∙ (ap (λ (j : PassLog T). j.received ++ rest) k ∙ append_assoc (messages_of ended items) held rest)))
 
   -- both ends in one pass: what was handed out begins what was sent
-  pub begins_items : (l m both : Log T) (ended : Bool) (items : List T) (held rest : List (Option T))
+  pub begins_items : (l m both : PassLog T) (ended : Bool) (items : List T) (held rest : List (Option T))
       → Knows m ended items held → both ≡ log true true l.sent m.received → both.sent ≡ both.received ++ rest
       → items_of l.sent ≡ items ++ items_of (held ++ rest)
   begins_items l m both ended items held rest k p t =
@@ -145,10 +146,10 @@ module _ {T : Type 0} where
       ∙ ap (λ xs. xs ++ items_of (held ++ rest)) (items_of_messages ended items))
 
   -- and after the end mark it is all of it
-  pub whole_items : (l m both : Log T) (marked : Bool) (items : List T) (held rest : List (Option T)) → l
+  pub whole_items : (l m both : PassLog T) (marked : Bool) (items : List T) (held rest : List (Option T)) → l
       ≡ log true false (messages_of marked (items_of l.sent)) []
       → Knows m true items held → both ≡ log true true l.sent m.received → both.sent ≡ both.received ++ rest → items
       ≡ items_of l.sent
   whole_items l m both marked items held rest i k p t =
       ends marked items (items_of l.sent) (held ++ rest)
-      (sym (ap (λ (j : Log T). j.sent) i) ∙ sent_of l m both true items held rest k p t)
+      (sym (ap (λ (j : PassLog T). j.sent) i) ∙ sent_of l m both true items held rest k p t)

@@ -5,12 +5,13 @@ use mathlib.Core.Option.{some, some-ne-none}
 use lib.ListN.{get_elem?}
 use Rattle.crossbeam_channel.specs.Fifo.{Pushes, Pops, Forks, Merges, Learns}
 use Rattle.atomic_table.proofs.Lists.{at_set, at_snoc}
-use Rattle.im_pipes.specs.declared.rule.Log.{Log}
+use Rattle.im_pipes.specs.declared.rule.PassLog.{PassLog}
 use Rattle.im_pipes.specs.Rule.{log, with_sent, with_received, Fits, IsRelayed}
 
 module _ {T : Type 0} where
   -- what wasn't in a list, and is with one element more, is that element
-  at_end : (l : List (Log T)) (a b : Log T) (j : ℕ) → get_elem? l j ≢ some b → get_elem? (l ++ a ∷ []) j ≡ some b → j
+  at_end : (l : List (PassLog T)) (a b : PassLog T) (j : ℕ) → get_elem? l j ≢ some b
+      → get_elem? (l ++ a ∷ []) j ≡ some b → j
       ≡ length l
   at_end [] a b zero n e = refl
   at_end [] a b (suc j) n e = absurd (some-ne-none b (sym e))
@@ -18,14 +19,14 @@ module _ {T : Type 0} where
   at_end (x ∷ xs) a b (suc j) n e = ap suc (at_end xs a b j n e)
 
   -- each log is so
-  abbrev All : (ℕ → Log T → Type 0) → List (Log T) → Type 0
-  All F views = (port : ℕ) (v : Log T) → get_elem? views port ≡ some v → F port v
+  abbrev All : (ℕ → PassLog T → Type 0) → List (PassLog T) → Type 0
+  All F views = (port : ℕ) (v : PassLog T) → get_elem? views port ≡ some v → F port v
 
   -- each log is so where one is changed
-  all_set : (F : ℕ → Log T → Type 0) (views : List (Log T)) (port : ℕ) (w : Log T) → F port w
-      → ((j : ℕ) (u : Log T) → j ≢ port → get_elem? views j ≡ some u → F j u) → All F (set views port w)
+  all_set : (F : ℕ → PassLog T → Type 0) (views : List (PassLog T)) (port : ℕ) (w : PassLog T) → F port w
+      → ((j : ℕ) (u : PassLog T) → j ≢ port → get_elem? views j ≡ some u → F j u) → All F (set views port w)
   all_set F views port w mine others j u e = ⊎_elim
-      (λ (x : (j ≡ port) × (w ≡ u)). subst (λ (y : ℕ × Log T). F y.0 y.1) (λ i. (sym x.0 i, x.1 i)) mine)
+      (λ (x : (j ≡ port) × (w ≡ u)). subst (λ (y : ℕ × PassLog T). F y.0 y.1) (λ i. (sym x.0 i, x.1 i)) mine)
       (λ (x : (j ≢ port) × (get_elem? views j ≡ some u)). others j u x.0 x.1) (at_set views port j w u e)
 
   -- a new channel keeps it
@@ -42,9 +43,9 @@ module _ {T : Type 0} where
   )
 
   -- a message is sent
-  pub sends : (n port : ℕ) (v : Log T) (x : Option T) → v.sends ≡ true
+  pub sends : (n port : ℕ) (v : PassLog T) (x : Option T) → v.sends ≡ true
       → Pushes IsRelayed n port v x (λ w. w ≡ with_sent v x)
-  sends n port v x may items views _ h at = let w : Log T = with_sent v x in let mine = h.5 port v at in let sent = h.2 ++ x ∷ [] in (
+  sends n port v x may items views _ h at = let w : PassLog T = with_sent v x in let mine = h.5 port v at in let sent = h.2 ++ x ∷ [] in (
     w,
     (
       h.0,
@@ -60,8 +61,8 @@ module _ {T : Type 0} where
   )
 
   -- a message is received
-  pub receives : (port : ℕ) (v : Log T) → v.receives ≡ true → Pops IsRelayed port v (λ x w. w ≡ with_received v x)
-  receives port v may x items views h at = let w : Log T = with_received v x in let mine = h.5 port v at in let received = h.3 ++ x ∷ [] in (
+  pub receives : (port : ℕ) (v : PassLog T) → v.receives ≡ true → Pops IsRelayed port v (λ x w. w ≡ with_received v x)
+  receives port v may x items views h at = let w : PassLog T = with_received v x in let mine = h.5 port v at in let received = h.3 ++ x ∷ [] in (
     w,
     (
       h.0,
@@ -77,10 +78,10 @@ module _ {T : Type 0} where
   )
 
   -- a pass for each end
-  pub forks : (port : ℕ) (v : Log T) → v.sends ≡ true → v.receives ≡ true
+  pub forks : (port : ℕ) (v : PassLog T) → v.sends ≡ true → v.receives ≡ true
       → Forks IsRelayed port v (log true false v.sent []) (log false true [] v.received)
-  forks port v a b items views h at = let l : Log T = log true false v.sent [] in let r : Log T = log false true [] v.received in let mine = h.5 port v at in let vs : List (Log T) = set views port l in
-      let Old : ℕ → Log T → Type 0 = λ j u. (u.sends ≡ true → (j ≡ h.0) × (u.sent ≡ h.2)) × (u.receives ≢ true) in
+  forks port v a b items views h at = let l : PassLog T = log true false v.sent [] in let r : PassLog T = log false true [] v.received in let mine = h.5 port v at in let vs : List (PassLog T) = set views port l in
+      let Old : ℕ → PassLog T → Type 0 = λ j u. (u.sends ≡ true → (j ≡ h.0) × (u.sent ≡ h.2)) × (u.receives ≢ true) in
       let old : All Old vs = all_set Old views port l ((λ _. mine.0 a), λ p. true≢false (sym p))
       (λ j u other e. ((h.5 j u e).0, λ p. other (((h.5 j u e).1 p).0 ∙ sym (mine.1 b).0))) in (
         h.0,
@@ -90,21 +91,24 @@ module _ {T : Type 0} where
         h.4,
         λ j u e. ⊎_elim (λ x. ((old j u x).0, λ p. absurd ((old j u x).1 p)))
             (λ (is : r ≡ u). (
-              (λ p. absurd (true≢false (sym (ap (λ (y : Log T). y.sends) is ∙ p)))),
-              λ p.
-                  (at_end vs r u j (λ x. (old j u x).1 p) e, ap (λ (y : Log T). y.received) (sym is) ∙ (mine.1 b).1),
+              (λ p. absurd (true≢false (sym (ap (λ (y : PassLog T). y.sends) is ∙ p)))),
+              λ p. (
+                at_end vs r u j (λ x. (old j u x).1 p) e,
+                ap (λ (y : PassLog T). y.received) (sym is) ∙
+                    (mine.1 b).1,
+              ),
             ))
             (at_snoc vs r u j e),
       )
 
   -- both ends in one pass
-  pub merges : (port : ℕ) (v : Log T) (other : ℕ) (u : Log T) → v.sends ≡ true → u.receives ≡ true
+  pub merges : (port : ℕ) (v : PassLog T) (other : ℕ) (u : PassLog T) → v.sends ≡ true → u.receives ≡ true
       → Merges IsRelayed port v other u (log true true v.sent u.received) (log false false [] [])
-  merges port v other u a b items views h at two at' = let both : Log T = log true true v.sent u.received in let mine = h.5 port v at in let vs : List (Log T) = set views port both in
+  merges port v other u a b items views h at two at' = let both : PassLog T = log true true v.sent u.received in let mine = h.5 port v at in let vs : List (PassLog T) = set views port both in
       let was : get_elem? views other
       ≡ some u = ⊎_elim (λ x. absurd (two x.0)) (λ x. x.1) (at_set views port other both u at') in let theirs =
       (h.5 other u was).1 b in
-      let Now : ℕ → Log T → Type 0 = λ j y. j ≢ other → Fits h.0 port h.2 h.3 j y in
+      let Now : ℕ → PassLog T → Type 0 = λ j y. j ≢ other → Fits h.0 port h.2 h.3 j y in
       let now : All Now vs = all_set Now views port both (λ _. ((λ _. mine.0 a), λ _. (refl, theirs.1)))
       (λ j y _ e apart. ((h.5 j y e).0, λ p. absurd (apart (((h.5 j y e).1 p).0 ∙ sym theirs.0)))) in (
         h.0,
@@ -117,7 +121,7 @@ module _ {T : Type 0} where
       )
 
   -- and what it knows then
-  pub learns : (port : ℕ) (v : Log T) → v.sends ≡ true → v.receives ≡ true
+  pub learns : (port : ℕ) (v : PassLog T) → v.sends ≡ true → v.receives ≡ true
       → Learns IsRelayed port v (λ held. v.sent ≡ v.received ++ held)
   learns port v a b items views h at = let mine = h.5 port v at in (mine.0 a).1
       ∙ (h.4 ∙ ap (λ xs. xs ++ items) (sym (mine.1 b).1))

@@ -8,7 +8,7 @@ ghost use Rattle.im_types.specs.declared.refusals.Refusal.TheVariants.{NoMemory}
 ghost use Rattle.im_pipes.specs.Ends.{AreNewEnds, Receives};
 ghost use Rattle.im_pipes.specs.Rule.{with_sent, with_received};
 
-use crate::rule::{InOrder, Log, Sent, Taken, TwoEnds, Whole};
+use crate::rule::{PassLog, SentInOrder, SentOne, Taken, TwoEnds, Whole};
 use arrayvec::ArrayVec;
 use crossbeam_channel::{Pass, RuledReceiver, RuledSender, bounded_with};
 use im_types::Refusal;
@@ -22,8 +22,8 @@ const AHEAD: usize = 8;
 /// The end of a pipe that sends. Contracts see which pipe it is, and what was sent.
 #[derive(Drop)]
 pub struct Inlet<T: Drop> {
-    sender: RuledSender<Option<T>, Log<T>, InOrder>,
-    pass: Pass<Option<T>, Log<T>>,
+    sender: RuledSender<Option<T>, PassLog<T>, SentInOrder>,
+    pass: Pass<Option<T>, PassLog<T>>,
 }
 
 impl<T: Drop> Model for Inlet<T> {
@@ -43,13 +43,13 @@ impl<T: Drop> Model for Inlet<T> {
 
 /// An inlet after its end. Contracts see what was sent through it, and whether the end mark was sent.
 #[derive(Drop)]
-pub struct Finished<T: Drop> {
-    sender: RuledSender<Option<T>, Log<T>, InOrder>,
-    pass: Pass<Option<T>, Log<T>>,
+pub struct FinishedInlet<T: Drop> {
+    sender: RuledSender<Option<T>, PassLog<T>, SentInOrder>,
+    pass: Pass<Option<T>, PassLog<T>>,
     marked: bool,
 }
 
-impl<T: Drop> Model for Finished<T> {
+impl<T: Drop> Model for FinishedInlet<T> {
     ghost use Rattle.std.specs.Prelude.{◌≡◌, [], true, false};
     ghost use Rattle.crossbeam_channel.specs.Claims.{view as known, IsSeatAt};
     ghost use Rattle.crossbeam_channel.specs.Ends.{sends_on};
@@ -68,8 +68,8 @@ impl<T: Drop> Model for Finished<T> {
 /// received. What the outlet holds, to hand out later in order, doesn't count as received yet.
 #[derive(Drop)]
 pub struct Outlet<T: Drop> {
-    receiver: RuledReceiver<Option<T>, Log<T>, InOrder>,
-    pass: Pass<Option<T>, Log<T>>,
+    receiver: RuledReceiver<Option<T>, PassLog<T>, SentInOrder>,
+    pass: Pass<Option<T>, PassLog<T>>,
     held: ArrayVec<Option<T>, AHEAD>,
     ended: bool,
 }
@@ -119,7 +119,7 @@ fn new_ends<T: Drop>(alloc: Global, capacity: usize) -> Result<(Inlet<T>, Outlet
     requires { 0 < capacity }
     ensures found { IfOk result (λ ends. AreNewEnds ends.0 ends.1) }
 {
-    let (sender, receiver, mut pass) = bounded_with::<Option<T>, Log<T>, InOrder, Global>(
+    let (sender, receiver, mut pass) = bounded_with::<Option<T>, PassLog<T>, SentInOrder, Global>(
         alloc, capacity,
     )?;
     let receives = sender.another::<TwoEnds>(&mut pass);
@@ -137,8 +137,8 @@ fn new_ends<T: Drop>(alloc: Global, capacity: usize) -> Result<(Inlet<T>, Outlet
 // Sends a message: an item or the end mark. Returns the message if the channel hands it back.
 fn put<T: Drop, R: Wait>(
     rt: &R,
-    sender: &RuledSender<Option<T>, Log<T>, InOrder>,
-    pass: &mut Pass<Option<T>, Log<T>>,
+    sender: &RuledSender<Option<T>, PassLog<T>, SentInOrder>,
+    pass: &mut Pass<Option<T>, PassLog<T>>,
     message: Option<T>,
 ) -> Result<(), Option<T>>
     requires seat { IsSeatAt (sends_on sender.now) pass.old }
@@ -147,7 +147,7 @@ fn put<T: Drop, R: Wait>(
     ensures sent { MatchResult result (λ _. view pass.new ≡ with_sent (view pass.old) message)
         (λ back. (back ≡ message) × (view pass.new ≡ view pass.old)) }
 {
-    match sender.send_as::<Sent, R>(rt, pass, message) {
+    match sender.send_as::<SentOne, R>(rt, pass, message) {
         Ok(()) => Ok(()),
         Err(error) => Err(error.into_inner()),
     }
@@ -156,8 +156,8 @@ fn put<T: Drop, R: Wait>(
 // Receives a message that is there, or waits for one.
 fn take<T: Drop, R: Wait>(
     rt: &R,
-    receiver: &RuledReceiver<Option<T>, Log<T>, InOrder>,
-    pass: &mut Pass<Option<T>, Log<T>>,
+    receiver: &RuledReceiver<Option<T>, PassLog<T>, SentInOrder>,
+    pass: &mut Pass<Option<T>, PassLog<T>>,
     waits: bool,
 ) -> Option<Option<T>>
     requires seat { IsSeatAt (receives_on receiver.now) pass.old }
@@ -194,18 +194,18 @@ impl<T: Drop> Inlet<T> {
     }
 
     /// Sends the end mark, if the channel takes it, and waits while the pipe is full. (Own.)
-    pub fn finish<R: Wait>(self, rt: &R) -> Finished<T>
+    pub fn finish<R: Wait>(self, rt: &R) -> FinishedInlet<T>
         ensures same { result.pipe ≡ self.pipe }
         ensures contents { result.items ≡ self.items }
     {
         let Inlet { sender, mut pass } = self;
         match put(rt, &sender, &mut pass, None) {
-            Ok(()) => Finished {
+            Ok(()) => FinishedInlet {
                 sender,
                 pass,
                 marked: true,
             },
-            Err(_) => Finished {
+            Err(_) => FinishedInlet {
                 sender,
                 pass,
                 marked: false,
@@ -270,7 +270,7 @@ impl<T: Drop> Outlet<T> {
 
     /// Shows what both ends know together. What was received is a prefix of what was sent, in order, each item once;
     /// after the end mark it is all of it. It takes both ends of one pipe, and does nothing. (Own.)
-    pub fn whole(self, finished: Finished<T>)
+    pub fn whole(self, finished: FinishedInlet<T>)
         requires { self.pipe ≡ finished.pipe }
         ensures begins { IsPrefix self.items finished.items }
         ensures whole { self.ended ≡ true → self.items ≡ finished.items }
@@ -281,7 +281,7 @@ impl<T: Drop> Outlet<T> {
             held: _,
             ended: _,
         } = self;
-        let Finished {
+        let FinishedInlet {
             sender,
             mut pass,
             marked: _,

@@ -5,5 +5,5 @@
 mod ends;
 mod rule;
 
-pub use ends::{Finished, Inlet, Outlet, Received, pipe};
-pub use rule::Log;
+pub use ends::{FinishedInlet, Inlet, Outlet, Received, pipe};
+pub use rule::PassLog;

@@ -5,7 +5,7 @@ use std::collections::LinkedList;
 
 /// What a pass may do, and what it has sent and received, end marks included. It is for contracts alone: no value of it
 /// is made.
-pub struct Log<T> {
+pub struct PassLog<T> {
     /// Whether it may send.
     pub sends: bool,
     /// Whether it may receive.
@@ -17,9 +17,9 @@ pub struct Log<T> {
 }
 
 // The rule.
-pub struct InOrder;
+pub struct SentInOrder;
 
-impl<T> Protocol<Option<T>, Log<T>> for InOrder {
+impl<T> Protocol<Option<T>, PassLog<T>> for SentInOrder {
     ghost use Rattle.std.specs.Prelude.{true, []};
     ghost use Rattle.im_pipes.specs.Rule.{log, IsRelayed};
 
@@ -31,7 +31,7 @@ impl<T> Protocol<Option<T>, Log<T>> for InOrder {
 // One pass for each end, and the two joined again.
 pub struct TwoEnds;
 
-impl<T> Split<Log<T>> for TwoEnds {
+impl<T> Split<PassLog<T>> for TwoEnds {
     ghost use Rattle.std.specs.Prelude.{true, false, []};
     ghost use Rattle.im_pipes.specs.Rule.{log};
 
@@ -40,7 +40,7 @@ impl<T> Split<Log<T>> for TwoEnds {
     ghost right = { λ l. log false true [] l.received };
 }
 
-impl<T> Join<Log<T>> for TwoEnds {
+impl<T> Join<PassLog<T>> for TwoEnds {
     ghost use Rattle.std.specs.Prelude.{true, false, []};
     ghost use Rattle.im_pipes.specs.Rule.{log};
 
@@ -50,37 +50,37 @@ impl<T> Join<Log<T>> for TwoEnds {
 }
 
 // A message was sent.
-pub struct Sent;
+pub struct SentOne;
 
-impl<T> Outcome<Option<T>, Log<T>> for Sent {
+impl<T> Outcome<Option<T>, PassLog<T>> for SentOne {
     ghost use Rattle.std.specs.Prelude.{◌≡◌};
     ghost use Rattle.im_pipes.specs.Rule.{with_sent};
 
     ghost then = { λ l message m. m ≡ with_sent l message };
 }
 
-impl<T> Lesson<Option<T>, Log<T>> for Sent {
+impl<T> Lesson<Option<T>, PassLog<T>> for SentOne {
     ghost fact = { λ l held. Unit {0} };
 }
 
 // A message was received.
 pub struct Taken;
 
-impl<T> Outcome<Option<T>, Log<T>> for Taken {
+impl<T> Outcome<Option<T>, PassLog<T>> for Taken {
     ghost use Rattle.std.specs.Prelude.{◌≡◌};
     ghost use Rattle.im_pipes.specs.Rule.{with_received};
 
     ghost then = { λ l message m. m ≡ with_received l message };
 }
 
-impl<T> Lesson<Option<T>, Log<T>> for Taken {
+impl<T> Lesson<Option<T>, PassLog<T>> for Taken {
     ghost fact = { λ l held. Unit {0} };
 }
 
 // What the two passes know together.
 pub struct Whole;
 
-impl<T> Lesson<Option<T>, Log<T>> for Whole {
+impl<T> Lesson<Option<T>, PassLog<T>> for Whole {
     ghost use Rattle.std.specs.Prelude.{◌≡◌, ◌++◌};
 
     ghost fact = { λ l held. l.sent ≡ l.received ++ held };

@@ -33,7 +33,7 @@ use Rattle.im_plain.specs.declared.effects.CellEffect.{CellEffect}
 use Rattle.im_plain.specs.declared.acts.Effect.{Effect}
 use Rattle.im_plain.specs.Waiting.{waiting_at, without, parked, with_asker, each_given}
 use Rattle.im_plain.specs.Joined.{state_with, emptied_slot, plain_held, plain_cells, lets_wait, lets_wait_at, QueueFits}
-use Rattle.im_laws.specs.Blocks.{IsRefused}
+use Rattle.im_laws.specs.Blocks.{TellsOnly}
 use Rattle.im_plain.specs.CellEffects.{AreWaiting, HasCellEffect, HasEffect, IsUnwaited}
 use Rattle.im_plain.proofs.QueueLemmas.{waiting_at-without, waiting_at-without_other, waiting_at-parked}
 use Rattle.im_plain.proofs.QueueLemmas.{waiting_at-parked_other}
@@ -173,7 +173,7 @@ module _ (slots : List (Option PlainSlot)) (queue : List Deferred) (fits : Queue
       same = allocate-placed kind n some (Some base) e
 
   -- a block at none of whose cells somebody waits, or why there is none
-  pub absent-refused : (a : ℕ) → get_or slots a None ≡ None → IsRefused cells a NoBlock
+  pub absent-refused : (a : ℕ) → get_or slots a None ≡ None → TellsOnly cells a NoBlock
   absent-refused a e after reply = ap (λ held. unless_waited_for after reply cells a (block_with_base a held))
       (held_at-None slots queue a e)
 
@@ -183,11 +183,11 @@ module _ (slots : List (Option PlainSlot)) (queue : List Deferred) (fits : Queue
       ∙ ap (λ b. cond b (Some slot.block) None) q
 
   pub inner-refused : (a : ℕ) (slot : PlainSlot) → get_or slots a None ≡ Some slot → (slot.block.base == a) ≡ false
-      → IsRefused cells a NoBlock
+      → TellsOnly cells a NoBlock
   inner-refused a slot e q after reply = ap (unless_waited_for after reply cells a) (block_found a slot e false q)
 
   pub waiting-refused : (a : ℕ) (slot : PlainSlot) → get_or slots a None ≡ Some slot → (slot.block.base == a) ≡ true
-      → list_any is_waiting_cell (take slot.block.length (drop a cells)) ≡ true → IsRefused cells a StillWaiting
+      → list_any is_waiting_cell (take slot.block.length (drop a cells)) ≡ true → TellsOnly cells a StillWaiting
   waiting-refused a slot e q w after reply =
       ap (unless_waited_for after reply cells a) (block_found a slot e true q)
       ∙ ap (λ b. cond b (only_tells cells StillWaiting)
@@ -197,7 +197,7 @@ module _ (slots : List (Option PlainSlot)) (queue : List Deferred) (fits : Queue
       → list_any is_waiting_cell (take slot.block.length (drop a cells)) ≡ false → IsUnwaited cells a slot.block.length
   unwaited a slot e q w = record { block = slot.block; found = block_found a slot e true q; long = refl; nobody = w }
 
-  pub refused-HasEffect : (a : ℕ) (reply : Reply) → IsRefused cells a reply
+  pub refused-HasEffect : (a : ℕ) (reply : Reply) → TellsOnly cells a reply
       → (after : Block → List (Option Held)) (meant : Reply)
       → HasEffect slots queue (telling reply)
       (unless_waited_for after meant cells a (block_with_base a (held_at cells a)))

@@ -5,7 +5,7 @@ ghost use Rattle.im_types.specs.declared.operations.Waiter.{Waiter};
 ghost use Rattle.im_types.specs.Contents.{held_at, HasBlocks};
 ghost use Rattle.im_types.specs.Act.{act, allocate, release_block, reset_block, block_with_base, at_cell};
 ghost use Rattle.im_types.specs.Act.{has_waiter, is_waiting_cell};
-ghost use Rattle.im_laws.specs.Blocks.{IsRefused};
+ghost use Rattle.im_laws.specs.Blocks.{TellsOnly};
 ghost use Rattle.im_plain.specs.Joined.{state_with, plain_cells, QueueFits};
 ghost use Rattle.im_plain.specs.CellEffects.{access_of, HasEffect, IsUnwaited};
 
@@ -141,7 +141,7 @@ fn unwaited_for(slots: &[Option<PlainSlot>], queue: &[Deferred], a: u32) -> Resu
     requires blocks { HasBlocks (plain_cells slots.now queue.now) }
     requires few { length slots.now ≤ MAX_CELLS }
     ensures ok { IfOk result (λ n. IsUnwaited (plain_cells slots.now queue.now) a n) }
-    ensures err { IfErr result (λ reply. IsRefused (plain_cells slots.now queue.now) a reply) }
+    ensures err { IfErr result (λ reply. TellsOnly (plain_cells slots.now queue.now) a reply) }
 {
     let Some(slot) = slot_at(slots, a) else {
         return Err(Reply::NoBlock);

@@ -13,7 +13,7 @@ use Rattle.im_laws.proofs.OpLemmas.{same_op-self, same_op-equal}
 use Rattle.im_plans.specs.Runs.{IsInPlan}
 use Rattle.im_plans.proofs.PlanLemmas.{stored-by_store, planned_value-stored}
 use Rattle.im_planning.specs.Making.{Key, has_key, op_under, is_op}
-use Rattle.im_planning.specs.Begins.{Begins}
+use Rattle.im_planning.specs.Begins.{StandsBefore}
 
 abbrev pub key_of : Request → Key
 key_of r = (r.element, r.number)
@@ -82,7 +82,7 @@ stored_there a (q ∷ plan) i s at e none = by_first (stored_by a q.op) refl i a
         there o = rw o refl
 
 -- a plan with one request more before it
-pub cons-plan : (r : Request) (plan : List Request) → Begins r plan → IsPlan plan → IsPlan (r ∷ plan)
+pub cons-plan : (r : Request) (plan : List Request) → StandsBefore r plan → IsPlan plan → IsPlan (r ∷ plan)
 cons-plan r plan b is = record { planned = planned; numbered = numbered; stored_once = stored_once }
   where
     planned : (i : ℕ) (q : Request) → slice_get (r ∷ plan) i ≡ Some q → is_planned q.op ≡ true
@@ -132,7 +132,7 @@ drop-plan (suc i) [] is = is
 drop-plan (suc i) (r ∷ plan) is = drop-plan i plan (rest-plan r plan is)
 
 -- the first request of a plan begins it
-pub plan-begins : (r : Request) (plan : List Request) → IsPlan (r ∷ plan) → Begins r plan
+pub plan-begins : (r : Request) (plan : List Request) → IsPlan (r ∷ plan) → StandsBefore r plan
 plan-begins r plan is = record {
   planned = is.planned 0 r refl;
   own = own

@@ -8,7 +8,7 @@ ghost use Rattle.im_types.specs.Plan.{planned_value, is_planned, IsPlan};
 ghost use Rattle.im_types.specs.Window.{same_op};
 ghost use Rattle.im_plans.specs.Runs.{IsInPlan};
 ghost use Rattle.im_planning.specs.Making.{key_cmp, op_under, is_op};
-ghost use Rattle.im_planning.specs.Begins.{StandsFirst, Begins, Follows};
+ghost use Rattle.im_planning.specs.Begins.{StandsFirst, StandsBefore, IndexesPlan};
 
 use im_types::{Op, Refusal, Request};
 use std::alloc::Global;
@@ -117,10 +117,10 @@ fn add(
     stored: &mut BTreeMap<u32, u64>,
     request: &Request,
 ) -> Result<(), Refusal>
-    ensures begins { (plan : List Asked) → Follows (get key_cmp under.old) (get nat_cmp stored.old) plan
+    ensures begins { (plan : List Asked) → IndexesPlan (get key_cmp under.old) (get nat_cmp stored.old) plan
         → IfOk result (λ u. StandsFirst request.now plan (get key_cmp under.new) (get nat_cmp stored.new)) }
-    ensures bad { (plan : List Asked) → Follows (get key_cmp under.old) (get nat_cmp stored.old) plan
-        → IfErr result (λ e. e ≡ BadPlan → Begins request.now plan → ⊥) }
+    ensures bad { (plan : List Asked) → IndexesPlan (get key_cmp under.old) (get nat_cmp stored.old) plan
+        → IfErr result (λ e. e ≡ BadPlan → StandsBefore request.now plan → ⊥) }
     ensures only { IfErr result (λ e. (e ≡ NoMemory) ⊎ (e ≡ BadPlan)) }
 {
     if !is_for_plans(&request.op) {

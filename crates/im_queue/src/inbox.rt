@@ -14,7 +14,7 @@ use std::alloc::{AllocError, Global};
 
 // What an element asks. The place says which element.
 #[derive(Clone, Copy)]
-enum Asked {
+enum ElementAsk {
     Request { number: u64, op: Op },
     Confirm { upto: u64 },
 }
@@ -22,7 +22,7 @@ enum Asked {
 /// What the elements ask.
 #[derive(Drop)]
 pub struct Inbox {
-    places: Vec<Option<Asked>>,
+    places: Vec<Option<ElementAsk>>,
 }
 
 /// A group out of the inbox.
@@ -166,11 +166,11 @@ impl Inbox {
     pub fn ask(&mut self, command: &Command) {
         if let Some(place) = self.places.get_mut(element_of(command) as usize) {
             *place = Some(match command {
-                Command::Request(request) => Asked::Request {
+                Command::Request(request) => ElementAsk::Request {
                     number: request.number,
                     op: request.op,
                 },
-                Command::Confirm { upto, .. } => Asked::Confirm { upto: *upto },
+                Command::Confirm { upto, .. } => ElementAsk::Confirm { upto: *upto },
             });
         }
     }
@@ -191,12 +191,12 @@ impl Inbox {
         ensures { IfSome result (λ c. sender_of c ≡ element) }
     {
         match self.places.get_mut(element as usize)?.take()? {
-            Asked::Request { number, op } => Some(Command::Request(Request {
+            ElementAsk::Request { number, op } => Some(Command::Request(Request {
                 element,
                 number,
                 op,
             })),
-            Asked::Confirm { upto } => Some(Command::Confirm { element, upto }),
+            ElementAsk::Confirm { upto } => Some(Command::Confirm { element, upto }),
         }
     }
 

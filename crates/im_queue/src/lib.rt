@@ -9,5 +9,5 @@ mod turns; // Who goes next.
 
 pub use bell::{Bell, Bells};
 pub use inbox::{Inbox, NextGroup};
-pub use servers::{Ask, Server, Servers, stuck_is_each};
+pub use servers::{Ask, ServerState, Servers, stuck_is_each};
 pub use turns::{Turn, Turns};

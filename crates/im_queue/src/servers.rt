@@ -2,7 +2,7 @@
 ghost use Rattle.std.specs.Prelude.{◌≡◌, ◌↔◌, ◌≤◌, ◌+◌, ◌||◌, ◌==◌, ℕ, List, true, false, length, count_by};
 ghost use Rattle.std.specs.Prelude.{if◌then◌else◌, IfOk};
 ghost use Rattle.im_types.specs.Contents.{Contents};
-ghost use Rattle.im_queue.specs.Servers.{is_waiting, is_unmade, is_stuck, are_stuck, with_server, Makes};
+ghost use Rattle.im_queue.specs.Servers.{is_waiting_server, is_unmade, is_stuck, are_stuck, with_server, Makes};
 ghost use Rattle.im_queue.specs.Servers.{AllStuckBut};
 
 use arrayvec::ArrayVec;
@@ -13,7 +13,7 @@ use std::marker::Model;
 
 /// What the server of an element does.
 #[derive(Clone, Copy, Debug, PartialEq, Eq)]
-pub enum Server {
+pub enum ServerState {
     /// It has no port yet.
     Unmade,
     /// It serves.
@@ -36,15 +36,15 @@ pub enum Ask {
 /// The servers of all elements, and the entry for which each port sleeps. Ports of ended servers count too.
 #[derive(Drop)]
 pub struct Servers {
-    all: Vec<Server>,
+    all: Vec<ServerState>,
     asleep: Vec<Option<u64>>,
 }
 
 impl Model for Servers {
     ghost use Rattle.std.specs.Prelude.{List, ◌≤◌, length};
-    ghost use Rattle.im_queue.specs.declared.servers.Server.{Server};
+    ghost use Rattle.im_queue.specs.declared.servers.ServerState.{ServerState};
 
-    ghost Value = { List Server };
+    ghost Value = { List ServerState };
 
     ghost view = { λ s. s.all.items };
 
@@ -52,21 +52,21 @@ impl Model for Servers {
 }
 
 // Returns 1 for a server that waits for an entry, else 0.
-fn one_waiting(server: Server) -> u32
-    ensures { result ≡ (if is_waiting server then 1 else 0) }
+fn one_waiting(server: ServerState) -> u32
+    ensures { result ≡ (if is_waiting_server server then 1 else 0) }
 {
     match server {
-        Server::Waits(_) => 1,
-        Server::Unmade => 0,
-        Server::Active => 0,
-        Server::Retired => 0,
+        ServerState::Waits(_) => 1,
+        ServerState::Unmade => 0,
+        ServerState::Active => 0,
+        ServerState::Retired => 0,
     }
 }
 
 // Returns how many of these servers wait for an entry.
-fn count_waiting(servers: &[Server]) -> u32
+fn count_waiting(servers: &[ServerState]) -> u32
     requires { length servers.now ≤ 65536 }
-    ensures { result ≡ count_by is_waiting servers.now }
+    ensures { result ≡ count_by is_waiting_server servers.now }
 {
     let mut waits = 0;
     for i in 0..servers.len() {
@@ -76,30 +76,30 @@ fn count_waiting(servers: &[Server]) -> u32
 }
 
 // Returns false exactly if the server is active or waits for an answered entry.
-fn is_stuck(memory: &Memory, element: u16, server: Server) -> bool
+fn is_stuck(memory: &Memory, element: u16, server: ServerState) -> bool
     ensures { result ≡ is_stuck memory.now.contents element server }
 {
     match server {
-        Server::Active => false,
-        Server::Waits(number) => match memory.collect(element, number) {
+        ServerState::Active => false,
+        ServerState::Waits(number) => match memory.collect(element, number) {
             Ok(Entry::Answered(_)) => false,
             Ok(Entry::Waiting) => true,
             Err(_) => true,
         },
-        Server::Unmade => true,
-        Server::Retired => true,
+        ServerState::Unmade => true,
+        ServerState::Retired => true,
     }
 }
 
 // Returns the same of another server, and true of the caller's.
-fn is_past(memory: &Memory, caller: u16, element: u16, server: Server) -> bool
+fn is_past(memory: &Memory, caller: u16, element: u16, server: ServerState) -> bool
     ensures { result ≡ ((element == caller) || is_stuck memory.now.contents element server) }
 {
     element == caller || is_stuck(memory, element, server)
 }
 
 // Returns whether all servers but the caller's are stuck.
-fn are_stuck(memory: &Memory, caller: u16, servers: &[Server]) -> bool
+fn are_stuck(memory: &Memory, caller: u16, servers: &[ServerState]) -> bool
     requires { length servers.now ≤ 65536 }
     ensures { result ≡ are_stuck memory.now.contents caller 0 servers.now }
 {
@@ -137,7 +137,7 @@ impl Servers {
     {
         let mut all = Vec::with_capacity(alloc, elements as usize)?;
         for _ in 0..elements {
-            all.push(Server::Unmade)?;
+            all.push(ServerState::Unmade)?;
         }
         let asleep = awake(alloc, elements)?;
         Ok(Servers { all, asleep })
@@ -154,18 +154,18 @@ impl Servers {
             return false;
         }
         match self.all[i] {
-            Server::Unmade => {
-                self.all[i] = Server::Active;
+            ServerState::Unmade => {
+                self.all[i] = ServerState::Active;
                 true // Its port is made now.
             }
-            Server::Active => false,
-            Server::Waits(_) => false,
-            Server::Retired => false,
+            ServerState::Active => false,
+            ServerState::Waits(_) => false,
+            ServerState::Retired => false,
         }
     }
 
     /// Sets what a server does from now on, if it is active or waits.
-    pub fn change(&mut self, element: u16, server: Server)
+    pub fn change(&mut self, element: u16, server: ServerState)
         ensures state { self.new ≡ with_server self.old element server }
         ensures unmade { is_unmade server ≡ false
             → count_by is_unmade self.new ≡ count_by is_unmade self.old }
@@ -175,10 +175,10 @@ impl Servers {
             return;
         }
         match self.all[i] {
-            Server::Active => self.all[i] = server,
-            Server::Waits(_) => self.all[i] = server,
-            Server::Unmade => {}
-            Server::Retired => {}
+            ServerState::Active => self.all[i] = server,
+            ServerState::Waits(_) => self.all[i] = server,
+            ServerState::Unmade => {}
+            ServerState::Retired => {}
         }
     }
 
@@ -191,7 +191,7 @@ impl Servers {
 
     /// Returns how many of them wait.
     pub fn waiting(&self) -> u32
-        ensures { result ≡ count_by is_waiting self.now }
+        ensures { result ≡ count_by is_waiting_server self.now }
     {
         count_waiting(self.all.as_slice())
     }
@@ -239,6 +239,6 @@ impl Servers {
 
 /// The test that goes through all servers is true exactly if each server but the caller's is stuck.
 pub fn stuck_is_each()
-    ensures { (m : Contents) (caller : ℕ) (servers : List Server)
+    ensures { (m : Contents) (caller : ℕ) (servers : List ServerState)
         → (are_stuck m caller 0 servers ≡ true) ↔ AllStuckBut m caller servers }
 {}

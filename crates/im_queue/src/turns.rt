@@ -23,7 +23,7 @@ struct Queue {
 }
 
 #[derive(Drop)]
-struct Place {
+struct QueuePlace {
     called: Mutex<u64>,
     wakes: Condvar,
 }
@@ -32,7 +32,7 @@ struct Place {
 #[derive(Drop)]
 pub struct Turns {
     queue: Mutex<Queue>,
-    places: Vec<Place>,
+    places: Vec<QueuePlace>,
 }
 
 /// A thread's turn. It is true if the thread went through the queue.
@@ -113,7 +113,7 @@ impl Turns {
     pub fn new(alloc: Global, places: usize) -> Result<Turns, AllocError> {
         let mut all = Vec::with_capacity(alloc, places)?;
         for _ in 0..places {
-            all.push(Place {
+            all.push(QueuePlace {
                 called: Mutex::new(0),
                 wakes: Condvar::new(),
             })?;

@@ -18,7 +18,7 @@ use Rattle.im_types.specs.Memory.{IsMemory}
 use Rattle.im_types.specs.Window.{bounds, bounds_of, is_waiting, is_waiting_entry, next_number, same_op}
 use Rattle.im_laws.proofs.OpLemmas.{same_op-equal}
 use Rattle.im_laws.proofs.Tests.{below_or_from, true_false}
-use Rattle.im_script.specs.Places.{op_of}
+use Rattle.im_script.specs.Places.{action_op}
 use Rattle.im_serial.specs.Asked.{Wanted, wanted_of}
 use Rattle.im_serial.specs.Fitting.{FitsScript, base_for, bases_with, end_behind_base, fits_as, fits_from, keeps_as}
 use Rattle.im_serial.specs.Fitting.{keeps_base, keeps_op}
@@ -58,10 +58,10 @@ alloc_answered m who k kind n agrees kept is = by_entry k.entry refl
 
 -- what fits is of the block's operation
 op_kept : (w : Wanted) (bases : List ℕ) (base : Option ℕ) (k : Kept) (b : IsBlock w)
-    → keeps_as (op_of bases w.action) base (Some k) ≡ true → op.Alloc b.kind b.length ≡ k.op
+    → keeps_as (action_op bases w.action) base (Some k) ≡ true → op.Alloc b.kind b.length ≡ k.op
 op_kept w bases base k b e = same_op-equal (op.Alloc b.kind b.length) k.op
-    (ap (λ (o : Option Op). keeps_op o k.op) (sym (ap (op_of bases) b.action))
-    ∙ (and_both (keeps_op (op_of bases w.action) k.op) (keeps_base base k.entry) e).0)
+    (ap (λ (o : Option Op). keeps_op o k.op) (sym (ap (action_op bases) b.action))
+    ∙ (and_both (keeps_op (action_op bases w.action) k.op) (keeps_base base k.entry) e).0)
 
 fits_here : (m : Contents) (many : List ℕ) (e : ℕ) (o : Option Op) (base : Option ℕ) (who : Waiter) (k : Kept)
     → has_next many e ≡ true → who_next m many e ≡ who → kept_for m.windows who ≡ Some k
@@ -86,11 +86,11 @@ module _ (m : Contents) (parts : List Wanted) (agrees : WaitingAgrees m) where
       subst (λ (e : ℕ). next_had m e - left_of many e ≡ at + 0) (sym are.0.element) (omega arith) in
       let who : ◌≡◌ {A = Waiter} (who_next m many w.element) (record { element = 0; number = at + 0 }) =
       ap₂ (λ (e n : ℕ). record { element = e; number = n }) are.0.element number in
-      let one = (and_both (fits_as m many w.element (op_of bases w.action) base)
+      let one = (and_both (fits_as m many w.element (action_op bases w.action) base)
       (fits_from m (met many w.element) (bases_with bases base) (end_behind_base end (length_asked w.action) base)
       (blocks ++ parts)) fits).0 in
       alloc_answered m (record { element = 0; number = at + 0 }) k are.0.kind are.0.length agrees kept
-      (op_kept w bases base k are.0 (fits_here m many w.element (op_of bases w.action) base
+      (op_kept w bases base k are.0 (fits_here m many w.element (action_op bases w.action) base
       (record { element = 0; number = at + 0 }) k has who kept one))
   block_answered (w ∷ blocks) many bases end at are fits is (suc j) inside had k kept =
       let base = base_for end w in
@@ -99,7 +99,7 @@ module _ (m : Contents) (parts : List Wanted) (agrees : WaitingAgrees m) where
       let one : left_of (met many w.element) 0 + 1 ≡ left_of many 0 =
       subst (λ (x : ℕ). left_of (met many w.element) x + 1 ≡ left_of many x) are.0.element (met_here many w.element has)
       in
-      let rest = (and_both (fits_as m many w.element (op_of bases w.action) base)
+      let rest = (and_both (fits_as m many w.element (action_op bases w.action) base)
       (fits_from m (met many w.element) (bases_with bases base) (end_behind_base end (length_asked w.action) base)
       (blocks ++ parts)) fits).1 in
       let later : at + suc j ≡ (at + 1) + j = omega arith in

@@ -21,7 +21,7 @@ use Rattle.im_script.specs.declared.script.Heard.TheVariants.{Says, Glances}
 use Rattle.im_script.specs.declared.script.Said.{Said}
 use Rattle.im_script.specs.declared.script.Said.TheVariants.{Block, Asks}
 use Rattle.im_script.specs.declared.script.ScriptLine.{ScriptLine}
-use Rattle.im_script.specs.Places.{address_of, as_u32, op_of}
+use Rattle.im_script.specs.Places.{place_address, as_u32, action_op}
 use Rattle.im_script.specs.Script.{Draft, heard, lines_of}
 use Rattle.im_serial.specs.Asked.{Wanted, wanted_by}
 use Rattle.im_serial.specs.Had.{met_all, news}
@@ -74,29 +74,30 @@ named_longer bases more index offset a (Some base) is e =
     ap (option_and_then (λ (b : ℕ). as_u32 (b + offset))) (get_left bases more index base is) ∙ e
 named_longer bases more index offset a None is e = absurd (cc)
 
-pub address_longer : (bases more : List ℕ) (place : Place) (a : ℕ) → address_of bases place ≡ Some a
-    → address_of (bases ++ more) place ≡ Some a
+pub address_longer : (bases more : List ℕ) (place : Place) (a : ℕ) → place_address bases place ≡ Some a
+    → place_address (bases ++ more) place ≡ Some a
 address_longer bases more (Address b) a e = e
 address_longer bases more (Named index offset) a e =
     named_longer bases more index offset a (slice_get bases index) refl e
 
 mapped_longer : (f : ℕ → Op) (bases more : List ℕ) (place : Place) (o : Op) (found : Option ℕ)
-    → address_of bases place ≡ found → option_map f found ≡ Some o
-    → option_map f (address_of (bases ++ more) place) ≡ Some o
+    → place_address bases place ≡ found → option_map f found ≡ Some o
+    → option_map f (place_address (bases ++ more) place) ≡ Some o
 mapped_longer f bases more place o (Some a) is e = ap (option_map f) (address_longer bases more place a is) ∙ e
 mapped_longer f bases more place o None is e = absurd (cc)
 
-pub op_longer : (bases more : List ℕ) (action : Action) (o : Op) → op_of bases action ≡ Some o
-    → op_of (bases ++ more) action ≡ Some o
+pub op_longer : (bases more : List ℕ) (action : Action) (o : Op) → action_op bases action ≡ Some o
+    → action_op (bases ++ more) action ≡ Some o
 op_longer bases more (Alloc kind length) o e = e
-op_longer bases more (Release place) o e = mapped_longer op.Release bases more place o (address_of bases place) refl e
-op_longer bases more (Reset place) o e = mapped_longer op.Reset bases more place o (address_of bases place) refl e
-op_longer bases more (Fetch place) o e = mapped_longer op.Fetch bases more place o (address_of bases place) refl e
+op_longer bases more (Release place) o e =
+    mapped_longer op.Release bases more place o (place_address bases place) refl e
+op_longer bases more (Reset place) o e = mapped_longer op.Reset bases more place o (place_address bases place) refl e
+op_longer bases more (Fetch place) o e = mapped_longer op.Fetch bases more place o (place_address bases place) refl e
 op_longer bases more (Store place value) o e =
-    mapped_longer (λ a. op.Store a value) bases more place o (address_of bases place) refl e
-op_longer bases more (Take place) o e = mapped_longer op.Take bases more place o (address_of bases place) refl e
+    mapped_longer (λ a. op.Store a value) bases more place o (place_address bases place) refl e
+op_longer bases more (Take place) o e = mapped_longer op.Take bases more place o (place_address bases place) refl e
 op_longer bases more (Put place value) o e =
-    mapped_longer (λ a. op.Put a value) bases more place o (address_of bases place) refl e
+    mapped_longer (λ a. op.Put a value) bases more place o (place_address bases place) refl e
 
 -- ---- one order
 
@@ -152,10 +153,10 @@ added_none f orders none = record {
 
 -- a request, and a glance
 pub adds_request : (bases : List ℕ) (w : Wanted) (o : Op) (old new : List Order) → w.named ≡ false
-    → op_of bases w.action ≡ Some o
+    → action_op bases w.action ≡ Some o
     → HasAdded (λ k. if w.element == k then intent_kinds.Request o ∷ [] else []) old new → AddsRequest bases w old new
 adds_request bases w o old new part is it = λ more.
-    let there : op_of (bases ++ more) w.action ≡ Some o = op_longer bases more w.action o is in (
+    let there : action_op (bases ++ more) w.action ≡ Some o = op_longer bases more w.action o is in (
       subst IsSome (sym there) refl,
       added_as _ _ old new (λ k.
           ap (λ (b : Bool). if not b && (w.element == k) then request_asked (bases ++ more) w else []) part
@@ -164,11 +165,11 @@ adds_request bases w o old new part is it = λ more.
     )
 
 pub adds_glance : (bases : List ℕ) (glancer : ℕ) (place : Place) (a : ℕ) (old new : List Order)
-    → address_of bases place ≡ Some a
+    → place_address bases place ≡ Some a
     → HasAdded (λ k. if glancer == k then intent_kinds.Glance a ∷ [] else []) old new
     → AddsGlance bases glancer place old new
 adds_glance bases glancer place a old new is it = λ more.
-    let there : address_of (bases ++ more) place ≡ Some a = address_longer bases more place a is in (
+    let there : place_address (bases ++ more) place ≡ Some a = address_longer bases more place a is in (
       subst IsSome (sym there) refl,
       added_as _ _ old new (λ k. ap (λ (p : Option ℕ). if glancer == k
           then option_map_or (λ (b : ℕ). intent_kinds.Glance b ∷ []) p [] else []) there) it,

@@ -20,7 +20,7 @@ use Rattle.im_disk.proofs.SinceLemmas.{left_now, leaves_then, leaves_now}
 use Rattle.im_engine.specs.State.{EngineState, MeansState}
 use Rattle.im_engine.specs.Run.{MeansAll, MeansAfter, MeansBeginning, MeansAllOrInDoubt, MeansWithOrWithout}
 use Rattle.im_engine.proofs.Keeping.{accept_both}
-use Rattle.im_controller.specs.Kept.{MeansSome, begun_in, accepted_in}
+use Rattle.im_controller.specs.Kept.{MeansSome, begun_by, accepted_in}
 use Rattle.im_controller.proofs.KeptLemmas.{accepted-after, kept_start}
 use Rattle.im_text.specs.declared.lines.Lines.{Lines}
 use Rattle.im_text.specs.Printing.{Begins, IsLast, Prints, PrintsMore, replies}
@@ -140,7 +140,7 @@ module _ {D : Type 0} (now : D → Moment) (past : D → List Moment) (failures 
   -- and then by the elements' servers
   module _ (start mid engine : EngineState D) (setup : List Command) (it : HasPut now past failures start mid setup)
       (alive : mid.failed ≡ false) (plan : Option (List Request)) (trace : List Line)
-      (on : ServedOn now past failures (begun_in now past failures mid) mid.memory plan trace engine) where
+      (on : ServedOn now past failures (begun_by now past failures mid) mid.memory plan trace engine) where
     abbrev served : List Command
     served = accepted_in mid.memory trace
 
@@ -200,10 +200,10 @@ module _ {D : Type 0} (now : D → Moment) (past : D → List Moment) (failures 
 -- no servers began
 pub none_served : {D : Type 0} (disk : Ghosts D) (begun engine : EngineState D) (trace : List Line) → trace ≡ []
     → engine ≡ begun → engine.failed ≡ false → LeavesNow (disk.now engine.disk) (MeansState engine)
-    → ServedOn disk.now disk.past disk.failures (begun_in disk.now disk.past disk.failures begun) begun.memory None
+    → ServedOn disk.now disk.past disk.failures (begun_by disk.now disk.past disk.failures begun) begun.memory None
     trace engine
 none_served {D} disk begun engine trace none same alive means =
-    let here = begun_in disk.now disk.past disk.failures engine in
+    let here = begun_by disk.now disk.past disk.failures engine in
     let all : ServedOn disk.now disk.past disk.failures here engine.memory None [] engine = record {
       legal = tt;
       ends = refl;
@@ -211,7 +211,7 @@ none_served {D} disk begun engine trace none same alive means =
           (λ many time no. no)).kept;
     } in
     subst (λ (b : EngineState D). ServedOn disk.now disk.past disk.failures
-    (begun_in disk.now disk.past disk.failures b) b.memory None trace engine) same
+    (begun_by disk.now disk.past disk.failures b) b.memory None trace engine) same
     (subst (λ (t : List Line). ServedOn disk.now disk.past disk.failures here engine.memory None t engine) (sym none)
     all)
 

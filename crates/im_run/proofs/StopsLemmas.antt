@@ -17,7 +17,7 @@ use Rattle.im_types.specs.Meaning.{accept_each}
 use Rattle.im_types.specs.Memory.{IsMemory}
 use Rattle.im_types.specs.Run.{accepted, after}
 use Rattle.im_types.specs.Step.{is_accepted, step}
-use Rattle.im_laws.specs.Traces.{command_in, commands_of}
+use Rattle.im_laws.specs.Traces.{commands_of_call, commands_of}
 use Rattle.im_laws.proofs.Tests.{below_or_from}
 use Rattle.im_plans.specs.Runs.{IsPlannedCall, IsPlannedRun}
 use Rattle.im_controller.specs.Kept.{accepted_in}
@@ -112,7 +112,7 @@ accepted_on plan (line ∷ trace) m run = by_call line.call run.0 (λ n. accepte
   where
     by_call : (call : Call) → IsPlannedCall plan call
         → ((n : Contents) → AreOnPlan (Some plan) (accepted_in n trace))
-        → AreOnPlan (Some plan) (accepted m (command_in call ++ commands_of trace))
+        → AreOnPlan (Some plan) (accepted m (commands_of_call call ++ commands_of trace))
     by_call (Commands c) is rest = if_on plan (is_accepted m c) c (accepted_in (step m c).contents trace) is
         (rest (step m c).contents)
     by_call (Collect element number) is rest = rest m

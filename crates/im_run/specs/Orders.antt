@@ -9,7 +9,7 @@ use Rattle.im_types.specs.Window.{next_number}
 use Rattle.im_script.specs.declared.places.Place.{Place}
 use Rattle.im_script.specs.declared.script.Heard.{Heard}
 use Rattle.im_script.specs.declared.script.Heard.TheVariants.{Says, Glances}
-use Rattle.im_script.specs.Places.{address_of, op_of}
+use Rattle.im_script.specs.Places.{place_address, action_op}
 use Rattle.im_script.specs.Script.{Draft, heard, lines_of, new_draft}
 use Rattle.im_serial.specs.declared.past.Past.{Past}
 use Rattle.im_serial.specs.Asked.{Leads, Wanted, bases_after, said_by, wanted_by, wanted_of}
@@ -56,7 +56,7 @@ first_asked once m element = if once
 
 -- what a request of a part asks for, if the names stand for these bases
 abbrev pub request_asked : List ℕ → Wanted → List Intent
-request_asked bases w = option_map_or (λ op. Request op ∷ []) (op_of bases w.action) []
+request_asked bases w = option_map_or (λ op. Request op ∷ []) (action_op bases w.action) []
 
 -- the same, of this element; the blocks of the setup are no part's
 abbrev pub asked_in_part : List ℕ → ℕ → Wanted → List Intent
@@ -70,7 +70,7 @@ all_asked_in_part bases element (w ∷ wanted) = asked_in_part bases element w +
 -- what a glance of an element asks of this one
 abbrev pub glance_of_part : List ℕ → ℕ → ℕ → Place → List Intent
 glance_of_part bases element glancer place =
-    if glancer == element then option_map_or (λ a. Glance a ∷ []) (address_of bases place) [] else []
+    if glancer == element then option_map_or (λ a. Glance a ∷ []) (place_address bases place) [] else []
 
 -- what a line asks of this element: a request that isn't settled, or a glance
 abbrev pub line_asks : List ℕ → List ℕ → ℕ → Heard → List Intent
@@ -89,12 +89,12 @@ part_of bases had element (h ∷ lines) =
 -- each of these requests has an operation
 abbrev pub HaveOps : List ℕ → List Wanted → Type 0
 HaveOps bases [] = Unit {0}
-HaveOps bases (w ∷ wanted) = IsSome (op_of bases w.action) × HaveOps bases wanted
+HaveOps bases (w ∷ wanted) = IsSome (action_op bases w.action) × HaveOps bases wanted
 
 -- so has what a line asks for, if it isn't settled
 abbrev pub IsPlaced : List ℕ → List ℕ → Heard → Type 0
 IsPlaced bases had (Says said) = HaveOps bases (news had (wanted_by said))
-IsPlaced bases had (Glances glancer place) = IsSome (address_of bases place)
+IsPlaced bases had (Glances glancer place) = IsSome (place_address bases place)
 
 -- the same of each of these lines
 abbrev pub ArePlaced : List ℕ → List ℕ → List Heard → Type 0
@@ -218,12 +218,12 @@ pub record HasAdded (added : ℕ → List Intent) (old new : List Order) : Type 
 
 -- A request of a part was added to its element's order, with its operation; more names change nothing of that.
 abbrev pub AddsRequest : List ℕ → Wanted → List Order → List Order → Type 0
-AddsRequest bases w old new = (more : List ℕ) → IsSome (op_of (bases ++ more) w.action)
+AddsRequest bases w old new = (more : List ℕ) → IsSome (action_op (bases ++ more) w.action)
     × HasAdded (λ element. asked_in_part (bases ++ more) element w) old new
 
 -- the same of a glance
 abbrev pub AddsGlance : List ℕ → ℕ → Place → List Order → List Order → Type 0
-AddsGlance bases glancer place old new = (more : List ℕ) → IsSome (address_of (bases ++ more) place)
+AddsGlance bases glancer place old new = (more : List ℕ) → IsSome (place_address (bases ++ more) place)
     × HasAdded (λ element. glance_of_part (bases ++ more) element glancer place) old new
 
 -- what a line asks for was added to the orders; it may have given names

@@ -1,29 +1,6 @@
 -- What a run of element servers prints, and what it leaves on a disk. (Own.)
-use Rattle.std.specs.Prelude.{
-  ◌≡◌,
-  ◌⊎◌,
-  ℕ,
-  Bool,
-  ◌+◌,
-  ◌<◌,
-  ◌≤◌,
-  List,
-  [],
-  ◌∷◌,
-  ◌++◌,
-  codes,
-  decimal,
-  false,
-  true,
-  length,
-  Option,
-  None,
-  Some,
-  Result,
-  Ok,
-  Err,
-  slice_get,
-}
+use Rattle.std.specs.Prelude.{◌≡◌, ◌⊎◌, ℕ, Bool, ◌+◌, ◌<◌, ◌≤◌, List, [], ◌∷◌, ◌++◌, codes, decimal, false, true}
+use Rattle.std.specs.Prelude.{length, Option, None, Some, Result, Ok, Err, slice_get}
 use Rattle.std.specs.Io.KnownBytes.{Appends}
 use Rattle.im_damage.specs.declared.damage.Damage.TheVariants.{Unknown}
 use Rattle.im_types.specs.declared.operations.Entry.{Entry}
@@ -42,7 +19,7 @@ use Rattle.im_disk.specs.Moment.{Moment, Left, Rises}
 use Rattle.im_disk.specs.Since.{Leaves, LeavesNow}
 use Rattle.im_engine.specs.State.{EngineState, MeansState}
 use Rattle.im_engine.specs.Run.{MeansBeginning, MeansWithOrWithout}
-use Rattle.im_controller.specs.Kept.{Begun, HasKept, accepted_in, begun_in}
+use Rattle.im_controller.specs.Kept.{Begun, HasKept, accepted_in, begun_by}
 use Rattle.im_serial.specs.Asked.{Wanted}
 use Rattle.im_serial.specs.Serving.{MeansAtLeast, NotOpened}
 use Rattle.im_text.specs.declared.lines.Lines.{Lines}
@@ -135,7 +112,7 @@ pub record ServedOn {D : Type 0} (now : D → Moment) (past : D → List Moment)
 pub record ServersEnded {D : Type 0} (disk : Ghosts D) (planned : Bool) (whole : Option (List Ask)) (orders : List Ask)
     (begun engine : EngineState D) (trace : List Line) (did : List Did) (none : Type 0) : Type 0 where
   pub plan : Option (List Requests)
-  pub served : ServedOn disk.now disk.past disk.failures (begun_in disk.now disk.past disk.failures begun) begun.memory
+  pub served : ServedOn disk.now disk.past disk.failures (begun_by disk.now disk.past disk.failures begun) begun.memory
       plan trace engine
   pub told : AreAllTold begun.memory trace none orders did
   pub all_served : none → HasServedWhole engine.memory.windows whole

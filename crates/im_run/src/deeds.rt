@@ -4,7 +4,7 @@ ghost use Rattle.im_run.specs.declared.served.Did.TheVariants.{Sent};
 ghost use Rattle.im_run.specs.Doing.{glances_later, glances_told, told_among};
 
 use crate::served::Did;
-use im_serving::{Glanced, Served};
+use im_serving::{Glanced, ServedNumbers};
 use im_text::Waited;
 use im_types::Entry;
 use std::alloc::{AllocError, Global};
@@ -56,7 +56,7 @@ fn add_request(
 pub fn told_at(
     alloc: Global,
     element: u16,
-    served: &Served,
+    served: &ServedNumbers,
     made: &[Glanced],
 ) -> Result<Vec<Did>, AllocError>
     ensures { IfOk result (λ told. told.items ≡ told_among element served.now.first 0 served.now.entries.items

@@ -6,7 +6,7 @@ ghost use Rattle.im_run.specs.Orders.{ask_of};
 use crate::sheet::Order;
 use im_controller::{Controller, Name};
 use im_disk::Disk;
-use im_serving::{Glances, Part, Served};
+use im_serving::{Glances, Part, ServedNumbers};
 use im_types::Refusal;
 use std::alloc::Global;
 use std::sync::Wait;
@@ -65,7 +65,7 @@ fn make_part<D: Disk, K: Name, R: Wait>(
     };
     Ok(Part {
         port,
-        served: Served {
+        served: ServedNumbers {
             element,
             first: next,
             base,

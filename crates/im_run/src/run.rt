@@ -12,7 +12,7 @@ use crate::closing::{Ending, close};
 use crate::context::RunContext;
 use crate::opening::open_server;
 use crate::orders::read_orders;
-use crate::served::{Outcome, serve_orders};
+use crate::served::{ServedRun, serve_orders};
 use crate::sheet::{Commission, RunMode, Workload};
 use crate::tracing::Trace;
 use crate::unserved::with_whole;
@@ -57,7 +57,7 @@ fn serve_opening<D: Disk + Drop + Send, G: Gate + Sync, V: Watcher + Sync, R: Ho
     ensures recorded { result.1.recorded ≡ opening.book.recorded }
 {
     let Workload { orders, whole, .. } = work;
-    let Outcome {
+    let ServedRun {
         engine,
         did,
         trace,

@@ -32,7 +32,7 @@ pub enum Did {
 
 /// What the servers did.
 #[derive(Drop)]
-pub(crate) struct Outcome<D: Disk> {
+pub(crate) struct ServedRun<D: Disk> {
     /// The engine.
     pub engine: Engine<D>,
     /// What was done, by elements, and for each element in order.
@@ -45,20 +45,20 @@ pub(crate) struct Outcome<D: Disk> {
 
 // What is noted while the elements' ports come back.
 #[derive(Drop)]
-struct Notes<K: Name> {
+struct PortNotes<K: Name> {
     alloc: Global,
     ports: Vec<Port<K>>,
     did: Vec<Did>,
     refused: Option<(u16, Refusal)>,
 }
 
-impl<K: Name> Notes<K> {
+impl<K: Name> PortNotes<K> {
     // Starts with nothing noted, but for a refusal.
-    fn new(alloc: Global, refused: Option<(u16, Refusal)>) -> Notes<K>
+    fn new(alloc: Global, refused: Option<(u16, Refusal)>) -> PortNotes<K>
         ensures did { result.did.items ≡ [] }
         ensures refused { result.refused ≡ refused }
     {
-        Notes {
+        PortNotes {
             alloc,
             ports: Vec::new(alloc),
             did: Vec::new(alloc),
@@ -144,7 +144,7 @@ fn next_element(elements: &[u16]) -> (u16, &[u16])
 }
 
 // Notes what became of each of these elements.
-fn note_ends<K: Name>(notes: Notes<K>, elements: &[u16], all: Vec<Done<K>>) -> Notes<K>
+fn note_ends<K: Name>(notes: PortNotes<K>, elements: &[u16], all: Vec<Done<K>>) -> PortNotes<K>
     requires none { notes.did.items ≡ [] }
     requires elements { elements_at_end all.items ≡ elements.now }
     ensures none { result.refused ≡ None → notes.refused ≡ None }
@@ -162,7 +162,7 @@ fn note_ends<K: Name>(notes: Notes<K>, elements: &[u16], all: Vec<Done<K>>) -> N
 }
 
 // Notes that nothing was served, for want of memory.
-fn note_none<K: Name>(notes: Notes<K>) -> Notes<K>
+fn note_none<K: Name>(notes: PortNotes<K>) -> PortNotes<K>
     requires { notes.did.items ≡ [] }
     ensures none { result.refused ≡ None → ⊥ }
     ensures did { result.did.items ≡ [] }
@@ -178,14 +178,14 @@ fn note_all<K: Name>(
     elements: Vec<u16>,
     served: Result<Vec<Done<K>>, AllocError>,
     unmade: Option<(u16, Refusal)>,
-) -> Notes<K>
+) -> PortNotes<K>
     requires { IfOk served (λ all. elements_at_end all.items ≡ elements.items) }
     ensures some { IfOk served (λ all. (result.refused ≡ None → unmade ≡ None)
         × ((trace : List Line) → HaveSeen trace result.ports.items
         → AreAllNoted trace (result.refused ≡ None) all.items result.did.items)) }
     ensures none { OnErr served ((result.refused ≡ None → ⊥) × (result.did.items ≡ [])) }
 {
-    let notes = Notes::new(alloc, unmade);
+    let notes = PortNotes::new(alloc, unmade);
     match served {
         Ok(all) => note_ends(notes, elements.as_slice(), all),
         Err(_) => note_none(notes),
@@ -199,7 +199,11 @@ fn serve_parts<
     G: Gate + Sync,
     V: Watcher + Sync,
     R: Host,
->(context: &RunContext<'_, G, V, R>, controller: &Controller<D, K>, orders: Vec<Order>) -> Notes<K>
+>(
+    context: &RunContext<'_, G, V, R>,
+    controller: &Controller<D, K>,
+    orders: Vec<Order>,
+) -> PortNotes<K>
     ensures told { (trace : List Line) → HaveSeen trace result.ports.items → AreAllTold K.origin.memory trace
         (result.refused ≡ None) (map ask_of orders.items) result.did.items }
 {
@@ -230,7 +234,7 @@ pub(crate) fn serve_orders<
     G: Gate + Sync,
     V: Watcher + Sync,
     R: Host,
->(context: &RunContext<'_, G, V, R>, opening: Opening<D>, orders: Vec<Order>) -> Outcome<D>
+>(context: &RunContext<'_, G, V, R>, opening: Opening<D>, orders: Vec<Order>) -> ServedRun<D>
     requires origin { IsOriginOf D.Disk opening K.origin }
     ensures legal { IsLegal K.origin.memory result.trace.items }
     ensures end { end_of K.origin.memory result.trace.items ≡ result.engine.memory }
@@ -244,14 +248,14 @@ pub(crate) fn serve_orders<
         result.did.items }
 {
     let controller = opening.named::<K>();
-    let Notes {
+    let PortNotes {
         ports,
         did,
         refused,
         ..
     } = serve_parts(context, &controller, orders);
     let Finished { engine, trace, .. } = finish(context.rt, controller, ports);
-    Outcome {
+    ServedRun {
         engine,
         did,
         trace: Calls::of(trace),

@@ -49,8 +49,8 @@ number_up_to most text =
 -- ---- kinds and names
 
 -- the kind that a word names
-abbrev pub kind_of : List ℕ → Option Kind
-kind_of word = if bytes_eq word (codes "i") then Some I else (if bytes_eq word (codes "m") then Some M else None)
+abbrev pub word_kind : List ℕ → Option Kind
+word_kind word = if bytes_eq word (codes "i") then Some I else (if bytes_eq word (codes "m") then Some M else None)
 
 -- a to z, or 0 to 9
 abbrev pub is_name_byte : ℕ → Bool
@@ -75,5 +75,5 @@ place_past names word =
     (position (bytes_eq (before_first (λ byte. byte == 43) word)) names)
 
 -- a place: an address, or one of the names with its offset
-abbrev pub place_of : List (List ℕ) → List ℕ → Option Place
-place_of names word = option_or (option_map Address (number_up_to 4294967295 word)) (place_past names word)
+abbrev pub word_place : List (List ℕ) → List ℕ → Option Place
+word_place names word = option_or (option_map Address (number_up_to 4294967295 word)) (place_past names word)

@@ -8,13 +8,13 @@ use Rattle.im_script.specs.declared.places.Place.{Place}
 use Rattle.im_script.specs.declared.places.Action.{Action}
 use Rattle.im_script.specs.declared.places.Action.TheVariants.{Alloc, Release, Reset, Fetch, Store, Take, Put}
 use Rattle.im_script.specs.declared.script.Allocation.{Allocation}
-use Rattle.im_script.specs.Grammar.{number_up_to, kind_of, is_name, place_of}
+use Rattle.im_script.specs.Grammar.{number_up_to, word_kind, is_name, word_place}
 
 -- KIND LEN
 abbrev pub block_of : List ℕ → List ℕ → Option Allocation
 block_of kind len =
     option_and_then (λ k. option_map (λ n. record { kind = k; length = n }) (number_up_to 4294967295 len))
-    (kind_of kind)
+    (word_kind kind)
 
 -- what a word asks for at a place
 abbrev pub plain_action : List ℕ → Place → Option Action
@@ -33,17 +33,17 @@ abbrev pub action_past : List (List ℕ) → List ℕ → List ℕ → List ℕ 
 action_past names word first second =
     if bytes_eq word (codes "alloc") then option_map (λ b. Alloc b.kind b.length) (block_of first second)
     else option_and_then (λ place. option_and_then (valued_action word place)
-    (number_up_to 18446744073709551615 second)) (place_of names first)
+    (number_up_to 18446744073709551615 second)) (word_place names first)
 
 -- a line in a part; the setup gave these names
 abbrev pub action_of : List (List ℕ) → List (List ℕ) → Option Action
-action_of names (word ∷ place ∷ []) = option_and_then (plain_action word) (place_of names place)
+action_of names (word ∷ place ∷ []) = option_and_then (plain_action word) (word_place names place)
 action_of names (word ∷ first ∷ second ∷ []) = action_past names word first second
 action_of names _ = None
 
 -- glance PLACE, a line in a part that may have glances: the place
 abbrev pub glanced : List (List ℕ) → List (List ℕ) → Option Place
-glanced names (word ∷ place ∷ []) = if bytes_eq word (codes "glance") then place_of names place else None
+glanced names (word ∷ place ∷ []) = if bytes_eq word (codes "glance") then word_place names place else None
 glanced names _ = None
 
 -- alloc NAME KIND LEN, a line in the setup: the name, which no earlier line gave, and the block

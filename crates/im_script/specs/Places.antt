@@ -13,16 +13,16 @@ abbrev pub as_u32 : ℕ → Option ℕ
 as_u32 n = if nat_lt n (2 ^ 32) then Some n else None
 
 -- the address of a place, if the setup's allocations have these bases
-abbrev pub address_of : List ℕ → Place → Option ℕ
-address_of bases (Address a) = Some a
-address_of bases (Named index offset) = option_and_then (λ base. as_u32 (base + offset)) (slice_get bases index)
+abbrev pub place_address : List ℕ → Place → Option ℕ
+place_address bases (Address a) = Some a
+place_address bases (Named index offset) = option_and_then (λ base. as_u32 (base + offset)) (slice_get bases index)
 
 -- the operation of an action, if they have these bases
-abbrev pub op_of : List ℕ → Action → Option Op
-op_of bases (Alloc kind length) = Some (op.Alloc kind length)
-op_of bases (Release place) = option_map op.Release (address_of bases place)
-op_of bases (Reset place) = option_map op.Reset (address_of bases place)
-op_of bases (Fetch place) = option_map op.Fetch (address_of bases place)
-op_of bases (Store place value) = option_map (λ a. op.Store a value) (address_of bases place)
-op_of bases (Take place) = option_map op.Take (address_of bases place)
-op_of bases (Put place value) = option_map (λ a. op.Put a value) (address_of bases place)
+abbrev pub action_op : List ℕ → Action → Option Op
+action_op bases (Alloc kind length) = Some (op.Alloc kind length)
+action_op bases (Release place) = option_map op.Release (place_address bases place)
+action_op bases (Reset place) = option_map op.Reset (place_address bases place)
+action_op bases (Fetch place) = option_map op.Fetch (place_address bases place)
+action_op bases (Store place value) = option_map (λ a. op.Store a value) (place_address bases place)
+action_op bases (Take place) = option_map op.Take (place_address bases place)
+action_op bases (Put place value) = option_map (λ a. op.Put a value) (place_address bases place)

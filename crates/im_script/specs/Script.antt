@@ -116,15 +116,15 @@ script_of glances text = if is_few text then lines_say glances new_draft (lines_
 -- ---- what a reading function returns
 
 -- success: the line says this, and the next draft follows; BadScript: the line isn't in the grammar; or NoMemory
-abbrev pub Follows : Result Said Refusal → Option (Draft × Said) → Draft → Type 0
-Follows (Ok said) next new = next ≡ Some (new, said)
-Follows (Err BadScript) next new = next ≡ None
-Follows (Err NoMemory) next new = ⊤
-Follows (Err _) next new = ⊥
+abbrev pub SaysAs : Result Said Refusal → Option (Draft × Said) → Draft → Type 0
+SaysAs (Ok said) next new = next ≡ Some (new, said)
+SaysAs (Err BadScript) next new = next ≡ None
+SaysAs (Err NoMemory) next new = ⊤
+SaysAs (Err _) next new = ⊥
 
 -- the same for a script that may have glances
-abbrev pub Hears : Result Heard Refusal → Option (Draft × Heard) → Draft → Type 0
-Hears (Ok said) next new = next ≡ Some (new, said)
-Hears (Err BadScript) next new = next ≡ None
-Hears (Err NoMemory) next new = ⊤
-Hears (Err _) next new = ⊥
+abbrev pub HearsAs : Result Heard Refusal → Option (Draft × Heard) → Draft → Type 0
+HearsAs (Ok said) next new = next ≡ Some (new, said)
+HearsAs (Err BadScript) next new = next ≡ None
+HearsAs (Err NoMemory) next new = ⊤
+HearsAs (Err _) next new = ⊥

@@ -5,9 +5,9 @@ ghost use Rattle.std.specs.List.{before_first, list_all, list_any, position, pos
 ghost use Rattle.std.specs.Char.{is_ascii};
 ghost use Rattle.std.specs.Option.{option_and_then, option_map, option_map_or};
 ghost use Rattle.std.specs.Str.{bytes_eq};
-ghost use Rattle.im_script.specs.Grammar.{digit_after, is_line, is_name, is_name_byte, kind_of, number_up_to};
+ghost use Rattle.im_script.specs.Grammar.{digit_after, is_line, is_name, is_name_byte, word_kind, number_up_to};
 ghost use Rattle.im_script.specs.Grammar.{is_short, offset_of};
-ghost use Rattle.im_script.specs.Grammar.{place_of, place_past, texts, words_of};
+ghost use Rattle.im_script.specs.Grammar.{word_place, place_past, texts, words_of};
 ghost use Rattle.im_script.specs.Words.{words_past};
 
 use crate::places::Place;
@@ -134,7 +134,7 @@ pub fn is_word(word: &[u8], this: &[u8]) -> bool
 
 /// Returns the kind that a word names.
 pub fn read_kind(word: &[u8]) -> Option<Kind>
-    ensures { result ≡ kind_of word.now }
+    ensures { result ≡ word_kind word.now }
 {
     if is_word(word, b"i") {
         Some(Kind::I)
@@ -256,7 +256,7 @@ pub fn has_name(names: &IndexSet<&[u8]>, word: &[u8]) -> bool {
 
 /// Reads a place: an address, or one of the names with its offset.
 pub fn read_place(names: &IndexSet<&[u8]>, word: &[u8]) -> Option<Place>
-    ensures { result ≡ place_of (texts names.now.keys) word.now }
+    ensures { result ≡ word_place (texts names.now.keys) word.now }
 {
     match read_u32(word) {
         Some(address) => Some(Place::Address(address)),

@@ -1,6 +1,6 @@
 //! Where the requests of a script act.
 ghost use Rattle.std.specs.Prelude.{◌≡◌};
-ghost use Rattle.im_script.specs.Places.{address_of, op_of};
+ghost use Rattle.im_script.specs.Places.{place_address, action_op};
 
 use im_types::{Kind, Op};
 
@@ -22,7 +22,7 @@ impl Place {
     /// Returns the address; `bases` has the base of each setup allocation, in order. Returns `None` if `bases` has none
     /// for this name, or if the sum doesn't fit.
     pub fn address(&self, bases: &[u32]) -> Option<u32>
-        ensures { result ≡ address_of bases.now self.now }
+        ensures { result ≡ place_address bases.now self.now }
     {
         match *self {
             Place::Address(address) => Some(address),
@@ -54,7 +54,7 @@ impl Action {
     /// Returns the operation; `bases` has the base of each setup allocation, in order. Returns `None` if its place has
     /// no address there.
     pub fn op(&self, bases: &[u32]) -> Option<Op>
-        ensures { result ≡ op_of bases.now self.now }
+        ensures { result ≡ action_op bases.now self.now }
     {
         Some(match *self {
             Action::Alloc(kind, length) => Op::Alloc(kind, length),

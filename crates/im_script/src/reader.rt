@@ -27,7 +27,7 @@ impl<'a> Reader<'a> {
     ghost use Rattle.im_script.specs.Grammar.{texts};
     ghost use Rattle.im_script.specs.declared.script.Heard.TheVariants.{Says};
     ghost use Rattle.std.specs.Option.{option_map};
-    ghost use Rattle.im_script.specs.Script.{Follows, Hears, requested, begun_part, begun_setup, line_says, draft_of};
+    ghost use Rattle.im_script.specs.Script.{SaysAs, HearsAs, requested, begun_part, begun_setup, line_says, draft_of};
     ghost use Rattle.im_script.specs.Script.{glance_at, heard, heard_in, line_after, named, new_draft, words_after};
 
     /// Makes a reader that has read nothing.
@@ -42,7 +42,7 @@ impl<'a> Reader<'a> {
 
     /// Reads the first line that counts, if no part begins there.
     fn begin_setup(&mut self, words: &[&'a [u8]]) -> Result<Said, Refusal>
-        ensures { Follows result (begun_setup (draft_of self.old) (texts words.now)) (draft_of self.new) }
+        ensures { SaysAs result (begun_setup (draft_of self.old) (texts words.now)) (draft_of self.new) }
     {
         if !is_setup(words) {
             return Err(Refusal::BadScript);
@@ -53,7 +53,7 @@ impl<'a> Reader<'a> {
 
     /// Reads a line that begins the part of the element with this number.
     fn begin_part(&mut self, number: &[u8]) -> Result<Said, Refusal>
-        ensures { Follows result (begun_part (draft_of self.old) number.now) (draft_of self.new) }
+        ensures { SaysAs result (begun_part (draft_of self.old) number.now) (draft_of self.new) }
     {
         let Some(element) = read_number(number, LAST_ELEMENT) else {
             return Err(Refusal::BadScript);
@@ -66,7 +66,7 @@ impl<'a> Reader<'a> {
     /// Reads a line in the setup.
     #[tactic(auto, using(crate::proofs::PlaceLemmas::texts_insert))]
     fn name_block(&mut self, words: &[&'a [u8]]) -> Result<Said, Refusal>
-        ensures { Follows result (named (draft_of self.old) (texts words.now)) (draft_of self.new) }
+        ensures { SaysAs result (named (draft_of self.old) (texts words.now)) (draft_of self.new) }
     {
         let Some((name, block)) = read_named_block(&self.names, words) else {
             return Err(Refusal::BadScript);
@@ -77,7 +77,7 @@ impl<'a> Reader<'a> {
 
     /// Reads a line in a part.
     fn ask(&mut self, element: u16, words: &[&'a [u8]]) -> Result<Said, Refusal>
-        ensures { Follows result (requested (draft_of self.old) element (texts words.now)) (draft_of self.new) }
+        ensures { SaysAs result (requested (draft_of self.old) element (texts words.now)) (draft_of self.new) }
     {
         match read_action(&self.names, words) {
             Some(action) => Ok(Said::Asks(ScriptLine { element, action })),
@@ -87,7 +87,7 @@ impl<'a> Reader<'a> {
 
     /// Reads a line that counts, from its words.
     fn read_words(&mut self, words: &[&'a [u8]]) -> Result<Said, Refusal>
-        ensures { Follows result (line_after (draft_of self.old) (texts words.now)) (draft_of self.new) }
+        ensures { SaysAs result (line_after (draft_of self.old) (texts words.now)) (draft_of self.new) }
     {
         if let Some(number) = read_part(words) {
             return self.begin_part(number);
@@ -101,7 +101,7 @@ impl<'a> Reader<'a> {
 
     /// Reads a line from its words. An empty line and a remark say nothing.
     fn take_words(&mut self, words: &[&'a [u8]]) -> Result<Said, Refusal>
-        ensures { Follows result (words_after (draft_of self.old) (texts words.now)) (draft_of self.new) }
+        ensures { SaysAs result (words_after (draft_of self.old) (texts words.now)) (draft_of self.new) }
     {
         if words.is_empty() || words[0].first() == Some(&b'#') {
             return Ok(Said::Nothing);
@@ -111,7 +111,7 @@ impl<'a> Reader<'a> {
 
     /// Reads a line.
     fn read_line(&mut self, line: &'a [u8]) -> Result<Said, Refusal>
-        ensures { Follows result (line_says (draft_of self.old) line.entry.now) (draft_of self.new) }
+        ensures { SaysAs result (line_says (draft_of self.old) line.entry.now) (draft_of self.new) }
     {
         if !is_short(line) {
             return Err(Refusal::BadScript);
@@ -185,7 +185,7 @@ impl<'a> Reader<'a> {
 
     /// Reads a line of a script without glances.
     fn hear_said(&mut self, line: &'a [u8]) -> Result<Heard, Refusal>
-        ensures { Hears result (option_map (λ r. (r.0, Says r.1)) (line_says (draft_of self.old) line.entry.now))
+        ensures { HearsAs result (option_map (λ r. (r.0, Says r.1)) (line_says (draft_of self.old) line.entry.now))
             (draft_of self.new) }
     {
         match self.read_line(line) {
@@ -196,7 +196,7 @@ impl<'a> Reader<'a> {
 
     /// Reads a line from its words; it may be a glance.
     fn hear_words(&mut self, words: &[&'a [u8]]) -> Result<Heard, Refusal>
-        ensures { Hears result (heard_in (draft_of self.old) (texts words.now)) (draft_of self.new) }
+        ensures { HearsAs result (heard_in (draft_of self.old) (texts words.now)) (draft_of self.new) }
     {
         if let Some(glance) = self.glance(words) {
             return Ok(glance);
@@ -209,7 +209,7 @@ impl<'a> Reader<'a> {
 
     /// Reads a line in a script that may have glances.
     fn hear_any(&mut self, line: &'a [u8]) -> Result<Heard, Refusal>
-        ensures { Hears result (heard true (draft_of self.old) line.entry.now) (draft_of self.new) }
+        ensures { HearsAs result (heard true (draft_of self.old) line.entry.now) (draft_of self.new) }
     {
         if !is_short(line) {
             return Err(Refusal::BadScript);
@@ -223,7 +223,7 @@ impl<'a> Reader<'a> {
 
     /// Reads a line. `glances` says whether the script may have glances.
     fn hear_line(&mut self, line: &'a [u8], glances: bool) -> Result<Heard, Refusal>
-        ensures { Hears result (heard glances (draft_of self.old) line.entry.now) (draft_of self.new) }
+        ensures { HearsAs result (heard glances (draft_of self.old) line.entry.now) (draft_of self.new) }
     {
         if glances {
             self.hear_any(line)

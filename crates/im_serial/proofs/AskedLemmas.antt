@@ -13,7 +13,7 @@ use Rattle.im_types.specs.Step.{step}
 use Rattle.im_types.specs.Run.{after}
 use Rattle.im_laws.proofs.RunLemmas.{after-append}
 use Rattle.im_script.specs.declared.script.Said.{Said}
-use Rattle.im_script.specs.Places.{op_of}
+use Rattle.im_script.specs.Places.{action_op}
 use Rattle.im_script.specs.Script.{Draft}
 use Rattle.im_text.proofs.WindowLemmas.{bounds_found}
 use Rattle.im_serial.specs.Asked.{Course, HasNamed, HasReached, Leads, LeadsIf, NamesIf, Standing, Wanted}
@@ -29,7 +29,8 @@ number_is found base next is =
     ap (option_map next_number) it.found_is ∙ ap Some (sym it.next_is)
 
 -- a request with its element's next number is the one that its line asks for
-pub request_is : (m : Contents) (bases : List ℕ) (w : Wanted) (r : Request) (base : ℕ) → w.element ≡ r.element → op_of
+pub request_is : (m : Contents) (bases : List ℕ) (w : Wanted) (r : Request) (base : ℕ) → w.element ≡ r.element
+    → action_op
     bases w.action ≡ Some r.op → bounds m.windows r.element ≡ Ok (base, r.number) → request_in m bases w ≡ Some r
 request_is m bases w r base element op found =
     ap (option_and_then (λ (number : ℕ). option_map (λ (op : Op). record {
@@ -37,7 +38,7 @@ request_is m bases w r base element op found =
       number = number;
       op =
           op;
-    }) (op_of bases w.action)))
+    }) (action_op bases w.action)))
     (ap (number_next m) element ∙ number_is (slice_get m.windows r.element) base r.number found)
     ∙ ap (option_map (λ (op : Op). record { element = w.element; number = r.number; op = op })) op
     ∙ ap (λ (e : ℕ). Some (record { element = e; number = r.number; op = r.op })) element

@@ -40,7 +40,7 @@ use Rattle.im_laws.proofs.StepLemmas.{judge-fresh}
 use Rattle.im_laws.proofs.Tests.{some_none, some_same}
 use Rattle.im_laws.proofs.WindowLemmas.{kept_for-note}
 use Rattle.im_script.specs.declared.places.Action.{Action}
-use Rattle.im_script.specs.Places.{op_of}
+use Rattle.im_script.specs.Places.{action_op}
 use Rattle.im_serial.specs.Asked.{HasReached, IsAsked, Leads, Wanted, base_told, bases_after, bases_by, number_next}
 use Rattle.im_serial.specs.Asked.{request_in}
 use Rattle.im_serial.specs.Asked.{standing, whole_course}
@@ -233,8 +233,8 @@ is_memory limits put = after-memory limits.cells limits.elements (new_memory lim
 -- ---- one request
 
 module _ (m : Contents) (bases : List ℕ) (w : Wanted) (r : Request) (is : request_in m bases w ≡ Some r) where
-  pub asked_by : (w.element ≡ r.element) × (op_of bases w.action ≡ Some r.op)
-  asked_by = by_both (number_next m w.element) (op_of bases w.action) is
+  pub asked_by : (w.element ≡ r.element) × (action_op bases w.action ≡ Some r.op)
+  asked_by = by_both (number_next m w.element) (action_op bases w.action) is
     where
       by_both : (n : Option ℕ) (o : Option Op) → option_and_then (λ number. option_map (λ op. record {
         element = w.element;
@@ -248,7 +248,7 @@ module _ (m : Contents) (bases : List ℕ) (w : Wanted) (r : Request) (is : requ
           (ap (λ (q : Request). q.element) same, ap (λ (q : Request). Some q.op) same)
 
   pub block_asked : (b : IsBlock w) → r.op ≡ op.Alloc b.kind b.length
-  block_asked b = some_same r.op (op.Alloc b.kind b.length) (sym asked_by.1 ∙ ap (op_of bases) b.action)
+  block_asked b = some_same r.op (op.Alloc b.kind b.length) (sym asked_by.1 ∙ ap (action_op bases) b.action)
 
 named_end : (end : ℕ) (w : Wanted) → w.named ≡ true → end_with end w ≡ end + length_asked w.action
 named_end end w named = ap (λ (b : Bool). if b then end + length_asked w.action else end) named

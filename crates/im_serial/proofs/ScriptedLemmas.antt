@@ -31,9 +31,9 @@ use Rattle.im_disk.specs.Moment.{Faults}
 use Rattle.im_disk.specs.Since.{Leaves, LeavesNow}
 use Rattle.im_checkpoint.specs.declared.checkpoint.TurnDone.{TurnDone}
 use Rattle.im_engine.specs.State.{EngineState, MeansState, MeansEither, with_command}
-use Rattle.im_engine.specs.Run.{Answered, TurnAnswered, TurnTaken, is_put, put_by_command}
+use Rattle.im_engine.specs.Run.{Answered, TurnAnswered, TurnTaken, may_be_put, put_by_command}
 use Rattle.im_script.specs.declared.script.Said.{Said}
-use Rattle.im_script.specs.Places.{op_of}
+use Rattle.im_script.specs.Places.{action_op}
 use Rattle.im_script.specs.Script.{Draft, lines_of}
 use Rattle.im_text.specs.declared.lines.Lines.{Lines}
 use Rattle.im_text.specs.declared.replies.Waited.{Waited}
@@ -111,7 +111,7 @@ err_stays {D} mid new c e it works = by_accepted (is_accepted mid.memory c) refl
     by_room t zero none =
         let full = it.full works t none in (
           ap (λ (s : EngineState D). s.memory) full.1,
-          λ alive. ap₂ (λ (b : Bool) (a : Result Outcome Refusal). if b && is_put a then c ∷ [] else []) t full.0,
+          λ alive. ap₂ (λ (b : Bool) (a : Result Outcome Refusal). if b && may_be_put a then c ∷ [] else []) t full.0,
         )
     by_room t (suc room) some = by_put t (it.put works t (omega arith))
 
@@ -121,7 +121,7 @@ err_stays {D} mid new c e it works = by_accepted (is_accepted mid.memory c) refl
     by_accepted false t =
         let same = it.unaccepted works t in (
           ap (λ (s : EngineState D). s.memory) same.1,
-          λ alive. ap (λ (b : Bool). if b && is_put (Err e) then c ∷ [] else []) t,
+          λ alive. ap (λ (b : Bool). if b && may_be_put (Err e) then c ∷ [] else []) t,
         )
 
 turn_stays : {D : Type 0} (mid new : EngineState D) (a : Result TurnDone Refusal) → TurnAnswered mid a new
@@ -142,7 +142,7 @@ confirm_recorded : (m : Contents) (put : List Command) (element upto : ℕ) (wai
     → IsRecorded m put (learnt waited marks element upto)
     → IsRecorded m (put ++ put_by_command (after m put) (Confirm element upto) a) (notes waited marks)
 confirm_recorded m put element upto waited marks a o is answer it =
-    by_test (is_accepted (after m put) (Confirm element upto)) (is_put a) refl (ap is_put is)
+    by_test (is_accepted (after m put) (Confirm element upto)) (may_be_put a) refl (ap may_be_put is)
   where
     by_test : (b p : Bool) → is_accepted (after m put) (Confirm element upto) ≡ b → p ≡ true
         → IsRecorded m (put ++ (if b && p then Confirm element upto ∷ [] else [])) (notes waited marks)
@@ -271,7 +271,7 @@ module _ {D : Type 0} (disk : Ghosts D) where
       let same : mid.memory ≡ m = g.has.memory g.works in
       let stays = err_stays mid new c e it.answered g.works in
       let leads = put_or_not (λ (more : List Command). (last : List Wanted) × LeadsIf start.memory s.script (put ++
-      more) last) c (is_accepted m c && is_put (Err e)) (
+      more) last) c (is_accepted m c && may_be_put (Err e)) (
         s.left,
         subst (λ (l : List Command). LeadsIf start.memory s.script l s.left) (sym (append-nil put))
             (stands_here start.memory s put u.reached),
@@ -292,7 +292,7 @@ module _ {D : Type 0} (disk : Ghosts D) where
                   done = put;
                   doubt = put_by_command m c (Err e);
                   split = refl;
-                  few = put_or_not (λ (more : List Command). length more ≤ 1) c (is_accepted m c && is_put (Err e))
+                  few = put_or_not (λ (more : List Command). length more ≤ 1) c (is_accepted m c && may_be_put (Err e))
                       (omega arith) (omega arith);
                   sure = λ works. subst (λ (x : Contents). put_by_command x c (Err e) ≡ []) same (stays.1 works);
                   memory = stays.0 ∙ same;
@@ -343,11 +343,11 @@ module _ {D : Type 0} (disk : Ghosts D) where
                     it.answered (it.leaves h) (it.doubt h) (it.means h) it.cause is,
                 record {
                   reached = put_or_not (λ (more : List Command). HasReached start.memory s (put ++ more)) c
-                      (is_accepted m c && is_put a)
+                      (is_accepted m c && may_be_put a)
                       (subst (HasReached start.memory s) (sym (append-nil put)) u.reached)
                       (stands_confirmed start.memory s put element upto u.reached);
                   named = put_or_not (λ (more : List Command). HasNamed start.memory s (put ++ more)) c
-                      (is_accepted m c && is_put a)
+                      (is_accepted m c && may_be_put a)
                       (subst (HasNamed start.memory s) (sym (append-nil put)) u.named)
                       (named_confirmed start.memory s put element upto u.named);
                   recorded = if_any s.script (IsRecorded start.memory put (learnt waited marks element upto))
@@ -534,14 +534,14 @@ module _ {D : Type 0} (disk : Ghosts D) where
 
   -- a request of the script was asked
   pub asked_serves : {T E F : Type 0} (x : T) (w : Wanted) (bases added : List ℕ) (op : Op) (entry : Entry) (old new :
-      ScriptServer D) → op_of bases w.action ≡ Some op → bases_by w (Ok (Tells entry)) ≡ Some added → HasAsked disk {E = E}
+      ScriptServer D) → action_op bases w.action ≡ Some op → bases_by w (Ok (Tells entry)) ≡ Some added → HasAsked disk {E = E}
       w.element op (Ok entry) old new
       → HasServed disk {E = F} (w ∷ []) bases (bases ++ added) (Ok x) old new
   asked_serves x w bases added op entry old new asks made it = has_served (Ok x) (w ∷ []) bases (bases ++ added) old
       new (it.serves w bases added refl asks made)
 
   pub asked_ends : {T E F : Type 0} (e : F) (w : Wanted) (bases last : List ℕ) (op : Op) (r : Result Entry E) (old new
-      : ScriptServer D) → op_of bases w.action ≡ Some op → HasAsked disk w.element op r old new → HasServed disk {T = T} (w ∷
+      : ScriptServer D) → action_op bases w.action ≡ Some op → HasAsked disk w.element op r old new → HasServed disk {T = T} (w ∷
       []) bases last (Err e) old new
   asked_ends e w bases last op r old new asks it = record { serves = tt; ends = it.ends w bases refl asks }
 
@@ -568,9 +568,11 @@ module _ {D : Type 0} (disk : Ghosts D) where
   }
     where
       by_result : {E : Type 0} (r : Result Entry E)
-          → IfOk r (λ entry. (w : Wanted) (before more : List ℕ) → w.element ≡ element → op_of before w.action ≡ Some
+          → IfOk r (λ entry. (w : Wanted) (before more : List ℕ) → w.element ≡ element
+          → action_op before w.action ≡ Some
           op → bases_by w (Ok (Tells entry)) ≡ Some more → Passes disk (w ∷ []) before [] (before ++ more) mid new)
-          → IfOk r (λ entry. (w : Wanted) (before more : List ℕ) → w.element ≡ element → op_of before w.action ≡ Some
+          → IfOk r (λ entry. (w : Wanted) (before more : List ℕ) → w.element ≡ element
+          → action_op before w.action ≡ Some
           op → bases_by w (Ok (Tells entry)) ≡ Some more → Passes disk (w ∷ []) before [] (before ++ more) old new)
       by_result (Ok entry) later = λ w before more is asks made start held script rest going. later w before more is
           asks made start held script rest (first (w ∷ []) before start held script rest going)
@@ -620,7 +622,7 @@ module _ {D : Type 0} (disk : Ghosts D) where
 
   module _ (mid new : EngineState D) (r : Request) (next : mid.failed ≡ false
       → (base : ℕ) × (bounds mid.memory.windows r.element ≡ Ok (base, r.number))) (w : Wanted) (bases : List ℕ)
-      (element : w.element ≡ r.element) (op : op_of bases w.action ≡ Some r.op) where
+      (element : w.element ≡ r.element) (op : action_op bases w.action ≡ Some r.op) where
     last_leads : (start : EngineState D) (script : Option Course) (rest : List Wanted) (put : List Command)
         → mid.failed ≡ false → mid.memory ≡ after start.memory put
         → HasReached start.memory (standing script bases (w ∷ rest)) put
@@ -675,7 +677,7 @@ module _ {D : Type 0} (disk : Ghosts D) where
           let accepted : is_accepted m c ≡ true = subst (λ (x : Contents). is_accepted x c
           ≡ true) same (next_is_new mid.memory r n.0 (Tells entry) n.1 went.1) in
           let one : put_by_command m c a ≡ c ∷ [] = ap₂ (λ (b p : Bool). if b && p then c ∷ [] else []) accepted (ap
-          is_put is) in (
+          may_be_put is) in (
             before.0,
             record {
               put = put;

@@ -25,13 +25,13 @@ use Rattle.im_checkpoint.specs.declared.checkpoint.TurnDone.{TurnDone}
 use Rattle.im_types.specs.declared.commands.Outcome.{Outcome}
 use Rattle.im_types.specs.declared.refusals.Refusal.{Refusal}
 use Rattle.im_engine.specs.State.{EngineState, MeansState, MeansEither, with_command}
-use Rattle.im_engine.specs.Run.{Answered, TurnAnswered, TurnTaken, is_put, put_by_command, HasRun, MeansAfter, MeansBeginning, MeansAllOrInDoubt}
+use Rattle.im_engine.specs.Run.{Answered, TurnAnswered, TurnTaken, may_be_put, put_by_command, HasRun, MeansAfter, MeansBeginning, MeansAllOrInDoubt}
 use Rattle.im_engine.proofs.Running.{far_on, leaves_on, now_on, now_start, far_turned, leaves_turned, now_turned, means_all, all_or_in_doubt, or_less, doubt_by, Failures, failures_more, failures_turned, fails_by_device}
 use Rattle.im_text.specs.declared.replies.Waited.{Waited}
 use Rattle.im_text.specs.Printing.{Begins, IsLast, nows, replies, reply_line, told_line, waits, waits_by, waits_if, who_of}
 use Rattle.im_serial.specs.Asked.{IsAsked, wanted_of}
 use Rattle.im_serial.specs.Noted.{AreLast}
-use Rattle.im_serial.specs.Serving.{HasPut, MeansAtLeast, GoesWith, HaltsWith, Told, Closed, Served}
+use Rattle.im_serial.specs.Serving.{HasPut, MeansAtLeast, GoesWith, HaltsWith, Told, Closed, ServedScript}
 use Rattle.im_text.proofs.PrintingLemmas.{all-append, replies_more, waits_more, take-all, take-prefix, true_false}
 use Rattle.im_text.proofs.WindowLemmas.{bounds_found, HasBounds, not_below}
 
@@ -49,7 +49,7 @@ accepted_more m (d ∷ put) c is accepted = by_test (is_accepted m d) is (λ res
 
 accepted_on : (m : Contents) (put : List Command) (c : Command) (a : Result Outcome Refusal) → accept_each m put ≡ Some (after m put)
     → accept_each m (put ++ put_by_command (after m put) c a) ≡ Some (after m (put ++ put_by_command (after m put) c a))
-accepted_on m put c a is = by_test (is_accepted (after m put) c) (is_put a) refl
+accepted_on m put c a is = by_test (is_accepted (after m put) c) (may_be_put a) refl
   where
     by_test : (b p : Bool) → is_accepted (after m put) c ≡ b → accept_each m (put ++ (if b && p then c ∷ [] else [])) ≡ Some (after m (put ++ (if b && p then c ∷ [] else [])))
     by_test true true e = accepted_more m put c is e
@@ -181,8 +181,8 @@ module _ {D : Type 0} (now : D → Moment) (past : D → List Moment) (failures 
   put_by : (mid new : EngineState D) (c : Command) (a : Result Outcome Refusal) → Answered mid c a new → mid.failed ≡ false → new.failed ≡ true → length (put_by_command mid.memory c a) ≡ 1
   put_by mid new c a it works fails = by_accepted (is_accepted mid.memory c) refl
     where
-      by_accepted : (b : Bool) → is_accepted mid.memory c ≡ b → length (if b && is_put a then c ∷ [] else []) ≡ 1
-      by_accepted true e = ap (λ (a : Result Outcome Refusal). length (if is_put a then c ∷ [] else [])) (fails_by_device mid new c a it works fails)
+      by_accepted : (b : Bool) → is_accepted mid.memory c ≡ b → length (if b && may_be_put a then c ∷ [] else []) ≡ 1
+      by_accepted true e = ap (λ (a : Result Outcome Refusal). length (if may_be_put a then c ∷ [] else [])) (fails_by_device mid new c a it works fails)
       by_accepted false e = absurd (true_false new.failed fails (ap (λ (s : EngineState D). s.failed) (it.unaccepted works e).1 ∙ works))
 
   -- each file has what was put before it
@@ -237,8 +237,8 @@ module _ {D : Type 0} (now : D → Moment) (past : D → List Moment) (failures 
   confirmed start mid new put text names element upto a o so_far it leaves doubt means cause is = record {
     has = put_more start mid new put (Confirm element upto) a so_far.has it leaves doubt means cause;
     works = (answered mid new (Confirm element upto) a o it so_far.works is).0;
-    lines = so_far.lines ∙ same_lines (is_accepted (after start.memory put) (Confirm element upto)) (is_put a);
-    waiting = so_far.waiting ∙ same_waits (is_accepted (after start.memory put) (Confirm element upto)) (is_put a);
+    lines = so_far.lines ∙ same_lines (is_accepted (after start.memory put) (Confirm element upto)) (may_be_put a);
+    waiting = so_far.waiting ∙ same_waits (is_accepted (after start.memory put) (Confirm element upto)) (may_be_put a);
   }
     where
       same_lines : (b p : Bool) → replies start.memory put ≡ replies start.memory (put ++ (if b && p then Confirm element upto ∷ [] else []))
@@ -264,7 +264,7 @@ module _ {D : Type 0} (now : D → Moment) (past : D → List Moment) (failures 
       let same : mid.memory ≡ m = so_far.has.memory so_far.works in
       let accepted : is_accepted m c ≡ true = subst (λ (m : Contents). is_accepted m c ≡ true) same (fresh went.1) in
       let answer : (step m c).answer ≡ Ok (Tells entry) = subst (λ (m : Contents). (step m c).answer ≡ Ok (Tells entry)) same went.1 in
-      let one : put_by_command m c a ≡ c ∷ [] = ap₂ (λ (b p : Bool). if b && p then c ∷ [] else []) accepted (ap is_put is) in
+      let one : put_by_command m c a ≡ c ∷ [] = ap₂ (λ (b p : Bool). if b && p then c ∷ [] else []) accepted (ap may_be_put is) in
       record {
         has = subst (λ (more : List Command). HasPut now past failures start new (put ++ more)) one (put_more start mid new put c a so_far.has it leaves doubt means cause);
         works = went.0;
@@ -320,7 +320,8 @@ module _ {D : Type 0} (now : D → Moment) (past : D → List Moment) (failures 
 
   -- an opening leaves nothing new, and what it found was there
   pub served : (text : List ℕ) (old : D) (start : EngineState D) (new : D) (was is : Option (List ℕ)) (status : ℕ) → Leaves (now old) (now start.disk) (past old) (past start.disk) (Left (now old)) → LeavesNow (now start.disk) (MeansState start) → failures start.disk ≡ failures old
-      → Closed now past failures text start new was is status → Served now past failures text old new was is status
+      → Closed now past failures text start new was is status
+      → ServedScript now past failures text old new was is status
   served text old start new was is status opened means same it = record {
     start = start;
     put = it.put;

@@ -21,7 +21,7 @@ use Rattle.im_script.specs.declared.script.Said.{Said}
 use Rattle.im_script.specs.declared.script.Said.TheVariants.{Nothing, Block, Begins, Asks as Line}
 use Rattle.im_script.specs.declared.script.Heard.{Heard}
 use Rattle.im_script.specs.declared.script.Heard.TheVariants.{Says, Glances}
-use Rattle.im_script.specs.Places.{op_of}
+use Rattle.im_script.specs.Places.{action_op}
 use Rattle.im_script.specs.Script.{Draft, heard, lines_of, new_draft}
 
 -- ---- what a script asks for
@@ -70,7 +70,7 @@ request_in m bases w = option_and_then (λ number. option_map (λ op. record {
   number = number;
   op =
       op;
-}) (op_of bases w.action)) (number_next m w.element)
+}) (action_op bases w.action)) (number_next m w.element)
 
 -- the base in an answer
 abbrev pub base_told : Result Outcome Refusal → Option (List ℕ)

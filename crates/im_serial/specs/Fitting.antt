@@ -11,7 +11,7 @@ use Rattle.im_types.specs.declared.operations.Reply.TheVariants.{Base}
 use Rattle.im_types.specs.Contents.{Contents, Window, kept_for}
 use Rattle.im_types.specs.Window.{same_op}
 use Rattle.im_types.specs.declared.refusals.Refusal.TheVariants.{BadScript, Mismatch}
-use Rattle.im_script.specs.Places.{op_of}
+use Rattle.im_script.specs.Places.{action_op}
 use Rattle.im_text.specs.declared.reasons.Reason.{Reason}
 use Rattle.im_text.specs.declared.reasons.Reason.TheVariants.{Request}
 use Rattle.im_serial.specs.Asked.{Wanted}
@@ -66,7 +66,7 @@ end_behind_base end n base = option_map_or (λ b. b + n) base end
 abbrev pub fits_from : Contents → List ℕ → List ℕ → ℕ → List Wanted → Bool
 fits_from m many bases end [] = true
 fits_from m many bases end (w ∷ wanted) = let base = base_for end w in
-    fits_as m many w.element (op_of bases w.action) base && fits_from m (met many w.element) (bases_with bases base)
+    fits_as m many w.element (action_op bases w.action) base && fits_from m (met many w.element) (bases_with bases base)
     (end_behind_base end (length_asked w.action) base) wanted
 
 -- the same of a script

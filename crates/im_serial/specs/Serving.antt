@@ -19,7 +19,7 @@ use Rattle.im_engine.specs.Run.{MeansAfter, MeansBeginning, MeansAllOrInDoubt}
 use Rattle.im_text.specs.declared.lines.Lines.{Lines}
 use Rattle.im_text.specs.declared.replies.Waited.{Waited}
 use Rattle.im_text.specs.Printing.{Begins, IsLast, Prints, nows, replies, waits, who_of}
-use Rattle.im_script.specs.Places.{op_of}
+use Rattle.im_script.specs.Places.{action_op}
 use Rattle.im_serial.specs.declared.server.Server.{Server as Whole}
 use Rattle.im_serial.specs.declared.waits.Mark.{Mark}
 use Rattle.im_serial.specs.Noted.{AreKnown, AreLast, AreNoted, Notes, learnt, notes}
@@ -198,9 +198,9 @@ module _ {D : Type 0} (disk : Ghosts D) where
   pub record HasAsked {E : Type 0} (element : ℕ) (op : Op) (result : Result Entry E) (old new : ScriptServer D) : Type 0
     where
       pub serves : IfOk result
-          (λ entry. (w : Wanted) (before more : List ℕ) → w.element ≡ element → op_of before w.action ≡ Some op
+          (λ entry. (w : Wanted) (before more : List ℕ) → w.element ≡ element → action_op before w.action ≡ Some op
           → bases_by w (Ok (Tells entry)) ≡ Some more → Passes (w ∷ []) before [] (before ++ more) old new)
-      pub ends : (w : Wanted) (before : List ℕ) → w.element ≡ element → op_of before w.action ≡ Some op
+      pub ends : (w : Wanted) (before : List ℕ) → w.element ≡ element → action_op before w.action ≡ Some op
           → EndsAt (w ∷ []) before old new
 
   -- These requests of the script were served, if the call succeeded.
@@ -263,7 +263,7 @@ ClosesScript disk text start new was is status = disk.honest new
 -- the requests of this script, in their order, and confirmations. With status 0 they are all its requests. From then on
 -- a crash leaves the memory after a prefix of them. At the end it leaves the memory after all of them, or after all but
 -- the last if a call of the disk failed. If the status is 0, it is after all of them.
-pub record Served {D : Type 0} (now : D → Moment) (past : D → List Moment) (failures : D → ℕ) (text : List ℕ)
+pub record ServedScript {D : Type 0} (now : D → Moment) (past : D → List Moment) (failures : D → ℕ) (text : List ℕ)
     (old new : D) (was is : Option (List ℕ)) (status : ℕ) : Type 0 where
   pub start : EngineState D
   pub put : List Command
@@ -286,8 +286,8 @@ pub record NotOpened {D : Type 0} (now : D → Moment) (past : D → List Moment
 -- The script was served on the image of a disk, or the image was not opened.
 abbrev pub SerialOn : {D : Type 0} → Ghosts D → List ℕ → D → D → Option (List ℕ) → Option (List ℕ) → ℕ → Type 0
 SerialOn disk text old new was is status = NotOpened disk.now disk.past old new was is status
-    ⊎ Served disk.now disk.past disk.failures text old new was is status
+    ⊎ ServedScript disk.now disk.past disk.failures text old new was is status
 
 -- The same of a disk that is honest at the end.
-abbrev pub ServesOn : {D : Type 0} → Ghosts D → List ℕ → D → D → Option (List ℕ) → Option (List ℕ) → ℕ → Type 0
-ServesOn disk text old new was is status = disk.honest new → SerialOn disk text old new was is status
+abbrev pub ServesScript : {D : Type 0} → Ghosts D → List ℕ → D → D → Option (List ℕ) → Option (List ℕ) → ℕ → Type 0
+ServesScript disk text old new was is status = disk.honest new → SerialOn disk text old new was is status

@@ -1,7 +1,7 @@
 //! Makes room for the next request: in the journal, and in its element's window. A server does so before each request.
 ghost use Rattle.std.specs.Prelude.{◌≡◌, ◌≤◌, ℕ, false, Ok, IfOk, OnOk};
 ghost use Rattle.im_types.specs.Window.{bounds};
-ghost use Rattle.im_turning.specs.Turning.{HasMadeRoom, Leads, point_of};
+ghost use Rattle.im_turning.specs.Turning.{HasMadeRoom, TurnsInto, point_of};
 ghost use Rattle.im_serial.specs.Serving.{Drops, Keeps};
 
 use im_checkpoint::TurnDone;
@@ -21,7 +21,7 @@ fn count(progress: &mut Progress, done: TurnDone) {
 // Takes one turn of a checkpoint.
 fn take_turn<D: Disk>(engine: &mut Engine<D>, progress: &mut Progress) -> Result<TurnDone, Refusal>
     ensures goes { Keeps D.Disk result engine.old engine.new }
-    ensures leads { IfOk result (λ done. Leads (point_of engine.old) done (point_of engine.new)) }
+    ensures leads { IfOk result (λ done. TurnsInto (point_of engine.old) done (point_of engine.new)) }
 {
     match engine.turn() {
         Ok(done) => {

@@ -4,7 +4,7 @@ ghost use Rattle.im_disk.specs.Since.{LeavesNow};
 ghost use Rattle.im_engine.specs.State.{MeansState};
 ghost use Rattle.im_serial.specs.Begun.{KeepsOnce};
 ghost use Rattle.im_serial.specs.Once.{ClosesOnce, HasServedNothing, ServesOnceOn};
-ghost use Rattle.im_serial.specs.Serving.{ClosesScript, ServesOn, seen_by};
+ghost use Rattle.im_serial.specs.Serving.{ClosesScript, ServesScript, seen_by};
 
 use crate::server::{Desk, Server};
 use im_disk::Disk;
@@ -53,7 +53,7 @@ pub fn serial_on<D: Disk, W: Write, N: Observer>(
     observer: &mut N,
 ) -> (u8, D)
     ensures status { result.0 ≤ 1 }
-    ensures served { ServesOn D.Disk script.now disk result.1 (W.contents out.old) (W.contents out.new) result.0 }
+    ensures served { ServesScript D.Disk script.now disk result.1 (W.contents out.old) (W.contents out.new) result.0 }
     ensures honest { D.honest result.1 → D.honest disk }
 {
     let desk = match Desk::new(alloc) {

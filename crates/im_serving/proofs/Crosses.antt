@@ -26,14 +26,14 @@ use Rattle.im_glass.proofs.pane.Pane.TheSendSync.{the_send as pane_send}
 use Rattle.im_planning.proofs.plan.Plan.TheSendSync.{the_send as plan_send}
 use Rattle.im_controller.specs.contracts.shared.Shared as Shared
 use Rattle.im_queue.specs.contracts.inbox.Inbox as Inbox
-use Rattle.im_serving.specs.contracts.numbers.Served as Served
+use Rattle.im_serving.specs.contracts.numbers.ServedNumbers as ServedNumbers
 use Rattle.im_pipes.specs.contracts.ends.Inlet as Inlet
 use Rattle.im_pipes.specs.contracts.ends.Outlet as Outlet
 use Rattle.im_pipes.proofs.ends.Inlet.TheSendSync as inlet
 use Rattle.im_pipes.proofs.ends.Outlet.TheSendSync as outlet
 use Rattle.im_serving.specs.contracts.intent.Intent as Intent
 use Rattle.im_serving.specs.contracts.glances.Glances as Glances
-use Rattle.im_serving.specs.contracts.parts.Server as Server
+use Rattle.im_serving.specs.contracts.parts.ServerStart as ServerStart
 use Rattle.im_serving.specs.contracts.parts.Done as Done
 use Rattle.im_serving.specs.contracts.running.Stopped as Stopped
 use Rattle.im_glass.proofs.glance.Glance.TheSendSync.{the_send as glance_send}
@@ -86,11 +86,11 @@ module _ (K : RattleType) (n : name.Ghosts K.Denot) where
   pub Glances-send : IsSend (Glances.the_field K n).row
   Glances-send = search (sendable, crosses, glance_send) depth 40 fits 30000
 
-pub Served-send : IsSend Served.the_field.row
+pub Served-send : IsSend ServedNumbers.the_field.row
 Served-send = search (sendable, crosses) depth 40
 
 module _ (K : RattleType) (n : name.Ghosts K.Denot) where
-  pub Server-send : IsSend (Server.the_field K n).row
+  pub Server-send : IsSend (ServerStart.the_field K n).row
   Server-send = let p = Port-send K n in let s = Served-send in let g = Glances-send K n in search
       (sendable, crosses) depth 40 fits 30000
 
@@ -122,7 +122,7 @@ module _ (K : RattleType) (n : name.Ghosts K.Denot) where
   pub Port-row-send : IsSend (Port.the_row K n)
   Port-row-send = let p = Port-send K n in search sendable depth 20
 
-  pub Server-row-send : IsSend (Server.the_row K n)
+  pub Server-row-send : IsSend (ServerStart.the_row K n)
   Server-row-send = let s = Server-send K n in search sendable depth 20
 
 pub Intent-row-send : IsSend Intent.the_row

@@ -8,7 +8,8 @@ use Rattle.im_types.specs.declared.refusals.Refusal.TheVariants.{NoMemory}
 use Rattle.im_pipes.specs.Ends.{PipeEnd, PipeId}
 use Rattle.im_serving.specs.declared.intent.Intent.{Intent}
 use Rattle.im_serving.specs.Serving.{AreDone, AreGlanced, HasBegun}
-use Rattle.im_serving.specs.Elements.{Deeds, Asked, End, HasServed, IsEnded, AreEnded, IsUnserved, HasStopped, HasSent}
+use Rattle.im_serving.specs.Elements.{Deeds, Asked, End, ServesIntents, IsEnded, AreEnded, IsUnserved, HasStopped}
+use Rattle.im_serving.specs.Elements.{HasSent}
 use Rattle.im_trace.proofs.ChainLemmas.{prefix-trans}
 use Rattle.im_serving.proofs.GlanceLemmas.{begun_more}
 
@@ -42,16 +43,17 @@ has_stopped m p d before outlet none element first begun done ended seen = (
 
 -- it was refused, so a beginning is enough
 refused_less : (m : Contents) (p : Deeds) (d e : End) (xs ys : List Intent) → e ≡ record d { result = Err NoMemory }
-    → IsPrefix xs ys → HasServed m p d.deeds d.result xs → HasServed m p e.deeds e.result ys
-refused_less m p d e xs ys same within it = subst (λ (x : End). HasServed m p x.deeds x.result ys) (sym same) (record {
-  element = it.element;
-  first = it.first;
-  begun = λ (start : AreDone p.port p.served p.made []). begun_more d.deeds.port d.deeds.served d.deeds.made xs ys
-      within
-      (it.begun start);
-  done = tt;
-  seen = it.seen;
-})
+    → IsPrefix xs ys → ServesIntents m p d.deeds d.result xs → ServesIntents m p e.deeds e.result ys
+refused_less m p d e xs ys same within it =
+    subst (λ (x : End). ServesIntents m p x.deeds x.result ys) (sym same) (record {
+      element = it.element;
+      first = it.first;
+      begun = λ (start : AreDone p.port p.served p.made []). begun_more d.deeds.port d.deeds.served d.deeds.made xs ys
+          within
+          (it.begun start);
+      done = tt;
+      seen = it.seen;
+    })
 
 whole_done : {T E : Type 0} (r : Result T E) (P : List Intent → Type 0) (Q : Type 0) (xs ys : List Intent) (b : Bool)
     → OnOk r (Q → P xs) → OnOk r (b ≡ true) → (b ≡ true → xs ≡ ys) → OnOk r (Q → P ys)
@@ -63,9 +65,9 @@ pub settled : (m : Contents) (p : Deeds) (d e : End) (outlet : PipeEnd Intent) (
     (all : Bool) → HasStopped m p d outlet → IsPrefix outlet.items sent
     → (outlet.ended ≡ true → outlet.items ≡ sent) → IsPrefix sent intents → (all ≡ true → sent ≡ intents)
     → ((all ≡ true) × (e ≡ d)) ⊎ ((all ≡ false) × (e ≡ record d { result = Err NoMemory }))
-    → HasServed m p e.deeds e.result intents
+    → ServesIntents m p e.deeds e.result intents
 settled m p d e outlet sent intents all it begins whole within sends (inl (wanted, same)) = subst
-    (λ (x : End). HasServed m p x.deeds x.result intents) (sym same) (record {
+    (λ (x : End). ServesIntents m p x.deeds x.result intents) (sym same) (record {
       element = it.0.element;
       first = it.0.first;
       begun = λ (start : AreDone p.port p.served p.made []). begun_more d.deeds.port d.deeds.served d.deeds.made
@@ -96,7 +98,7 @@ never {T} {E} r refusal P is = subst (λ (x : Result T E). OnOk x P) (sym is) tt
 
 -- whatever the part asks for
 pub unserved_part : (m : Contents) (p : Deeds) (d : End) (intents : List Intent) → IsUnserved m p d
-    → HasServed m p d.deeds d.result intents
+    → ServesIntents m p d.deeds d.result intents
 unserved_part m p d intents it = record {
   element = it.0.element;
   first = it.0.first;

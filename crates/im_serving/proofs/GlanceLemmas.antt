@@ -21,7 +21,7 @@ use Rattle.im_controller.specs.Lines.{EndsIn, line_of}
 use Rattle.im_controller.specs.State.{PortState}
 use Rattle.im_trace.proofs.ChainLemmas.{prefix-trans}
 use Rattle.im_serving.specs.declared.glances.Glanced.{Glanced}
-use Rattle.im_serving.specs.declared.numbers.Served.{Served}
+use Rattle.im_serving.specs.declared.numbers.ServedNumbers.{ServedNumbers}
 use Rattle.im_serving.specs.declared.intent.Intent.{Intent}
 use Rattle.im_serving.specs.declared.intent.Intent.TheVariants.{Request, Glance}
 use Rattle.im_serving.specs.Serving.{AreDone, AreGlanced, HasAsked, HasBegun, HasLearnt, IsGlanced, Looked, ops_of, requests, sites}
@@ -142,7 +142,7 @@ more_counted : (a b c n : ℕ) → a ≡ b + 1 → b ≡ c → n ≡ suc c → a
 more_counted a b c n e f g = omega (arith, e, f, g)
 
 -- the same was done, by a port that looked again
-pub done_on : (port port' : PortState) (served served' : Served) (made made' : List Glanced)
+pub done_on : (port port' : PortState) (served served' : ServedNumbers) (made made' : List Glanced)
     (intents : List Intent) → port'.element ≡ port.element → served'.first ≡ served.first → made' ≡ made
     → Looked port.history port'.history port.element served.first served.entries.items served'.entries.items
     → AreDone port served made intents
@@ -158,7 +158,7 @@ done_on port port' served served' made made' intents element start same l d = re
 }
 
 -- a request more
-done_asked : (port port' : PortState) (served served' : Served) (made made' : List Glanced)
+done_asked : (port port' : PortState) (served served' : ServedNumbers) (made made' : List Glanced)
     (op : Op) (intents : List Intent) → port'.element ≡ port.element → served'.first ≡ served.first → made' ≡ made
     → HasAsked port.history port'.history port.element served.first op served.entries.items served'.entries.items
     → AreDone port served made intents
@@ -175,7 +175,7 @@ done_asked port port' served served' made made' op intents element start same h 
   places = ap (map (λ (g : Glanced). (g.behind, g.address))) same ∙ d.places ∙ sym (sites_same 0 intents op);
 }
 
-pub done_request : {T E : Type 0} (r : Result T E) (port port' : PortState) (served served' : Served)
+pub done_request : {T E : Type 0} (r : Result T E) (port port' : PortState) (served served' : ServedNumbers)
     (made made' : List Glanced) (op : Op) (intent : Intent) → intent ≡ Request op → port'.element ≡ port.element
     → served'.first ≡ served.first
     → OnOk r (HasAsked port.history port'.history port.element served.first op served.entries.items
@@ -187,7 +187,7 @@ done_request r port port' served served' made made' op intent is element start a
     (done_asked port port' served served' made made' op intents element start same h d)) asked
 
 -- or none, as it was refused
-pub done_refused : {T E : Type 0} (r : Result T E) (port port' : PortState) (served served' : Served)
+pub done_refused : {T E : Type 0} (r : Result T E) (port port' : PortState) (served served' : ServedNumbers)
     (made made' : List Glanced) → port'.element ≡ port.element → served'.first ≡ served.first
     → OnErr r (Looked port.history port'.history port.element served.first served.entries.items served'.entries.items)
     → made' ≡ made
@@ -199,7 +199,7 @@ behind_all : (n k m : ℕ) → n ≡ k → k ≡ m → n ≡ 0 + m
 behind_all n k m e f = omega (arith, e, f)
 
 -- a glance more
-pub done_glance : {T E : Type 0} (r : Result T E) (port : PortState) (served : Served)
+pub done_glance : {T E : Type 0} (r : Result T E) (port : PortState) (served : ServedNumbers)
     (made made' : List Glanced) (behind address : ℕ) (after value : Option ℕ) (intent : Intent)
     → intent ≡ Glance address
     → behind ≡ length served.entries.items
@@ -219,7 +219,7 @@ done_glance r port served made made' behind address after value intent asks at m
     })) more
 
 -- or none, as it was refused
-pub unglanced : {T E : Type 0} (r : Result T E) (port : PortState) (served : Served) (made made' : List Glanced)
+pub unglanced : {T E : Type 0} (r : Result T E) (port : PortState) (served : ServedNumbers) (made made' : List Glanced)
     (xs ys : List Change)
     → OnErr r ((made' ≡ made) × (ys ≡ xs))
     → OnErr r ((intents : List Intent) → AreDone port served made intents → AreDone port served made' intents)
@@ -227,7 +227,7 @@ unglanced r port served made made' xs ys same = on_err r
     (λ is intents d. subst (λ (l : List Glanced). AreDone port served l intents) (sym is.0) d) same
 
 -- one thing after another
-pub done_then : (p0 p1 p2 : PortState) (e0 e1 e2 : Served) (g0 g1 g2 : List Glanced) (xs0 xs1 xs2 : List Intent)
+pub done_then : (p0 p1 p2 : PortState) (e0 e1 e2 : ServedNumbers) (g0 g1 g2 : List Glanced) (xs0 xs1 xs2 : List Intent)
     (intent : Intent)
     → (AreDone p0 e0 g0 xs0 → AreDone p1 e1 g1 xs1)
     → ((before : List Intent) → AreDone p1 e1 g1 before → AreDone p2 e2 g2 (before ++ intent ∷ [])) → xs2
@@ -236,7 +236,7 @@ done_then p0 p1 p2 e0 e1 e2 g0 g1 g2 xs0 xs1 xs2 intent first second is d = subs
     (second xs1 (first d))
 
 -- and a refusal then: all but the last was done
-pub begun_then : (p0 p1 p2 : PortState) (e0 e1 e2 : Served) (g0 g1 g2 : List Glanced) (xs0 xs1 xs2 : List Intent)
+pub begun_then : (p0 p1 p2 : PortState) (e0 e1 e2 : ServedNumbers) (g0 g1 g2 : List Glanced) (xs0 xs1 xs2 : List Intent)
     (intent : Intent)
     → (AreDone p0 e0 g0 xs0 → AreDone p1 e1 g1 xs1)
     → ((before : List Intent) → AreDone p1 e1 g1 before → AreDone p2 e2 g2 before) → xs2
@@ -273,7 +273,7 @@ pub few_more : (a n x y : ℕ) → a ≤ n + x → x ≤ y → a ≤ n + y
 few_more a n x y e f = omega (arith, e, f)
 
 -- all of it was done, and so a beginning
-pub begun_all : (p : PortState) (e : Served) (g : List Glanced) (xs ys : List Intent) → ys ≡ xs
+pub begun_all : (p : PortState) (e : ServedNumbers) (g : List Glanced) (xs ys : List Intent) → ys ≡ xs
     → AreDone p e g xs → HasBegun p e g ys
 begun_all p e g xs ys is d = (xs, ([], append-nil xs ∙ sym is), d)
 
@@ -289,7 +289,7 @@ pub still_few : (a b m k n : ℕ) → a ≡ b → b + m + k ≤ n → a + m + k 
 still_few a b m k n same few = omega (arith, same, few)
 
 -- a beginning of more
-pub begun_more : (p : PortState) (e : Served) (g : List Glanced) (xs ys : List Intent) → IsPrefix xs ys
+pub begun_more : (p : PortState) (e : ServedNumbers) (g : List Glanced) (xs ys : List Intent) → IsPrefix xs ys
     → HasBegun p e g xs
     → HasBegun p e g ys
 begun_more p e g xs ys within it = (it.0, prefix-trans it.0 xs ys it.1 within, it.2)

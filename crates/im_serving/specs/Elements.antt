@@ -7,7 +7,7 @@ use Rattle.im_types.specs.declared.refusals.Refusal.TheVariants.{NoMemory}
 use Rattle.im_types.specs.Contents.{Contents}
 use Rattle.im_controller.specs.State.{PortState}
 use Rattle.im_pipes.specs.Ends.{PipeEnd, PipeId}
-use Rattle.im_serving.specs.declared.numbers.Served.{Served}
+use Rattle.im_serving.specs.declared.numbers.ServedNumbers.{ServedNumbers}
 use Rattle.im_serving.specs.declared.intent.Intent.{Intent}
 use Rattle.im_serving.specs.declared.glances.Glanced.{Glanced}
 use Rattle.im_serving.specs.declared.glances.Glances.{Glances}
@@ -17,13 +17,13 @@ use Rattle.im_serving.specs.Serving.{AreDone, AreGlanced, HasBegun}
 -- last request that was answered, what the element has seen, and its glances
 pub record Deeds : Type 0 where
   pub port : PortState
-  pub served : Served
+  pub served : ServedNumbers
   pub last : Option ℕ
   pub seen : List Change
   pub made : List Glanced
 
 -- what was done for an element with this port, these numbers and this reader
-abbrev pub deeds_of : {K : Type 0} → PortState → Served → Glances K → Deeds
+abbrev pub deeds_of : {K : Type 0} → PortState → ServedNumbers → Glances K → Deeds
 deeds_of port served glances = record {
   port = port;
   served = served;
@@ -68,7 +68,7 @@ pub record ServesOn (m : Contents) (p q : Deeds) (result : Result (Unit {0}) Ref
 -- A server came from the first deeds to the second, given what was asked for. It did all of it, in order, if nothing
 -- was refused, and else a prefix of it. Each glance tells what the element had seen. What was done is counted from the
 -- start, so nothing was done before.
-pub record HasServed (m : Contents) (p q : Deeds) (result : Result (Unit {0}) Refusal)
+pub record ServesIntents (m : Contents) (p q : Deeds) (result : Result (Unit {0}) Refusal)
     (intents : List Intent) : Type 0 where
   pub element : q.port.element ≡ p.port.element
   pub first : q.served.first ≡ p.served.first
@@ -78,7 +78,7 @@ pub record HasServed (m : Contents) (p q : Deeds) (result : Result (Unit {0}) Re
 
 -- a part has ended so, given what it asks for
 abbrev pub IsEnded : Contents → Asked → End → Type 0
-IsEnded m p d = HasServed m p.deeds d.deeds d.result p.intents
+IsEnded m p d = ServesIntents m p.deeds d.deeds d.result p.intents
 
 -- the same of each of these, in order
 abbrev pub AreEnded : Contents → List Asked → List End → Type 0
@@ -89,11 +89,11 @@ AreEnded m (p ∷ parts) (d ∷ ends) = IsEnded m p d × AreEnded m parts ends
 
 -- nothing was done, for want of memory or of a thread
 abbrev pub IsUnserved : Contents → Deeds → End → Type 0
-IsUnserved m p d = HasServed m p d.deeds d.result [] × (d.result ≡ Err NoMemory)
+IsUnserved m p d = ServesIntents m p d.deeds d.result [] × (d.result ≡ Err NoMemory)
 
 -- a server did what it received; if nothing was refused, it received the end mark
 abbrev pub HasStopped : Contents → Deeds → End → PipeEnd Intent → Type 0
-HasStopped m p d outlet = HasServed m p d.deeds d.result outlet.items × OnOk d.result (outlet.ended ≡ true)
+HasStopped m p d outlet = ServesIntents m p d.deeds d.result outlet.items × OnOk d.result (outlet.ended ≡ true)
 
 -- what was sent into a pipe is a prefix of what is asked for, and all of it if nothing was handed back
 abbrev pub HasSent : PipeId Intent → List Intent → PipeEnd Intent → Bool → Type 0

@@ -12,7 +12,7 @@ use Rattle.im_types.specs.Contents.{Contents}
 use Rattle.im_types.specs.Trace.{IsLegal}
 use Rattle.im_types.specs.declared.changes.Change.{Change}
 use Rattle.im_types.specs.Changes.{opening, shown_by, value_after}
-use Rattle.im_serving.specs.declared.numbers.Served.{Served}
+use Rattle.im_serving.specs.declared.numbers.ServedNumbers.{ServedNumbers}
 use Rattle.im_serving.specs.declared.intent.Intent.{Intent}
 use Rattle.im_serving.specs.declared.intent.Intent.TheVariants.{Request, Glance}
 use Rattle.im_serving.specs.declared.glances.Glanced.{Glanced}
@@ -127,11 +127,12 @@ ops_of (Glance a ∷ intents) = ops_of intents
 
 -- All of these were done by a port, from the first number on. There is an entry for each request, and its line stands
 -- in what the port has seen of the trace. Each glance was made in its place.
-pub record AreDone (port : PortState) (served : Served) (made : List Glanced) (intents : List Intent) : Type 0 where
+pub record AreDone (port : PortState) (served : ServedNumbers) (made : List Glanced)
+    (intents : List Intent) : Type 0 where
   pub count : length served.entries.items ≡ requests intents
   pub answered : HasAnswers port.history port.element served.first (ops_of intents) served.entries.items
   pub places : map (λ g. (g.behind, g.address)) made ≡ sites 0 intents
 
 -- a prefix of these was done
-abbrev pub HasBegun : PortState → Served → List Glanced → List Intent → Type 0
+abbrev pub HasBegun : PortState → ServedNumbers → List Glanced → List Intent → Type 0
 HasBegun port served made intents = (done : List Intent) × IsPrefix done intents × AreDone port served made done

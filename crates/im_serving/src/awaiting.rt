@@ -5,7 +5,7 @@ ghost use Rattle.im_serving.specs.Serving.{Looked};
 
 use crate::asking::confirm;
 use crate::glances::Glances;
-use crate::numbers::Served;
+use crate::numbers::ServedNumbers;
 use im_controller::{Controller, Name, Port};
 use im_disk::Disk;
 use im_types::{Entry, Refusal, WINDOW};
@@ -16,7 +16,7 @@ fn await_one<D: Disk, K: Name, R: Wait>(
     rt: &R,
     controller: &Controller<D, K>,
     port: &mut Port<K>,
-    served: &mut Served,
+    served: &mut ServedNumbers,
     number: u64,
 ) -> Result<(), Refusal>
     ensures element { port.new.element ≡ port.old.element }
@@ -41,7 +41,7 @@ fn is_answered<D: Disk, K: Name, R: Wait>(
     rt: &R,
     controller: &Controller<D, K>,
     port: &mut Port<K>,
-    served: &mut Served,
+    served: &mut ServedNumbers,
     number: u64,
 ) -> Result<bool, Refusal>
     ensures element { port.new.element ≡ port.old.element }
@@ -68,7 +68,7 @@ fn first_waiting<D: Disk, K: Name, R: Wait>(
     rt: &R,
     controller: &Controller<D, K>,
     port: &mut Port<K>,
-    served: &mut Served,
+    served: &mut ServedNumbers,
 ) -> Result<u64, Refusal>
     ensures element { port.new.element ≡ port.old.element }
     ensures first { served.new.first ≡ served.old.first }
@@ -96,7 +96,7 @@ pub(crate) fn make_place<D: Disk, K: Name, R: Wait>(
     rt: &R,
     controller: &Controller<D, K>,
     port: &mut Port<K>,
-    served: &mut Served,
+    served: &mut ServedNumbers,
     glances: &mut Glances<K>,
 ) -> Result<(), Refusal>
     ensures element { port.new.element ≡ port.old.element }
@@ -128,7 +128,7 @@ pub(crate) fn await_rest<D: Disk, K: Name, R: Wait>(
     rt: &R,
     controller: &Controller<D, K>,
     port: &mut Port<K>,
-    served: &mut Served,
+    served: &mut ServedNumbers,
 ) -> Result<(), Refusal>
     ensures element { port.new.element ≡ port.old.element }
     ensures first { served.new.first ≡ served.old.first }

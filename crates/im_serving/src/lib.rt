@@ -29,7 +29,7 @@ pub use glances::{Glanced, Glances};
 pub use host::Host;
 pub use im_controller::Standing;
 pub use intent::Intent;
-pub use numbers::Served;
+pub use numbers::ServedNumbers;
 pub use orders::{are_in_order, ask_twice};
 pub use parts::{Done, Part};
 pub use sender::{Sent, send_all};

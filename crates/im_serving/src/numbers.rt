@@ -6,7 +6,7 @@ use im_types::{Entry, Refusal};
 
 /// What a server knows of its element's numbers.
 #[derive(Drop)]
-pub struct Served {
+pub struct ServedNumbers {
     /// The element.
     pub element: u16,
     /// The number of the first request that is served.
@@ -17,7 +17,7 @@ pub struct Served {
     pub entries: Vec<Entry>,
 }
 
-impl Served {
+impl ServedNumbers {
     /// Returns the number of the next request.
     pub(crate) fn next(&self) -> u64 {
         self.first.saturating_add(self.entries.len() as u64)

@@ -3,7 +3,7 @@ ghost use Rattle.std.specs.Prelude.{◌≡◌};
 
 use crate::glances::Glances;
 use crate::intent::Intent;
-use crate::numbers::Served;
+use crate::numbers::ServedNumbers;
 use im_controller::{Name, Port};
 use im_types::Refusal;
 use std::marker::Model;
@@ -15,7 +15,7 @@ pub struct Part<K: Name> {
     /// The port.
     pub port: Port<K>,
     /// What is known of its numbers.
-    pub served: Served,
+    pub served: ServedNumbers,
     /// Its reader.
     pub glances: Glances<K>,
     /// What it asks for, in order.
@@ -46,7 +46,7 @@ pub struct Done<K: Name> {
     /// The port, which is retired.
     pub port: Port<K>,
     /// Its numbers and entries.
-    pub served: Served,
+    pub served: ServedNumbers,
     /// Its glances.
     pub glances: Glances<K>,
     /// The refusal, if one ended it before the last of its operations.
@@ -72,13 +72,13 @@ impl<K: Name> Model for Done<K> {
 
 /// What a server's thread starts with, besides its end of the pipe. Contracts see what was done before.
 #[derive(Drop)]
-pub(crate) struct Server<K: Name> {
+pub(crate) struct ServerStart<K: Name> {
     pub(crate) port: Port<K>,
-    pub(crate) served: Served,
+    pub(crate) served: ServedNumbers,
     pub(crate) glances: Glances<K>,
 }
 
-impl<K: Name> Model for Server<K> {
+impl<K: Name> Model for ServerStart<K> {
     ghost use Rattle.im_serving.specs.Elements.{Deeds};
 
     ghost Value = { Deeds };
@@ -94,7 +94,7 @@ impl<K: Name> Model for Server<K> {
 
 impl<K: Name> Part<K> {
     /// Returns what its server starts with, and what it asks for.
-    pub(crate) fn split(self) -> (Server<K>, Vec<Intent>)
+    pub(crate) fn split(self) -> (ServerStart<K>, Vec<Intent>)
         ensures deeds { result.0 ≡ self.deeds }
         ensures intents { result.1.items ≡ self.intents }
     {
@@ -105,7 +105,7 @@ impl<K: Name> Part<K> {
             intents,
         } = self;
         (
-            Server {
+            ServerStart {
                 port,
                 served,
                 glances,

@@ -1,7 +1,7 @@
 //! The two threads of an element, and what they promise.
 
 use crate::intent::Intent;
-use crate::parts::{Done, Part, Server};
+use crate::parts::{Done, Part, ServerStart};
 use crate::sender::Sent;
 use im_controller::Name;
 use im_pipes::{Inlet, Outlet};
@@ -19,7 +19,7 @@ pub(crate) struct Stopped<K: Name> {
 /// What a server's thread promises, given what it starts with and its end of the pipe.
 #[derive(Drop)]
 pub(crate) struct Serves<K: Name> {
-    pub(crate) server: Snapshot<Server<K>>,
+    pub(crate) server: Snapshot<ServerStart<K>>,
     pub(crate) outlet: Snapshot<Outlet<Intent>>,
 }
 

@@ -3,14 +3,14 @@ ghost use Rattle.std.specs.Prelude.{◌≡◌, [], true};
 ghost use mathlib.Core.List.{IsPrefix};
 
 use crate::intent::Intent;
-use im_pipes::{Finished, Inlet};
+use im_pipes::{FinishedInlet, Inlet};
 use std::sync::Wait;
 
 /// What a sender did.
 #[derive(Drop)]
 pub struct Sent {
     /// The intents that it sent, and whether it sent the end mark.
-    pub finished: Finished<Intent>,
+    pub finished: FinishedInlet<Intent>,
     /// Whether no intent was handed back.
     pub all: bool,
 }

@@ -10,7 +10,7 @@ use crate::context::Context;
 use crate::gate::Gate;
 use crate::glances::Glances;
 use crate::intent::Intent;
-use crate::numbers::Served;
+use crate::numbers::ServedNumbers;
 use im_controller::{Name, Port};
 use im_disk::Disk;
 use im_pipes::{Outlet, Received};
@@ -21,7 +21,7 @@ use std::sync::Wait;
 fn serve_one<D: Disk, K: Name, G: Gate, R: Wait>(
     context: &Context<'_, D, K, G, R>,
     port: &mut Port<K>,
-    served: &mut Served,
+    served: &mut ServedNumbers,
     glances: &mut Glances<K>,
     op: Op,
 ) -> Result<(), Refusal>
@@ -59,7 +59,7 @@ fn serve_one<D: Disk, K: Name, G: Gate, R: Wait>(
 fn serve_intent<D: Disk, K: Name, G: Gate, R: Wait>(
     context: &Context<'_, D, K, G, R>,
     port: &mut Port<K>,
-    served: &mut Served,
+    served: &mut ServedNumbers,
     glances: &mut Glances<K>,
     intent: Intent,
 ) -> Result<(), Refusal>
@@ -86,7 +86,7 @@ fn serve_intent<D: Disk, K: Name, G: Gate, R: Wait>(
 fn serve_all<D: Disk, K: Name, G: Gate, R: Wait>(
     context: &Context<'_, D, K, G, R>,
     port: &mut Port<K>,
-    served: &mut Served,
+    served: &mut ServedNumbers,
     glances: &mut Glances<K>,
     outlet: &mut Outlet<Intent>,
 ) -> Result<(), Refusal>
@@ -132,7 +132,7 @@ fn drain<R: Wait>(rt: &R, outlet: &mut Outlet<Intent>)
 fn serve_to_end<D: Disk, K: Name, G: Gate, R: Wait>(
     context: &Context<'_, D, K, G, R>,
     port: &mut Port<K>,
-    served: &mut Served,
+    served: &mut ServedNumbers,
     glances: &mut Glances<K>,
     outlet: &mut Outlet<Intent>,
 ) -> Result<(), Refusal>
@@ -173,7 +173,7 @@ fn serve_to_end<D: Disk, K: Name, G: Gate, R: Wait>(
 pub fn serve_element<D: Disk, K: Name, G: Gate, R: Wait>(
     context: &Context<'_, D, K, G, R>,
     port: &mut Port<K>,
-    served: &mut Served,
+    served: &mut ServedNumbers,
     glances: &mut Glances<K>,
     outlet: &mut Outlet<Intent>,
 ) -> Result<(), Refusal>

@@ -8,7 +8,7 @@ use crate::ending::settle;
 use crate::gate::Gate;
 use crate::host::Host;
 use crate::intent::Intent;
-use crate::parts::{Done, Part, Server};
+use crate::parts::{Done, Part, ServerStart};
 use crate::running::{Pair, Running, Sends, Serves, Stopped};
 use crate::sender::{Sent, send_all};
 use crate::server::serve_element;
@@ -30,7 +30,7 @@ fn serve_part<D: Disk, K: Name, G: Gate, R: Wait>(
     rt: &R,
     controller: &Controller<D, K>,
     gate: &G,
-    server: Server<K>,
+    server: ServerStart<K>,
     outlet: Outlet<Intent>,
 ) -> Stopped<K>
     requires open { outlet.ended ≡ false }
@@ -38,7 +38,7 @@ fn serve_part<D: Disk, K: Name, G: Gate, R: Wait>(
     ensures same { result.outlet.pipe ≡ outlet.pipe }
     ensures stopped { HasStopped K.origin.memory server result.done result.outlet }
 {
-    let Server {
+    let ServerStart {
         mut port,
         mut served,
         mut glances,
@@ -94,11 +94,11 @@ fn send_intents<R: Wait>(
 fn give_up<D: Disk, K: Name, R: Wait>(
     rt: &R,
     controller: &Controller<D, K>,
-    server: Server<K>,
+    server: ServerStart<K>,
 ) -> Done<K>
     ensures { IsUnserved K.origin.memory server result }
 {
-    let Server {
+    let ServerStart {
         mut port,
         served,
         glances,
@@ -149,7 +149,7 @@ fn begin_sending<'s, E, R: Host>(
 fn begin_serving<'s, E, D: Disk + Drop + Send, K: Name + Send + Sync, G: Gate + Sync, R: Host>(
     context: &Context<'s, D, K, G, R>,
     scope: &Scope<'s, E>,
-    server: Server<K>,
+    server: ServerStart<K>,
     inlet: Inlet<Intent>,
     outlet: Outlet<Intent>,
 ) -> Result<(PromisedHandle<Stopped<K>, Serves<K>>, Inlet<Intent>), Done<K>>

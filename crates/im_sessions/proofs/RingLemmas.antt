@@ -15,13 +15,13 @@ use Rattle.im_types.specs.declared.operations.Entry.TheVariants.{Answered}
 use Rattle.im_types.specs.Contents.{Window}
 use Rattle.im_types.specs.Memory.{IsWindow}
 use Rattle.im_types.specs.Window.{is_waiting, next_number, note_in, answer_at, answer_in}
-use Rattle.im_sessions.specs.Places.{blank, place_of, entries_from, AreBounds}
+use Rattle.im_sessions.specs.Places.{blank, ring_place, entries_from, AreBounds}
 
 -- the window that a ring shows
 abbrev pub window_of : List Kept → ℕ → ℕ → Window
 window_of places base count = record { base = base; kept = entries_from places base count }
 
-place_of-within : (n : ℕ) → place_of n < WINDOW
+place_of-within : (n : ℕ) → ring_place n < WINDOW
 place_of-within n = omega arith
 
 pub length-entries_from : (places : List Kept) (n count : ℕ) → length (entries_from places n count) ≡ count
@@ -29,53 +29,53 @@ length-entries_from places n zero = refl
 length-entries_from places n (suc count) = ap suc (length-entries_from places (suc n) count)
 
 slice_get-entries_from : (places : List Kept) (n count i : ℕ) → i < count → slice_get (entries_from places n count) i
-    ≡ Some (get_or places (place_of (n + i)) blank)
+    ≡ Some (get_or places (ring_place (n + i)) blank)
 slice_get-entries_from places n zero i h = absurd (omega arith)
 slice_get-entries_from places n (suc count) zero h = let e : n
-    ≡ n + 0 = omega arith in ap (λ m. Some (get_or places (place_of m) blank)) e
+    ≡ n + 0 = omega arith in ap (λ m. Some (get_or places (ring_place m) blank)) e
 slice_get-entries_from places n (suc count) (suc i) h =
     let e : suc n + i ≡ n + suc i = omega arith in
-    slice_get-entries_from places (suc n) count i (omega arith) ∙ ap (λ m. Some (get_or places (place_of m) blank)) e
+    slice_get-entries_from places (suc n) count i (omega arith) ∙ ap (λ m. Some (get_or places (ring_place m) blank)) e
 
 -- the entry under a number
 slice_get-shown : (places : List Kept) (base count number : ℕ) (d : Kept) → length places ≡ WINDOW → base ≤ number
     → number < base + count
-    → slice_get (entries_from places base count) (number - base) ≡ Some (get_or places (place_of number) d)
+    → slice_get (entries_from places base count) (number - base) ≡ Some (get_or places (ring_place number) d)
 slice_get-shown places base count number d size from below =
     let e : base + (number - base) ≡ number = omega arith in
     slice_get-entries_from places base count (number - base) (omega arith)
-    ∙ ap (λ m. Some (get_or places (place_of m) blank)) e
-    ∙ ap Some (get_or_default places (place_of number) blank d (rw size (place_of-within number)))
+    ∙ ap (λ m. Some (get_or places (ring_place m) blank)) e
+    ∙ ap Some (get_or_default places (ring_place number) blank d (rw size (place_of-within number)))
 
 -- a write to a place that none of these entries has leaves them
 entries_from-set_other : (places : List Kept) (place n count : ℕ) (k : Kept)
-    → ((m : ℕ) → n ≤ m → m < n + count → place_of m ≢ place) → entries_from (set places place k) n count
+    → ((m : ℕ) → n ≤ m → m < n + count → ring_place m ≢ place) → entries_from (set places place k) n count
     ≡ entries_from places n count
 entries_from-set_other places place n zero k apart = refl
 entries_from-set_other places place n (suc count) k apart =
     ap (λ x. x ∷ entries_from (set places place k) (suc n) count)
-    (get_or-set_other places place (place_of n) k blank (apart n (omega arith) (omega arith)))
-    ∙ ap (λ xs. get_or places (place_of n) blank ∷ xs)
+    (get_or-set_other places place (ring_place n) k blank (apart n (omega arith) (omega arith)))
+    ∙ ap (λ xs. get_or places (ring_place n) blank ∷ xs)
     (entries_from-set_other places place (suc n) count k (λ m from below. apart m (omega arith) (omega arith)))
 
 entries_from-last : (places : List Kept) (n count : ℕ) → entries_from places n (suc count)
-    ≡ entries_from places n count ++ get_or places (place_of (n + count)) blank ∷ []
-entries_from-last places n zero = let e : n ≡ n + 0 = omega arith in ap (λ m. get_or places (place_of m) blank ∷ []) e
+    ≡ entries_from places n count ++ get_or places (ring_place (n + count)) blank ∷ []
+entries_from-last places n zero = let e : n ≡ n + 0 = omega arith in ap (λ m. get_or places (ring_place m) blank ∷ []) e
 entries_from-last places n (suc count) =
     let e : suc n + count ≡ n + suc count = omega arith in
-    ap (λ xs. get_or places (place_of n) blank ∷ xs)
+    ap (λ xs. get_or places (ring_place n) blank ∷ xs)
     (entries_from-last places (suc n) count
-    ∙ ap (λ m. entries_from places (suc n) count ++ get_or places (place_of m) blank ∷ []) e)
+    ∙ ap (λ m. entries_from places (suc n) count ++ get_or places (ring_place m) blank ∷ []) e)
 
 -- a write to the place behind the last entry adds it there
 entries_from-push : (places : List Kept) (n count : ℕ) (k : Kept) → length places ≡ WINDOW → count < WINDOW
-    → entries_from (set places (place_of (n + count)) k) n (suc count) ≡ entries_from places n count ++ k ∷ []
+    → entries_from (set places (ring_place (n + count)) k) n (suc count) ≡ entries_from places n count ++ k ∷ []
 entries_from-push places n count k size room =
-    entries_from-last (set places (place_of (n + count)) k) n count
-    ∙ ap (λ x. entries_from (set places (place_of (n + count)) k) n count ++ x ∷ [])
-    (get_or-set_same places (place_of (n + count)) k blank (rw size (place_of-within (n + count))))
+    entries_from-last (set places (ring_place (n + count)) k) n count
+    ∙ ap (λ x. entries_from (set places (ring_place (n + count)) k) n count ++ x ∷ [])
+    (get_or-set_same places (ring_place (n + count)) k blank (rw size (place_of-within (n + count))))
     ∙ ap (λ xs. xs ++ k ∷ [])
-    (entries_from-set_other places (place_of (n + count)) n count k (λ m from below. λ same. omega arith))
+    (entries_from-set_other places (ring_place (n + count)) n count k (λ m from below. λ same. omega arith))
 
 -- an operation with its answer
 abbrev answered_op : Op → Reply → Kept
@@ -83,32 +83,32 @@ answered_op op reply = record { op = op; entry = Answered reply }
 
 -- a write to the place of an entry answers it, and the places of the others are apart
 entries_from-answer : (places : List Kept) (n count i place : ℕ) (reply : Reply) (k : Kept) → length places ≡ WINDOW
-    → count ≤ WINDOW → i < count → place ≡ place_of (n + i) → get_or places place blank ≡ k
+    → count ≤ WINDOW → i < count → place ≡ ring_place (n + i) → get_or places place blank ≡ k
     → entries_from (set places place (record { op = k.op; entry = Answered reply })) n count
     ≡ answer_at i reply (entries_from places n count)
 entries_from-answer places n zero i place reply k size few below at was = absurd (omega arith)
 entries_from-answer places n (suc count) zero place reply k size few below at was =
     let answered : Kept = record { op = k.op; entry = Answered reply } in
-    let here : place_of n ≡ place = omega arith in
-    let first : get_or (set places place answered) (place_of n) blank
+    let here : ring_place n ≡ place = omega arith in
+    let first : get_or (set places place answered) (ring_place n) blank
     ≡ answered = ap (λ m. get_or (set places place answered) m blank) here
     ∙ get_or-set_same places place answered blank (rw (size, at) (place_of-within (n + 0))) in
     let rest : entries_from (set places place answered) (suc n) count
     ≡ entries_from places (suc n) count = entries_from-set_other places place (suc n) count answered
     (λ m from to. λ same. omega arith) in
-    let same_op : k.op ≡ (get_or places (place_of n) blank).op = ap (λ (k : Kept). k.op)
+    let same_op : k.op ≡ (get_or places (ring_place n) blank).op = ap (λ (k : Kept). k.op)
     (sym was ∙ ap (λ m. get_or places m blank) (sym here)) in
     ap (λ x. x ∷ entries_from (set places place answered) (suc n) count)
     (first ∙ ap (λ op. answered_op op reply) same_op)
-    ∙ ap (λ xs. answered_op (get_or places (place_of n) blank).op reply ∷ xs) rest
+    ∙ ap (λ xs. answered_op (get_or places (ring_place n) blank).op reply ∷ xs) rest
 entries_from-answer places n (suc count) (suc i) place reply k size few below at was =
     let answered : Kept = record { op = k.op; entry = Answered reply } in
-    let first : get_or (set places place answered) (place_of n) blank
-    ≡ get_or places (place_of n) blank = get_or-set_other places place (place_of n) answered blank
+    let first : get_or (set places place answered) (ring_place n) blank
+    ≡ get_or places (ring_place n) blank = get_or-set_other places place (ring_place n) answered blank
     (λ same. omega arith) in
-    let moved : place ≡ place_of (suc n + i) = omega arith in
+    let moved : place ≡ ring_place (suc n + i) = omega arith in
     ap (λ x. x ∷ entries_from (set places place answered) (suc n) count) first
-    ∙ ap (λ xs. get_or places (place_of n) blank ∷ xs)
+    ∙ ap (λ xs. get_or places (ring_place n) blank ∷ xs)
     (entries_from-answer places (suc n) count i place reply k size (omega arith) (omega arith) moved was)
 
 -- without the first entries
@@ -143,7 +143,7 @@ IsWindow-window_of places base count bounds =
 
 -- what stands at the place of a number is the entry under it
 pub slice_get-window : (places : List Kept) (base count number place : ℕ) (d : Kept) (w : Window) → length places
-    ≡ WINDOW → window_of places base count ≡ w → place ≡ place_of number
+    ≡ WINDOW → window_of places base count ≡ w → place ≡ ring_place number
     → w.base ≤ number → number < next_number w → slice_get w.kept (number - w.base) ≡ Some (get_or places place d)
 slice_get-window places base count number place d w size is at from below =
     let shown = IsShown-window_of places base count w is in
@@ -152,7 +152,7 @@ slice_get-window places base count number place d w size is at from below =
     ∙ ap (λ m. Some (get_or places m d)) (sym at)
 
 pub window_of-note : (places : List Kept) (base count place : ℕ) (op : Op) (entry : Entry) (w : Window)
-    → length places ≡ WINDOW → window_of places base count ≡ w → place ≡ place_of (base + count)
+    → length places ≡ WINDOW → window_of places base count ≡ w → place ≡ ring_place (base + count)
     → length w.kept < WINDOW → window_of (set places place (record { op = op; entry = entry })) base (count + 1)
     ≡ note_in op entry w
 window_of-note places base count place op entry w size is at room =
@@ -162,7 +162,7 @@ window_of-note places base count place op entry w size is at room =
     ∙ ap (note_in op entry) is
 
 pub window_of-answer : (places : List Kept) (base count number place : ℕ) (reply : Reply) (d : Kept) (w : Window)
-    → length places ≡ WINDOW → count ≤ WINDOW → window_of places base count ≡ w → place ≡ place_of number
+    → length places ≡ WINDOW → count ≤ WINDOW → window_of places base count ≡ w → place ≡ ring_place number
     → w.base ≤ number → number < next_number w
     → window_of (set places place
     (record { op = (get_or places place d).op; entry = Answered reply })) base count ≡ answer_in number reply w
@@ -171,7 +171,7 @@ window_of-answer places base count number place reply d w size few is at from be
     let back : base + (number - base) ≡ number = omega arith in
     ap (λ (kept : List Kept). let w : Window = record { base = base; kept = kept } in w)
     (entries_from-answer places base count (number - base) place reply (get_or places place d) size few (omega arith)
-    (at ∙ ap place_of (sym back)) (get_or_default places place blank d (rw (size, at) (place_of-within number))))
+    (at ∙ ap ring_place (sym back)) (get_or_default places place blank d (rw (size, at) (place_of-within number))))
     ∙ ap (answer_in number reply) is
 
 pub window_of-drop : (places : List Kept) (base count some : ℕ) (w : Window) → window_of places base count ≡ w

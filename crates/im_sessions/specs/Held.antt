@@ -32,9 +32,9 @@ held_by StillWaiting = HeldStillWaiting
 held_by Cleared = HeldCleared
 
 -- an entry as a flat variant
-abbrev pub held_of : Entry → Held
-held_of Waiting = HeldWaiting
-held_of (Answered reply) = held_by reply
+abbrev pub held_form : Entry → Held
+held_form Waiting = HeldWaiting
+held_form (Answered reply) = held_by reply
 
 -- the reply of a flat variant, if it has one
 abbrev pub reply_of : Held → Option Reply
@@ -58,11 +58,11 @@ entry_with None = Waiting
 entry_with (Some reply) = Answered reply
 
 -- the entry that a flat variant stands for
-abbrev pub entry_of : Held → Entry
-entry_of held = entry_with (reply_of held)
+abbrev pub held_entry : Held → Entry
+held_entry held = entry_with (reply_of held)
 
 -- flattening the entry of a flat variant gives that variant
-pub held_of-entry_of : (held : Held) → held_of (entry_of held) ≡ held
+pub held_of-entry_of : (held : Held) → held_form (held_entry held) ≡ held
 held_of-entry_of HeldWaiting = refl
 held_of-entry_of (HeldBase base) = refl
 held_of-entry_of HeldNoSpace = refl

@@ -10,14 +10,14 @@ abbrev pub blank : Kept
 blank = record { op = Release 0; entry = Waiting }
 
 -- the place of a number in the ring
-abbrev pub place_of : ℕ → ℕ
-place_of number = number % WINDOW
+abbrev pub ring_place : ℕ → ℕ
+ring_place number = number % WINDOW
 
 -- this number of entries, from this number on
 abbrev pub entries_from : List Kept → ℕ → ℕ → List Kept
 entries_from places number zero = []
 entries_from places number (suc count) =
-    slice_index_or places (place_of number) blank ∷ entries_from places (suc number) count
+    slice_index_or places (ring_place number) blank ∷ entries_from places (suc number) count
 
 -- the window is numbered from 1 on, keeps at most WINDOW entries, and numbers none past the last number of all
 pub record AreBounds (base count : ℕ) : Type 0 where

@@ -1,7 +1,7 @@
 //! One place of a ring: an operation and its entry.
 ghost use Rattle.std.specs.Prelude.{◌≡◌};
 ghost use Rattle.im_types.specs.declared.operations.Entry.TheVariants.{Answered};
-ghost use Rattle.im_sessions.specs.Held.{held_by, held_of, entry_of};
+ghost use Rattle.im_sessions.specs.Held.{held_by, held_form, held_entry};
 ghost use Rattle.im_types.specs.Window.{is_waiting};
 
 use im_types::{Entry, Kept, Op, Reply};
@@ -27,25 +27,25 @@ enum Held {
 
 /// An operation and its entry, in 32 bytes. Contracts see both.
 #[derive(Clone, Copy)]
-pub struct Place {
+pub struct RingPlace {
     op: Op,
     held: Held,
 }
 
-impl Model for Place {
+impl Model for RingPlace {
     ghost use Rattle.im_types.specs.declared.operations.Kept.{Kept};
-    ghost use Rattle.im_sessions.specs.Held.{entry_of, held_of, held_of-entry_of};
+    ghost use Rattle.im_sessions.specs.Held.{held_entry, held_form, held_of-entry_of};
 
     ghost Value = { Kept };
 
-    ghost view = { λ p. record { op = p.op; entry = entry_of p.held } };
+    ghost view = { λ p. record { op = p.op; entry = held_entry p.held } };
 
-    ghost inverse = { λ k. record { op = k.op; held = held_of k.entry } };
+    ghost inverse = { λ k. record { op = k.op; held = held_form k.entry } };
 
     ghost inverse_ok = { λ p h i. record { op = p.op; held = held_of-entry_of p.held i } };
 }
 
-const _: () = prove!(size_of::<Place>() == 32);
+const _: () = prove!(size_of::<RingPlace>() == 32);
 
 // Returns a reply as a flat variant.
 fn held_by(reply: Reply) -> Held
@@ -69,7 +69,7 @@ fn held_by(reply: Reply) -> Held
 
 // Returns an entry as a flat variant.
 fn held_of(entry: Entry) -> Held
-    ensures { result ≡ held_of entry }
+    ensures { result ≡ held_form entry }
 {
     match entry {
         Entry::Waiting => Held::Waiting,
@@ -79,7 +79,7 @@ fn held_of(entry: Entry) -> Held
 
 // Returns the entry that a flat variant stands for.
 fn entry_of(held: Held) -> Entry
-    ensures { result ≡ entry_of held }
+    ensures { result ≡ held_entry held }
 {
     match held {
         Held::Waiting => Entry::Waiting,
@@ -98,12 +98,12 @@ fn entry_of(held: Held) -> Entry
     }
 }
 
-impl Place {
+impl RingPlace {
     /// Makes a place with this operation and this entry.
-    pub fn new(op: Op, entry: Entry) -> Place
+    pub fn new(op: Op, entry: Entry) -> RingPlace
         ensures { result ≡ record { op = op; entry = entry } }
     {
-        Place {
+        RingPlace {
             op,
             held: held_of(entry),
         }

@@ -6,9 +6,9 @@ ghost use Rattle.im_types.specs.Contents.{new_window, kept_under};
 ghost use Rattle.im_types.specs.Memory.{IsWindow};
 ghost use Rattle.im_types.specs.Window.{judge_window, confirm_window, ask_window, note_in, answer_in, is_waiting};
 ghost use Rattle.im_types.specs.Window.{next_number, same_op};
-ghost use Rattle.im_sessions.specs.Places.{place_of};
+ghost use Rattle.im_sessions.specs.Places.{ring_place};
 
-use crate::place::Place;
+use crate::place::RingPlace;
 use im_types::{Entry, Judged, Kept, LAST, Op, Refusal, Reply, Request, WINDOW};
 use std::marker::Model;
 
@@ -19,7 +19,7 @@ const PLACES: usize = WINDOW as usize;
 pub struct Ring {
     base: u64,
     count: u64,
-    places: [Place; PLACES],
+    places: [RingPlace; PLACES],
 }
 
 impl Model for Ring {
@@ -35,7 +35,7 @@ impl Model for Ring {
 
 // Returns the place of the entry with this number.
 fn place_of(number: u64) -> usize
-    ensures { result ≡ place_of number }
+    ensures { result ≡ ring_place number }
 {
     (number % WINDOW) as usize
 }
@@ -56,7 +56,7 @@ impl Ring {
         Ring {
             base: 1,
             count: 0,
-            places: [Place::new(Op::Release(0), Entry::Waiting); PLACES],
+            places: [RingPlace::new(Op::Release(0), Entry::Waiting); PLACES],
         }
     }
 
@@ -151,7 +151,7 @@ impl Ring {
         ensures noted { self.new ≡ note_in op entry self.old }
         ensures bounds { IsWindow self.new }
     {
-        self.places[place_of(self.base + self.count)] = Place::new(op, entry);
+        self.places[place_of(self.base + self.count)] = RingPlace::new(op, entry);
         self.count += 1;
     }
 
@@ -196,7 +196,7 @@ impl Ring {
     }
 
     // Returns the place of a number that the window has.
-    fn at(&self, number: u64) -> &Place
+    fn at(&self, number: u64) -> &RingPlace
         requires from_base { self.now.base ≤ number }
         requires below_next { number < next_number self.now }
         ensures { slice_get self.now.kept (number - self.now.base) ≡ Some result.now }

@@ -49,7 +49,7 @@ pub fn tell(engines: &mut Engines, call: &Phrase, said: &mut Saying) -> bool {
         ("slot _", _) => tell_slot(engines, call.place(0), said),
         ("count", Some(engine)) => said.number(engine.count()),
         ("room", Some(engine)) => said.number(engine.room() as u64),
-        ("failed", Some(engine)) => said.truth(engine.failed()),
+        ("failed", Some(engine)) => said.number(engine.failed()),
         ("window _", Some(engine)) => said.window(engine.window(element)),
         ("collect _._", Some(engine)) => said.answer(engine.collect(element, call.number(1))),
         ("cell _", Some(engine)) => said.place(engine.memory().cell(a), engine.memory().block(a)),

@@ -1,7 +1,7 @@
 //! A table of cells, the table that is restored from the records of its cells, and a random walk beside slots that are
 //! kept plainly.
 ghost use Rattle.std.specs.Prelude.{◌≡◌, ◌<◌, ◌^◌, length, map, IfOk};
-ghost use Rattle.im_cell.specs.Slots.{slot_at, shown_cell, shown_slot, HasBlocks};
+ghost use Rattle.im_cell.specs.Slots.{slot_at, shown_cell, shown_slot, HoldsBlocks};
 
 use im_cell::{CellTable, Slot};
 use im_story::{Phrase, Saying};
@@ -36,7 +36,7 @@ fn record_at(table: &CellTable, a: u32) -> CellRecord
 fn records_of(alloc: Global, table: &CellTable) -> Result<Vec<CellRecord>, AllocError>
     ensures shown { IfOk result (λ records. map shown_slot records.items ≡ table.now) }
     ensures few { length table.now < 2 ^ 32 }
-    ensures blocks { HasBlocks table.now }
+    ensures blocks { HoldsBlocks table.now }
 {
     // The contract of this call says that blocks are whole.
     let _ = table.block_of(0);

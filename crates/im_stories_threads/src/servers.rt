@@ -2,7 +2,9 @@
 
 use crate::casts::{Cast, keep};
 use im_controller::Name;
-use im_serving::{Done, Gate, Glances, Host, Intent, Part, Served, Unwatched, serve_elements};
+use im_serving::{
+    Done, Gate, Glances, Host, Intent, Part, ServedNumbers, Unwatched, serve_elements,
+};
 use im_types::{Entry, Op, Refusal};
 
 /// A request: its element, from 1 to 3, its number and its operation.
@@ -23,7 +25,7 @@ impl<K: Name + Send + Sync, R: Host> Cast<'_, K, R> {
         let glances = Glances::new(self.rt, self.alloc, self.controller, element).ok()?;
         let port = self.port(element)?;
         let entries = Vec::new(self.alloc);
-        let served = Served {
+        let served = ServedNumbers {
             element,
             first: 1,
             base: 1,

@@ -36,16 +36,6 @@ impl Cases {
         self.times = self.times.saturating_add(1);
     }
 
-    /// Takes in the case of this number.
-    pub fn next(&mut self, case: u64, text: &Saying, said: &mut Saying) {
-        self.take(Some(case), text, said)
-    }
-
-    /// Takes in a case without a number.
-    pub fn again(&mut self, text: &Saying, said: &mut Saying) {
-        self.take(None, text, said)
-    }
-
     /// Tells the last ones.
     pub fn end(&self, said: &mut Saying) {
         if self.times == 0 {

@@ -14,11 +14,6 @@ use im_types::{
 };
 
 impl Saying {
-    /// Adds `true` or `false`.
-    pub fn truth(&mut self, truth: bool) {
-        self.number(truth)
-    }
-
     /// Adds a number, or `none`.
     pub fn number_or_none(&mut self, number: Option<u32>) {
         match number {

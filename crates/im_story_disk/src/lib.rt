@@ -8,5 +8,4 @@
 mod calls;
 mod story_file;
 
-pub use im_story::{changes, crash, mode};
-pub use story_file::{STEADY, StoryFile, StoryFile as Place};
+pub use story_file::{STEADY, StoryFile};

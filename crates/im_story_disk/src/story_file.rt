@@ -51,11 +51,6 @@ impl StoryFile {
         }
     }
 
-    /// Returns whether there is a file, and no engine on it.
-    pub fn is_closed(&self) -> bool {
-        self.disk.is_some()
-    }
-
     /// Returns the file's bytes, or none if there is no file that is closed.
     pub fn bytes(&self) -> &[u8] {
         match &self.disk {

@@ -21,10 +21,10 @@ use Rattle.im_types.specs.declared.operations.Entry.{Entry}
 use Rattle.im_types.specs.declared.commands.Outcome.TheVariants.{Entry as Tells}
 use Rattle.im_types.specs.Trace.{told, answer_to, contents_after, IsLegal, end_of}
 use Rattle.im_laws.proofs.TraceLemmas.{end_of-append, IsLegal-push, IsLegal-split}
-use Rattle.im_trace.specs.Lines.{Counts, EndsIn, EndsInAll, leaves_line, line_of, lines_of, memory_after}
+use Rattle.im_trace.specs.Lines.{LineCounts, EndsIn, EndsInAll, leaves_line, line_of, left_lines, memory_after}
 use Rattle.im_trace.specs.Lines.{counts_after, time_at}
-use Rattle.im_trace.specs.Log.{sender_of, UnclaimedState, LogState, IsProof, StandsIn, unclaimed_lines, with_line}
-use Rattle.im_trace.specs.Log.{with_unclaimed, without_unclaimed, AreFree, AreClaimed, IsLog, IsOfTrace}
+use Rattle.im_trace.specs.Log.{sender_of, UnclaimedState, LogState, IsProof, StandsInTrace, unclaimed_lines, with_line}
+use Rattle.im_trace.specs.Log.{with_unclaimed, without_unclaimed, AreVacant, AreClaimed, IsLog, IsOfTrace}
 use Rattle.im_trace.specs.Log.{receipt_for, IsTimed}
 
 -- the line of a call, if it leaves one
@@ -49,7 +49,7 @@ few_by true call answer n limit room few = omega (arith, room refl)
 few_by false call answer n limit room few = omega (arith, few)
 
 pub end-lines : (m : Contents) (trace : List Line) (call : Call) (answer : Result Outcome Refusal)
-    → end_of m (trace ++ lines_of call answer) ≡ memory_after (end_of m trace) call answer
+    → end_of m (trace ++ left_lines call answer) ≡ memory_after (end_of m trace) call answer
 end-lines m trace call answer = end_by (leaves_line answer) m trace call answer
 
 count-append : (marks : Line → Bool) (xs ys : List Line) → count_by marks (xs ++ ys)
@@ -58,7 +58,7 @@ count-append marks xs ys = sum_by-append (λ x. cond (marks x) 1 0) xs ys
 
 -- the trace of an answer's receipt
 pub proof-at_end : (m : Contents) (trace : List Line) (call : Call) (answer : Result Outcome Refusal)
-    → IsLegal m trace → EndsInAll trace (lines_of call answer) → IsProof m call answer trace
+    → IsLegal m trace → EndsInAll trace (left_lines call answer) → IsProof m call answer trace
 proof-at_end m trace call (Ok outcome) legal ends = (legal, ends)
 proof-at_end m trace call (Err refusal) legal ends = tt
 
@@ -67,7 +67,7 @@ pub prefix-more : {X : Type 0} (xs ys zs : List X) → IsPrefix xs ys → IsPref
 prefix-more xs ys zs p = (p.0 ++ zs, sym (append_assoc xs p.0 zs) ∙ ap (λ l. l ++ zs) p.1)
 
 stand-more : (trace more : List Line) (places : List (Option UnclaimedState))
-    → AllByRecursion (StandsIn trace) places → AllByRecursion (StandsIn (trace ++ more)) places
+    → AllByRecursion (StandsInTrace trace) places → AllByRecursion (StandsInTrace (trace ++ more)) places
 stand-more trace more [] all = tt
 stand-more trace more (None ∷ places) all = (tt, stand-more trace more places all.1)
 stand-more trace more (Some w ∷ places) all =
@@ -79,7 +79,7 @@ taken history trace n p is = ap (λ ls. take n ls) (sym p.1) ∙ take-append-le 
     ∙ take_all n history (omega (arith, is))
 
 -- an answer that waits: the trace up to its line is legal, and ends in it
-module _ (trace : List Line) (w : UnclaimedState) (s : StandsIn trace (Some w)) where
+module _ (trace : List Line) (w : UnclaimedState) (s : StandsInTrace trace (Some w)) where
   pub waiting-length : w.before + length (unclaimed_lines (Some w)) ≡ length s.0
   waiting-length = omega (arith, s.2.1, ap length s.2.2, length-append s.2.0 (unclaimed_lines (Some w)))
 
@@ -90,12 +90,12 @@ module _ (trace : List Line) (w : UnclaimedState) (s : StandsIn trace (Some w)) 
   waiting-history = taken s.0 trace _ s.1 waiting-length
 
 ends-legal : (m : Contents) (call : Call) (answer : Result Outcome Refusal) (start history : List Line)
-    → IsLegal m history → history ≡ start ++ lines_of call answer → IsProof m call answer history
+    → IsLegal m history → history ≡ start ++ left_lines call answer → IsProof m call answer history
 ends-legal m call (Ok outcome) start history legal is = (legal, (start, is))
 ends-legal m call (Err refusal) start history legal is = tt
 
 pub waiting-proof : (m : Contents) (trace : List Line) (w : UnclaimedState) → IsLegal m trace
-    → (s : StandsIn trace (Some w)) → IsProof m (Commands w.command) w.answer s.0
+    → (s : StandsInTrace trace (Some w)) → IsProof m (Commands w.command) w.answer s.0
 waiting-proof m trace w legal s = ends-legal m (Commands w.command) w.answer s.2.0 s.0
     (IsLegal-split m s.0 s.1.0 (subst (λ ls. IsLegal m ls) (sym s.1.1) legal)).0 s.2.2
 
@@ -127,14 +127,14 @@ module _ {X : Type 0} (P : X → Type 0) where
   all-get (y ∷ xs) zero x all at = some-get y x at all.0
   all-get (y ∷ xs) (suc i) x all at = all-get xs i x all.1 at
 
-module _ (m : Contents) (marks : Line → Bool) (l : LogState) (books : Counts) (is : IsLog m marks l books) where
+module _ (m : Contents) (marks : Line → Bool) (l : LogState) (books : LineCounts) (is : IsLog m marks l books) where
   -- a line whose port is told it at once
   pub log-leaves : (call : Call) (answer : Result Outcome Refusal)
       → (leaves_line answer ≡ true → length l.trace < l.limit)
       → (leaves_line answer ≡ true → answer ≡ answer_to (end_of m l.trace) call)
-      → IsLog m marks (with_line l call answer) (counts_after marks books (lines_of call answer))
+      → IsLog m marks (with_line l call answer) (counts_after marks books (left_lines call answer))
   log-leaves call answer room so =
-      let more = lines_of call answer in record {
+      let more = left_lines call answer in record {
         legal = legal_by (leaves_line answer) m l.trace call answer is.legal so;
         few = omega (
           arith,
@@ -154,7 +154,7 @@ module _ (m : Contents) (marks : Line → Bool) (l : LogState) (books : Counts) 
       → IsLog m marks (with_unclaimed l r answer) books
   log-keeps r answer free room so =
       let call = Commands r in
-      let more = lines_of call answer in
+      let more = left_lines call answer in
       let history = l.trace ++ more in
       let w : UnclaimedState = record { command = r; answer = answer; before = length l.trace } in record {
         legal = legal_by (leaves_line answer) m l.trace call answer is.legal so;
@@ -178,7 +178,8 @@ module _ (m : Contents) (marks : Line → Bool) (l : LogState) (books : Counts) 
               (λ p. count_by marks (unclaimed_lines p)) refl l.places (sender_of r) w free,
           count-append marks l.trace more,
         );
-        stand = all-set (StandsIn history) l.places (sender_of r) (Some w) (stand-more l.trace more l.places is.stand)
+        stand =
+            all-set (StandsInTrace history) l.places (sender_of r) (Some w) (stand-more l.trace more l.places is.stand)
             (history, ([], append-nil history), (l.trace, refl, refl));
       }
 
@@ -190,25 +191,25 @@ module _ (m : Contents) (marks : Line → Bool) (l : LogState) (books : Counts) 
     few = is.few;
     lines = omega (arith, is.lines, sum_claimed (λ p. length (unclaimed_lines p)) refl l.places e w there);
     marked = omega (arith, is.marked, sum_claimed (λ p. count_by marks (unclaimed_lines p)) refl l.places e w there);
-    stand = all-set (StandsIn l.trace) l.places e None is.stand tt;
+    stand = all-set (StandsInTrace l.trace) l.places e None is.stand tt;
   }
 
 -- places in which no answer waits
-free-sum : (f : Option UnclaimedState → ℕ) (places : List (Option UnclaimedState)) → f None ≡ 0 → AreFree places
+free-sum : (f : Option UnclaimedState → ℕ) (places : List (Option UnclaimedState)) → f None ≡ 0 → AreVacant places
     → sum_by f places ≡ 0
 free-sum f [] none free = refl
 free-sum f (p ∷ places) none free = omega
     (arith, free-sum f places none free.1, ap f free.0 ∙ none, sum_by-append f (p ∷ []) places)
 
-free-stand : (trace : List Line) (places : List (Option UnclaimedState)) → AreFree places
-    → AllByRecursion (StandsIn trace) places
+free-stand : (trace : List Line) (places : List (Option UnclaimedState)) → AreVacant places
+    → AllByRecursion (StandsInTrace trace) places
 free-stand trace [] free = tt
 free-stand trace (p ∷ places) free =
-    (subst (λ (q : Option UnclaimedState). StandsIn trace q) (sym free.0) tt, free-stand trace places free.1)
+    (subst (λ (q : Option UnclaimedState). StandsInTrace trace q) (sym free.0) tt, free-stand trace places free.1)
 
 -- a log before its first line
 pub log-starts : (m : Contents) (marks : Line → Bool) (trace : List Line) (limit : ℕ)
-    (places : List (Option UnclaimedState)) (books : Counts) → trace ≡ [] → AreFree places → books.lines ≡ 0
+    (places : List (Option UnclaimedState)) (books : LineCounts) → trace ≡ [] → AreVacant places → books.lines ≡ 0
     → books.marked ≡ 0
     → IsLog m marks (record { trace = trace; limit = limit; places = places }) books
 log-starts m marks trace limit places books none free no_lines no_marked = rw none (record {
@@ -240,7 +241,7 @@ marked-few marks (p ∷ places) = omega (
 )
 
 -- where no line waits, the books count all lines
-pub log-claimed : (m : Contents) (marks : Line → Bool) (l : LogState) (books : Counts) → IsLog m marks l books
+pub log-claimed : (m : Contents) (marks : Line → Bool) (l : LogState) (books : LineCounts) → IsLog m marks l books
     → AreClaimed l.places → (books.lines ≡ length l.trace) × (books.marked ≡ count_by marks l.trace)
 log-claimed m marks l books is none = (
   omega (arith, is.lines, none),
@@ -249,7 +250,7 @@ log-claimed m marks l books is none = (
 
 -- an entry that is told has its line at the end
 pub last-told : (l : LogState) (trace : List Line) (call : Call) (answer : Result Entry Refusal) → trace
-    ≡ l.trace ++ lines_of call (told answer) → IfOk answer (λ entry. EndsIn trace (line_of call (Ok (Tells entry))))
+    ≡ l.trace ++ left_lines call (told answer) → IfOk answer (λ entry. EndsIn trace (line_of call (Ok (Tells entry))))
 last-told l trace call (Ok entry) is = (l.trace, is)
 last-told l trace call (Err refusal) is = tt
 

@@ -9,7 +9,7 @@ use Rattle.im_types.specs.declared.commands.Line.{Line}
 use Rattle.im_types.specs.declared.changes.Change.{Change}
 use Rattle.im_types.specs.declared.refusals.Refusal.{Refusal}
 use Rattle.im_glass.proofs.PrefixLemmas.{prefix_shorter}
-use Rattle.im_trace.specs.Lines.{AreInOrder, lines_of}
+use Rattle.im_trace.specs.Lines.{AreInOrder, left_lines}
 use Rattle.im_trace.specs.Log.{ReceiptState, HasHistory, SeesAnswer, IsBefore, plain, receipt_for}
 use Rattle.im_trace.proofs.ToldLemmas.{plain-receipt}
 
@@ -38,18 +38,18 @@ has-history history time shown command (Err refusal) = tt
 pub claimed-follows : (seen history now : List Line) (time : ℕ) (shown : List Change) (before : ℕ) (r command : Command)
     (a : Result Outcome Refusal) (receipt : Result ReceiptState Refusal) → AreInOrder seen history
     → length seen ≤ before
-    → IsBefore before (lines_of (Commands r) a) history → receipt ≡ receipt_for history time shown command a
+    → IsBefore before (left_lines (Commands r) a) history → receipt ≡ receipt_for history time shown command a
     → now ≡ history
     → SeesAnswer seen r (Some receipt) now
 claimed-follows seen history now time shown before r command a receipt order less behind is same =
-    let last = lines_of (Commands r) a in
+    let last = left_lines (Commands r) a in
     let start = behind.0 in
     let begins = prefix-before seen start last history order behind.2 (omega (arith, less, behind.1)) in
     let answers : plain receipt ≡ a = ap plain is ∙ plain-receipt history time shown command a in (
       (
         begins.0,
         same ∙ behind.2 ∙ ap (λ ls. ls ++ last) (sym begins.1)
-            ∙ ap (λ b. (seen ++ begins.0) ++ lines_of (Commands r) b) (sym answers),
+            ∙ ap (λ b. (seen ++ begins.0) ++ left_lines (Commands r) b) (sym answers),
       ),
       subst (λ b. HasHistory now b) (sym is)
           (subst (λ ls. HasHistory ls (receipt_for history time shown command a)) (sym same)

@@ -9,7 +9,7 @@ use Rattle.im_types.specs.declared.commands.Call.{Call}
 use Rattle.im_types.specs.declared.commands.Line.{Line}
 use Rattle.im_types.specs.declared.refusals.Refusal.{Refusal}
 use Rattle.im_laws.proofs.Tests.{below_or_from}
-use Rattle.im_trace.specs.Lines.{leaves_line, line_of, lines_of, times_of, time_at, NeverGoBack}
+use Rattle.im_trace.specs.Lines.{leaves_line, line_of, left_lines, times_of, time_at, NeverGoBack}
 use Rattle.im_types.specs.declared.changes.Change.{Change}
 use Rattle.im_types.specs.declared.commands.Command.{Command}
 use Rattle.im_trace.specs.Log.{TimedLog, GoesOnAt, receipt_for}
@@ -48,8 +48,8 @@ last-by true call answer trace trace' times times' time is lines timed whole =
     ∙ time-new times time more (length times + 1) (omega arith) (omega arith)
 
 pub time-last : (call : Call) (answer : Result Outcome Refusal) (trace trace' : List Line) (times times' : List ℕ)
-    (time : ℕ) → leaves_line answer ≡ true → trace' ≡ trace ++ lines_of call answer
-    → times' ≡ times ++ times_of time (lines_of call answer) → length times' ≡ length trace'
+    (time : ℕ) → leaves_line answer ≡ true → trace' ≡ trace ++ left_lines call answer
+    → times' ≡ times ++ times_of time (left_lines call answer) → length times' ≡ length trace'
     → time_at times' (length trace') ≡ time
 time-last call answer trace trace' times times' time is lines timed whole =
     last-by (leaves_line answer) call answer trace trace' times times' time is lines timed whole

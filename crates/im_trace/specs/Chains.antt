@@ -24,8 +24,8 @@ pub record IsChained (cells : List Cell) (log : List Link) : Type 0 where
   pub used : AllByRecursion (IsUsed cells) log
 
 -- the first word of a book
-abbrev pub first_of : Book → Named
-first_of book = record { tracked = true; key = 0; book = book }
+abbrev pub first_of_book : Book → Named
+first_of_book book = record { tracked = true; key = 0; book = book }
 
 -- what is read off the entries that the pen with this key and the pens after it wrote
 abbrev pub read_from : {X : Type 0} → (Link → X) → ℕ → List Link → List X

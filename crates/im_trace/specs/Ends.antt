@@ -2,7 +2,7 @@
 use Rattle.std.specs.Prelude.{◌≡◌, ℕ, ◌+◌, ◌<◌, Bool, true, false, List, [], length, count_by}
 use Rattle.im_types.specs.declared.commands.Line.{Line}
 use Rattle.im_trace.specs.Books.{LinesBook}
-use Rattle.im_trace.specs.Lines.{Counts}
+use Rattle.im_trace.specs.Lines.{LineCounts}
 
 -- room for a log: how many lines it may have, whether they are recorded, how many ports there are, which ledgers count
 -- the lines and the marked lines, and the book of the lines
@@ -42,16 +42,16 @@ pub record EndedState : Type 0 where
   pub times : List ℕ
   pub claimed : Bool
   pub back : ℕ
-  pub told : Counts
+  pub told : LineCounts
 
 -- all lines of a trace are counted if none waits, and fewer if one waits
-pub record IsCounted (marks : Line → Bool) (trace : List Line) (claimed : Bool) (counts : Counts) : Type 0 where
+pub record CountsTrace (marks : Line → Bool) (trace : List Line) (claimed : Bool) (counts : LineCounts) : Type 0 where
   pub lines : claimed ≡ true → counts.lines ≡ length trace
   pub marked : claimed ≡ true → counts.marked ≡ count_by marks trace
   pub fewer : claimed ≡ false → counts.lines < length trace
 
 -- a log at its end after a port's share is back
-abbrev pub with_share_back : EndedState → Counts → EndedState
+abbrev pub with_share_back : EndedState → LineCounts → EndedState
 with_share_back e tally =
     record e {
       back = e.back + 1;

@@ -22,8 +22,8 @@ abbrev pub line_of : Call → Result Outcome Refusal → Line
 line_of call answer = record { call = call; answer = answer }
 
 -- the line that a call leaves with this answer, if it leaves one
-abbrev pub lines_of : Call → Result Outcome Refusal → List Line
-lines_of call answer = if leaves_line answer then line_of call answer ∷ [] else []
+abbrev pub left_lines : Call → Result Outcome Refusal → List Line
+left_lines call answer = if leaves_line answer then line_of call answer ∷ [] else []
 
 -- whether a call with this answer may begin a group: a command with an outcome
 abbrev pub may_begin : Call → Result Outcome Refusal → Bool
@@ -44,12 +44,12 @@ abbrev pub EndsIn : List Line → Line → Type 0
 EndsIn lines line = EndsInAll lines (line ∷ [])
 
 -- how many lines, and how many of them are marked
-pub record Counts : Type 0 where
+pub record LineCounts : Type 0 where
   pub lines : ℕ
   pub marked : ℕ
 
 -- the counts after these lines more
-abbrev pub counts_after : (Line → Bool) → Counts → List Line → Counts
+abbrev pub counts_after : (Line → Bool) → LineCounts → List Line → LineCounts
 counts_after marks counts lines =
     record { lines = counts.lines + length lines; marked = counts.marked + count_by marks lines }
 

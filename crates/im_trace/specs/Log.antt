@@ -15,7 +15,7 @@ use Rattle.im_types.specs.Contents.{Contents}
 use Rattle.im_types.specs.Trace.{IsLegal}
 use Rattle.im_types.specs.declared.changes.Change.{Change}
 use Rattle.im_types.specs.Changes.{shown_by}
-use Rattle.im_trace.specs.Lines.{EndsIn, Counts, GoesOnTo, line_of, lines_of, counts_after, time_at, times_of}
+use Rattle.im_trace.specs.Lines.{EndsIn, LineCounts, GoesOnTo, line_of, left_lines, counts_after, time_at, times_of}
 
 -- a command, its outcome, the trace that ends in its line, that line's time, and what was shown when its port was told
 pub record ReceiptState : Type 0 where
@@ -85,17 +85,17 @@ IsProof m call (Err refusal) history = Unit {0}
 -- the lines that an answer in a place left
 abbrev pub unclaimed_lines : Option UnclaimedState → List Line
 unclaimed_lines None = []
-unclaimed_lines (Some waiting) = lines_of (Commands waiting.command) waiting.answer
+unclaimed_lines (Some waiting) = left_lines (Commands waiting.command) waiting.answer
 
 -- the log after the line of a call; its port was told
 abbrev pub with_line : LogState → Call → Result Outcome Refusal → LogState
-with_line l call answer = record l { trace = l.trace ++ lines_of call answer }
+with_line l call answer = record l { trace = l.trace ++ left_lines call answer }
 
 -- the log with the answer to a command in its element's place
 abbrev pub with_unclaimed : LogState → Command → Result Outcome Refusal → LogState
 with_unclaimed l command answer =
     record {
-      trace = l.trace ++ lines_of (Commands command) answer;
+      trace = l.trace ++ left_lines (Commands command) answer;
       limit = l.limit;
       places = slice_set l.places (sender_of command)
           (Some (record { command = command; answer = answer; before = length l.trace }));
@@ -110,21 +110,21 @@ abbrev pub IsBefore : ℕ → List Line → List Line → Type 0
 IsBefore before last lines = (start : List Line) × (length start ≡ before) × (lines ≡ start ++ last)
 
 -- the line of an answer that waits in a place, if it left one, stands in the trace behind so many lines
-abbrev pub StandsIn : List Line → Option UnclaimedState → Type 0
-StandsIn trace None = Unit {0}
-StandsIn trace (Some waiting) =
+abbrev pub StandsInTrace : List Line → Option UnclaimedState → Type 0
+StandsInTrace trace None = Unit {0}
+StandsInTrace trace (Some waiting) =
     (history : List Line) × IsPrefix history trace
     × IsBefore waiting.before (unclaimed_lines (Some waiting)) history
 
 -- A legal trace with no more lines than it may have. The books count each line that its port was told: all but those of
 -- answers that wait.
-pub record IsLog (m : Contents) (marks : Line → Bool) (l : LogState) (books : Counts) : Type 0 where
+pub record IsLog (m : Contents) (marks : Line → Bool) (l : LogState) (books : LineCounts) : Type 0 where
   pub legal : IsLegal m l.trace
   pub few : length l.trace ≤ l.limit
   pub lines : books.lines + sum_by (λ p. length (unclaimed_lines p)) l.places ≡ length l.trace
   pub marked : books.marked + sum_by (λ p. count_by marks (unclaimed_lines p)) l.places ≡ count_by marks l.trace
   -- the line of each answer that waits stands in the trace
-  pub stand : AllByRecursion (StandsIn l.trace) l.places
+  pub stand : AllByRecursion (StandsInTrace l.trace) l.places
 
 -- a receipt is of this command
 abbrev pub IsOf : Command → Result ReceiptState Refusal → Type 0
@@ -140,11 +140,12 @@ Takes places element command (Some w) others =
 
 -- A port looks for the answer to its command in its element's place. There is none, or it takes it, and its line is
 -- counted.
-abbrev pub Claims : (Line → Bool) → LogState → Counts → ℕ → Command → Option (Result ReceiptState Refusal) → LogState
-    → Counts → Type 0
+abbrev pub Claims : (Line → Bool) → LogState → LineCounts → ℕ → Command → Option (Result ReceiptState Refusal)
+    → LogState
+    → LineCounts → Type 0
 Claims marks l t element command None l' t' = (l' ≡ l) × (t' ≡ t)
 Claims marks l t element command (Some answer) l' t' =
-    (l' ≡ without_unclaimed l element) × (t' ≡ counts_after marks t (lines_of (Commands command) (plain answer)))
+    (l' ≡ without_unclaimed l element) × (t' ≡ counts_after marks t (left_lines (Commands command) (plain answer)))
     × IsOf command answer
 
 -- a receipt has this trace
@@ -156,7 +157,7 @@ HasHistory history (Err refusal) = Unit {0}
 -- stands after all that the port saw before, and the receipt has the same trace.
 abbrev pub SeesReceipt : List Line → Command → Result ReceiptState Refusal → List Line → Type 0
 SeesReceipt seen command answer seen' =
-    GoesOnTo seen (lines_of (Commands command) (plain answer)) seen' × HasHistory seen' answer
+    GoesOnTo seen (left_lines (Commands command) (plain answer)) seen' × HasHistory seen' answer
 
 -- the same, when it looks for the answer to its command: it sees no more if there is none
 abbrev pub SeesAnswer : List Line → Command → Option (Result ReceiptState Refusal) → List Line → Type 0
@@ -174,8 +175,8 @@ IsTimed times (Ok r) = r.time ≡ time_at times (length r.history)
 IsTimed times (Err refusal) = Unit {0}
 
 -- no answer waits in any of these places
-abbrev pub AreFree : List (Option UnclaimedState) → Type 0
-AreFree places = AllByRecursion (λ place. place ≡ None) places
+abbrev pub AreVacant : List (Option UnclaimedState) → Type 0
+AreVacant places = AllByRecursion (λ place. place ≡ None) places
 
 -- no line waits in any of these places
 abbrev pub AreClaimed : List (Option UnclaimedState) → Type 0

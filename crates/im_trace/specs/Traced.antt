@@ -9,20 +9,20 @@ use Rattle.im_types.specs.declared.commands.Outcome.TheVariants.{Entry as Tells,
 use Rattle.im_types.specs.declared.commands.Call.{Call}
 use Rattle.im_types.specs.declared.commands.Call.TheVariants.{Command as Commands, Collect as Collects}
 use Rattle.im_types.specs.declared.refusals.Refusal.{Refusal}
-use Rattle.im_trace.specs.declared.traced.Asked.{Asked}
-use Rattle.im_trace.specs.declared.traced.Asked.TheVariants.{Request, Confirm, Collect}
-use Rattle.im_trace.specs.declared.traced.Said.{Said}
-use Rattle.im_trace.specs.declared.traced.Said.TheVariants.{Answered, Waiting, Confirmed, Refused}
+use Rattle.im_trace.specs.declared.traced.TracedCall.{TracedCall}
+use Rattle.im_trace.specs.declared.traced.TracedCall.TheVariants.{Request, Confirm, Collect}
+use Rattle.im_trace.specs.declared.traced.TracedAnswer.{TracedAnswer}
+use Rattle.im_trace.specs.declared.traced.TracedAnswer.TheVariants.{Answered, Waiting, Confirmed, Refused}
 
 -- the call that asks this of an element
-abbrev pub call_with : Asked → ℕ → ℕ → Op → Call
+abbrev pub call_with : TracedCall → ℕ → ℕ → Op → Call
 call_with Request element number op = Commands (Asks (record { element = element; number = number; op = op }))
 call_with Confirm element number op = Commands (Confirms element number)
 call_with Collect element number op = Collects element number
 
 -- the answer that says this
-abbrev pub answer_with : Said → Reply → Result Outcome Refusal
-answer_with Answered reply = Ok (Tells (Replies reply))
-answer_with Waiting reply = Ok (Tells Waits)
-answer_with Confirmed reply = Ok Forgotten
-answer_with (Refused refusal) reply = Err refusal
+abbrev pub traced_answer : TracedAnswer → Reply → Result Outcome Refusal
+traced_answer Answered reply = Ok (Tells (Replies reply))
+traced_answer Waiting reply = Ok (Tells Waits)
+traced_answer Confirmed reply = Ok Forgotten
+traced_answer (Refused refusal) reply = Err refusal

@@ -1,8 +1,8 @@
 //! The books that count the lines of a trace, and the shares that ports have in them.
 ghost use Rattle.std.specs.Prelude.{◌≡◌, ◌+◌, ◌<◌, ◌≤◌, [], ◌∷◌, ℕ, count_by};
-ghost use Rattle.im_trace.specs.Lines.{counts_after, lines_of};
+ghost use Rattle.im_trace.specs.Lines.{counts_after, left_lines};
 
-use crate::name::{Lines, Marked, Name};
+use crate::name::{LineLedger, Marked, Name};
 use crate::record::leaves_line;
 use im_types::{Call, Line, Outcome, Refusal};
 use std::marker::Model;
@@ -11,14 +11,14 @@ use std::sync::ledger::{Book, Ledger, Share};
 /// How many lines there are over all ports, and how many of them are marked.
 #[derive(Drop)]
 pub struct Books<K: Name> {
-    pub(crate) lines: Book<Lines<K>>,
+    pub(crate) lines: Book<LineLedger<K>>,
     pub(crate) marked: Book<Marked<K>>,
 }
 
 impl<K: Name> Model for Books<K> {
-    ghost use Rattle.im_trace.specs.Lines.{Counts};
+    ghost use Rattle.im_trace.specs.Lines.{LineCounts};
 
-    ghost Value = { Counts };
+    ghost Value = { LineCounts };
 
     ghost view = { λ b. record { lines = b.lines.total; marked = b.marked.total } };
 }
@@ -27,15 +27,15 @@ impl<K: Name> Model for Books<K> {
 /// the books are the sum of all tallies.
 #[derive(Drop)]
 pub struct Tally<K: Name> {
-    pub(crate) lines: Share<Lines<K>>,
+    pub(crate) lines: Share<LineLedger<K>>,
     pub(crate) marked: Share<Marked<K>>,
 }
 
 impl<K: Name> Model for Tally<K> {
     ghost use Rattle.std.specs.Prelude.{◌≡◌};
-    ghost use Rattle.im_trace.specs.Lines.{Counts};
+    ghost use Rattle.im_trace.specs.Lines.{LineCounts};
 
-    ghost Value = { Counts };
+    ghost Value = { LineCounts };
 
     ghost view = { λ t. record { lines = t.lines.amount; marked = t.marked.amount } };
 
@@ -45,7 +45,7 @@ impl<K: Name> Model for Tally<K> {
 /// The shares of the ports that weren't given out yet. Contracts see how many these are.
 #[derive(Drop)]
 pub struct Reserve<K: Name> {
-    pub(crate) lines: Share<Lines<K>>,
+    pub(crate) lines: Share<LineLedger<K>>,
     pub(crate) marked: Share<Marked<K>>,
     pub(crate) left: u64,
     pub(crate) ports: u64,
@@ -138,8 +138,8 @@ pub(crate) fn count_line<K: Name>(
     call: Call,
     answer: Result<Outcome, Refusal>,
 )
-    ensures books { books.new ≡ counts_after K.origin.marks books.old (lines_of call answer) }
-    ensures tally { tally.new ≡ counts_after K.origin.marks tally.old (lines_of call answer) }
+    ensures books { books.new ≡ counts_after K.origin.marks books.old (left_lines call answer) }
+    ensures tally { tally.new ≡ counts_after K.origin.marks tally.old (left_lines call answer) }
 {
     if leaves_line(answer) {
         books.count(tally, &Line { call, answer });

@@ -5,7 +5,7 @@ ghost use Rattle.std.specs.Prelude.{◌≡◌, ◌<◌, ◌≤◌, ◌++◌, ◌
 ghost use mathlib.Core.List.{IsPrefix};
 ghost use Rattle.logbook.specs.Pages.{may_write};
 ghost use Rattle.im_trace.specs.Lines.{AreInOrder, time_at, times_of};
-ghost use Rattle.im_trace.specs.Chains.{IsOpened, KnowsAll, first_of, lines_from, times_from};
+ghost use Rattle.im_trace.specs.Chains.{IsOpened, KnowsAll, first_of_book, lines_from, times_from};
 
 use crate::name::Name;
 use crate::rule::{Chained, KeepPen, Link, MakePen, NoGain, Signed, UsePen};
@@ -18,7 +18,7 @@ use std::snapshot::Snapshot;
 
 // Returns a pen that isn't used up.
 fn new_pen(head: &Word<Link, u64, Chained>, seen: &Seen<Link, u64, Chained>) -> Pen
-    requires { head.now ≡ first_of seen.now.book }
+    requires { head.now ≡ first_of_book seen.now.book }
     ensures book { result.book ≡ seen.now.book }
     ensures right { result.nib.right ≡ may_write }
 {
@@ -37,7 +37,7 @@ pub(crate) fn look(
     pen: &mut Pen,
     seen: &Seen<Link, u64, Chained>,
 )
-    requires head { head.now ≡ first_of known.now.book }
+    requires head { head.now ≡ first_of_book known.now.book }
     requires pen { (pen.old.book ≡ known.now.book) × (pen.old.nib.right ≡ may_write) }
     requires seen { seen.now.book ≡ known.now.book }
     ensures same { (pen.new.book ≡ pen.old.book) × (pen.new.nib ≡ pen.old.nib) }
@@ -62,13 +62,13 @@ impl Model for NewChain {
     ghost use Rattle.std.specs.Prelude.{◌≡◌, []};
     ghost use Rattle.logbook.specs.Pages.{may_write};
     ghost use Rattle.im_trace.specs.Books.{LinesBook};
-    ghost use Rattle.im_trace.specs.Chains.{first_of};
+    ghost use Rattle.im_trace.specs.Chains.{first_of_book};
 
     ghost Value = { LinesBook };
 
     ghost view = { λ c. record { book = c.seen.book; root = c.pen.nib.key } };
 
-    ghost invariant = { λ c. (c.seen.log ≡ []) × (c.head ≡ first_of c.seen.book)
+    ghost invariant = { λ c. (c.seen.log ≡ []) × (c.head ≡ first_of_book c.seen.book)
         × (c.pen.book ≡ c.seen.book) × (c.pen.nib.right ≡ may_write) × (c.first.value.nib.key ≡ c.pen.nib.key) };
 }
 
@@ -122,7 +122,7 @@ pub struct Chain<K: Name> {
 impl<K: Name> Model for Chain<K> {
     ghost use Rattle.std.specs.Prelude.{◌≡◌};
     ghost use Rattle.logbook.specs.Pages.{may_write};
-    ghost use Rattle.im_trace.specs.Chains.{ChainState, IsOpened, first_of, lines_from, times_from, tip_from};
+    ghost use Rattle.im_trace.specs.Chains.{ChainState, IsOpened, first_of_book, lines_from, times_from, tip_from};
 
     ghost Value = { ChainState };
 
@@ -131,7 +131,8 @@ impl<K: Name> Model for Chain<K> {
       times = times_from K.origin.book.lines.root c.seen.log;
     } };
 
-    ghost invariant = { λ c. (c.head ≡ first_of K.origin.book.lines.book) × (c.seen.book ≡ K.origin.book.lines.book)
+    ghost invariant = { λ c. (c.head ≡ first_of_book K.origin.book.lines.book)
+        × (c.seen.book ≡ K.origin.book.lines.book)
         × (c.pen.book ≡ K.origin.book.lines.book) × (c.pen.nib.right ≡ may_write)
         × (tip_from K.origin.book.lines.root c.seen.log ≡ c.pen.nib.key) × IsOpened K.origin.memory
         × (c.first.value.nib.key ≡ K.origin.book.lines.root) };

@@ -2,12 +2,12 @@
 ghost use Rattle.std.specs.Prelude.{◌≡◌, ◌≤◌};
 ghost use mathlib.Core.List.{IsPrefix};
 ghost use Rattle.im_types.specs.Trace.{IsLegal};
-ghost use Rattle.im_trace.specs.Ends.{IsCounted, with_share_back};
+ghost use Rattle.im_trace.specs.Ends.{CountsTrace, with_share_back};
 
 use crate::books::{Books, Reserve, Tally};
 use crate::chain::Prefix;
 use crate::log::Log;
-use crate::name::{Lines, Marked, Name};
+use crate::name::{LineLedger, Marked, Name};
 use crate::places::are_claimed;
 use crate::record::{Record, Recording};
 use std::marker::Model;
@@ -20,13 +20,13 @@ pub struct Ended<K: Name> {
     record: Record<K>,
     books: Books<K>,
     claimed: bool,
-    lines: Share<Lines<K>>,
+    lines: Share<LineLedger<K>>,
     marked: Share<Marked<K>>,
 }
 
 impl<K: Name> Model for Ended<K> {
     ghost use Rattle.std.specs.Prelude.{◌≡◌, ◌≤◌};
-    ghost use Rattle.im_trace.specs.Ends.{EndedState, IsCounted};
+    ghost use Rattle.im_trace.specs.Ends.{EndedState, CountsTrace};
 
     ghost Value = { EndedState };
 
@@ -38,7 +38,7 @@ impl<K: Name> Model for Ended<K> {
       told = record { lines = e.lines.amount; marked = e.marked.amount };
     } };
 
-    ghost invariant = { λ e. IsCounted K.origin.marks e.record.lines e.claimed e.books
+    ghost invariant = { λ e. CountsTrace K.origin.marks e.record.lines e.claimed e.books
         × (e.marked.parts ≡ e.lines.parts) × (e.lines.parts ≤ K.origin.ports) };
 }
 
@@ -93,7 +93,7 @@ impl<K: Name> Ended<K> {
           book = K.origin.book.lines;
         } }
         ensures claimed { result.1 ≡ self.claimed }
-        ensures counted { self.back ≡ K.origin.ports → IsCounted K.origin.marks self.trace self.claimed self.told }
+        ensures counted { self.back ≡ K.origin.ports → CountsTrace K.origin.marks self.trace self.claimed self.told }
     {
         let Ended {
             record,

@@ -19,7 +19,7 @@ pub use books::{Reserve, Tally};
 pub use chain::Prefix;
 pub use ending::Ended;
 pub use log::{Log, element_of};
-pub use name::{Lines, Marked, Name, Shown};
+pub use name::{LineLedger, Marked, Name, Shown};
 pub use receipts::{Found, Receipt};
 pub use record::Recording;
 pub use starting::NewLog;

@@ -4,7 +4,7 @@ ghost use mathlib.Core.List.{IsPrefix};
 ghost use Rattle.im_types.specs.declared.commands.Call.TheVariants.{Command as Commands, Collect};
 ghost use Rattle.im_types.specs.declared.commands.Outcome.TheVariants.{Entry as Tells};
 ghost use Rattle.im_types.specs.Trace.{answer_to, end_of, IsLegal};
-ghost use Rattle.im_trace.specs.Lines.{leaves_line, lines_of, memory_after, counts_after, time_at};
+ghost use Rattle.im_trace.specs.Lines.{leaves_line, left_lines, memory_after, counts_after, time_at};
 ghost use Rattle.im_trace.specs.Lines.{EndsIn, EndsInAll, line_of};
 ghost use Rattle.im_trace.specs.Log.{sender_of, with_line, with_unclaimed, Claims, IsProof, IsToldOf};
 ghost use Rattle.im_trace.specs.Log.{receipt_for, GoesOnAt, IsOfTrace, IsTimed, SeesAnswer};
@@ -35,7 +35,7 @@ pub(crate) struct Unclaimed {
 impl Model for Unclaimed {
     ghost use Rattle.std.specs.Prelude.{◌≡◌, ◌+◌, length};
     ghost use Rattle.im_types.specs.declared.commands.Call.TheVariants.{Command as Commands};
-    ghost use Rattle.im_trace.specs.Lines.{lines_of};
+    ghost use Rattle.im_trace.specs.Lines.{left_lines};
     ghost use Rattle.im_trace.specs.Log.{UnclaimedState};
 
     ghost Value = { UnclaimedState };
@@ -46,7 +46,7 @@ impl Model for Unclaimed {
       before = u.before;
     } };
 
-    ghost invariant = { λ u. u.count ≡ u.before + length (lines_of (Commands u.command) u.answer) };
+    ghost invariant = { λ u. u.count ≡ u.before + length (left_lines (Commands u.command) u.answer) };
 }
 
 /// The trace, with books that count those of its lines that a port was told.
@@ -165,7 +165,7 @@ impl<K: Name> Log<K> {
         ensures times { GoesOnAt (length (D.past disk.now)) self.old self.new }
         ensures time { leaves_line answer ≡ true
             → time_at self.new.times (length self.new.state.trace) ≡ length (D.past disk.now) }
-        ensures tally { tally.new ≡ counts_after K.origin.marks tally.old (lines_of call answer) }
+        ensures tally { tally.new ≡ counts_after K.origin.marks tally.old (left_lines call answer) }
         ensures end { end_of K.origin.memory self.new.state.trace
             ≡ memory_after (end_of K.origin.memory self.old.state.trace) call answer }
     {
@@ -180,7 +180,7 @@ impl<K: Name> Log<K> {
         command: &Command,
         answer: Result<Outcome, Refusal>,
     ) -> Result<Receipt<K>, Refusal>
-        requires ends { EndsInAll self.now.state.trace (lines_of (Commands command.now) answer) }
+        requires ends { EndsInAll self.now.state.trace (left_lines (Commands command.now) answer) }
         requires told { IsToldOf K.origin.memory self.now.state.trace told }
         ensures receipt { result ≡ receipt_for self.now.state.trace
             (time_at self.now.times (length self.now.state.trace)) told command.now answer }

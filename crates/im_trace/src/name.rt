@@ -40,9 +40,9 @@ impl Name for Brand {
 }
 
 /// The ledger of all lines.
-pub struct Lines<K>(PhantomData<K>);
+pub struct LineLedger<K>(PhantomData<K>);
 
-impl<K: Name> Ledger for Lines<K> {
+impl<K: Name> Ledger for LineLedger<K> {
     ghost name = { K.origin.lines_name };
 
     ghost parts = { K.origin.ports };

@@ -1,7 +1,7 @@
 //! The answers that wait for their ports, each in its element's place.
 ghost use Rattle.std.specs.Prelude.{◌≡◌, ◌<◌, ◌≤◌, true, false, Some, None, length, slice_get, slice_set, sum_by};
 ghost use Rattle.std.specs.Prelude.{IfOk, IfSome, MatchOption, if◌then◌else◌};
-ghost use Rattle.im_trace.specs.Log.{sender_of, Takes, AreFree, AreClaimed, unclaimed_lines};
+ghost use Rattle.im_trace.specs.Log.{sender_of, Takes, AreVacant, AreClaimed, unclaimed_lines};
 
 use crate::log::{Unclaimed, element_of};
 use crate::record::leaves_line;
@@ -52,7 +52,7 @@ pub(crate) fn free_places(
     alloc: Global,
     elements: u16,
 ) -> Result<Vec<Option<Unclaimed>>, AllocError>
-    ensures { IfOk result (λ places. AreFree places.items) }
+    ensures { IfOk result (λ places. AreVacant places.items) }
 {
     let mut places = Vec::with_capacity(alloc, elements as usize)?;
     for _ in 0..elements {

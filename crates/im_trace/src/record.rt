@@ -3,7 +3,7 @@ ghost use Rattle.std.specs.Prelude.{◌≡◌, ◌<◌, ◌≤◌, ◌-◌, ◌+
 ghost use Rattle.std.specs.Prelude.{if◌then◌else◌};
 ghost use mathlib.Core.List.{IsPrefix};
 ghost use Rattle.im_trace.specs.Chains.{IsOpened};
-ghost use Rattle.im_trace.specs.Lines.{leaves_line, lines_of, time_at, times_of};
+ghost use Rattle.im_trace.specs.Lines.{leaves_line, left_lines, time_at, times_of};
 
 use crate::chain::{Chain, NewChain, Prefix};
 use crate::name::Name;
@@ -118,8 +118,8 @@ impl<K: Name> Record<K> {
         requires room { leaves_line answer ≡ true → length self.old.lines < self.old.limit }
         ensures whole { length self.new.times ≡ length self.new.lines }
         ensures lines { self.new ≡ record {
-          lines = self.old.lines ++ lines_of call answer;
-          times = self.old.times ++ times_of (length (D.past disk.now)) (lines_of call answer);
+          lines = self.old.lines ++ left_lines call answer;
+          times = self.old.times ++ times_of (length (D.past disk.now)) (left_lines call answer);
           limit = self.old.limit;
         } }
     {

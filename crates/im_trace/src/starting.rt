@@ -5,7 +5,7 @@ ghost use Rattle.im_trace.specs.Chains.{IsOpened};
 use crate::books::{Books, Reserve};
 use crate::chain::NewChain;
 use crate::log::{Log, Unclaimed};
-use crate::name::{Lines, Marked, Name};
+use crate::name::{LineLedger, Marked, Name};
 use crate::places::free_places;
 use crate::record::Record;
 use crate::traced::Traced;
@@ -29,7 +29,7 @@ pub struct NewLog {
 
 impl Model for NewLog {
     ghost use Rattle.std.specs.Prelude.{◌≡◌, ◌≤◌, [], true, vec_capacity};
-    ghost use Rattle.im_trace.specs.Log.{AreFree};
+    ghost use Rattle.im_trace.specs.Log.{AreVacant};
     ghost use Rattle.im_trace.specs.Ends.{NewLogState};
 
     ghost Value = { NewLogState };
@@ -44,7 +44,7 @@ impl Model for NewLog {
     } };
 
     ghost invariant = { λ n. (n.lines.parts ≡ n.ports) × (n.marked.parts ≡ n.ports) × (n.trace.items ≡ [])
-        × (n.recorded ≡ true → n.limit ≤ vec_capacity n.trace) × AreFree n.places.items };
+        × (n.recorded ≡ true → n.limit ≤ vec_capacity n.trace) × AreVacant n.places.items };
 }
 
 impl NewLog {
@@ -136,7 +136,7 @@ fn open_books<K: Name>(lines: Blank, marked: Blank, ports: u64) -> (Books<K>, Re
     ensures books { result.0 ≡ record { lines = 0; marked = 0 } }
     ensures reserve { result.1 ≡ K.origin.ports }
 {
-    let (lines_book, lines) = lines.open::<Lines<K>>();
+    let (lines_book, lines) = lines.open::<LineLedger<K>>();
     let (marked_book, marked) = marked.open::<Marked<K>>();
     let books = Books {
         lines: lines_book,

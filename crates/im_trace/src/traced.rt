@@ -1,14 +1,14 @@
 //! A line of the trace, in few bytes.
 ghost use Rattle.std.specs.Prelude.{◌≡◌, ◌&&◌, true};
 ghost use Rattle.im_trace.specs.Lines.{line_of, may_begin};
-ghost use Rattle.im_trace.specs.Traced.{call_with, answer_with};
+ghost use Rattle.im_trace.specs.Traced.{call_with, traced_answer};
 
 use im_types::{Call, Command, Entry, Line, Op, Outcome, Refusal, Reply, Request};
 use std::marker::Model;
 
 // What was asked.
 #[derive(Clone, Copy)]
-pub(crate) enum Asked {
+pub(crate) enum TracedCall {
     Request,
     Confirm,
     Collect,
@@ -16,7 +16,7 @@ pub(crate) enum Asked {
 
 // What was answered.
 #[derive(Clone, Copy)]
-pub(crate) enum Said {
+pub(crate) enum TracedAnswer {
     Answered,
     Waiting,
     Confirmed,
@@ -41,8 +41,8 @@ pub struct Traced {
     op: Op, // Of a request alone.
     reply: Reply, // Of an answer alone.
     element: u16,
-    asked: Asked,
-    said: Said,
+    asked: TracedCall,
+    said: TracedAnswer,
     group: bool,
     checkpoint: bool,
 }
@@ -51,17 +51,17 @@ impl Model for Traced {
     ghost use Rattle.std.specs.Prelude.{◌≡◌, true};
     ghost use Rattle.im_types.specs.declared.commands.Line.{Line};
     ghost use Rattle.im_trace.specs.Lines.{may_begin};
-    ghost use Rattle.im_trace.specs.Traced.{call_with, answer_with};
+    ghost use Rattle.im_trace.specs.Traced.{call_with, traced_answer};
 
     ghost Value = { Line };
 
     ghost view = { λ t. record {
       call = call_with t.asked t.element t.number t.op;
-      answer = answer_with t.said t.reply;
+      answer = traced_answer t.said t.reply;
     } };
 
     ghost invariant = { λ t. t.group ≡ true
-        → may_begin (call_with t.asked t.element t.number t.op) (answer_with t.said t.reply) ≡ true };
+        → may_begin (call_with t.asked t.element t.number t.op) (traced_answer t.said t.reply) ≡ true };
 }
 
 // Returns whether a line may begin a group: a command's, with an outcome.
@@ -75,59 +75,64 @@ pub(crate) fn may_begin(call: Call, answer: Result<Outcome, Refusal>) -> bool
 }
 
 // Returns what a call asks, its element, its number and its operation.
-fn parts_of(call: Call) -> (Asked, u16, u64, Op)
+fn parts_of(call: Call) -> (TracedCall, u16, u64, Op)
     ensures { call_with result.0 result.1 result.2 result.3 ≡ call }
 {
     match call {
         Call::Command(Command::Request(request)) => {
-            (Asked::Request, request.element, request.number, request.op)
+            (
+                TracedCall::Request,
+                request.element,
+                request.number,
+                request.op,
+            )
         }
         Call::Command(Command::Confirm { element, upto }) => {
-            (Asked::Confirm, element, upto, Op::Fetch(0))
+            (TracedCall::Confirm, element, upto, Op::Fetch(0))
         }
-        Call::Collect { element, number } => (Asked::Collect, element, number, Op::Fetch(0)),
+        Call::Collect { element, number } => (TracedCall::Collect, element, number, Op::Fetch(0)),
     }
 }
 
 // Returns what an answer says, and its reply.
-fn said_of(answer: Result<Outcome, Refusal>) -> (Said, Reply)
-    ensures { answer_with result.0 result.1 ≡ answer }
+fn said_of(answer: Result<Outcome, Refusal>) -> (TracedAnswer, Reply)
+    ensures { traced_answer result.0 result.1 ≡ answer }
 {
     match answer {
-        Ok(Outcome::Entry(Entry::Answered(reply))) => (Said::Answered, reply),
-        Ok(Outcome::Entry(Entry::Waiting)) => (Said::Waiting, Reply::Stored),
-        Ok(Outcome::Confirmed) => (Said::Confirmed, Reply::Stored),
-        Err(refusal) => (Said::Refused(refusal), Reply::Stored),
+        Ok(Outcome::Entry(Entry::Answered(reply))) => (TracedAnswer::Answered, reply),
+        Ok(Outcome::Entry(Entry::Waiting)) => (TracedAnswer::Waiting, Reply::Stored),
+        Ok(Outcome::Confirmed) => (TracedAnswer::Confirmed, Reply::Stored),
+        Err(refusal) => (TracedAnswer::Refused(refusal), Reply::Stored),
     }
 }
 
 // The call with these parts.
-fn call_with(asked: Asked, element: u16, number: u64, op: Op) -> Call
+fn call_with(asked: TracedCall, element: u16, number: u64, op: Op) -> Call
     ensures { result ≡ call_with asked element number op }
 {
     match asked {
-        Asked::Request => Call::Command(Command::Request(Request {
+        TracedCall::Request => Call::Command(Command::Request(Request {
             element,
             number,
             op,
         })),
-        Asked::Confirm => Call::Command(Command::Confirm {
+        TracedCall::Confirm => Call::Command(Command::Confirm {
             element,
             upto: number,
         }),
-        Asked::Collect => Call::Collect { element, number },
+        TracedCall::Collect => Call::Collect { element, number },
     }
 }
 
 // The answer that says this.
-fn answer_with(said: Said, reply: Reply) -> Result<Outcome, Refusal>
-    ensures { result ≡ answer_with said reply }
+fn answer_with(said: TracedAnswer, reply: Reply) -> Result<Outcome, Refusal>
+    ensures { result ≡ traced_answer said reply }
 {
     match said {
-        Said::Answered => Ok(Outcome::Entry(Entry::Answered(reply))),
-        Said::Waiting => Ok(Outcome::Entry(Entry::Waiting)),
-        Said::Confirmed => Ok(Outcome::Confirmed),
-        Said::Refused(refusal) => Err(refusal),
+        TracedAnswer::Answered => Ok(Outcome::Entry(Entry::Answered(reply))),
+        TracedAnswer::Waiting => Ok(Outcome::Entry(Entry::Waiting)),
+        TracedAnswer::Confirmed => Ok(Outcome::Confirmed),
+        TracedAnswer::Refused(refusal) => Err(refusal),
     }
 }
 

@@ -47,7 +47,7 @@ pub(crate) struct Written {
 impl Model for Written {
     ghost use Rattle.std.specs.Prelude.{◌≡◌};
     ghost use Rattle.logbook.specs.Pages.{may_write};
-    ghost use Rattle.im_trace.specs.Chains.{WrittenState, first_of, lines_from, times_from, tip_from};
+    ghost use Rattle.im_trace.specs.Chains.{WrittenState, first_of_book, lines_from, times_from, tip_from};
 
     ghost Value = { WrittenState };
 
@@ -57,7 +57,7 @@ impl Model for Written {
       book = record { book = w.seen.book; root = w.first.value.nib.key };
     } };
 
-    ghost invariant = { λ w. (w.head ≡ first_of w.seen.book) × (w.pen.book ≡ w.seen.book)
+    ghost invariant = { λ w. (w.head ≡ first_of_book w.seen.book) × (w.pen.book ≡ w.seen.book)
         × (w.pen.nib.right ≡ may_write) × (tip_from w.first.value.nib.key w.seen.log ≡ w.pen.nib.key) };
 }
 

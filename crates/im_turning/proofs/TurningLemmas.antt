@@ -13,13 +13,13 @@ use Rattle.im_pages.specs.PageSets.{pages_from}
 use Rattle.im_checkpoint.specs.declared.checkpoint.TurnDone.{TurnDone}
 use Rattle.im_checkpoint.specs.declared.checkpoint.TurnDone.TheVariants.{Idle}
 use Rattle.im_checkpoint.specs.Step.{Step, NoCheckpoint, PagesLeft, PagesDone, Synced, CheckpointState}
-use Rattle.im_checkpoint.specs.Step.{with_left, turns_left}
+use Rattle.im_checkpoint.specs.Step.{pages_step, turns_left}
 use Rattle.im_checkpoint.specs.Turns.{is_due, next_header}
 use Rattle.im_checkpoint.proofs.Fitting.{none_or_some, turns_with}
 use Rattle.im_types.specs.declared.refusals.Refusal.{Refusal}
 use Rattle.im_engine.specs.State.{EngineState}
 use Rattle.im_engine.specs.Run.{TurnAnswered, TurnTaken}
-use Rattle.im_turning.specs.Turning.{Point, point_of, checkpoint_at, point_journal, Leads, TurnsLead, IsAtRest}
+use Rattle.im_turning.specs.Turning.{Point, point_of, checkpoint_at, point_journal, TurnsInto, TurnsLead, IsAtRest}
 use Rattle.im_turning.specs.Turning.{due_turns}
 use Rattle.im_turning.specs.Turning.{later_turns}
 use Rattle.im_turning.specs.Turning.{checkpoint_turns, enough_turns, HasPageLeft, HasMadeRoom, HasTurned, IsSpent}
@@ -39,11 +39,11 @@ none_later h n = ap (λ (b : Bool). if b && nat_lt (next_header h n).generation 
     then area_pages layout_in_use (next_header h n).sizes + 3 else 0) (not_below_itself n)
 
 turns_with_left : (from : ℕ) (left : List ℕ) (h : Header) (n : ℕ)
-    → checkpoint_turns (with_left from left) h n ≡ turns_left (with_left from left) + later_turns h from n
+    → checkpoint_turns (pages_step from left) h n ≡ turns_left (pages_step from left) + later_turns h from n
 turns_with_left from [] h n = refl
 turns_with_left from (page ∷ left) h n = refl
 
-page_with : (from : ℕ) (left : List ℕ) → HasPageLeft (with_left from left)
+page_with : (from : ℕ) (left : List ℕ) → HasPageLeft (pages_step from left)
 page_with from [] = tt
 page_with from (page ∷ left) = tt
 
@@ -53,7 +53,7 @@ pub record Steps (least : ℕ) (p q : Point) : Type 0 where
   pub more : p.room ≤ q.room
   pub near : (least ≤ q.room) ⊎ (IsAtRest q ⊎ (enough_turns least q + 1 ≤ enough_turns least p))
 
-module _ (least : ℕ) (p : Point) (done : TurnDone) (q : Point) (leads : Leads p done q) where
+module _ (least : ℕ) (p : Point) (done : TurnDone) (q : Point) (leads : TurnsInto p done q) where
   -- the measure behind it, given the parts of the point
   measured : (h : Header) (s : Step) (n r : ℕ) → q.header ≡ h → q.step ≡ s → q.count ≡ n → q.room ≡ r
       → enough_turns least q ≡ (least - r) + checkpoint_turns s h n
@@ -101,13 +101,13 @@ module _ (least : ℕ) (p : Point) (done : TurnDone) (q : Point) (leads : Leads 
         let b = row.1 in
         let left : List ℕ = pages_from 0 b.changed in
         let eh : q.header ≡ p.header = header_is _ b.state in
-        let es : q.step ≡ with_left p.count left = step_is _ b.state in
+        let es : q.step ≡ pages_step p.count left = step_is _ b.state in
         let en : q.count ≡ p.count = count_is _ row.2 in
         let er : q.room ≡ p.room = room_is _ row.2 in
-        let now = measured p.header (with_left p.count left) p.count p.room eh es en er in
+        let now = measured p.header (pages_step p.count left) p.count p.room eh es en er in
         let by_left = turns_with_left p.count left p.header p.count in
         let none_later_is = none_later p.header p.count in
-        let few : turns_left (with_left p.count left) ≤ area_pages layout_in_use p.header.sizes + 2
+        let few : turns_left (pages_step p.count left) ≤ area_pages layout_in_use p.header.sizes + 2
         = subst (λ (x : Step). turns_left x ≤ area_pages layout_in_use p.header.sizes + 2) es b.turns in
         let due_is : due_turns p.header p.count ≡ area_pages layout_in_use p.header.sizes + 3
         = ap (λ (x : Bool). if x then area_pages layout_in_use p.header.sizes + 3 else 0) due in
@@ -148,9 +148,10 @@ module _ (least : ℕ) (p : Point) (done : TurnDone) (q : Point) (leads : Leads 
     page : (i : ℕ) (left : List ℕ) → p.step ≡ PagesLeft from (i ∷ left) → Steps least p q
     page i left is =
         let row = leads.page from i left is in
-        let es : q.step ≡ with_left from left = step_is _ row.1 in
+        let es : q.step ≡ pages_step from left = step_is _ row.1 in
         let er : q.room ≡ p.room = room_is _ row.2 in
-        let now = measured p.header (with_left from left) p.count p.room (header_is _ row.1) es (count_is _ row.2) er in
+        let now =
+        measured p.header (pages_step from left) p.count p.room (header_is _ row.1) es (count_is _ row.2) er in
         let by_left = turns_with_left from left p.header p.count in
         let with_is = turns_with from left in
         let then_was : enough_turns least p ≡ (least - p.room) + (length left + 3 + later_turns p.header from p.count)
@@ -201,7 +202,7 @@ module _ (least : ℕ) (p : Point) (done : TurnDone) (q : Point) (leads : Leads 
   one_step some = by_step p.step refl some
 
 -- a turn that had nothing to do found no checkpoint under way
-rests : (p q : Point) (s : Step) → p.step ≡ s → HasPageLeft s → Leads p Idle q → IsAtRest q
+rests : (p q : Point) (s : Step) → p.step ≡ s → HasPageLeft s → TurnsInto p Idle q → IsAtRest q
 rests p q NoCheckpoint is some leads = ⊎_elim
     (λ none. ⊎_elim (λ due. let began = (leads.began is none due).0 in absurd (cc))
     (λ not. (idle 0 p Idle q leads is none not).0)
@@ -213,13 +214,13 @@ rests p q (PagesLeft from (i ∷ left)) is some leads = let page = (leads.page f
 rests p q (PagesDone from) is some leads = let synced = (leads.synced from is).0 in absurd (cc)
 rests p q (Synced from) is some leads = let in_force = (leads.in_force from is).0 in absurd (cc)
 
-pub at_rest : (p q : Point) → HasPageLeft p.step → Leads p Idle q → IsAtRest q
+pub at_rest : (p q : Point) → HasPageLeft p.step → TurnsInto p Idle q → IsAtRest q
 at_rest p q some leads = rests p q p.step refl some leads
 
 -- ---- many turns
 
 -- a turn that has nothing to do leaves the room
-stays_at_rest : (least : ℕ) (p : Point) (done : TurnDone) (q : Point) → Leads p done q → IsAtRest p → IsAtRest q
+stays_at_rest : (least : ℕ) (p : Point) (done : TurnDone) (q : Point) → TurnsInto p done q → IsAtRest p → IsAtRest q
 stays_at_rest least p done q leads rest = (idle least p done q leads rest.step rest.swept rest.due).0
 
 pub record Gone (least : ℕ) (p : Point) (turns : List TurnDone) (q : Point) : Type 0 where
@@ -286,14 +287,14 @@ taken_of old new a done it is = ⊎_elim
 
 -- and it led from where the engine stood to where it stands
 pub turn_leads : {D : Type 0} (old new : EngineState D) (a : Result TurnDone Refusal) (done : TurnDone)
-    → TurnAnswered old a new → a ≡ Ok done → Leads (point_of old) done (point_of new)
+    → TurnAnswered old a new → a ≡ Ok done → TurnsInto (point_of old) done (point_of new)
 turn_leads old new a done it is = (taken_of old new a done it is).turned
 
-pub turned_more : (many : ℕ) (p mid : Point) (done : TurnDone) (q : Point) → HasTurned many p mid → Leads mid done q
+pub turned_more : (many : ℕ) (p mid : Point) (done : TurnDone) (q : Point) → HasTurned many p mid → TurnsInto mid done q
     → HasTurned (many + 1) p q
 turned_more many p mid done q (turns, (lead, is)) last = (done ∷ turns, ((mid, (lead, last)), omega (arith, is)))
 
-pub idle_there : (least many : ℕ) (p mid q : Point) (done : TurnDone) → HasTurned many p mid → Leads mid done q
+pub idle_there : (least many : ℕ) (p mid q : Point) (done : TurnDone) → HasTurned many p mid → TurnsInto mid done q
     → done ≡ Idle → HasMadeRoom least p q
 idle_there least many p mid q done (turns, (lead, is)) last idle = record {
   turns = done ∷ turns;

@@ -35,13 +35,13 @@ abbrev pub with_one : Point → Point
 with_one p = record p { count = p.count + 1; room = room_after p.count 1 p.room }
 
 -- a turn that does this leads from one point to the other
-abbrev pub Leads : Point → TurnDone → Point → Type 0
-Leads p done q = Turned (checkpoint_at p) (point_journal p) done (checkpoint_at q) (point_journal q)
+abbrev pub TurnsInto : Point → TurnDone → Point → Type 0
+TurnsInto p done q = Turned (checkpoint_at p) (point_journal p) done (checkpoint_at q) (point_journal q)
 
 -- these turns, the last first, lead from one point to the other
 abbrev pub TurnsLead : List TurnDone → Point → Point → Type 0
 TurnsLead [] p q = q ≡ p
-TurnsLead (done ∷ before) p q = (mid : Point) × (TurnsLead before p mid × Leads mid done q)
+TurnsLead (done ∷ before) p q = (mid : Point) × (TurnsLead before p mid × TurnsInto mid done q)
 
 -- no checkpoint is under way, no slot is to be swept, and no checkpoint is due
 pub record IsAtRest (p : Point) : Type 0 where

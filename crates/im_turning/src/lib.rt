@@ -9,7 +9,7 @@ ghost use Rattle.im_journal.specs.Holding.{IsJournal};
 ghost use Rattle.im_checkpoint.specs.declared.checkpoint.TurnDone.{TurnDone};
 ghost use Rattle.im_checkpoint.specs.declared.checkpoint.TurnDone.TheVariants.{Idle};
 ghost use Rattle.im_checkpoint.specs.Step.{turns_left};
-ghost use Rattle.im_turning.specs.Turning.{HasPageLeft, IsAtRest, Leads, Point, TurnsLead, enough_turns};
+ghost use Rattle.im_turning.specs.Turning.{HasPageLeft, IsAtRest, TurnsInto, Point, TurnsLead, enough_turns};
 ghost use Rattle.im_turning.specs.Turning.{point_journal};
 
 use im_types::layout::MOST_AREA_PAGES;
@@ -27,7 +27,7 @@ pub fn rest_leaves_all_room()
 
 /// A turn that has nothing to do leads to where nothing is left to do.
 pub fn idle_turn_is_at_rest()
-    ensures { (p q : Point) → HasPageLeft p.step → Leads p Idle q → IsAtRest q }
+    ensures { (p q : Point) → HasPageLeft p.step → TurnsInto p Idle q → IsAtRest q }
 {}
 
 /// How many turns are enough: after so many turns there is room for `least` commands, or nothing is left to do. They

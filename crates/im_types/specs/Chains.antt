@@ -21,19 +21,19 @@ last_of (node ∷ []) = node
 last_of (node ∷ next ∷ chain) = last_of (next ∷ chain)
 
 -- these nodes hold these waiters, each linked to the next one
-abbrev pub Holds : List NodeRecord → List ℕ → List Waiter → Type 0
-Holds nodes [] [] = Unit {0}
-Holds nodes (node ∷ chain) (who ∷ waiters) =
-    (slice_index_or nodes node (FreeNode NONE) ≡ ListNode (first_of chain) who) × Holds nodes chain waiters
-Holds nodes [] (who ∷ waiters) = ⊥
-Holds nodes (node ∷ chain) [] = ⊥
+abbrev pub ChainHolds : List NodeRecord → List ℕ → List Waiter → Type 0
+ChainHolds nodes [] [] = Unit {0}
+ChainHolds nodes (node ∷ chain) (who ∷ waiters) =
+    (slice_index_or nodes node (FreeNode NONE) ≡ ListNode (first_of chain) who) × ChainHolds nodes chain waiters
+ChainHolds nodes [] (who ∷ waiters) = ⊥
+ChainHolds nodes (node ∷ chain) [] = ⊥
 
 -- these nodes, from the first one to the last one, hold these waiters
 pub record IsChain (nodes : List NodeRecord) (first last : ℕ) (chain : List ℕ) (waiters : List Waiter) : Type 0 where
   pub some : 1 ≤ length chain
   pub first_is : first_of chain ≡ first
   pub last_is : last_of chain ≡ last
-  pub holds : Holds nodes chain waiters
+  pub holds : ChainHolds nodes chain waiters
 
 -- no node and no waiter
 abbrev pub HasNoChain : List ℕ → List Waiter → Type 0

@@ -12,12 +12,12 @@ pub record Ring : Type 0 where
   pub slots : ℕ
 
 -- the command with sequence number s stands in slot s mod slots
-abbrev pub slot_at : Ring → ℕ → ℕ
-slot_at ring s = ring.base + 64 * (s % ring.slots)
+abbrev pub slot_offset : Ring → ℕ → ℕ
+slot_offset ring s = ring.base + 64 * (s % ring.slots)
 
 -- the 64 bytes of the slot for a sequence number
 unfoldable pub slot : Ring → ℕ → List ℕ → List ℕ
-slot ring s file = take 64 (drop (slot_at ring s) file)
+slot ring s file = take 64 (drop (slot_offset ring s) file)
 
 -- the slot's gate is open, for the command with this sequence number
 unfoldable pub continues : List ℕ → ℕ → Bool

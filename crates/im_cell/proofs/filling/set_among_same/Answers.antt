@@ -1,7 +1,7 @@
 use Rattle.std.proofs.Common.{◌∙◌, set, ap, sym, subst}
 use Rattle.std.specs.Prelude.{IsSome}
-use Rattle.im_cell.specs.Slots.{slot_at, with_cell, is_waiting}
-use Rattle.im_cell.specs.Units.{shown}
+use Rattle.im_cell.specs.Slots.{slot_at, with_cell, is_waiting_slot}
+use Rattle.im_cell.specs.Units.{shown_units}
 use Rattle.im_cell.proofs.Seen.{own-there, shown-set}
 use Rattle.im_cell.proofs.filling.set_among_same.Goals as goal
 
@@ -11,14 +11,14 @@ set-requires c = subst IsSome (sym (own-there c.args.units.now c.write_out.new.u
 
 pub returns-clause-set : goal.returns-clause-set
 returns-clause-set c =
-    ap (shown c.write_out.new.units) c.set.ensures.set
+    ap (shown_units c.write_out.new.units) c.set.ensures.set
     ∙ shown-set c.write_out.new.units c.write_out.new.cells c.args.at _ c.write_out.ensures.own
     ∙ ap (λ s. set s c.args.at (with_cell c.args.cell (slot_at c.write_out.new.cells c.args.at))) c.write_out.ensures.same
-    ∙ ap (λ o. set (shown c.args.units.now c.args.cells.now) c.args.at (with_cell c.args.cell o))
+    ∙ ap (λ o. set (shown_units c.args.units.now c.args.cells.now) c.args.at (with_cell c.args.cell o))
     (own-there c.args.units.now c.write_out.new.units c.args.cells.now
     c.write_out.new.cells c.args.at c.write_out.ensures.same c.write_out.ensures.own c.requires.inside)
 
 pub returns-clause-waited : goal.returns-clause-waited
-returns-clause-waited c = c.set.ensures.waited ∙ ap is_waiting (own-there c.args.units.now c.write_out.new.units
+returns-clause-waited c = c.set.ensures.waited ∙ ap is_waiting_slot (own-there c.args.units.now c.write_out.new.units
     c.args.cells.now c.write_out.new.cells c.args.at c.write_out.ensures.same c.write_out.ensures.own
     c.requires.inside)

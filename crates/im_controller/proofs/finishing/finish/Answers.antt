@@ -5,7 +5,7 @@ use mathlib.Core.List.{IsPrefix}
 use Rattle.im_types.specs.declared.commands.Line.{Line}
 use Rattle.std.specs.Prelude.{count_by}
 use Rattle.im_trace.specs.Ends.{RecordingState}
-use Rattle.im_trace.specs.Lines.{Counts}
+use Rattle.im_trace.specs.Lines.{LineCounts}
 use Rattle.im_controller.specs.Planned.{EndsBy}
 use Rattle.im_controller.specs.State.{PortState}
 use Rattle.im_controller.specs.Kept.{HasKept, KeepsSince, accepted_in}
@@ -52,8 +52,8 @@ returns-clause-came g c =
             c.len-came.ensures,
             c.args.ports.ok,
           )) in
-          let lines = ap (λ (b : Counts). b.lines) c.of-log.ensures.told in
-          let marked = ap (λ (b : Counts). b.marked) c.of-log.ensures.told in
+          let lines = ap (λ (b : LineCounts). b.lines) c.of-log.ensures.told in
+          let marked = ap (λ (b : LineCounts). b.marked) c.of-log.ensures.told in
           let long = ap (λ (r : RecordingState). length r.items) e.trace in
           let all = ap (λ (r : RecordingState). count_by g.K.Name.origin.marks r.items) e.trace in record {
             lines = λ claimed. omega (arith, counted.lines (sym e.claimed ∙ claimed), m.lines, lines, long);

@@ -6,7 +6,7 @@ use Rattle.im_types.specs.Agreement.{WaitingAgrees}
 use Rattle.im_types.specs.Changes.{shown_by}
 use Rattle.im_trace.specs.Log.{LogState}
 use Rattle.im_controller.specs.State.{SharedState}
-use Rattle.im_controller.specs.Groups.{answer_in, those, with_all_unclaimed, AreAnswersTo, memory_after_all}
+use Rattle.im_controller.specs.Groups.{served_answer, those, with_all_unclaimed, AreAnswersTo, memory_after_all}
 use Rattle.im_queue.specs.Members.{AreFreeFor, AreSureBehind}
 use Rattle.im_controller.specs.Groups.{LendsGroup}
 use Rattle.im_controller.specs.Runs.{LendsRuns}
@@ -54,7 +54,7 @@ keep_all-requires g c =
     → length s.log.trace + length rs ≤ s.log.limit) (sym c.shared.view_is) c.requires.room in
     let free = subst (λ (s : SharedState g.row.D.Denot). AreFreeFor s.log.places rs)
     (sym c.shared.view_is) c.requires.free in
-    let are_so = subst (λ (m : Contents). AreAnswersTo m rs (map answer_in xs))
+    let are_so = subst (λ (m : Contents). AreAnswersTo m rs (map served_answer xs))
     (sym c.shared.invariant.0) fits.are_so in
     rw (c.as_slice-4.ensures.value, c.as_slice-5.ensures.value) (record {
       whole = fits.whole;
@@ -76,17 +76,17 @@ invariant_of-shared g c =
     c.memory-memory.ensures c.places_with-places.ensures c.shared.invariant.0 c.shared.invariant.1 c.shared.invariant.3 c.choose-roomy.ensures.ahead c.failed.ensures.failed c.show_put-told.ensures.shown c.show_put-told.ensures.hidden in
     let log = c.keep_all.ensures.log
     ∙ ap (λ rs. with_all_unclaimed c.shared.inside.log.state rs
-    (map answer_in c.as_slice-5.result.now)) c.as_slice-4.ensures.value
+    (map served_answer c.as_slice-5.result.now)) c.as_slice-4.ensures.value
     ∙ ap (λ xs. with_all_unclaimed c.shared.inside.log.state c.args.members.now.items
-    (map answer_in xs)) c.as_slice-5.ensures.value in
+    (map served_answer xs)) c.as_slice-5.ensures.value in
     let ends = c.keep_all.ensures.end
     ∙ rw (c.as_slice-4.ensures.value, c.as_slice-5.ensures.value)
-    (ap (λ m. memory_after_all m rs (map answer_in xs)) c.shared.invariant.0 ∙ fits.ends) in
+    (ap (λ m. memory_after_all m rs (map served_answer xs)) c.shared.invariant.0 ∙ fits.ends) in
     let e = c.shared.inside.engine in let f = c.serve_members.new.engine in let m = g.K.Name.origin.memory in
     let trace = c.shared.inside.log.state.trace in
     let lent = c.choose-roomy.result.lent.items in let ss = c.serve_members.new.served.items in
     let same = lines-same e f c.room-room.result rs c.choose-roomy.result.roomy.items lent ss xs it (subst WaitingAgrees c.memory-memory.ensures c.cells-cells.ensures.memory.agrees) c.requires.cut c.requires.apart (subst (λ (s : SharedState g.row.D.Denot). AreSureBehind s.engine.memory c.args.members.now.items) (sym c.shared.view_is) c.requires.sure) in
-    let lines = ap (λ (l : LogState). l.trace) log ∙ all-trace c.shared.inside.log.state rs (map answer_in xs)
+    let lines = ap (λ (l : LogState). l.trace) log ∙ all-trace c.shared.inside.log.state rs (map served_answer xs)
     ∙ ap (λ ls. trace ++ ls) same in
     let on : e.failed ≡ false → 0 < c.room-room.result → AreOnPlan g.K.Name.origin.plan rs = λ alive some.
     subst (λ (s : SharedState g.row.D.Denot). s.engine.failed ≡ false → length s.log.trace < s.log.limit
@@ -106,7 +106,7 @@ invariant_of-shared g c =
           let before = c.shared.invariant.5 (c.serve_members.ensures.runs.honest honest) began in
           keeps_at g.D.Disk g.K.Name.origin.begun m plan (length (g.D.Disk.past c.disk.result.now)) old c.keep_all.new.log f (ap (λ d. length (g.D.Disk.past d)) c.disk.ensures) before.whole before.order c.keep_all.ensures.times
           (kept_on g.D.Disk g.K.Name.origin.begun m plan held e f trace c.keep_all.new.log.state.trace
-          (lines_all lent (map answer_in ss)) lines c.shared.invariant.0
+          (lines_all lent (map served_answer ss)) lines c.shared.invariant.0
           (kept_members g.D.Disk g.K.Name.origin.begun m plan held e f (accepted_in m trace)
           (since_of g.D.Disk g.K.Name.origin.begun m plan trace old.times e before)
           (sym (accepted-after m trace ∙ c.shared.invariant.0)) lent ss c.serve_members.ensures.runs.faults
@@ -118,7 +118,8 @@ invariant_of-shared g c =
       c.shared.invariant.7,
       subst (λ (ls : List Line). KeepsTo m g.K.Name.origin.plan ls) (sym lines)
           (keeps-members m g.K.Name.origin.plan e f rs lent
-          (map answer_in xs) ss same trace c.shared.invariant.8 c.room-room.result c.serve_members.ensures.answered on),
+          (map served_answer xs) ss same trace c.shared.invariant.8 c.room-room.result c.serve_members.ensures.answered
+          on),
     )
 
 pub returns-clause-lends : goal.returns-clause-lends
@@ -131,9 +132,9 @@ returns-clause-lends g c =
     c.memory-memory.ensures c.places_with-places.ensures c.shared.invariant.0 c.shared.invariant.1 c.shared.invariant.3 c.choose-roomy.ensures.ahead c.failed.ensures.failed c.show_put-told.ensures.shown c.show_put-told.ensures.hidden in
     let log = c.keep_all.ensures.log
     ∙ ap (λ rs. with_all_unclaimed c.shared.inside.log.state rs
-    (map answer_in c.as_slice-5.result.now)) c.as_slice-4.ensures.value
+    (map served_answer c.as_slice-5.result.now)) c.as_slice-4.ensures.value
     ∙ ap (λ xs. with_all_unclaimed c.shared.inside.log.state c.args.members.now.items
-    (map answer_in xs)) c.as_slice-5.ensures.value in
+    (map served_answer xs)) c.as_slice-5.ensures.value in
     let s : SharedState g.row.D.Denot = record { engine = c.shared.inside.engine; log = c.shared.inside.log.state; servers = c.shared.inside.servers; shown = c.shared.inside.pane.shown } in
     let s' : SharedState g.row.D.Denot = record { engine = c.serve_members.new.engine; log = c.keep_all.new.log.state; servers = c.shared.inside.servers; shown = c.show_put-told.new.pane.shown } in
     subst (λ (u : SharedState g.row.D.Denot). LendsGroup u c.args.members.now.items c.choose-roomy.result.roomy.items s') c.shared.view_is

@@ -2,19 +2,20 @@ use Rattle.std.proofs.Common.{◌++◌, ◌∙◌, ap, sym, subst, List}
 use Rattle.im_types.specs.declared.commands.Call.TheVariants.{Collect}
 use Rattle.im_types.specs.declared.commands.Line.{Line}
 use Rattle.im_types.specs.Trace.{told}
-use Rattle.im_trace.specs.Lines.{lines_of}
+use Rattle.im_trace.specs.Lines.{left_lines}
 use Rattle.im_controller.specs.State.{SharedState}
-use Rattle.im_controller.specs.Waits.{IsFoundAt, entry_of}
+use Rattle.im_controller.specs.Waits.{IsFoundAt, found_entry}
 use Rattle.im_controller.proofs.SeenLemmas.{goes-on, looks-trace}
 use Rattle.im_controller.proofs.looks.find_seen.Goals as goal
 
 pub returns-clause-order : goal.returns-clause-order
 returns-clause-order g c =
-    let last = lines_of (Collect c.args.element c.args.number) (told (entry_of c.find-found.result)) in (
+    let last = left_lines (Collect c.args.element c.args.number) (told (found_entry c.find-found.result)) in (
       goes-on c.args.seen.now c.args.shared.now.log.trace last c.seen_all.result c.know.ensures.known
           (c.seen_all.ensures
           ∙ looks-trace g.K.Name.origin.marks c.know.new.shared c.find-found.new.shared c.args.tally.now
-          c.find-found.new.tally c.args.element c.args.number (entry_of c.find-found.result) c.find-found.ensures.looks
+          c.find-found.new.tally c.args.element c.args.number
+          (found_entry c.find-found.result) c.find-found.ensures.looks
           ∙ ap (λ (s : SharedState g.row.D.Denot). s.log.trace ++ last) c.know.ensures.same),
       subst (λ (ls : List Line). IsFoundAt ls c.find-found.result) (sym c.seen_all.ensures) c.find-found.ensures.own,
     )

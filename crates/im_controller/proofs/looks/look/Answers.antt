@@ -1,7 +1,7 @@
 use Rattle.std.proofs.Common.{◌≡◌, List, length, sym, ap, subst, ◌∙◌, ◌++◌}
 use Rattle.im_types.specs.declared.commands.Line.{Line}
 use Rattle.im_types.specs.declared.commands.Call.TheVariants.{Collect}
-use Rattle.im_trace.specs.Lines.{lines_of}
+use Rattle.im_trace.specs.Lines.{left_lines}
 use Rattle.im_trace.specs.Log.{LogState}
 use Rattle.im_types.specs.Trace.{told, end_of}
 use Rattle.im_types.specs.Changes.{shown_by}
@@ -17,15 +17,15 @@ returns-clause-last g c =
     let call = Collect c.args.element c.args.number in
     last-told c.shared.inside.log.state c.leave.new.self.state.trace call c.collect-answer.result
     (ap (λ (l : LogState). l.trace) c.leave.ensures.log
-    ∙ ap (λ a. c.shared.inside.log.state.trace ++ lines_of call a) c.as_outcome.ensures)
+    ∙ ap (λ a. c.shared.inside.log.state.trace ++ left_lines call a) c.as_outcome.ensures)
 
 pub invariant_of-shared : goal.invariant_of-shared
 invariant_of-shared g c =
     let call = Collect c.args.element c.args.number in
     let is : c.leave.new.self.state.trace ≡ c.shared.inside.log.state.trace
-    ++ lines_of call (told c.collect-answer.result) =
+    ++ left_lines call (told c.collect-answer.result) =
     ap (λ (l : LogState). l.trace) c.leave.ensures.log
-    ∙ ap (λ a. c.shared.inside.log.state.trace ++ lines_of call a) c.as_outcome.ensures in
+    ∙ ap (λ a. c.shared.inside.log.state.trace ++ left_lines call a) c.as_outcome.ensures in
     let shown = c.shared.invariant.1
     ∙ looked-shown g.K.Name.origin.memory c.shared.inside.log.state.trace c.args.element c.args.number
     (told c.collect-answer.result) ∙ ap (shown_by g.K.Name.origin.memory) (sym is) in (

@@ -5,22 +5,23 @@ use Rattle.im_types.specs.declared.commands.Command.TheVariants.{Request as Asks
 use Rattle.im_types.specs.declared.groups.Served.TheVariants.{Unserved}
 use Rattle.im_trace.specs.Log.{LogState, with_unclaimed}
 use Rattle.im_trace.proofs.TimeLemmas.{goes-on-at}
-use Rattle.im_controller.specs.Groups.{answer_in}
+use Rattle.im_controller.specs.Groups.{served_answer}
 use Rattle.im_controller.proofs.Keeping.{Keeps, keeps_next, keeps_cons}
 use Rattle.im_controller.proofs.members.keep_all.Goals as goal
 
 pub loop-i-preserved : goal.loop-i-preserved
 loop-i-preserved g c =
     let m = g.K.Name.origin.memory in
-    let l0 = c.args.log.now.state in let rs = c.args.members.now in let ss = c.args.served.now in let xs = map answer_in ss in
+    let l0 = c.args.log.now.state in let rs = c.args.members.now in let ss = c.args.served.now in let xs = map served_answer ss in
     let i = c.loop-i.i in let first = Asks (record { element = 0; number = 0; op = Alloc I 0 }) in
-    let k = keeps_cons m l0 rs xs answer_in c.loop-i.log.state rs ss i first Unserved (omega arith)
+    let k = keeps_cons m l0 rs xs served_answer c.loop-i.log.state rs ss i first Unserved (omega arith)
     (omega (arith, c.requires.whole)) c.loop-i.invariant.0 in
-    let next = keeps_next m l0 rs xs c.loop-i.log.state (get_or rs i first) (answer_in (get_or ss i Unserved))
-    (drop (i + 1) rs) (map answer_in (drop (i + 1) ss)) k in
+    let next = keeps_next m l0 rs xs c.loop-i.log.state (get_or rs i first) (served_answer (get_or ss i Unserved))
+    (drop (i + 1) rs) (map served_answer (drop (i + 1) ss)) k in
     let same : c.keep.new.self.state
-    ≡ with_unclaimed c.loop-i.log.state (get_or rs i first) (answer_in (get_or ss i Unserved)) = c.keep.ensures.log
+    ≡ with_unclaimed c.loop-i.log.state (get_or rs i first) (served_answer (get_or ss i Unserved)) = c.keep.ensures.log
     ∙ ap (λ x. with_unclaimed c.loop-i.log.state (get_or rs i first) x) c.answer_in.ensures in (
-      subst (λ (l : LogState). Keeps m l0 rs xs l (drop (i + 1) rs) (map answer_in (drop (i + 1) ss))) (sym same) next,
+      subst (λ (l : LogState). Keeps m l0 rs xs l (drop (i + 1) rs) (map served_answer (drop (i + 1) ss)))
+          (sym same) next,
       goes-on-at _ c.args.log.now c.loop-i.log c.keep.new.self c.loop-i.invariant.1 c.keep.ensures.times,
     )

@@ -6,7 +6,7 @@ use Rattle.im_journal.specs.Holding.{JournalState}
 use Rattle.im_image.specs.Reading.{HasSizes}
 use Rattle.im_checkpoint.specs.Keeping.{paged, IsKept}
 use Rattle.im_checkpoint.specs.Step.{changed_in}
-use Rattle.im_groups.specs.Commands.{answers_with, contents_after, takes_at, most_pages_with}
+use Rattle.im_groups.specs.Commands.{answers_with, contents_after_all, takes_at, most_pages_with}
 use Rattle.im_engine.proofs.Adding.{AddsSoFar}
 use Rattle.im_engine.proofs.groups.act_all.Given as goal
 
@@ -15,8 +15,8 @@ invariant-loop-i l = record {
   size : length l.served.items ≡ l.i;
   answers : l.served.items ++ map as_served (answers_with l.memory.contents l.left (drop l.i l.members.all.now))
       ≡ map as_served (answers_with l.fn.memory.contents l.places l.members.all.now);
-  contents : contents_after l.memory.contents l.left (drop l.i l.members.all.now)
-      ≡ contents_after l.fn.memory.contents l.places l.members.all.now;
+  contents : contents_after_all l.memory.contents l.left (drop l.i l.members.all.now)
+      ≡ contents_after_all l.fn.memory.contents l.places l.members.all.now;
   taken : drop l.i l.members.taken.now ≡ takes_at l.memory.contents l.left (drop l.i l.members.all.now);
   sizes : HasSizes l.checkpoint.state.header.sizes l.memory.contents;
   state : l.checkpoint.state ≡ l.fn.checkpoint.state;

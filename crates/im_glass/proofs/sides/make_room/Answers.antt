@@ -2,13 +2,13 @@ use Rattle.std.proofs.Common.{◌≡◌, ◌∙◌, ap, sym}
 use Rattle.im_types.specs.declared.changes.Change.TheVariants.{Same}
 use Rattle.im_glass.specs.declared.copies.Ahead.{Ahead}
 use Rattle.im_glass.specs.Copies.{CopyState, History, applied_to}
-use Rattle.im_glass.specs.Rule.{state_of}
+use Rattle.im_glass.specs.Rule.{copy_state}
 use Rattle.im_glass.proofs.CopyLemmas.{idle-more}
 use Rattle.im_glass.proofs.sides.make_room.Goals as goal
 
 pub loop-place-preserved : goal.loop-place-preserved
 loop-place-preserved c =
-    let s : CopyState = state_of c.args.both.now.desk.shown.value in
+    let s : CopyState = copy_state c.args.both.now.desk.shown.value in
     let ahead : Ahead = record { change = Same; count = 0; seen = c.again.result } in
     let nothing : applied_to s ahead ≡ s = ap (λ (seen : History). (seen, s.1, 0)) c.again.ensures
     ∙ sym c.requires.shown in (

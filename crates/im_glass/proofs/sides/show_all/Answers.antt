@@ -1,30 +1,30 @@
 use Rattle.std.proofs.Common.{◌∙◌, ap, sym, subst, length}
 use Rattle.im_glass.specs.Copies.{CopyState, IsKeptCopy}
-use Rattle.im_glass.specs.Rule.{state_of}
+use Rattle.im_glass.specs.Rule.{copy_state}
 use Rattle.im_glass.proofs.CopyLemmas.{brought}
 use Rattle.im_glass.proofs.sides.show_all.Goals as goal
 
 pub publish-requires-clause-kept : goal.publish-requires-clause-kept
 publish-requires-clause-kept g c =
     (brought _ g.J.PaneName.book
-    (state_of c.args.both.desk.shown.value) c.requires.kept.0 c.requires.kept.1 c.requires.goes_on).kept
+    (copy_state c.args.both.desk.shown.value) c.requires.kept.0 c.requires.kept.1 c.requires.goes_on).kept
 
 pub publish-requires-clause-book : goal.publish-requires-clause-book
 publish-requires-clause-book g c =
     (brought _ g.J.PaneName.book
-    (state_of c.args.both.desk.shown.value) c.requires.kept.0 c.requires.kept.1 c.requires.goes_on).book_is
+    (copy_state c.args.both.desk.shown.value) c.requires.kept.0 c.requires.kept.1 c.requires.goes_on).book_is
     ∙ sym c.requires.kept.0
 
 pub returns-clause-log : goal.returns-clause-log
 returns-clause-log g c =
     ap (λ (s : CopyState). s.0.log) c.publish.ensures.state
     ∙ (brought _ g.J.PaneName.book
-    (state_of c.args.both.desk.shown.value) c.requires.kept.0 c.requires.kept.1 c.requires.goes_on).log
+    (copy_state c.args.both.desk.shown.value) c.requires.kept.0 c.requires.kept.1 c.requires.goes_on).log
 
 pub returns-clause-kept : goal.returns-clause-kept
 returns-clause-kept g c =
     let it = brought _ g.J.PaneName.book
-    (state_of c.args.both.desk.shown.value) c.requires.kept.0 c.requires.kept.1 c.requires.goes_on in (
+    (copy_state c.args.both.desk.shown.value) c.requires.kept.0 c.requires.kept.1 c.requires.goes_on in (
       ap (λ (s : CopyState). s.0.book) c.publish.ensures.state ∙ it.book_is,
       subst (λ (s : CopyState). IsKeptCopy s) (sym c.publish.ensures.state) it.kept,
     )
@@ -33,4 +33,4 @@ pub returns-clause-cells : goal.returns-clause-cells
 returns-clause-cells g c =
     ap (λ (s : CopyState). length s.1) c.publish.ensures.state
     ∙ (brought _ g.J.PaneName.book
-    (state_of c.args.both.desk.shown.value) c.requires.kept.0 c.requires.kept.1 c.requires.goes_on).cells
+    (copy_state c.args.both.desk.shown.value) c.requires.kept.0 c.requires.kept.1 c.requires.goes_on).cells

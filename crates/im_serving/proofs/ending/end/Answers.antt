@@ -1,5 +1,5 @@
 use Rattle.std.proofs.Common.{subst}
-use Rattle.im_serving.specs.Elements.{Asked, Deeds, HasServed, HasStopped}
+use Rattle.im_serving.specs.Elements.{Asked, Deeds, ServesIntents, HasStopped}
 use Rattle.im_serving.proofs.ElementLemmas.{settled, sent_by}
 use Rattle.im_serving.proofs.ending.end.Goals as goal
 
@@ -15,7 +15,7 @@ returns-in-Ok g c =
     let sends = sent_by c.in-Ok.pair.sender c.in-Ok.pair.server.promise.outlet.value.pipe part.intents
     (λ h. h.promise.inlet.value.pipe) (λ h. h.promise.intents.value.items) (λ s. s.finished) (λ s. s.all) sent
     state.1 c.end_sending.ensures in
-    subst (λ (p : Asked). HasServed g.K.Name.origin.memory p.deeds c.settle.result.deeds c.settle.result.result
+    subst (λ (p : Asked). ServesIntents g.K.Name.origin.memory p.deeds c.settle.result.deeds c.settle.result.result
     p.intents)
     c.running.view_is
     (settled g.K.Name.origin.memory part.deeds c.join-stopped.result.done c.settle.result outlet sent.finished.items

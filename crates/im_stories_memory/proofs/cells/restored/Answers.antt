@@ -1,6 +1,6 @@
 use Rattle.std.proofs.Common.{◌≡◌, map, length, ap, sym, ◌∙◌, subst, arith}
 use Rattle.std.proofs.lemmas.List.{length-map}
-use Rattle.im_cell.specs.Slots.{shown_slot, HasBlocks}
+use Rattle.im_cell.specs.Slots.{shown_slot, HoldsBlocks}
 use Rattle.im_stories_memory.proofs.cells.restored.Goals as goal
 
 pub restore-requires-clause-few : goal.restore-requires-clause-few
@@ -11,4 +11,4 @@ restore-requires-clause-few c =
 pub restore-requires-clause-blocks : goal.restore-requires-clause-blocks
 restore-requires-clause-blocks c =
     let shown : map shown_slot c.as_slice.result.now ≡ c.args.table.now = ap (map shown_slot) c.as_slice.ensures.value ∙ c.in_ok-records.ensures.shown in
-    subst HasBlocks (sym shown) c.in_ok-records.ensures.blocks
+    subst HoldsBlocks (sym shown) c.in_ok-records.ensures.blocks

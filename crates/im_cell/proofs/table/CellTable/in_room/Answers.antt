@@ -1,7 +1,7 @@
 use Rattle.std.proofs.Common.{◌≡◌, ◌∙◌, ◌+◌, ◌-◌, ◌/◌, length, map, replicate, Some, ap, sym, subst, arith}
 use Rattle.im_cell.specs.declared.unit.TheConstants.{UNIT}
 use Rattle.im_cell.specs.declared.unit.Unit.TheVariants.{Each}
-use Rattle.im_cell.specs.Slots.{shown_slot, HasBlocks}
+use Rattle.im_cell.specs.Slots.{shown_slot, HoldsBlocks}
 use Rattle.im_cell.proofs.Kept.{length-slots}
 use Rattle.im_cell.proofs.Rows.{long-rows, slots-shown}
 use Rattle.im_cell.proofs.table.CellTable.in_room.Goals as goal
@@ -38,7 +38,7 @@ count_waiting-requires-clause-blocks c =
     let e : c.over-slots.result ≡ map shown_slot c.args.row = c.over-slots.ensures ∙ c.over-cells.ensures
     ∙ slots-shown c.row.inside.states.items c.row.inside.values.items c.row.inside.extents.items c.row.inside.lasts.items
     c.row.invariant.values_are c.row.invariant.extents_are c.row.invariant.lasts_are ∙ ap (map shown_slot) c.row.view_is in
-    subst HasBlocks (sym e) c.requires.blocks
+    subst HoldsBlocks (sym e) c.requires.blocks
 
 pub count_waiting-requires-clause-none : goal.count_waiting-requires-clause-none
 count_waiting-requires-clause-none c =
@@ -63,7 +63,7 @@ give_free-requires-clause-blocks c =
     let e : c.over-slots.result ≡ map shown_slot c.args.row = c.over-slots.ensures ∙ c.over-cells.ensures
     ∙ slots-shown c.row.inside.states.items c.row.inside.values.items c.row.inside.extents.items c.row.inside.lasts.items
     c.row.invariant.values_are c.row.invariant.extents_are c.row.invariant.lasts_are ∙ ap (map shown_slot) c.row.view_is in
-    subst HasBlocks (sym e) c.requires.blocks
+    subst HoldsBlocks (sym e) c.requires.blocks
 
 pub returns : goal.returns
 returns c =

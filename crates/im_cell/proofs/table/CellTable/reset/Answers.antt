@@ -2,7 +2,7 @@ use Rattle.std.proofs.Common.{◌≡◌, ◌∙◌, take, drop, false, ap, sym, 
 use Rattle.std.specs.List.{list_any}
 use Rattle.im_types.specs.Place.{change_each}
 use Rattle.im_types.specs.declared.cells.Cell.TheVariants.{Empty}
-use Rattle.im_cell.specs.Slots.{with_cell, is_waiting, length_of}
+use Rattle.im_cell.specs.Slots.{with_cell, is_waiting_slot, length_of}
 use Rattle.im_cell.specs.Table.{IsTable}
 use Rattle.im_cell.proofs.Blocks.{IsBlock-at, emptied-fill}
 use Rattle.im_cell.proofs.Changed.{IsTable-emptied}
@@ -15,7 +15,7 @@ invariant_of-self c =
     c.self.invariant.blocks in
     subst (λ s. IsTable s c.self.inside.holes) (sym c.fill.ensures)
     (IsTable-emptied c.self.inside.slots c.self.inside.holes c.in-Some.block c.self.invariant block.here
-    (subst (λ s. list_any is_waiting (take c.in-Some.block.length (drop c.in-Some.block.base s)) ≡ false)
+    (subst (λ s. list_any is_waiting_slot (take c.in-Some.block.length (drop c.in-Some.block.base s)) ≡ false)
     (sym c.self.view_is) f.quiet))
 
 pub returns-clause-emptied : goal.returns-clause-emptied

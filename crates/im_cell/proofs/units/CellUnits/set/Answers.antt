@@ -2,8 +2,8 @@ use Rattle.std.proofs.Common.{◌∙◌, ◌/◌, set, ap, sym, subst, arith, le
 use Rattle.std.specs.Prelude.{IsSome}
 use Rattle.std.proofs.lemmas.List.{with_items_is}
 use Rattle.im_cell.specs.declared.unit.TheConstants.{UNIT}
-use Rattle.im_cell.specs.Slots.{slot_at, with_cell, is_waiting}
-use Rattle.im_cell.specs.Units.{shown}
+use Rattle.im_cell.specs.Slots.{slot_at, with_cell, is_waiting_slot}
+use Rattle.im_cell.specs.Units.{shown_units}
 use Rattle.im_cell.proofs.Kept.{some-inside}
 use Rattle.im_cell.proofs.Seen.{length-shown, at-own, own-read, shown-set, set-long}
 use Rattle.im_cell.proofs.units.CellUnits.set.Goals as goal
@@ -28,9 +28,9 @@ pub returns-then-is_own-clause-set : goal.returns-then-is_own-clause-set
 returns-then-is_own-clause-set c =
     let own = (own-read c.self.inside.units.items _ (c.args.a / UNIT) _ _ c.as_slice.ensures.value c.unit_of.ensures
     c.is_own.ensures c.if-is_own.true) in
-    ap (shown c.self.inside.units.items) c.set.ensures.set
+    ap (shown_units c.self.inside.units.items) c.set.ensures.set
     ∙ shown-set c.self.inside.units.items c.self.inside.cells c.args.a _ own
-    ∙ ap (λ o. set (shown c.self.inside.units.items c.self.inside.cells) c.args.a (with_cell c.args.cell o)) (sym (at-own c.self.inside.units.items c.self.inside.cells c.args.a own
+    ∙ ap (λ o. set (shown_units c.self.inside.units.items c.self.inside.cells) c.args.a (with_cell c.args.cell o)) (sym (at-own c.self.inside.units.items c.self.inside.cells c.args.a own
     (omega (arith, some-inside c.args.self.now c.args.a c.requires, length-shown c.self.inside.units.items c.self.inside.cells, ap length c.self.view_is))))
     ∙ ap (λ s. set s c.args.a (with_cell c.args.cell (slot_at s c.args.a))) c.self.view_is
 
@@ -38,7 +38,7 @@ pub returns-then-is_own-clause-waited : goal.returns-then-is_own-clause-waited
 returns-then-is_own-clause-waited c =
     let own = (own-read c.self.inside.units.items _ (c.args.a / UNIT) _ _ c.as_slice.ensures.value c.unit_of.ensures
     c.is_own.ensures c.if-is_own.true) in
-    c.set.ensures.waited ∙ ap is_waiting (sym (at-own c.self.inside.units.items c.self.inside.cells c.args.a own
+    c.set.ensures.waited ∙ ap is_waiting_slot (sym (at-own c.self.inside.units.items c.self.inside.cells c.args.a own
     (omega (arith, some-inside c.args.self.now c.args.a c.requires, length-shown c.self.inside.units.items c.self.inside.cells, ap length c.self.view_is))) ∙ ap (λ s. slot_at s c.args.a) c.self.view_is)
 
 pub set_among_same-requires-clause-inside : goal.set_among_same-requires-clause-inside

@@ -11,7 +11,7 @@ use Rattle.im_image.specs.Headers.{seen}
 use Rattle.im_image.specs.Encoding.{AreCounted}
 use Rattle.im_image.proofs.Encoding.{counted}
 use Rattle.im_checkpoint.specs.declared.checkpoint.Phase.{Phase}
-use Rattle.im_checkpoint.specs.Step.{Step, PagedCheckpoint, with_left, step_by_phase, turns_left, left_in, HasNext}
+use Rattle.im_checkpoint.specs.Step.{Step, PagedCheckpoint, pages_step, step_by_phase, turns_left, left_in, HasNext}
 use Rattle.im_checkpoint.specs.Keeping.{Paged, paged, IsKept}
 use Rattle.im_checkpoint.proofs.PageLists.{union_none, left_with, kept_none}
 use Rattle.im_checkpoint.proofs.Fitting.{turns_with}
@@ -64,14 +64,14 @@ returns-clause-began c =
     let count : c.count-self-inside.result ≡ c.args.journal.now.count = c.count-self-inside.ensures.count in
     let step : step_by_phase c.next_left-step.result.0 c.count-self-inside.result
     (pages_from c.next_left-step.result.1 c.union_with-2.new.self)
-    ≡ with_left c.args.journal.now.count (pages_from 0 (union e.older e.recent)) =
-    c.next_left-step.ensures.step c.count-self-inside.result ∙ (λ i. with_left (count i) (pages_from 0 (all i))) in
+    ≡ pages_step c.args.journal.now.count (pages_from 0 (union e.older e.recent)) =
+    c.next_left-step.ensures.step c.count-self-inside.result ∙ (λ i. pages_step (count i) (pages_from 0 (all i))) in
     let header : seen e.header
     ≡ c.args.self.now.state.header = ap (λ (s : PagedCheckpoint). s.state.header) c.self.view_is in
     let few : length (pages_from 0 (union e.older e.recent)) ≤ area_pages layout_in_use (seen e.header).sizes =
     omega (arith, few-from (union e.older e.recent) 0, length-union e.older e.recent, c.self.invariant.older_size) in
     let turns : turns_left
-    (with_left c.args.journal.now.count (pages_from 0 (union e.older e.recent))) ≤ area_pages layout_in_use
+    (pages_step c.args.journal.now.count (pages_from 0 (union e.older e.recent))) ≤ area_pages layout_in_use
     (seen e.header).sizes + 2 = omega
     (arith, turns_with c.args.journal.now.count (pages_from 0 (union e.older e.recent)), few) in
     record {
@@ -99,8 +99,8 @@ returns-clause-moved c =
     let count : c.count-self-inside.result ≡ c.args.journal.now.count = c.count-self-inside.ensures.count in
     let step : step_by_phase c.next_left-step.result.0 c.count-self-inside.result
     (pages_from c.next_left-step.result.1 c.union_with-2.new.self)
-    ≡ with_left c.args.journal.now.count (pages_from 0 (union e.older e.recent)) =
-    c.next_left-step.ensures.step c.count-self-inside.result ∙ (λ i. with_left (count i) (pages_from 0 (all i))) in
+    ≡ pages_step c.args.journal.now.count (pages_from 0 (union e.older e.recent)) =
+    c.next_left-step.ensures.step c.count-self-inside.result ∙ (λ i. pages_step (count i) (pages_from 0 (all i))) in
     let older : e.older ≡ c.args.self.now.older = ap (λ (s : PagedCheckpoint). s.older) c.self.view_is in
     let recent : e.recent ≡ c.args.self.now.recent = ap (λ (s : PagedCheckpoint). s.recent) c.self.view_is in
     record {
@@ -127,8 +127,8 @@ returns-clause-kept c = λ now kept.
     let count : c.count-self-inside.result ≡ c.args.journal.now.count = c.count-self-inside.ensures.count in
     let step : step_by_phase c.next_left-step.result.0 c.count-self-inside.result
     (pages_from c.next_left-step.result.1 c.union_with-2.new.self)
-    ≡ with_left c.args.journal.now.count (pages_from 0 (union e.older e.recent)) =
-    c.next_left-step.ensures.step c.count-self-inside.result ∙ (λ i. with_left (count i) (pages_from 0 (all i))) in
+    ≡ pages_step c.args.journal.now.count (pages_from 0 (union e.older e.recent)) =
+    c.next_left-step.ensures.step c.count-self-inside.result ∙ (λ i. pages_step (count i) (pages_from 0 (all i))) in
     let m = c.args.memory.now in
     let x : Paged = record { recent = e.recent; older = e.older; copies = e.copies; records = m.records } in
     let s : Sizes = (seen e.header).sizes in
@@ -152,7 +152,7 @@ returns-clause-kept c = λ now kept.
     let begun = begun_kept
     (seen e.header) x e.copies m.contents c.args.journal.now now before c.count-self-inside.ensures.known.to_last later
     count_all shows c.self.invariant.older_size c.self.invariant.recent_size in
-    let step_back : with_left c.args.journal.now.count (pages_from 0 (union e.older e.recent))
+    let step_back : pages_step c.args.journal.now.count (pages_from 0 (union e.older e.recent))
     ≡ step_by_phase c.next_left-step.result.0 c.count-self-inside.result
     (pages_from c.next_left-step.result.1 c.union_with-2.new.self) = sym step in
     let none_back : replicate (length e.older) false ≡ c.clear-2.new.self = sym none in
@@ -161,7 +161,7 @@ returns-clause-kept c = λ now kept.
     = record {
       state = record {
         header = seen e.header;
-        step = with_left c.args.journal.now.count (pages_from 0 (union e.older e.recent));
+        step = pages_step c.args.journal.now.count (pages_from 0 (union e.older e.recent));
       };
       recent = replicate
           (length e.older) false;

@@ -2,7 +2,7 @@ use Rattle.std.proofs.Common.{true, false}
 use Rattle.std.specs.Prelude.{None}
 use Rattle.std.specs.Option.{option_map}
 use Rattle.im_dialogue.specs.Asking.{asked_of}
-use Rattle.im_dialogue.specs.Hearing.{asking, left_after, left_behind, questions_in, questions_left}
+use Rattle.im_dialogue.specs.Hearing.{asking, asked_after, left_behind, questions_in, questions_left}
 use Rattle.im_dialogue.specs.Talk.{outputs, with_left}
 use Rattle.im_dialogue.proofs.HearingLemmas.{asked_line, asked_nothing, left_one, left_zero, same_left}
 use Rattle.im_dialogue.proofs.TalkLemmas.{ends_left, from_left, left_as, talk_ends_here, to_left}
@@ -34,7 +34,7 @@ returns-in-Ok-true-serve_line-clause-talks g c =
     let was = outputs (g.W.Write.contents c.args.out.now) (g.B.Backups.kept c.args.backups.now) in
     let is = outputs (g.W.Write.contents c.serve_line.new.out) (g.B.Backups.kept c.serve_line.new.backups) in
     to_left now past honest watch c.args.self.now.engine c.serve_line.new.self.engine
-    (with_left (questions_left known) was) is (left_behind true (option_map questions_in later)) (left_after 1 later)
+    (with_left (questions_left known) was) is (left_behind true (option_map questions_in later)) (asked_after 1 later)
     (same_left _ _ (left_one later))
     (from_left now past honest watch c.args.self.now.engine c.serve_line.new.self.engine was
     (with_left (left_behind true (option_map questions_in later)) is) (questions_left known)
@@ -55,7 +55,7 @@ returns-in-Ok-false-serve_line-clause-talks g c =
     let was = outputs (g.W.Write.contents c.args.out.now) (g.B.Backups.kept c.args.backups.now) in
     let is = outputs (g.W.Write.contents c.serve_line.new.out) (g.B.Backups.kept c.serve_line.new.backups) in
     to_left now past honest watch c.args.self.now.engine c.serve_line.new.self.engine
-    (with_left (questions_left known) was) is (left_behind false (option_map questions_in later)) (left_after 0 later)
+    (with_left (questions_left known) was) is (left_behind false (option_map questions_in later)) (asked_after 0 later)
     (same_left _ _ (left_zero later))
     (from_left now past honest watch c.args.self.now.engine c.serve_line.new.self.engine was
     (with_left (left_behind false (option_map questions_in later)) is) (questions_left known)

@@ -1,7 +1,7 @@
 use Rattle.std.proofs.Common.{◌≡◌, ◌∙◌, subst, ap}
 use Rattle.std.specs.Prelude.{None}
 use Rattle.im_dialogue.specs.declared.serving.Setting.{Setting}
-use Rattle.im_dialogue.specs.Hearing.{left_after, questions_left}
+use Rattle.im_dialogue.specs.Hearing.{asked_after, questions_left}
 use Rattle.im_dialogue.specs.Talk.{TalkEnds, TalksOn, outputs, with_input, with_left}
 use Rattle.im_dialogue.proofs.HearingLemmas.{left_some, same_left}
 use Rattle.im_dialogue.proofs.TalkLemmas.{end_here, ends_after, on_after, to_left}
@@ -32,13 +32,13 @@ loop-served-preserved g c =
     let is = outputs (g.W.Write.contents c.serve_rested.new.out) (kept c.serve_rested.new.backups) in
     let later = g.R.Read.remaining c.serve_rested.new.input in (
       to_left g.D.Disk.now g.D.Disk.past g.D.Disk.honest c.args.self.now.setting.watch c.args.self.now.engine
-          c.serve_rested.new.self.engine was is (left_after c.in-Ok.many later) (questions_left later)
+          c.serve_rested.new.self.engine was is (asked_after c.in-Ok.many later) (questions_left later)
           (same_left _ _ (left_some c.in-Ok.many later c.if-many-eq0.false))
           (on_after g.D.Disk.now g.D.Disk.past g.D.Disk.honest c.args.self.now.setting.watch c.args.self.now.engine
           c.loop-served.self.engine c.serve_rested.new.self.engine was been
-          (with_left (left_after c.in-Ok.many later) is)
+          (with_left (asked_after c.in-Ok.many later) is)
           c.loop-served.invariant.0 (subst (λ (s : Setting). TalksOn s.watch g.D.Disk.now g.D.Disk.past g.D.Disk.honest
-          c.loop-served.self.engine been c.serve_rested.new.self.engine (with_left (left_after c.in-Ok.many later) is))
+          c.loop-served.self.engine been c.serve_rested.new.self.engine (with_left (asked_after c.in-Ok.many later) is))
           c.loop-served.invariant.1 c.in-Ok.ensures.talks)),
       c.serve_rested.ensures.same ∙ c.loop-served.invariant.1,
     )
@@ -53,12 +53,12 @@ returns-then-many-eq0-clause-talks g c =
     let is = outputs (g.W.Write.contents c.serve_rested.new.out) (kept c.serve_rested.new.backups) in
     let later = g.R.Read.remaining c.serve_rested.new.input in
     to_left g.D.Disk.now g.D.Disk.past g.D.Disk.honest c.args.self.now.setting.watch c.args.self.now.engine
-    c.serve_rested.new.self.engine was is (left_after c.in-Ok.many later) (left_after 0 later)
-    (same_left _ _ (ap (λ n. left_after n later) c.if-many-eq0.true))
+    c.serve_rested.new.self.engine was is (asked_after c.in-Ok.many later) (asked_after 0 later)
+    (same_left _ _ (ap (λ n. asked_after n later) c.if-many-eq0.true))
     (on_after g.D.Disk.now g.D.Disk.past g.D.Disk.honest c.args.self.now.setting.watch c.args.self.now.engine
-    c.loop-served.self.engine c.serve_rested.new.self.engine was been (with_left (left_after c.in-Ok.many later) is)
+    c.loop-served.self.engine c.serve_rested.new.self.engine was been (with_left (asked_after c.in-Ok.many later) is)
     c.loop-served.invariant.0 (subst (λ (s : Setting). TalksOn s.watch g.D.Disk.now g.D.Disk.past g.D.Disk.honest
-    c.loop-served.self.engine been c.serve_rested.new.self.engine (with_left (left_after c.in-Ok.many later) is))
+    c.loop-served.self.engine been c.serve_rested.new.self.engine (with_left (asked_after c.in-Ok.many later) is))
     c.loop-served.invariant.1 c.in-Ok.ensures.talks))
 
 -- no input has so many lines

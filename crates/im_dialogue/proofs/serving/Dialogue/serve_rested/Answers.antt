@@ -1,7 +1,7 @@
 use Rattle.std.proofs.Common.{rules, subst, sym}
 use Rattle.std.specs.Prelude.{None, MatchResult}
 use Rattle.im_dialogue.specs.declared.serving.Setting.{Setting}
-use Rattle.im_dialogue.specs.Hearing.{left_after, questions_left}
+use Rattle.im_dialogue.specs.Hearing.{asked_after, questions_left}
 use Rattle.im_dialogue.specs.Talk.{Ends, On, outputs, with_left}
 use Rattle.im_dialogue.proofs.HearingLemmas.{left_some, same_left}
 use Rattle.im_dialogue.proofs.TalkLemmas.{ends_after, goes_quiet, halts_talk, on_after, then_talks, to_left}
@@ -26,7 +26,7 @@ returns-then-many-eq0-clause-talks g c =
     let now = g.R.Read.remaining c.serve_alone.new.input in
     then_talks g.D.Disk.now g.D.Disk.past g.D.Disk.honest c.args.self.now.setting.watch c.args.self.now.engine
     c.serve_together.new.self.engine c.serve_alone.new.self.engine was been
-    (λ many. with_left (left_after many now) is)
+    (λ many. with_left (asked_after many now) is)
     is c.serve_alone.result
     (on_after g.D.Disk.now g.D.Disk.past g.D.Disk.honest c.args.self.now.setting.watch c.args.self.now.engine
     c.turn_while_quiet.new.engine c.serve_together.new.self.engine was
@@ -38,7 +38,7 @@ returns-then-many-eq0-clause-talks g c =
     (c.in-Ok.ensures.talks kept))
     (subst (λ (s : Setting). MatchResult c.serve_alone.result
     (λ many. On g.D.Disk s.watch c.serve_together.new.self.engine been c.serve_alone.new.self.engine
-    (with_left (left_after many now) is))
+    (with_left (asked_after many now) is))
     (λ e. Ends g.D.Disk s.watch c.serve_together.new.self.engine been c.serve_alone.new.self.engine is))
     c.serve_together.ensures.same c.serve_alone.ensures.talks)
 
@@ -50,7 +50,7 @@ returns-else-many-eq0-clause-talks g c =
     let was = with_left known (outputs (g.W.Write.contents c.args.out.now) kept) in
     let is = outputs (g.W.Write.contents c.serve_together.new.out) kept in
     to_left g.D.Disk.now g.D.Disk.past g.D.Disk.honest c.args.self.now.setting.watch c.args.self.now.engine
-    c.serve_together.new.self.engine was is (questions_left later) (left_after c.in-Ok.many later)
+    c.serve_together.new.self.engine was is (questions_left later) (asked_after c.in-Ok.many later)
     (same_left _ _ (sym (left_some c.in-Ok.many later c.if-many-eq0.false)))
     (on_after g.D.Disk.now g.D.Disk.past g.D.Disk.honest c.args.self.now.setting.watch c.args.self.now.engine
     c.turn_while_quiet.new.engine c.serve_together.new.self.engine was

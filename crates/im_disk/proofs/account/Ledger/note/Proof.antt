@@ -27,7 +27,7 @@ use denote.Triple.Spec.{Meets, triple_of}
 use denote.Triple.Table.{entered}
 use denote.Triple.Walked.{says, Stays, stay_ref, walk_of, AllGo, Goes-ref, Walks, ends_at, walked, walk_Meets}
 use Rattle.im_disk.specs.declared.account.Ledger.{Ledger}
-use Rattle.im_disk.specs.Account.{event_of}
+use Rattle.im_disk.specs.Account.{accounted_call}
 use Rattle.im_disk.specs.contracts.account.Ledger as T
 use Rattle.im_disk.specs.contracts.account.Ledger.note.Key.{name as #it}
 use Rattle.im_disk.specs.contracts.account.Ledger.note as it
@@ -57,7 +57,7 @@ module _ {M : Type 1} {𝓤 : Ura M} (𝓛 : Logic 𝓤) (at_mem : Memory → SP
   x = (record { ref_ptr = (b, o); ghost_name = γ; now = h }, (k, (s, tt)))
 
   abbrev h' : Ledger
-  h' = record { marker = h.marker; events = event_of k.now s.now ∷ h.events }
+  h' = record { marker = h.marker; events = accounted_call k.now s.now ∷ h.events }
 
   abbrev at : List Val × (List Val × (List Val × Unit {0}))
   at = (vptr b o ∷ [], (slice_val k.ref_ptr (length k.now) ∷ [], (slice_val s.ref_ptr (length s.now) ∷ [], tt)))

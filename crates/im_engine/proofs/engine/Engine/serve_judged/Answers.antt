@@ -7,7 +7,7 @@ use Rattle.im_disk.proofs.SinceLemmas.{only_weaker}
 use Rattle.im_checkpoint.specs.Step.{changed_in}
 use Rattle.im_checkpoint.specs.Turns.{AddsAtMost}
 use Rattle.im_checkpoint.specs.Keeping.{paged, IsKept}
-use Rattle.im_groups.specs.Commands.{places, answers_with, contents_after, takes_at, most_pages_with}
+use Rattle.im_groups.specs.Commands.{places, answers_with, contents_after_all, takes_at, most_pages_with}
 use Rattle.im_engine.specs.State.{EngineState, engine_of}
 use Rattle.im_engine.specs.Commands.{commands_put, MeansCommands, CommandsAnswered, ServesCommands}
 use Rattle.im_engine.proofs.Keeping.{all_mean, all_hold}
@@ -69,7 +69,7 @@ returns-in-Err-clause-runs g c =
     let only = λ (h : g.D.Disk.honest c.put_on.new.disk). only_weaker g.D.Disk.now g.D.Disk.past e.disk c.put_on.new.disk _
     (MeansCommands (engine_of e.disk e.checkpoint e.memory e.journal e.failed) c.args.members.now)
     (c.put_on.ensures.leaves h e.checkpoint.state (paged e.checkpoint e.memory) e.memory.contents
-    (contents_after e.memory.contents (places e.journal.count e.journal.room) c.args.members.now)
+    (contents_after_all e.memory.contents (places e.journal.count e.journal.room) c.args.members.now)
     (accepts e.disk e.checkpoint e.memory e.journal e.failed c.args.members.now known c.args.commands.now are)
     (c.self.invariant.1 (c.put_on.ensures.honest h) alive))
     (means_group e.disk e.checkpoint e.memory e.journal e.failed c.args.members.now known c.args.commands.now are) in
@@ -92,7 +92,7 @@ invariant_of-self-2 g c =
     let are = c.requires.judged ∙ ap (λ (s : EngineState g.row.D.Denot). commands_put s c.args.members.now) (sym
     c.self.view_is) in
     let known = c.places_in-places.ensures.known in
-    let contents = c.act_all.ensures.contents ∙ ap (λ n. contents_after e.memory.contents n c.args.members.now)
+    let contents = c.act_all.ensures.contents ∙ ap (λ n. contents_after_all e.memory.contents n c.args.members.now)
     c.places_in-places.ensures.places in (
       fits_group e.checkpoint.state c.act_all.new.checkpoint.state e.memory.contents c.act_all.new.memory.contents
           e.journal c.put_on.new.journal (length c.args.commands.now) c.self.invariant.0 c.act_all.ensures.stays.state
@@ -102,10 +102,10 @@ invariant_of-self-2 g c =
           (g.D.Disk.now c.put_on.new.disk))
           (sym contents)
           (c.act_all.ensures.kept
-          (contents_after e.memory.contents (places e.journal.count e.journal.room) c.args.members.now)
+          (contents_after_all e.memory.contents (places e.journal.count e.journal.room) c.args.members.now)
           c.put_on.new.journal (g.D.Disk.now c.put_on.new.disk)
           (c.in_default.ensures.kept h e.checkpoint.state (paged e.checkpoint e.memory) e.memory.contents
-          (contents_after e.memory.contents (places e.journal.count e.journal.room) c.args.members.now)
+          (contents_after_all e.memory.contents (places e.journal.count e.journal.room) c.args.members.now)
           (accepts e.disk e.checkpoint e.memory e.journal e.failed c.args.members.now known c.args.commands.now are)
           (c.self.invariant.1 (c.put_on.ensures.honest h) f))),
     )
@@ -116,7 +116,7 @@ returns-clause-answered g c =
     let are = c.requires.judged ∙ ap (λ (s : EngineState g.row.D.Denot). commands_put s c.args.members.now) (sym
     c.self.view_is) in
     let alive : e.failed ≡ false = ap (λ (s : EngineState g.row.D.Denot). s.failed) c.self.view_is ∙ c.requires.alive in
-    let contents = c.act_all.ensures.contents ∙ ap (λ n. contents_after e.memory.contents n c.args.members.now)
+    let contents = c.act_all.ensures.contents ∙ ap (λ n. contents_after_all e.memory.contents n c.args.members.now)
     c.places_in-places.ensures.places in
     let answers = c.act_all.ensures.answers ∙ ap (λ n. map as_served (answers_with e.memory.contents n
     c.args.members.now)) c.places_in-places.ensures.places in
@@ -143,12 +143,12 @@ returns-clause-runs g c =
     c.self.view_is) in
     let alive : e.failed ≡ false = ap (λ (s : EngineState g.row.D.Denot). s.failed) c.self.view_is ∙ c.requires.alive in
     let known = c.places_in-places.ensures.known in
-    let contents = c.act_all.ensures.contents ∙ ap (λ n. contents_after e.memory.contents n c.args.members.now)
+    let contents = c.act_all.ensures.contents ∙ ap (λ n. contents_after_all e.memory.contents n c.args.members.now)
     c.places_in-places.ensures.places in
     let only = λ (h : g.D.Disk.honest c.put_on.new.disk). only_weaker g.D.Disk.now g.D.Disk.past e.disk c.put_on.new.disk _
     (MeansCommands (engine_of e.disk e.checkpoint e.memory e.journal e.failed) c.args.members.now)
     (c.put_on.ensures.leaves h e.checkpoint.state (paged e.checkpoint e.memory) e.memory.contents
-    (contents_after e.memory.contents (places e.journal.count e.journal.room) c.args.members.now)
+    (contents_after_all e.memory.contents (places e.journal.count e.journal.room) c.args.members.now)
     (accepts e.disk e.checkpoint e.memory e.journal e.failed c.args.members.now known c.args.commands.now are)
     (c.self.invariant.1 (c.put_on.ensures.honest h) alive))
     (means_group e.disk e.checkpoint e.memory e.journal e.failed c.args.members.now known c.args.commands.now are) in
@@ -171,10 +171,10 @@ returns-clause-runs g c =
           (g.D.Disk.now c.put_on.new.disk))
           (sym contents)
           (c.act_all.ensures.kept
-          (contents_after e.memory.contents (places e.journal.count e.journal.room) c.args.members.now)
+          (contents_after_all e.memory.contents (places e.journal.count e.journal.room) c.args.members.now)
           c.put_on.new.journal (g.D.Disk.now c.put_on.new.disk)
           (c.in_default.ensures.kept h e.checkpoint.state (paged e.checkpoint e.memory) e.memory.contents
-          (contents_after e.memory.contents (places e.journal.count e.journal.room) c.args.members.now)
+          (contents_after_all e.memory.contents (places e.journal.count e.journal.room) c.args.members.now)
           (accepts e.disk e.checkpoint e.memory e.journal e.failed c.args.members.now known c.args.commands.now are)
           (c.self.invariant.1 (c.put_on.ensures.honest h) f))));
     })

@@ -4,7 +4,7 @@ use Rattle.logbook.specs.Pages.{Book}
 use Rattle.im_types.specs.declared.changes.Change.{Change}
 use Rattle.im_types.specs.Changes.{is_below}
 use Rattle.im_glass.specs.Copies.{CopyState}
-use Rattle.im_glass.specs.Rule.{state_of}
+use Rattle.im_glass.specs.Rule.{copy_state}
 use Rattle.im_glass.proofs.CopyLemmas.{new-kept}
 use Rattle.im_glass.proofs.pane.Pane.new.Goals as goal
 
@@ -24,7 +24,7 @@ invariant_of-result g c =
       c.named-book.ensures ∙ sym log,
       none,
       book,
-      new-kept (state_of now) c.seen.result c.args.cells empty c.in-Ok-copies.ensures.state,
+      new-kept (copy_state now) c.seen.result c.args.cells empty c.in-Ok-copies.ensures.state,
       c.in-Ok-copies.ensures.known,
       subst (λ (b : Book). AllByRecursion
           (λ (a : Book). a ≡ b) c.in-Ok-spare_readers.spare.items) book c.in-Ok-spare_readers.ensures.book,

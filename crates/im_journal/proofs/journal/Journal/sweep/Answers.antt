@@ -1,5 +1,5 @@
 use Rattle.std.proofs.Common.{rules}
-use Rattle.im_journal.specs.Holding.{state_of, to_sweep}
+use Rattle.im_journal.specs.Holding.{journal_state, to_sweep}
 use Rattle.im_journal.proofs.Sweeping.{no_more, turn_of, sweep_leaves, sweeps}
 use Rattle.im_journal.proofs.journal.Journal.sweep.Goals as goal
 
@@ -9,7 +9,7 @@ returns-in-Err-clause-runs g c = record {
   leaves = λ h.
       let h0 = c.close_gates.ensures.runs.honest h in
       sweep_leaves g.D.Disk.now g.D.Disk.past c.args.disk.now c.close_gates.new.disk
-      (turn_of (state_of c.self.inside.base c.self.inside.slots c.self.inside.first c.self.inside.count
+      (turn_of (journal_state c.self.inside.base c.self.inside.slots c.self.inside.first c.self.inside.count
       c.self.inside.room) c.args.self.now c.at_once-swept.result (g.D.Disk.now c.args.disk.now)
       c.self.view_is c.self.invariant c.requires.some (c.requires.holds h0)
       (no_more c.at_once-swept.result c.args.most c.to_sweep.result
@@ -25,7 +25,7 @@ returns-clause-runs g c = record {
   leaves = λ h.
       let h0 = c.close_gates.ensures.runs.honest h in
       sweep_leaves g.D.Disk.now g.D.Disk.past c.args.disk.now c.close_gates.new.disk
-      (turn_of (state_of c.self.inside.base c.self.inside.slots c.self.inside.first c.self.inside.count
+      (turn_of (journal_state c.self.inside.base c.self.inside.slots c.self.inside.first c.self.inside.count
       c.self.inside.room) c.args.self.now c.at_once-swept.result (g.D.Disk.now c.args.disk.now)
       c.self.view_is c.self.invariant c.requires.some (c.requires.holds h0)
       (no_more c.at_once-swept.result c.args.most c.to_sweep.result
@@ -39,7 +39,7 @@ pub returns-clause-swept : goal.returns-clause-swept
 returns-clause-swept g c = λ h.
     let h0 = c.close_gates.ensures.runs.honest h in
     sweeps
-    (turn_of (state_of c.self.inside.base c.self.inside.slots c.self.inside.first c.self.inside.count c.self.inside.room) c.args.self.now c.at_once-swept.result (g.D.Disk.now c.args.disk.now)
+    (turn_of (journal_state c.self.inside.base c.self.inside.slots c.self.inside.first c.self.inside.count c.self.inside.room) c.args.self.now c.at_once-swept.result (g.D.Disk.now c.args.disk.now)
     c.self.view_is c.self.invariant c.requires.some (c.requires.holds h0)
     (no_more c.at_once-swept.result c.args.most c.to_sweep.result
     (to_sweep c.args.self.now) c.at_once-swept.ensures c.to_sweep.ensures))

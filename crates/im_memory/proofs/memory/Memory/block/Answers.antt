@@ -1,6 +1,6 @@
 use Rattle.std.proofs.Common.{sym, ap, ◌∙◌, arith}
 use Rattle.im_types.specs.Contents.{block_at}
-use Rattle.im_cell.specs.Slots.{block_at as block_in_slots}
+use Rattle.im_cell.specs.Slots.{slot_block as block_in_slots}
 use Rattle.im_memory.proofs.CellsLemmas.{block_at-cells}
 use Rattle.im_memory.specs.State.{MemoryState}
 use Rattle.im_memory.proofs.memory.Memory.block.Goals as goal

@@ -1,7 +1,7 @@
 use Rattle.std.proofs.Common.{ap, ◌≡◌, ◌∙◌, false}
 use Rattle.im_types.specs.declared.commands.Command.TheVariants.{Confirm}
 use Rattle.im_types.specs.Step.{is_accepted}
-use Rattle.im_memory.specs.State.{MemoryState, state_of}
+use Rattle.im_memory.specs.State.{MemoryState, memory_state}
 use Rattle.im_memory.proofs.MakesLemmas.{makes-confirmed}
 use Rattle.im_memory.proofs.Unaccepted.{windows_stay}
 use Rattle.im_memory.proofs.memory.Memory.confirm.Goals as goal
@@ -14,10 +14,10 @@ invariant_of-self c =
 pub returns-clause-unaccepted : goal.returns-clause-unaccepted
 returns-clause-unaccepted c = λ un.
     let m = c.self.inside in
-    let was : MemoryState = state_of m.table m.arena m.sessions in
+    let was : MemoryState = memory_state m.table m.arena m.sessions in
     let still : is_accepted was.contents (Confirm c.args.element c.args.upto)
     ≡ false = ap (λ (s : MemoryState). is_accepted s.contents
     (Confirm c.args.element c.args.upto)) c.self.view_is ∙ un in
-    ap (λ windows. state_of m.table m.arena windows)
+    ap (λ windows. memory_state m.table m.arena windows)
     (windows_stay was.contents c.args.element c.args.upto c.confirm.new.self c.confirm.result c.confirm.ensures.ok c.confirm.ensures.err still)
     ∙ c.self.view_is

@@ -1,6 +1,6 @@
 use Rattle.std.proofs.Common.{rules, ◌≡◌, ap, sym, ◌∙◌, subst, true, Bool, ◌++◌, List}
 use Rattle.crossbeam_channel.specs.Claims.{view}
-use Rattle.im_pipes.specs.declared.rule.Log.{Log}
+use Rattle.im_pipes.specs.declared.rule.PassLog.{PassLog}
 use Rattle.im_pipes.specs.Ends.{PipeEnd, handed_of, items_of}
 use Rattle.im_pipes.proofs.RuleLemmas.{merges, learns}
 use Rattle.im_pipes.proofs.MessageLemmas.{Knows, begins_items, whole_items}
@@ -10,8 +10,8 @@ pub absorb-requires-clause-rule : goal.absorb-requires-clause-rule
 absorb-requires-clause-rule g c = merges _ _ _ _ (search rules) (search rules)
 
 pub learn_as-requires-clause-rule : goal.learn_as-requires-clause-rule
-learn_as-requires-clause-rule g c = learns _ _ (ap (λ (l : Log g.row.T.Denot). l.sends) c.absorb.ensures.rule)
-    (ap (λ (l : Log g.row.T.Denot). l.receives) c.absorb.ensures.rule)
+learn_as-requires-clause-rule g c = learns _ _ (ap (λ (l : PassLog g.row.T.Denot). l.sends) c.absorb.ensures.rule)
+    (ap (λ (l : PassLog g.row.T.Denot). l.receives) c.absorb.ensures.rule)
 
 pub returns-clause-begins : goal.returns-clause-begins
 returns-clause-begins g c =

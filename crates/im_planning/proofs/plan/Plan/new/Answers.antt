@@ -6,7 +6,7 @@ use Rattle.std.proofs.lemmas.List.{drop_more}
 use Rattle.im_types.specs.declared.commands.Request.{Request}
 use Rattle.im_types.specs.Plan.{IsPlan}
 use Rattle.im_planning.specs.Making.{key_cmp}
-use Rattle.im_planning.specs.Begins.{Follows}
+use Rattle.im_planning.specs.Begins.{IndexesPlan}
 use Rattle.im_planning.proofs.MakingLemmas.{cons-plan, drop-plan, plan-begins}
 use Rattle.im_planning.proofs.plan.Plan.new.Goals as goal
 
@@ -33,5 +33,5 @@ loop-at-preserved c =
       within = omega arith;
       plan = subst IsPlan (sym more)
           (cons-plan c.index.result.now (drop c.loop-at.at c.args.requests.items) b.0 c.loop-at.invariant.plan);
-      follows = subst (Follows (get key_cmp c.add.new.under) (get nat_cmp c.add.new.stored)) (sym more) b.1;
+      follows = subst (IndexesPlan (get key_cmp c.add.new.under) (get nat_cmp c.add.new.stored)) (sym more) b.1;
     }

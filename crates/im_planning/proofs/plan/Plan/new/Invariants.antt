@@ -4,7 +4,7 @@ use Rattle.std.specs.Ordering.{nat_cmp}
 use Rattle.std.specs.BTreeMap.{get}
 use Rattle.im_types.specs.Plan.{IsPlan}
 use Rattle.im_planning.specs.Making.{key_cmp}
-use Rattle.im_planning.specs.Begins.{Follows}
+use Rattle.im_planning.specs.Begins.{IndexesPlan}
 use Rattle.im_planning.proofs.plan.Plan.new.Given as goal
 
 -- the requests from here on make a plan, and the index follows it
@@ -12,7 +12,7 @@ abbrev pub invariant-loop-at : goal.invariant-loop-at
 invariant-loop-at l = record {
   within : l.at ≤ length l.requests.items;
   plan : IsPlan (drop l.at l.requests.items);
-  follows : Follows (get key_cmp l.under) (get nat_cmp l.stored) (drop l.at l.requests.items);
+  follows : IndexesPlan (get key_cmp l.under) (get nat_cmp l.stored) (drop l.at l.requests.items);
 }
 
 abbrev pub decreases-loop-at : goal.decreases-loop-at

@@ -4,13 +4,13 @@ use Rattle.std.specs.Char.{is_ascii}
 use Rattle.std.specs.List.{list_all}
 use Rattle.im_script.specs.declared.script.Heard.{Heard}
 use Rattle.im_script.specs.Grammar.{is_short, texts}
-use Rattle.im_script.specs.Script.{Draft, Hears, draft_of}
+use Rattle.im_script.specs.Script.{Draft, HearsAs, draft_of}
 use Rattle.im_script.proofs.WordLemmas.{heard_by}
 use Rattle.im_script.proofs.reader.Reader.hear_any.Goals as goal
 
 pub returns : goal.returns
 returns c =
-    let P : Option (Draft × Heard) → Type 0 = λ n. Hears c.hear_words.result n
+    let P : Option (Draft × Heard) → Type 0 = λ n. HearsAs c.hear_words.result n
     (draft_of c.hear_words.new.self) in
     let short : is_short c.args.line.now ≡ true = first_of (search rules, cc, grind arith) in
     let plain : list_all is_ascii c.args.line.now ≡ true = first_of (search rules, cc, grind arith) in

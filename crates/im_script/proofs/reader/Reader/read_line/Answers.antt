@@ -4,13 +4,13 @@ use Rattle.std.specs.Char.{is_ascii}
 use Rattle.std.specs.List.{list_all}
 use Rattle.im_script.specs.declared.script.Said.{Said}
 use Rattle.im_script.specs.Grammar.{is_short, texts}
-use Rattle.im_script.specs.Script.{Draft, Follows, draft_of}
+use Rattle.im_script.specs.Script.{Draft, SaysAs, draft_of}
 use Rattle.im_script.proofs.WordLemmas.{counted_by}
 use Rattle.im_script.proofs.reader.Reader.read_line.Goals as goal
 
 pub returns : goal.returns
 returns c =
-    let P : Option (Draft × Said) → Type 0 = λ n. Follows c.take_words.result n
+    let P : Option (Draft × Said) → Type 0 = λ n. SaysAs c.take_words.result n
     (draft_of c.take_words.new.self) in
     let short : is_short c.args.line.now ≡ true = first_of (search rules, cc, grind arith) in
     let plain : list_all is_ascii c.args.line.now ≡ true = first_of (search rules, cc, grind arith) in

@@ -1,8 +1,8 @@
 use Rattle.std.proofs.Common.{◌≡◌, ◌≤◌, Some, Result, subst, sym, ap, ◌∙◌, length, arith, List, take}
 use Rattle.im_types.specs.declared.commands.Line.{Line}
 use Rattle.im_types.specs.declared.refusals.Refusal.{Refusal}
-use Rattle.im_trace.specs.Lines.{counts_after, lines_of, AreInOrder, WhenState, time_at}
-use Rattle.im_trace.specs.Log.{UnclaimedState, TimedLog, StandsIn, IsToldOf, IsOfTrace, ReceiptState}
+use Rattle.im_trace.specs.Lines.{counts_after, left_lines, AreInOrder, WhenState, time_at}
+use Rattle.im_trace.specs.Log.{UnclaimedState, TimedLog, StandsInTrace, IsToldOf, IsOfTrace, ReceiptState}
 use Rattle.im_trace.specs.Log.{unclaimed_lines, receipt_for, IsBefore, IsTimed}
 use Rattle.im_types.specs.declared.commands.Command.{Command}
 use Rattle.im_types.specs.declared.commands.Call.TheVariants.{Command as Commands}
@@ -21,8 +21,9 @@ first-history-requires g c =
       answer = c.found.inside.answer;
       before = c.found.inside.before;
     } in
-    let stands : StandsIn trace (Some w) = subst (λ (u : UnclaimedState). StandsIn trace (Some u)) (sym c.found.view_is)
-    (all-get (StandsIn trace) c.self.inside.places.items c.element_of.result
+    let stands : StandsInTrace trace (Some w) =
+    subst (λ (u : UnclaimedState). StandsInTrace trace (Some u)) (sym c.found.view_is)
+    (all-get (StandsInTrace trace) c.self.inside.places.items c.element_of.result
     (Some c.in_ok-found.found) c.self.invariant.stand c.in_ok-found.ensures.takes.0) in
     record { few = omega (arith, c.found.invariant, waiting-within trace w stands) }
 
@@ -34,8 +35,9 @@ when-when-requires g c =
       answer = c.found.inside.answer;
       before = c.found.inside.before;
     } in
-    let stands : StandsIn trace (Some w) = subst (λ (u : UnclaimedState). StandsIn trace (Some u)) (sym c.found.view_is)
-    (all-get (StandsIn trace) c.self.inside.places.items c.element_of.result
+    let stands : StandsInTrace trace (Some w) =
+    subst (λ (u : UnclaimedState). StandsInTrace trace (Some u)) (sym c.found.view_is)
+    (all-get (StandsInTrace trace) c.self.inside.places.items c.element_of.result
     (Some c.in_ok-found.found) c.self.invariant.stand c.in_ok-found.ensures.takes.0) in
     record { few = omega (arith, c.found.invariant, waiting-within trace w stands) }
 
@@ -47,8 +49,9 @@ first-requires g c =
       answer = c.found.inside.answer;
       before = c.found.inside.before;
     } in
-    let stands : StandsIn trace (Some w) = subst (λ (u : UnclaimedState). StandsIn trace (Some u)) (sym c.found.view_is)
-    (all-get (StandsIn trace) c.self.inside.places.items c.element_of.result
+    let stands : StandsInTrace trace (Some w) =
+    subst (λ (u : UnclaimedState). StandsInTrace trace (Some u)) (sym c.found.view_is)
+    (all-get (StandsInTrace trace) c.self.inside.places.items c.element_of.result
     (Some c.in_ok-found.found) c.self.invariant.stand c.in_ok-found.ensures.takes.0) in
     record { few = omega (arith, c.found.invariant, waiting-within trace w stands) }
 
@@ -60,8 +63,9 @@ receipt_of-requires g c =
       answer = c.found.inside.answer;
       before = c.found.inside.before;
     } in
-    let stands : StandsIn trace (Some w) = subst (λ (u : UnclaimedState). StandsIn trace (Some u)) (sym c.found.view_is)
-    (all-get (StandsIn trace) c.self.inside.places.items c.element_of.result
+    let stands : StandsInTrace trace (Some w) =
+    subst (λ (u : UnclaimedState). StandsInTrace trace (Some u)) (sym c.found.view_is)
+    (all-get (StandsInTrace trace) c.self.inside.places.items c.element_of.result
     (Some c.in_ok-found.found) c.self.invariant.stand c.in_ok-found.ensures.takes.0) in
     let same : c.first-history.result ≡ stands.0 = c.first-history.ensures ∙ ap (λ n. take n trace) c.found.invariant
     ∙ waiting-history trace w stands in
@@ -91,8 +95,9 @@ returns-clause-proof g c =
       answer = c.found.inside.answer;
       before = c.found.inside.before;
     } in
-    let stands : StandsIn trace (Some w) = subst (λ (u : UnclaimedState). StandsIn trace (Some u)) (sym c.found.view_is)
-    (all-get (StandsIn trace) c.self.inside.places.items c.element_of.result
+    let stands : StandsInTrace trace (Some w) =
+    subst (λ (u : UnclaimedState). StandsInTrace trace (Some u)) (sym c.found.view_is)
+    (all-get (StandsInTrace trace) c.self.inside.places.items c.element_of.result
     (Some c.in_ok-found.found) c.self.invariant.stand c.in_ok-found.ensures.takes.0) in
     let same : c.first-history.result ≡ stands.0 = c.first-history.ensures ∙ ap (λ n. take n trace) c.found.invariant
     ∙ waiting-history trace w stands in
@@ -109,8 +114,9 @@ returns-clause-time g c =
       answer = c.found.inside.answer;
       before = c.found.inside.before;
     } in
-    let stands : StandsIn trace (Some w) = subst (λ (u : UnclaimedState). StandsIn trace (Some u)) (sym c.found.view_is)
-    (all-get (StandsIn trace) c.self.inside.places.items c.element_of.result
+    let stands : StandsInTrace trace (Some w) =
+    subst (λ (u : UnclaimedState). StandsInTrace trace (Some u)) (sym c.found.view_is)
+    (all-get (StandsInTrace trace) c.self.inside.places.items c.element_of.result
     (Some c.in_ok-found.found) c.self.invariant.stand c.in_ok-found.ensures.takes.0) in
     let same : c.first-history.result ≡ stands.0 = c.first-history.ensures ∙ ap (λ n. take n trace) c.found.invariant
     ∙ waiting-history trace w stands in
@@ -131,8 +137,9 @@ returns-clause-order g c =
       answer = c.found.inside.answer;
       before = c.found.inside.before;
     } in
-    let stands : StandsIn trace (Some w) = subst (λ (u : UnclaimedState). StandsIn trace (Some u)) (sym c.found.view_is)
-    (all-get (StandsIn trace) c.self.inside.places.items c.element_of.result
+    let stands : StandsInTrace trace (Some w) =
+    subst (λ (u : UnclaimedState). StandsInTrace trace (Some u)) (sym c.found.view_is)
+    (all-get (StandsInTrace trace) c.self.inside.places.items c.element_of.result
     (Some c.in_ok-found.found) c.self.invariant.stand c.in_ok-found.ensures.takes.0) in
     let taken = ap (λ n. take n trace) c.found.invariant ∙ waiting-history trace w stands in
     let same = c.first-history.ensures ∙ taken in
@@ -140,7 +147,7 @@ returns-clause-order g c =
     let order = subst (λ (ls : List Line). AreInOrder c.args.seen.now ls) same c.order.ensures.order in
     let less : length c.args.seen.now ≤ c.found.inside.before = omega
     (arith, c.in_ok-found.ensures.later, c.len.ensures, ap (λ (w : UnclaimedState). w.before) c.found.view_is) in
-    let behind = subst (λ (r : Command). IsBefore c.found.inside.before (lines_of (Commands r) a) stands.0)
+    let behind = subst (λ (r : Command). IsBefore c.found.inside.before (left_lines (Commands r) a) stands.0)
     asked stands.2 in
     claimed-follows c.args.seen.now stands.0 c.first.result c.when-when.result.time c.args.told c.found.inside.before
     c.args.command.now

@@ -1,7 +1,7 @@
 use Rattle.std.proofs.Common.{◌≡◌, ◌<◌, ◌++◌, true, Some, None, subst, sym, ap, ◌∙◌, length, slice_get}
 use Rattle.im_types.specs.declared.commands.Call.TheVariants.{Command as Commands}
 use Rattle.im_types.specs.Trace.{answer_to, end_of}
-use Rattle.im_trace.specs.Lines.{leaves_line, lines_of, memory_after, times_of}
+use Rattle.im_trace.specs.Lines.{leaves_line, left_lines, memory_after, times_of}
 use Rattle.im_trace.specs.Ends.{RecordState}
 use Rattle.im_trace.specs.Log.{sender_of, LogState, TimedLog}
 use Rattle.im_trace.proofs.LogLemmas.{log-keeps, end-lines}
@@ -28,7 +28,7 @@ returns-clause-end g c =
 
 pub returns-clause-times : goal.returns-clause-times
 returns-clause-times g c =
-    let more = lines_of (Commands c.args.command.now) c.args.answer in
+    let more = left_lines (Commands c.args.command.now) c.args.answer in
     let time = length (g.D.Disk.past c.args.disk.now) in record {
       more = more;
       lines = ap (λ (r : RecordState). r.lines) c.push.ensures.lines

@@ -1,6 +1,6 @@
 use Rattle.std.proofs.Common.{◌≡◌, ◌<◌, ◌++◌, true, subst, sym, ap, ◌∙◌, length}
 use Rattle.im_types.specs.Trace.{answer_to, end_of}
-use Rattle.im_trace.specs.Lines.{leaves_line, lines_of, memory_after, times_of}
+use Rattle.im_trace.specs.Lines.{leaves_line, left_lines, memory_after, times_of}
 use Rattle.im_trace.specs.Ends.{RecordState}
 use Rattle.im_trace.proofs.TimeLemmas.{time-last}
 use Rattle.im_trace.specs.Log.{LogState, TimedLog}
@@ -27,7 +27,7 @@ returns-clause-end g c =
 
 pub returns-clause-times : goal.returns-clause-times
 returns-clause-times g c =
-    let more = lines_of c.args.call c.args.answer in let time = length (g.D.Disk.past c.args.disk.now) in record {
+    let more = left_lines c.args.call c.args.answer in let time = length (g.D.Disk.past c.args.disk.now) in record {
       more = more;
       lines = ap (λ (r : RecordState). r.lines) c.push.ensures.lines
           ∙ ap (λ (t : TimedLog). t.state.trace ++ more) c.self.view_is;

@@ -21,17 +21,17 @@ use denote.Triple.Entry.{on_entry}
 use denote.Triple.Spec.{Meets, triple_of}
 use denote.Triple.Table.{entered}
 use denote.Triple.Walked.{says, ends_at, walked, walk_Meets}
-use Rattle.im_listed.specs.declared.account.Ledger.{Ledger}
-use Rattle.im_listed.specs.contracts.account.Ledger as T
-use Rattle.im_listed.specs.contracts.account.Ledger.new.Key.{name as #it}
-use Rattle.im_listed.specs.contracts.account.Ledger.new as it
-use Rattle.im_listed.proofs.account.Ledger.new.Statement as stated
-use Rattle.im_listed.proofs.account.Ledger.new.Code as code
+use Rattle.im_listed.specs.declared.account.StepLedger.{StepLedger}
+use Rattle.im_listed.specs.contracts.account.StepLedger as T
+use Rattle.im_listed.specs.contracts.account.StepLedger.new.Key.{name as #it}
+use Rattle.im_listed.specs.contracts.account.StepLedger.new as it
+use Rattle.im_listed.proofs.account.StepLedger.new.Statement as stated
+use Rattle.im_listed.proofs.account.StepLedger.new.Code as code
 
 abbrev v : Val
 v = vstruct (vcons (vstruct vnil) vnil)
 
-abbrev r : Ledger
+abbrev r : StepLedger
 r = record { marker = record {}; events = [] }
 
 meets : {M : Type 1} {𝓤 : Ura M} (𝓛 : Logic 𝓤) → (at_mem : Memory → SProp 𝓤) (run : Routine → Fun 𝓤) (𝓣 : Tables 𝓤 𝓛.H)

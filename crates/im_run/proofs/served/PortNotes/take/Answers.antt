@@ -3,7 +3,7 @@ use Rattle.im_serving.specs.declared.glances.Glanced.{Glanced}
 use Rattle.im_serving.specs.Elements.{End}
 use Rattle.im_run.specs.Doing.{NotesEnd, told_among}
 use Rattle.im_run.proofs.DoingLemmas.{end_added, end_refused}
-use Rattle.im_run.proofs.served.Notes.take.Goals as goal
+use Rattle.im_run.proofs.served.PortNotes.take.Goals as goal
 
 pub returns-in-Ok : goal.returns-in-Ok
 returns-in-Ok g c =

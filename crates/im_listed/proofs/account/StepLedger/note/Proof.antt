@@ -26,13 +26,13 @@ use denote.Triple.Entry.{on_entry}
 use denote.Triple.Spec.{Meets, triple_of}
 use denote.Triple.Table.{entered}
 use denote.Triple.Walked.{says, Stays, stay_ref, walk_of, AllGo, Goes-ref, Walks, ends_at, walked, walk_Meets}
-use Rattle.im_listed.specs.declared.account.Ledger.{Ledger}
+use Rattle.im_listed.specs.declared.account.StepLedger.{StepLedger}
 use Rattle.im_listed.specs.History.{listed_call}
-use Rattle.im_listed.specs.contracts.account.Ledger as T
-use Rattle.im_listed.specs.contracts.account.Ledger.note.Key.{name as #it}
-use Rattle.im_listed.specs.contracts.account.Ledger.note as it
-use Rattle.im_listed.proofs.account.Ledger.note.Statement as stated
-use Rattle.im_listed.proofs.account.Ledger.note.Code as code
+use Rattle.im_listed.specs.contracts.account.StepLedger as T
+use Rattle.im_listed.specs.contracts.account.StepLedger.note.Key.{name as #it}
+use Rattle.im_listed.specs.contracts.account.StepLedger.note as it
+use Rattle.im_listed.proofs.account.StepLedger.note.Statement as stated
+use Rattle.im_listed.proofs.account.StepLedger.note.Code as code
 use denote.Ref.{Bor}
 use denote.Builtin.{u8, u64}
 use denote.Exit.{yes}
@@ -41,7 +41,7 @@ use denote.Triple.Walked.{stay_none_slice, Goes-none_slice}
 use Rattle.std.proofs.Common.{◌<◌, ◌^◌, length}
 
 abbrev Arg : Type 0
-Arg = MutBor Ledger × (Bor (List ℕ) × (Bor (List ℕ) × Unit {0}))
+Arg = MutBor StepLedger × (Bor (List ℕ) × (Bor (List ℕ) × Unit {0}))
 
 abbrev stayed : Stays (it.ended).signature.params (it.ended).kept
 stayed = (
@@ -50,13 +50,13 @@ stayed = (
 )
 
 module _ {M : Type 1} {𝓤 : Ura M} (𝓛 : Logic 𝓤) (at_mem : Memory → SProp 𝓤) (run : Routine → Fun 𝓤) (κ κ' κ'' : Lft)
-    (q q' q'' : Share) (b o : ℕ) (γ : GName) (h : Ledger) (k s : Bor (List ℕ)) where
+    (q q' q'' : Share) (b o : ℕ) (γ : GName) (h : StepLedger) (k s : Bor (List ℕ)) where
   open 𝓛 use {H, A}
 
   abbrev x : Arg
   x = (record { ref_ptr = (b, o); ghost_name = γ; now = h }, (k, (s, tt)))
 
-  abbrev h' : Ledger
+  abbrev h' : StepLedger
   h' = record { marker = h.marker; events = listed_call k.now s.now ∷ h.events }
 
   abbrev at : List Val × (List Val × (List Val × Unit {0}))
