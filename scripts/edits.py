@@ -43,9 +43,9 @@ def is_of(goal, what):
     `invariant`, that of a type; `loop NAME`, that of a loop; `requires CALLEE LABEL`, what a call requires; `overflow`,
     of a number."""
     kind, *names = what.split()
-    required = re.search(r"(?:^|-)(\w+)-requires(?:-clause-(\w+))?", goal)
+    required = re.match(r"(.+?)-requires(?:-(?:[\w-]*-)?clause-(\w+?)|-[\w-]*)?(?:-\d+)?$", goal)
     if kind == "requires":
-        return bool(required) and list(filter(None, required.groups())) == names
+        return bool(required) and names[0] in required[1].split("-") and [*filter(None, [required[2]])] == names[1:]
     if required:
         return False
     if kind == "loop":

@@ -93,6 +93,8 @@ class Goals(unittest.TestCase):
     def test_what_a_call_requires(self):
         self.look("requires put_in_force ready", ["put_in_force-requires-clause-ready"], ["put_in_force-requires", "returns-clause-ready"])
         self.look("requires note", ["note-requires", "in_ok-note-requires"], ["note-requires-clause-at", "footnote-requires"])
+        at_a_place = ["accept-requires-in-Ok-false-clause-accepted", "accept-answer-requires-clause-accepted"]
+        self.look("requires accept accepted", at_a_place, ["accept-requires", "accepted-requires-clause-accepted"])
 
     def test_loops_invariants_and_bounds(self):
         self.look("loop i", ["loop-i-init", "loop-i-preserved"], ["loop-item-init", "invariant_of-self"])
