@@ -255,7 +255,7 @@ inline make_room() {
      :: else -> break od;
   did = false
 }
-/* of im_controller::lend_group 9604e848a54d
+/* of im_controller::lend_group 30704dd5b1e5
    of im_engine::Engine::serve_commands 4c544e4a010c: the fault may fall before each member, which begins a group then. */
 inline serve_member(m) {
   may_fail();
@@ -272,7 +272,7 @@ inline serve_member(m) {
 /* of im_controller::hold 44a87d44aac3
    of im_controller::claim 2b1067bb12ec
    of im_controller::serve_asked 9d0732c5dba0
-   of im_queue::Inbox::next_group e08c6e94a090
+   of im_queue::Inbox::next_group 3fd542d6b6aa
    of im_queue::Inbox::gather a3fa78f93397
    of im_trace::Log::claim f63c5cb84308 */
 inline hold(e) {
@@ -451,7 +451,7 @@ inline keep_once() {
         fi
   fi
 }
-/* of im_controller::Controller::keep_checkpoints_and_tell 829b4bc7ec81 */
+/* of im_controller::Controller::keep_checkpoints_and_tell f3fe9d822f90 */
 proctype Keeper() {
   byte answered, to_ports, at; mtype kept = Nothing;
   wait_turn(KEEPER);

@@ -72,12 +72,18 @@ def stands_on(top=TOP):
 @functools.cache
 def stamp(crate, top=TOP):
     """Returns a short sum of all that the prover's verdict on a crate stands on: its sources, definitions and proofs,
-    those of the crates below, and the toolchain."""
+    those of the crates below, and the toolchain. Lines of remarks aren't part of it."""
     total, folder = hashlib.sha256(repr((toolchain(), (top / "HANDLES").read_text(), rows(top)[crate])).encode()), top / "crates" / crate
     for path in sorted(it for part in ("src", "specs", "proofs") for it in (folder / part).rglob("*") if it.is_file()):
-        total.update(repr((str(path.relative_to(folder)), path.read_bytes())).encode())
+        total.update(repr((str(path.relative_to(folder)), without_remarks(path))).encode())
     total.update(repr([stamp(it, top) for it in stands_on(top)[crate]]).encode())
     return total.hexdigest()[:12]
+
+
+def without_remarks(path):
+    """Returns the lines of a source, a definition or a proof that aren't remarks."""
+    sign = "//" if path.suffix == ".rt" else "--"
+    return [line for line in path.read_text().splitlines() if not line.lstrip().startswith(sign)]
 
 
 @functools.cache

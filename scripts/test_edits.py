@@ -242,6 +242,9 @@ class Trying(WithSources):
         source = self.top / "crates/im_arena/src/lib.rt"
         source.write_text(source.read_text() + "// a remark\n")
         sources.stamp.cache_clear()
+        self.assertEqual(trying.Record("im_arena", self.top).counts(), (1, 1, 1, 0))
+        source.write_text(source.read_text() + "fn more() {}\n")
+        sources.stamp.cache_clear()
         self.assertEqual(trying.Record("im_arena", self.top).counts(), (1, 0, 1, 0))
         path.write_text(path.read_text().replace("+ 0", "+ 1"))
         self.assertEqual(trying.Record("im_arena", self.top).counts(), (1, 0, 0, 1))
@@ -250,7 +253,7 @@ class Trying(WithSources):
         (self.top / "crates.txt").write_text("im_disk:\nim_arena: im_disk\n")
         before = sources.stamp("im_arena", self.top)
         source = self.top / "crates/im_disk/src/gate.rt"
-        source.write_text(source.read_text() + "// a remark\n")
+        source.write_text(source.read_text() + "fn more() {}\n")
         sources.stamp.cache_clear()
         self.assertNotEqual(sources.stamp("im_arena", self.top), before)
 

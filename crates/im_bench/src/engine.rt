@@ -3,7 +3,7 @@
 use arrayvec::ArrayVec;
 use im_disk::{Disk, FileDisk, Unknown};
 use im_engine::{Engine, are_apart};
-use im_types::{Command, MAX_CELLS, Op, Refusal, Request, Served};
+use im_types::{Command, MAX_CELLS, MAX_GROUP, Op, Refusal, Request, Served};
 
 // How many elements ask. Element 0 made the block.
 const ASKERS: u32 = 48;
@@ -29,7 +29,7 @@ fn store(index: u32) -> Request {
 }
 
 // Returns sixteen requests, from the one with this index on.
-fn members(first: u32) -> ArrayVec<Request, 16> {
+fn members(first: u32) -> ArrayVec<Request, MAX_GROUP> {
     let mut members = ArrayVec::new();
     for more in 0..16u32 {
         let _is_full = members.try_push(store(first.wrapping_add(more)));

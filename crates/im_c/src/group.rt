@@ -1,5 +1,6 @@
 //! A group of commands on an image, for C.
 ghost use Rattle.std.specs.Prelude.{◌≡◌, ◌↔◌, ◌<◌, ◌≤◌, ◌+◌, ◌++◌, [], length, map, replicate, IsSome, IsTrue};
+ghost use Rattle.im_types.specs.declared.TheConstants.{MAX_GROUP};
 ghost use Rattle.im_c.specs.Handing.{Becomes};
 ghost use Rattle.im_c.specs.Plain.{meant};
 ghost use Rattle.im_c.specs.Group.{IsGroup, ServesGroup, first_unknown, listed, all_meant};
@@ -9,11 +10,11 @@ use crate::image::LtImage;
 use crate::plain::{LtCommand, LtOutcome, NO_CALL, UNSERVED, meant, outcome_of, refused};
 use arrayvec::ArrayVec;
 use im_listed::Image;
-use im_types::{Command, Refusal, Served};
+use im_types::{Command, MAX_GROUP, Refusal, Served};
 
 // Adds the command that is meant, if there is one.
-fn add_command(command: &LtCommand, members: &mut ArrayVec<Command, 16>)
-    requires room { length members.old.items < 16 }
+fn add_command(command: &LtCommand, members: &mut ArrayVec<Command, MAX_GROUP>)
+    requires room { length members.old.items < MAX_GROUP }
     ensures { members.new.items ≡ members.old.items ++ listed (meant command.now) }
 {
     match meant(command) {
@@ -23,8 +24,8 @@ fn add_command(command: &LtCommand, members: &mut ArrayVec<Command, 16>)
 }
 
 // The commands that are meant.
-fn gather(commands: &[LtCommand], members: &mut ArrayVec<Command, 16>)
-    requires few { length commands.now ≤ 16 }
+fn gather(commands: &[LtCommand], members: &mut ArrayVec<Command, MAX_GROUP>)
+    requires few { length commands.now ≤ MAX_GROUP }
     requires empty { members.old.items ≡ [] }
     ensures { members.new.items ≡ all_meant commands.now }
 {
@@ -36,7 +37,11 @@ fn gather(commands: &[LtCommand], members: &mut ArrayVec<Command, 16>)
 }
 
 // Whether these are a group, with one place for each outcome. Then `members` are its commands.
-fn gathered(commands: &[LtCommand], places: usize, members: &mut ArrayVec<Command, 16>) -> bool
+fn gathered(
+    commands: &[LtCommand],
+    places: usize,
+    members: &mut ArrayVec<Command, MAX_GROUP>,
+) -> bool
     requires empty { members.old.items ≡ [] }
     ensures group { IsTrue result ↔ IsGroup commands.now places }
     ensures members { IsTrue result → members.new.items ≡ all_meant commands.now }
@@ -44,7 +49,7 @@ fn gathered(commands: &[LtCommand], places: usize, members: &mut ArrayVec<Comman
     if commands.is_empty() {
         return false;
     }
-    if commands.len() > 16 {
+    if commands.len() > MAX_GROUP {
         return false;
     }
     if places != commands.len() {
@@ -82,8 +87,8 @@ fn outcome_served(served: Served) -> LtOutcome
 }
 
 // The outcomes for the answers.
-fn spell_all(served: &[Served], outcomes: &mut ArrayVec<LtOutcome, 16>)
-    requires few { length served.now ≤ 16 }
+fn spell_all(served: &[Served], outcomes: &mut ArrayVec<LtOutcome, MAX_GROUP>)
+    requires few { length served.now ≤ MAX_GROUP }
     requires empty { outcomes.old.items ≡ [] }
     ensures { outcomes.new.items ≡ map outcome_served served.now }
 {
@@ -93,8 +98,8 @@ fn spell_all(served: &[Served], outcomes: &mut ArrayVec<LtOutcome, 16>)
 }
 
 // Adds the outcomes of this many members that aren't served.
-fn add_unserved(count: usize, outcomes: &mut ArrayVec<LtOutcome, 16>)
-    requires room { length outcomes.old.items + count ≤ 16 }
+fn add_unserved(count: usize, outcomes: &mut ArrayVec<LtOutcome, MAX_GROUP>)
+    requires room { length outcomes.old.items + count ≤ MAX_GROUP }
     ensures { outcomes.new.items ≡ outcomes.old.items ++ replicate count unserved }
 {
     for _ in 0..count {
@@ -105,7 +110,7 @@ fn add_unserved(count: usize, outcomes: &mut ArrayVec<LtOutcome, 16>)
 // Writes the outcomes of the members: of those that are served, and of the others.
 fn tell_all(served: &[Served], places: &mut [LtOutcome])
     requires few { length served.now ≤ length places.old }
-    requires most { length places.old ≤ 16 }
+    requires most { length places.old ≤ MAX_GROUP }
     ensures { places.new ≡ outcomes_of (length places.old) served.now }
 {
     let mut outcomes = ArrayVec::new();

@@ -6,21 +6,8 @@ ghost use Rattle.im_c.specs.Telling.{IsFlawOf, TellsFlaw, IsReported, PutsText};
 use im_image::inspect;
 use im_listed::Listed;
 use im_report::inspect_on;
-use im_text::{Observer, Progress, Reason};
-use im_types::{Entry, Refusal};
+use im_types::{Refusal, Unobserved};
 use std::alloc::Global;
-
-// An observer that ignores what it is told.
-#[derive(Drop)]
-struct Nobody;
-
-impl Observer for Nobody {
-    fn answered(&mut self, _element: u16, _number: u64, _entry: Entry) {}
-
-    fn progressed(&mut self, _progress: Progress) {}
-
-    fn refused(&mut self, _reason: Reason) {}
-}
 
 // Why there is no report: the first fault of the bytes, or want of memory for it.
 fn fault_of(alloc: Global, disk: &mut Listed) -> Refusal
@@ -41,7 +28,7 @@ fn report_of(alloc: Global, bytes: &[u8]) -> Result<Vec<u8>, Refusal>
         return Err(Refusal::NoMemory);
     };
     let mut text = Vec::new(alloc);
-    let (status, mut disk) = inspect_on(alloc, Listed::new(copy), &mut text, &mut Nobody);
+    let (status, mut disk) = inspect_on(alloc, Listed::new(copy), &mut text, &mut Unobserved);
     if status == 0 {
         return Ok(text);
     }

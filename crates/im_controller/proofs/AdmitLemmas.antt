@@ -1,290 +1,370 @@
--- Members of a group that a plan has: they are still a group, and the others leave no line.
-use Rattle.std.proofs.Common.{◌≡◌, ◌≢◌, ℕ, zero, suc, ◌+◌, ◌-◌, ◌<◌, ◌≤◌, Bool, true, false, List, [], ◌∷◌, ◌++◌, refl}
-use Rattle.std.proofs.Common.{sym, ap, ◌∙◌, subst, Option, None, Some, Result, Err, length, length-append, map, drop}
-use Rattle.std.proofs.Common.{get_or, slice_get, append-nil, append_assoc, arith, if◌then◌else◌}
+-- The members of a group that are lent: they are still a group, and the refusals of the others leave no line.
+use Rattle.std.proofs.Common.{◌≡◌, ◌≢◌, ⊎_elim, ℕ, zero, suc, ◌+◌, ◌<◌, ◌≤◌, ◌==◌, Bool, true, false, List, []}
+use Rattle.std.proofs.Common.{◌∷◌, ◌++◌, refl, sym, ap, ◌∙◌, subst, Option, None, Some, Result, Err, length}
+use Rattle.std.proofs.Common.{length-append, map, drop, get_or, slice_get, append-nil, append_assoc, arith}
+use Rattle.std.proofs.Common.{if◌then◌else◌}
 use Rattle.std.specs.Prelude.{nat_lt}
+use Rattle.std.specs.List.{AllByRecursion}
 use Rattle.std.proofs.lemmas.Bool.Decides.{nat_tests}
 use Rattle.std.proofs.Math.Seq.{drop-cons}
 use Rattle.std.proofs.lemmas.List.{drop_all}
 use Rattle.im_types.specs.declared.commands.Command.{Command}
-use Rattle.im_types.specs.declared.commands.Command.TheVariants.{Request as Asks, Confirm}
 use Rattle.im_types.specs.declared.commands.Request.{Request}
 use Rattle.im_types.specs.declared.commands.Outcome.{Outcome}
 use Rattle.im_types.specs.declared.commands.Call.TheVariants.{Command as Commands}
 use Rattle.im_types.specs.declared.commands.Line.{Line}
 use Rattle.im_types.specs.declared.groups.Served.{Served}
 use Rattle.im_types.specs.declared.refusals.Refusal.{Refusal}
-use Rattle.im_types.specs.declared.refusals.Refusal.TheVariants.{OffPlan, Failed, TraceFull}
+use Rattle.im_types.specs.declared.refusals.Refusal.TheVariants.{Failed, TraceFull}
 use Rattle.im_types.specs.Contents.{Contents}
 use Rattle.im_laws.proofs.Tests.{true_false}
+use Rattle.im_groups.specs.Commands.{places, takes_place, places_behind}
+use Rattle.im_glass.specs.Panes.{PaneView}
 use Rattle.im_engine.specs.State.{EngineState}
 use Rattle.im_engine.specs.Commands.{each_refused}
-use Rattle.im_trace.specs.Lines.{leaves_line, left_lines}
-use Rattle.im_trace.specs.Log.{sender_of, UnclaimedState, LogState, with_unclaimed}
-use Rattle.im_controller.specs.State.{SharedState}
-use Rattle.im_queue.specs.Members.{AreOfOthers, AreOneOfEach, AreSureBehind, IsCut, AreFreeFor}
-use Rattle.im_controller.specs.Groups.{those, AreAnswersTo}
-use Rattle.im_controller.specs.Groups.{served_answer, with_all_unclaimed}
-use Rattle.im_controller.specs.Groups.{lines_left, MembersAnswered}
-use Rattle.im_controller.specs.Planned.{has_command, IsOnPlan, AreOnPlan, StartsBy, KeepsTo}
-use Rattle.im_controller.specs.Admitted.{is_asked, is_picked, picked, admitted, refused_off, with_off, with_refused_off}
-use Rattle.im_types.specs.Trace.{end_of}
-use Rattle.im_controller.proofs.GroupLemmas.{alike_fits, alike_none}
-use Rattle.im_controller.proofs.PutLemmas.{lines_all, all-trace, refused-lines}
-use Rattle.im_controller.proofs.Keeping.{free_after}
-use Rattle.im_controller.proofs.Choosing.{those-all, those-apart, those-cut, those-sure}
+use Rattle.im_trace.specs.Lines.{leaves_line, line_of, left_lines, times_of}
+use Rattle.im_trace.specs.Log.{sender_of, LogState, TimedLog, GoesOnAt, with_unclaimed}
+use Rattle.im_queue.specs.Members.{AreOfOthers, AreOneOfEach, AreSureBehind, IsSure, IsCut, are_joined, AreFreeFor}
+use Rattle.im_controller.specs.Lends.{changes_put}
+use Rattle.im_controller.specs.Groups.{served_answer, changes_put_all, MembersAnswered}
+use Rattle.im_controller.specs.Planned.{has_command, AreOnPlan, StartsBy, KeepsTo}
+use Rattle.im_controller.specs.Admitted.{free_lines, places_with, is_asked, is_off, IsVerdict, places_after}
+use Rattle.im_controller.specs.Admitted.{AreVerdicts, lent_of, with_refused, Admits}
+use Rattle.im_controller.proofs.SureLemmas.{sure-behind}
+use Rattle.im_controller.proofs.PutLemmas.{lines_all, refused-lines, left-none, taken-none}
+use Rattle.im_controller.proofs.Keeping.{free_after, free_other}
 use Rattle.im_controller.proofs.PlannedLemmas.{keeps-line, on-command}
 
--- ---- those that are picked
+-- ---- a verdict
 
-pick-cons : (test : Command → Bool) (r : Command) (rs : List Command) → picked test (r ∷ rs)
-    ≡ (if test r then r ∷ [] else []) ++ picked test rs
-pick-cons test r rs = by_test (test r)
-  where
-    by_test : (b : Bool) → those (b ∷ map test rs) (r ∷ rs) ≡ (if b then r ∷ [] else []) ++ those (map test rs) rs
-    by_test true = refl
-    by_test false = refl
+same_some : {e f : Refusal} → Some e ≡ Some f → e ≡ f
+same_some is = cc
 
--- one more was looked at
-pick-next : (test : Command → Bool) (xs rs : List Command) (i : ℕ) (d : Command) → i < length rs
-    → (xs ++ (if test (get_or rs i d) then get_or rs i d ∷ [] else [])) ++ picked test (drop (i + 1) rs)
-    ≡ xs ++ picked test (drop i rs)
-pick-next test xs rs i d within =
-    let next : i + 1 ≡ suc i = omega arith in let r = get_or rs i d in
-    append_assoc xs (if test r then r ∷ [] else []) (picked test (drop (i + 1) rs))
-    ∙ ap (λ l. xs ++ l) (sym (pick-cons test r (drop (i + 1) rs)) ∙ ap (λ n. picked test (r ∷ drop n rs)) next
-    ∙ ap (picked test) (sym (drop-cons rs i d within)))
+none_some : {e : Refusal} → None ≡ Some e → ⊥
+none_some is = absurd (cc)
 
-pub pick-end : (test : Command → Bool) (xs rs : List Command) (i : ℕ) → length rs ≤ i → xs ++ picked test (drop i rs)
-    ≡ picked test rs → xs ≡ picked test rs
-pick-end test xs rs i past is = sym (append-nil xs) ∙ ap (λ l. xs ++ picked test l) (sym (drop_all i rs past)) ∙ is
+-- a member that is lent isn't off the plan
+verdict-on : (off takes : Bool) → IsVerdict off takes None → off ≡ false
+verdict-on true takes it = absurd (none_some (it.off_plan refl))
+verdict-on false takes it = refl
 
-one-more : (xs : List Command) (b : Bool) (r : Command) (i : ℕ) → length xs ≤ i
-    → length (xs ++ (if b then r ∷ [] else [])) ≤ i + 1
-one-more xs true r i few = omega (arith, few, length-append xs (r ∷ []))
-one-more xs false r i few = omega (arith, few, length-append xs [])
+-- a member's refusal leaves no line
+pub verdict-lineless : (off takes : Bool) (e : Refusal) → IsVerdict off takes (Some e) → leaves_line (Err e) ≡ false
+verdict-lineless true takes e it = ap (λ (x : Refusal). leaves_line (Err x)) (same_some (it.off_plan refl))
+verdict-lineless false true e it = ⊎_elim
+    (λ none. absurd (none_some (sym none)))
+    (λ some. ap (λ (x : Refusal). leaves_line (Err x)) (same_some some))
+    (it.placed refl refl)
+verdict-lineless false false e it = absurd (none_some (sym (it.unplaced refl refl)))
 
--- the same, by whether it is picked
-pub pick-step : (test : Command → Bool) (xs rs all : List Command) (i : ℕ) (d : Command) (b : Bool) → b
-    ≡ test (get_or rs i d) → i < length rs → xs ++ picked test (drop i rs) ≡ all → length xs ≤ i
-    → ((xs ++ (if b then get_or rs i d ∷ [] else [])) ++ picked test (drop (i + 1) rs) ≡ all)
-    × (length (xs ++ (if b then get_or rs i d ∷ [] else [])) ≤ i + 1)
-pick-step test xs rs all i d b is within whole few = (
-  ap (λ t. (xs ++ (if t then get_or rs i d ∷ [] else [])) ++ picked test (drop (i + 1) rs)) is
-      ∙ pick-next test xs rs i d within ∙ whole,
-  one-more xs b (get_or rs i d) i few,
+-- ---- those that are lent
+
+module _ (P : Command → Type 0) where
+  lent-all : (vs : List (Option Refusal)) (rs : List Command) → AllByRecursion P rs → AllByRecursion P (lent_of vs rs)
+  lent-all [] rs all = tt
+  lent-all (v ∷ vs) [] all = tt
+  lent-all (None ∷ vs) (r ∷ rs) all = (all.0, lent-all vs rs all.1)
+  lent-all (Some e ∷ vs) (r ∷ rs) all = lent-all vs rs all.1
+
+lent-apart : (vs : List (Option Refusal)) (rs : List Command) → AreOneOfEach rs → AreOneOfEach (lent_of vs rs)
+lent-apart [] rs apart = tt
+lent-apart (v ∷ vs) [] apart = tt
+lent-apart (None ∷ vs) (r ∷ rs) apart = (
+  lent-all (λ (c : Command). sender_of r ≢ sender_of c) vs rs apart.0,
+  lent-apart vs rs apart.1,
 )
+lent-apart (Some e ∷ vs) (r ∷ rs) apart = lent-apart vs rs apart.1
 
-those-few : (bs : List Bool) (rs : List Command) → length (those bs rs) ≤ length rs
-those-few [] rs = omega arith
-those-few (b ∷ bs) [] = omega arith
-those-few (true ∷ bs) (r ∷ rs) = omega (arith, those-few bs rs)
-those-few (false ∷ bs) (r ∷ rs) = omega (arith, those-few bs rs)
+lent-cut : (vs : List (Option Refusal)) (rs : List Command) → IsCut rs → IsCut (lent_of vs rs)
+lent-cut [] rs cut = tt
+lent-cut (v ∷ vs) [] cut = tt
+lent-cut (None ∷ vs) (r ∷ rs) cut = (
+  lent-all (λ (c : Command). are_joined r c ≡ true) vs rs cut.0,
+  lent-cut vs rs cut.1,
+)
+lent-cut (Some e ∷ vs) (r ∷ rs) cut = lent-cut vs rs cut.1
 
-those-free : (places : List (Option UnclaimedState)) (bs : List Bool) (rs : List Command) → AreFreeFor places rs
-    → AreFreeFor places (those bs rs)
-those-free places = those-all (λ (c : Command). slice_get places (sender_of c) ≡ Some None)
+lent-sure : (m : Contents) (vs : List (Option Refusal)) (rs : List Command) → AreSureBehind m rs
+    → AreSureBehind m (lent_of vs rs)
+lent-sure m [] rs sure = tt
+lent-sure m (v ∷ vs) [] sure = tt
+lent-sure m (None ∷ vs) (r ∷ rs) sure = lent-all (IsSure m) vs rs sure
+lent-sure m (Some e ∷ vs) (r ∷ rs) sure = sure-behind m (lent_of vs rs) (lent-all (IsSure m) vs rs sure)
 
-those-others : (element : ℕ) (bs : List Bool) (rs : List Command) → AreOfOthers element rs
-    → AreOfOthers element (those bs rs)
-those-others element = those-all (λ (c : Command). element ≢ sender_of c)
+lent-few : (vs : List (Option Refusal)) (rs : List Command) → length (lent_of vs rs) ≤ length rs
+lent-few [] rs = omega arith
+lent-few (v ∷ vs) [] = omega arith
+lent-few (None ∷ vs) (r ∷ rs) = omega (arith, lent-few vs rs)
+lent-few (Some e ∷ vs) (r ∷ rs) = omega (arith, lent-few vs rs)
 
--- where all pass a test, or none
-all-pass : (test : Command → Bool) → ((r : Command) → test r ≡ true) → (rs : List Command) → picked test rs ≡ rs
-all-pass test pass [] = refl
-all-pass test pass (r ∷ rs) = pick-cons test r rs ∙ ap (λ b. (if b then r ∷ [] else []) ++ picked test rs) (pass r)
-    ∙ ap (λ l. r ∷ l) (all-pass test pass rs)
+has-of : (b : Bool) → (if b then false else true) ≡ false → b ≡ true
+has-of true is = refl
+has-of false is = absurd (true_false is)
 
-none-pass : (test : Command → Bool) → ((r : Command) → test r ≡ false) → (rs : List Command) → picked test rs ≡ []
-none-pass test fail [] = refl
-none-pass test fail (r ∷ rs) = pick-cons test r rs ∙ ap (λ b. (if b then r ∷ [] else []) ++ picked test rs) (fail r)
-    ∙ none-pass test fail rs
+-- the plan has them, if it is asked
+lent-planned : (n m : Contents) (plan : Option (List Request)) (left : ℕ) (vs : List (Option Refusal))
+    (rs : List Command) → StartsBy n plan → AreVerdicts plan true m left vs rs → AreOnPlan plan (lent_of vs rs)
+lent-planned n m plan left [] rs starts judged = tt
+lent-planned n m plan left (v ∷ vs) [] starts judged = tt
+lent-planned n m plan left (None ∷ vs) (r ∷ rs) starts judged = (
+  on-command n plan r starts
+      (has-of (has_command plan r) (verdict-on (is_off plan true r) (takes_place m left r) judged.0)),
+  lent-planned n m plan (places_behind m left r) vs rs starts judged.1,
+)
+lent-planned n m plan left (Some e ∷ vs) (r ∷ rs) starts judged = lent-planned n m plan left vs rs starts judged.1
 
--- without a plan all are picked
-pass-all : (asked : Bool) (r : Command) → is_picked None asked true r ≡ true
-pass-all true (Asks r) = refl
-pass-all true (Confirm element upto) = refl
-pass-all false r = refl
+-- if the plan isn't asked and there is no place, all are lent
+lent-each : (m : Contents) (plan : Option (List Request)) (left : ℕ) (vs : List (Option Refusal))
+    (rs : List Command) → left ≡ 0 → AreVerdicts plan false m left vs rs → lent_of vs rs ≡ rs
+lent-each m plan left [] rs none judged = sym judged
+lent-each m plan left (v ∷ vs) [] none judged = refl
+lent-each m plan left (None ∷ vs) (r ∷ rs) none judged = ap (λ l. r ∷ l)
+    (lent-each m plan (places_behind m left r) vs rs (ap (λ n. places_behind m n r) none ∙ left-none m r) judged.1)
+lent-each m plan left (Some e ∷ vs) (r ∷ rs) none judged = absurd
+    (none_some (sym (judged.0.unplaced refl (ap (λ n. takes_place m n r) none ∙ taken-none m r))))
 
-pass-none : (asked : Bool) (r : Command) → is_picked None asked false r ≡ false
-pass-none true (Asks r) = refl
-pass-none true (Confirm element upto) = refl
-pass-none false r = refl
+-- ---- the log with the refusals of the others
 
-module _ {D : Type 0} (s : SharedState D) (rs : List Command) where
-  pub admitted-is : (plan : Option (List Request)) → picked (is_picked plan (is_asked s) true) rs ≡ admitted plan s rs
-  admitted-is None = all-pass (is_picked None (is_asked s) true) (pass-all (is_asked s)) rs
-  admitted-is (Some plan) = refl
+lineless-trace : (l : LogState) (r : Command) (e : Refusal) → leaves_line (Err e) ≡ false
+    → (with_unclaimed l r (Err e)).trace ≡ l.trace
+lineless-trace l r e none = ap (λ b. l.trace ++ (if b then line_of (Commands r) (Err e) ∷ [] else [])) none
+    ∙ append-nil l.trace
 
-  pub refused-is : (plan : Option (List Request)) → picked (is_picked plan (is_asked s) false) rs
-      ≡ refused_off plan s rs
-  refused-is None = none-pass (is_picked None (is_asked s) false) (pass-none (is_asked s)) rs
-  refused-is (Some plan) = refl
+refused-trace : (m : Contents) (plan : Option (List Request)) (asked : Bool) (left : ℕ) (l : LogState)
+    (vs : List (Option Refusal)) (rs : List Command) → AreVerdicts plan asked m left vs rs
+    → (with_refused l vs rs).trace ≡ l.trace
+refused-trace m plan asked left l [] rs judged = refl
+refused-trace m plan asked left l (v ∷ vs) [] judged = refl
+refused-trace m plan asked left l (None ∷ vs) (r ∷ rs) judged =
+    refused-trace m plan asked (places_behind m left r) l vs rs judged.1
+refused-trace m plan asked left l (Some e ∷ vs) (r ∷ rs) judged =
+    refused-trace m plan asked left (with_unclaimed l r (Err e)) vs rs judged.1
+    ∙ lineless-trace l r e (verdict-lineless (is_off plan asked r) (takes_place m left r) e judged.0)
 
--- ---- what the refusals leave of the log
+refused-limit : (l : LogState) (vs : List (Option Refusal)) (rs : List Command)
+    → (with_refused l vs rs).limit ≡ l.limit
+refused-limit l [] rs = refl
+refused-limit l (v ∷ vs) [] = refl
+refused-limit l (None ∷ vs) (r ∷ rs) = refused-limit l vs rs
+refused-limit l (Some e ∷ vs) (r ∷ rs) = refused-limit (with_unclaimed l r (Err e)) vs rs
 
-pub off-trace : (l : LogState) (rs : List Command) → (with_off l rs).trace ≡ l.trace
-off-trace l rs = all-trace l rs (map served_answer (each_refused OffPlan rs))
-    ∙ ap (λ ls. l.trace ++ ls) (refused-lines OffPlan refl rs) ∙ append-nil l.trace
+refused-other : (l : LogState) (vs : List (Option Refusal)) (rs : List Command) (element : ℕ) → AreOfOthers element rs
+    → slice_get l.places element ≡ Some None → slice_get (with_refused l vs rs).places element ≡ Some None
+refused-other l [] rs element others free = free
+refused-other l (v ∷ vs) [] element others free = free
+refused-other l (None ∷ vs) (r ∷ rs) element others free = refused-other l vs rs element others.1 free
+refused-other l (Some e ∷ vs) (r ∷ rs) element others free =
+    refused-other (with_unclaimed l r (Err e)) vs rs element others.1
+    (free_other l.places (sender_of r) element _ (λ same. others.0 (sym same)) free)
 
--- the log that was left is this one
-pub off-log : (l l' : LogState) (rs qs : List Command) (ss : List Served) → l'
-    ≡ with_all_unclaimed l qs (map served_answer ss) → qs ≡ rs → ss ≡ each_refused OffPlan rs → l' ≡ with_off l rs
-off-log l l' rs qs ss is same refused = is ∙ ap (λ ps. with_all_unclaimed l ps (map served_answer ss)) same
-    ∙ ap (λ ts. with_all_unclaimed l rs (map served_answer ts)) refused
+refused-free : (l : LogState) (vs : List (Option Refusal)) (rs : List Command) → AreOneOfEach rs
+    → AreFreeFor l.places rs → AreFreeFor (with_refused l vs rs).places (lent_of vs rs)
+refused-free l [] rs apart free = tt
+refused-free l (v ∷ vs) [] apart free = tt
+refused-free l (None ∷ vs) (r ∷ rs) apart free = (
+  refused-other l vs rs (sender_of r) apart.0 free.0,
+  refused-free l vs rs apart.1 free.1,
+)
+refused-free l (Some e ∷ vs) (r ∷ rs) apart free = refused-free (with_unclaimed l r (Err e)) vs rs apart.1
+    (free_after l.places (sender_of r) _ rs apart.0 free.1)
 
-pub off-shared : {D : Type 0} (s t : SharedState D) → s ≡ t
-    → (l : LogState) (plan : Option (List Request)) (rs : List Command) → l ≡ with_off s.log (refused_off plan t rs)
-    → record s { log = l } ≡ with_refused_off plan t rs
-off-shared {D = D} s t same l plan rs is =
-    ap (λ (k : LogState). record s { log = k }) is
-    ∙ ap (λ (u : SharedState D). record u { log = with_off u.log (refused_off plan t rs) }) same
+-- ---- a group, by whom the engine is lent to
 
--- what the log asks of these refusals
-pub record OffFits (m : Contents) (l : LogState) (rs : List Command) : Type 0 where
-  pub whole : length (each_refused OffPlan rs) ≡ length rs
-  pub are_so : AreAnswersTo (end_of m l.trace) rs (map served_answer (each_refused OffPlan rs))
-  pub apart : AreOneOfEach rs
-  pub free : AreFreeFor l.places rs
-  pub none : lines_left (map served_answer (each_refused OffPlan rs)) ≡ 0
+module _ {D : Type 0} (e : EngineState D) (room : ℕ) where
+  asked-is : e.failed ≡ false → 0 < room → is_asked e room ≡ true
+  asked-is alive some =
+      let lt : nat_lt 0 room ≡ true = grind (arith, nat_tests) in
+      ap (λ b. if b then false else nat_lt 0 room) alive ∙ lt
 
-pub off-fits : (m : Contents) (l : LogState) (test : Command → Bool) (rs : List Command) → AreOneOfEach rs
-    → AreFreeFor l.places rs → OffFits m l (picked test rs)
-off-fits m l test rs apart free =
-    let off = picked test rs in let fits = alike_fits OffPlan refl (end_of m l.trace) off in record {
-      whole = fits.whole;
-      are_so = fits.are_so;
-      apart = those-apart (map test rs) rs apart;
-      free = those-free l.places (map test rs) rs free;
-      none = alike_none OffPlan refl off;
-    }
-
-all-limit : (l : LogState) (rs : List Command) (xs : List (Result Outcome Refusal))
-    → (with_all_unclaimed l rs xs).limit ≡ l.limit
-all-limit l [] xs = refl
-all-limit l (r ∷ rs) [] = refl
-all-limit l (r ∷ rs) (x ∷ xs) = all-limit (with_unclaimed l r x) rs xs
-
--- each of these is of another element than each of those
-abbrev ArePartedFrom : List Command → List Command → Type 0
-ArePartedFrom [] qs = Unit {0}
-ArePartedFrom (r ∷ rs) qs = AreOfOthers (sender_of r) qs × ArePartedFrom rs qs
-
-parted-free : (l : LogState) (rs qs : List Command) (xs : List (Result Outcome Refusal)) → ArePartedFrom rs qs
-    → AreFreeFor l.places qs → AreFreeFor (with_all_unclaimed l rs xs).places qs
-parted-free l [] qs xs parted free = free
-parted-free l (r ∷ rs) qs [] parted free = free
-parted-free l (r ∷ rs) qs (x ∷ xs) parted free = parted-free (with_unclaimed l r x) rs qs xs parted.1
-    (free_after l.places (sender_of r) _ qs parted.0 free)
-
-parted-cons : (r : Command) (rs qs : List Command) → AreOfOthers (sender_of r) rs → ArePartedFrom rs qs
-    → ArePartedFrom rs (r ∷ qs)
-parted-cons r [] qs others parted = tt
-parted-cons r (q ∷ rs) qs others parted = (((λ e. others.0 (sym e)), parted.0), parted-cons r rs qs others.1 parted.1)
-
--- those that pass one of two tests
-module _ (f g : Command → Bool) (other : (r : Command) → f r ≡ true → g r ≡ false) where
-  parted : (rs : List Command) → AreOneOfEach rs → ArePartedFrom (picked f rs) (picked g rs)
-  parted [] apart = tt
-  parted (r ∷ rs) apart = by_test (parted rs apart.1) (f r) (g r) refl refl
+  unasked-none : is_asked e room ≡ false → places_with e room ≡ 0
+  unasked-none un = by_test e.failed un
     where
-      by_test : ArePartedFrom (picked f rs) (picked g rs) → (x y : Bool) → f r ≡ x → g r ≡ y
-          → ArePartedFrom (those (x ∷ map f rs) (r ∷ rs)) (those (y ∷ map g rs) (r ∷ rs))
-      by_test rest true true here there = absurd (true_false (sym there ∙ other r here))
-      by_test rest true false here there = (those-others (sender_of r) (map g rs) rs apart.0, rest)
-      by_test rest false true here there = parted-cons r (picked f rs) (picked g rs)
-          (those-others (sender_of r) (map f rs) rs apart.0) rest
-      by_test rest false false here there = rest
+      by_room : nat_lt 0 room ≡ false → (room == 0) ≡ true
+      by_room none = grind (arith, nat_tests)
 
-one-test : (b : Bool) → (if b then false else true) ≡ true → (if b then true else false) ≡ false
-one-test true is = absurd (true_false (sym is))
-one-test false is = refl
+      by_test : (b : Bool) → (if b then false else nat_lt 0 room) ≡ false
+          → (if b then 0 else if room == 0 then 0 else places e.count e.room) ≡ 0
+      by_test true un = refl
+      by_test false un = ap (λ b. if b then 0 else places e.count e.room) (by_room un)
 
--- ---- the members that are served
+module _ {D : Type 0} (plan : Option (List Request)) (e : EngineState D) (l : LogState) (members lent : List Command)
+    (l' : LogState) (it : Admits plan e l members lent l') where
+  pub admit-cut : IsCut members → IsCut lent
+  admit-cut cut = subst IsCut (sym it.lent_is) (lent-cut it.verdicts members cut)
 
-on-picked : (plan : Option (List Request)) (test : Command → Bool)
-    → ((r : Command) → test r ≡ true → IsOnPlan plan (Commands r)) → (rs : List Command)
-    → AreOnPlan plan (picked test rs)
-on-picked plan test on [] = tt
-on-picked plan test on (r ∷ rs) = by_test (on-picked plan test on rs) (test r) refl
-  where
-    by_test : AreOnPlan plan (picked test rs) → (b : Bool) → test r ≡ b
-        → AreOnPlan plan (those (b ∷ map test rs) (r ∷ rs))
-    by_test rest true is = (on r is, rest)
-    by_test rest false is = rest
+  pub admit-apart : AreOneOfEach members → AreOneOfEach lent
+  admit-apart apart = subst AreOneOfEach (sym it.lent_is) (lent-apart it.verdicts members apart)
 
-none-off : (rs : List Command) → AreOnPlan None rs
-none-off [] = tt
-none-off (r ∷ rs) = (tt, none-off rs)
+  pub admit-sure : AreSureBehind e.memory members → AreSureBehind e.memory lent
+  admit-sure sure = subst (λ (rs : List Command). AreSureBehind e.memory rs) (sym it.lent_is)
+      (lent-sure e.memory it.verdicts members sure)
 
-picked-has : (b : Bool) → (if b then true else false) ≡ true → b ≡ true
-picked-has true is = refl
-picked-has false is = absurd (true_false (sym is))
+  pub admit-few : length lent ≤ length members
+  admit-few = omega (arith, ap length it.lent_is, lent-few it.verdicts members)
 
-module _ {D : Type 0} (s : SharedState D) where
-  asked-is : s.engine.failed ≡ false → length s.log.trace < s.log.limit → is_asked s ≡ true
-  asked-is alive room =
-      let some : nat_lt 0 (s.log.limit - length s.log.trace) ≡ true = grind (arith, nat_tests) in
-      ap (λ b. if b then false else nat_lt 0 (s.log.limit - length s.log.trace)) alive ∙ some
+  pub admit-free : AreOneOfEach members → AreFreeFor l.places members → AreFreeFor l'.places lent
+  admit-free apart free =
+      subst (λ (k : LogState). AreFreeFor k.places lent) (sym it.log)
+      (subst (λ (rs : List Command). AreFreeFor (with_refused l it.verdicts members).places rs) (sym it.lent_is)
+      (refused-free l it.verdicts members apart free))
 
-  pub admit-on : (m : Contents) (plan : Option (List Request)) (rs : List Command) → StartsBy m plan
-      → s.engine.failed ≡ false → length s.log.trace < s.log.limit → AreOnPlan plan (admitted plan s rs)
-  admit-on m None rs starts alive room = none-off rs
-  admit-on m (Some plan) rs starts alive room = on-picked (Some plan) (is_picked (Some plan) (is_asked s) true)
-      (λ r is. on-command m (Some plan) r starts
-      (picked-has (has_command (Some plan) r)
-      (sym (ap (λ a. is_picked (Some plan) a true r) (asked-is alive room)) ∙ is))) rs
+  pub admit-trace : l'.trace ≡ l.trace
+  admit-trace = ap (λ (k : LogState). k.trace) it.log
+      ∙ refused-trace e.memory plan (is_asked e (free_lines l)) (places_with e (free_lines l)) l it.verdicts members
+      it.judged
 
-  pub admit-cut : (plan : Option (List Request)) (rs : List Command) → IsCut rs → IsCut (admitted plan s rs)
-  admit-cut None rs cut = cut
-  admit-cut (Some plan) rs cut = those-cut (map (is_picked (Some plan) (is_asked s) true) rs) rs cut
+  pub admit-limit : l'.limit ≡ l.limit
+  admit-limit = ap (λ (k : LogState). k.limit) it.log ∙ refused-limit l it.verdicts members
 
-  pub admit-apart : (plan : Option (List Request)) (rs : List Command) → AreOneOfEach rs
-      → AreOneOfEach (admitted plan s rs)
-  admit-apart None rs apart = apart
-  admit-apart (Some plan) rs apart = those-apart (map (is_picked (Some plan) (is_asked s) true) rs) rs apart
+  pub admit-planned : (m : Contents) → StartsBy m plan → e.failed ≡ false → 0 < free_lines l → AreOnPlan plan lent
+  admit-planned m starts alive some =
+      subst (λ (rs : List Command). AreOnPlan plan rs) (sym it.lent_is)
+      (lent-planned m e.memory plan (places_with e (free_lines l)) it.verdicts members starts
+      (subst (λ (b : Bool). AreVerdicts plan b e.memory (places_with e (free_lines l)) it.verdicts members)
+      (asked-is e (free_lines l) alive some) it.judged))
 
-  pub admit-sure : (plan : Option (List Request)) (rs : List Command) → AreSureBehind s.engine.memory rs
-      → AreSureBehind s.engine.memory (admitted plan s rs)
-  admit-sure None rs sure = sure
-  admit-sure (Some plan) rs sure =
-      those-sure s.engine.memory (map (is_picked (Some plan) (is_asked s) true) rs) rs sure
+  pub admit-all : is_asked e (free_lines l) ≡ false → lent ≡ members
+  admit-all un = it.lent_is ∙ lent-each e.memory plan (places_with e (free_lines l)) it.verdicts members
+      (unasked-none e (free_lines l) un)
+      (subst (λ (b : Bool). AreVerdicts plan b e.memory (places_with e (free_lines l)) it.verdicts members) un
+      it.judged)
 
-  pub admit-free : (plan : Option (List Request)) (rs : List Command) → AreOneOfEach rs → AreFreeFor s.log.places rs
-      → AreFreeFor (with_refused_off plan s rs).log.places (admitted plan s rs)
-  admit-free None rs apart free = free
-  admit-free (Some plan) rs apart free =
-      let f = is_picked (Some plan) (is_asked s) false in let g = is_picked (Some plan) (is_asked s) true in
-      parted-free s.log (picked f rs) (picked g rs) (map served_answer (each_refused OffPlan (picked f rs)))
-      (parted f g (λ r. one-test (if is_asked s then has_command (Some plan) r else true)) rs apart)
-      (those-free s.log.places (map g rs) rs free)
+-- ---- one member after another
 
-  few-admitted : (plan : Option (List Request)) (rs : List Command) → length (admitted plan s rs) ≤ length rs
-  few-admitted None rs = omega arith
-  few-admitted (Some plan) rs = those-few (map (is_picked (Some plan) (is_asked s) true) rs) rs
+-- what was judged so far, after which all is as from the start
+pub record Admitting (plan : Option (List Request)) (asked : Bool) (m : Contents) (left0 : ℕ) (rs0 : List Command)
+    (l0 : TimedLog) (p0 : PaneView) (left : ℕ) (rs lent : List Command) (l : TimedLog) (p : PaneView) : Type 0 where
+  pub verdicts : List (Option Refusal)
+  pub judged : (vs : List (Option Refusal)) → AreVerdicts plan asked m left vs rs
+      → AreVerdicts plan asked m left0 (verdicts ++ vs) rs0
+  pub chosen : (vs : List (Option Refusal)) → lent ++ lent_of vs rs ≡ lent_of (verdicts ++ vs) rs0
+  pub log : (vs : List (Option Refusal)) → with_refused l.state vs rs ≡ with_refused l0.state (verdicts ++ vs) rs0
+  pub times : l.times ≡ l0.times
+  pub puts : (qs : List Command) → p.ahead ++ changes_put_all m left qs
+      ≡ p0.ahead ++ changes_put_all m left0 (lent ++ qs)
+  pub pane : p ≡ record p0 { ahead = p.ahead }
+  pub few : length lent + length rs ≤ length rs0
+  pub apart : AreOneOfEach rs
+  pub free : AreFreeFor l.state.places rs
 
-  pub admit-trace : (plan : Option (List Request)) (rs : List Command) → (with_refused_off plan s rs).log.trace
-      ≡ s.log.trace
-  admit-trace plan rs = off-trace s.log (refused_off plan s rs)
+-- no line more, and no time more
+no_more : {X : Type 0} (xs more : List X) → xs ≡ xs ++ more → more ≡ []
+no_more xs [] is = refl
+no_more xs (x ∷ more) is = absurd (omega (arith, ap length is, length-append xs (x ∷ more)))
 
-  admit-limit : (plan : Option (List Request)) (rs : List Command) → (with_refused_off plan s rs).log.limit
-      ≡ s.log.limit
-  admit-limit plan rs =
-      let off = refused_off plan s rs in all-limit s.log off (map served_answer (each_refused OffPlan off))
+still : (time : ℕ) (old new : TimedLog) → GoesOnAt time old new → new.state.trace ≡ old.state.trace
+    → new.times ≡ old.times
+still time old new goes same = goes.times
+    ∙ ap (λ ls. old.times ++ times_of time ls) (no_more old.state.trace goes.more (sym same ∙ goes.lines))
+    ∙ append-nil old.times
 
-  pub admit-room : (plan : Option (List Request)) (rs : List Command)
-      → (length s.log.trace < s.log.limit → length s.log.trace + length rs ≤ s.log.limit)
-      → length (with_refused_off plan s rs).log.trace < (with_refused_off plan s rs).log.limit
-      → length (with_refused_off plan s rs).log.trace + length (admitted plan s rs) ≤
-      (with_refused_off plan s rs).log.limit
-  admit-room plan rs room within =
-      let lines = ap length (admit-trace plan rs) in let limit = admit-limit plan rs in
-      omega (arith, lines, limit, few-admitted plan rs, room (omega (arith, lines, limit, within)))
+module _ (plan : Option (List Request)) (asked : Bool) (m : Contents) (left0 : ℕ) (rs0 : List Command)
+    (l0 : TimedLog) (p0 : PaneView) where
+  pub admitting-start : AreOneOfEach rs0 → AreFreeFor l0.state.places rs0
+      → Admitting plan asked m left0 rs0 l0 p0 left0 rs0 [] l0 p0
+  admitting-start apart free = record {
+    verdicts = [];
+    judged = λ vs judged. judged;
+    chosen = λ vs. refl;
+    log = λ vs. refl;
+    times = refl;
+    puts = λ qs. refl;
+    pane = refl;
+    few = omega arith;
+    apart = apart;
+    free = free;
+  }
 
-  pub admit-within : (plan : Option (List Request)) (rs : List Command)
-      → length (with_refused_off plan s rs).log.trace < (with_refused_off plan s rs).log.limit
-      → length s.log.trace < s.log.limit
-  admit-within plan rs within = omega (arith, ap length (admit-trace plan rs), admit-limit plan rs, within)
+  -- the next member
+  pub admitting-cons : (left : ℕ) (lent : List Command) (l : TimedLog) (p : PaneView) (i : ℕ) (d : Command)
+      → i < length rs0 → Admitting plan asked m left0 rs0 l0 p0 left (drop i rs0) lent l p
+      → Admitting plan asked m left0 rs0 l0 p0 left (get_or rs0 i d ∷ drop (i + 1) rs0) lent l p
+  admitting-cons left lent l p i d within k =
+      let next : suc i ≡ i + 1 = omega arith in
+      subst (λ (rs : List Command). Admitting plan asked m left0 rs0 l0 p0 left rs lent l p)
+      (drop-cons rs0 i d within ∙ ap (λ n. get_or rs0 i d ∷ drop n rs0) next) k
+
+  module _ (left : ℕ) (r : Command) (rs lent : List Command) (l : TimedLog) (p : PaneView)
+      (k : Admitting plan asked m left0 rs0 l0 p0 left (r ∷ rs) lent l p) where
+    one-more : (v : Option Refusal) (vs : List (Option Refusal)) → k.verdicts ++ v ∷ vs ≡ (k.verdicts ++ v ∷ []) ++ vs
+    one-more v vs = sym (append_assoc k.verdicts (v ∷ []) vs)
+
+    judged-more : (v : Option Refusal) → IsVerdict (is_off plan asked r) (takes_place m left r) v
+        → (vs : List (Option Refusal)) → AreVerdicts plan asked m (places_after m left r v) vs rs
+        → AreVerdicts plan asked m left0 ((k.verdicts ++ v ∷ []) ++ vs) rs0
+    judged-more v verdict vs judged = subst (λ (us : List (Option Refusal)). AreVerdicts plan asked m left0 us rs0)
+        (one-more v vs) (k.judged (v ∷ vs) (verdict, judged))
+
+    -- it is lent
+    pub admitting-lent : IsVerdict (is_off plan asked r) (takes_place m left r) None → (now : ℕ)
+        → now ≡ places_behind m left r → (q : PaneView) → q ≡ record p { ahead = p.ahead ++ changes_put m left r }
+        → Admitting plan asked m left0 rs0 l0 p0 now rs (lent ++ r ∷ []) l q
+    admitting-lent verdict now is q put =
+        let ahead : q.ahead ≡ p.ahead ++ changes_put m left r = ap (λ (v : PaneView). v.ahead) put in
+        record {
+          verdicts = k.verdicts ++ None ∷ [];
+          judged = λ vs judged. judged-more None verdict vs
+              (subst (λ (n : ℕ). AreVerdicts plan asked m n vs rs) is judged);
+          chosen = λ vs. append_assoc lent (r ∷ []) (lent_of vs rs) ∙ k.chosen (None ∷ vs)
+              ∙ ap (λ us. lent_of us rs0) (one-more None vs);
+          log = λ vs. k.log (None ∷ vs) ∙ ap (λ us. with_refused l0.state us rs0) (one-more None vs);
+          times = k.times;
+          puts = λ qs. ap (λ xs. xs ++ changes_put_all m now qs) ahead
+              ∙ ap (λ n. (p.ahead ++ changes_put m left r) ++ changes_put_all m n qs) is
+              ∙ append_assoc p.ahead (changes_put m left r) (changes_put_all m (places_behind m left r) qs)
+              ∙ k.puts (r ∷ qs)
+              ∙ ap (λ cs. p0.ahead ++ changes_put_all m left0 cs) (sym (append_assoc lent (r ∷ []) qs));
+          pane = put ∙ ap (λ (v : PaneView). record v { ahead = p.ahead ++ changes_put m left r }) k.pane
+              ∙ ap (λ xs. record p0 { ahead = xs }) (sym ahead);
+          few = omega (arith, k.few, length-append lent (r ∷ []));
+          apart = k.apart.1;
+          free = k.free.1;
+        }
+
+    -- it is refused
+    pub admitting-refused : (e : Refusal) → IsVerdict (is_off plan asked r) (takes_place m left r) (Some e)
+        → (time : ℕ) (now : TimedLog) → now.state ≡ with_unclaimed l.state r (Err e) → GoesOnAt time l now
+        → (q : PaneView) → q ≡ p → Admitting plan asked m left0 rs0 l0 p0 left rs lent now q
+    admitting-refused e verdict time now is goes q same =
+        let lineless = verdict-lineless (is_off plan asked r) (takes_place m left r) e verdict in
+        let trace = ap (λ (s : LogState). s.trace) is ∙ lineless-trace l.state r e lineless in
+        subst (λ (v : PaneView). Admitting plan asked m left0 rs0 l0 p0 left rs lent now v) (sym same) (record {
+          verdicts = k.verdicts ++ Some e ∷ [];
+          judged = judged-more (Some e) verdict;
+          chosen = λ vs. k.chosen (Some e ∷ vs) ∙ ap (λ us. lent_of us rs0) (one-more (Some e) vs);
+          log = λ vs. ap (λ (s : LogState). with_refused s vs rs) is ∙ k.log (Some e ∷ vs)
+              ∙ ap (λ us. with_refused l0.state us rs0) (one-more (Some e) vs);
+          times = still time l now goes trace ∙ k.times;
+          puts = k.puts;
+          pane = k.pane;
+          few = omega (arith, k.few);
+          apart = k.apart.1;
+          free = subst (λ (s : LogState). AreFreeFor s.places rs) (sym is)
+              (free_after l.state.places (sender_of r) _ rs k.apart.0 k.free.1);
+        })
+
+  -- all were judged
+  module _ (left : ℕ) (lent : List Command) (l : TimedLog) (p : PaneView) (i : ℕ) (past : length rs0 ≤ i)
+      (k : Admitting plan asked m left0 rs0 l0 p0 left (drop i rs0) lent l p) where
+    pub admitting-ahead : {D : Type 0} (e : EngineState D) → m ≡ e.memory → left0 ≡ places_with e (free_lines l0.state)
+        → p ≡ record p0 { ahead = p0.ahead ++ changes_put_all e.memory (places_with e (free_lines l0.state)) lent }
+    admitting-ahead e memory first = k.pane ∙ ap (λ xs. record p0 { ahead = xs })
+        (sym (append-nil p.ahead) ∙ k.puts [] ∙ ap (λ cs. p0.ahead ++ changes_put_all m left0 cs) (append-nil lent)
+        ∙ ap (λ (n : Contents). p0.ahead ++ changes_put_all n left0 lent) memory
+        ∙ ap (λ (n : ℕ). p0.ahead ++ changes_put_all e.memory n lent) first)
+
+    pub admitting-end : {D : Type 0} (e : EngineState D) → m ≡ e.memory → asked ≡ is_asked e (free_lines l0.state)
+        → left0 ≡ places_with e (free_lines l0.state) → Admits plan e l0.state rs0 lent l.state
+    admitting-end e memory test first = record {
+      verdicts = k.verdicts;
+      judged = subst (λ (n : ℕ). AreVerdicts plan (is_asked e (free_lines l0.state)) e.memory n k.verdicts rs0) first
+          (subst (λ (b : Bool). AreVerdicts plan b e.memory left0 k.verdicts rs0) test
+          (subst (λ (n : Contents). AreVerdicts plan asked n left0 k.verdicts rs0) memory
+          (subst (λ (us : List (Option Refusal)). AreVerdicts plan asked m left0 us rs0) (append-nil k.verdicts)
+          (k.judged [] (drop_all i rs0 past)))));
+      lent_is = sym (append-nil lent) ∙ k.chosen [] ∙ ap (λ us. lent_of us rs0) (append-nil k.verdicts);
+      log = k.log [] ∙ ap (λ us. with_refused l0.state us rs0) (append-nil k.verdicts);
+    }
 
 -- ---- the trace of a group
 
@@ -303,9 +383,8 @@ module _ (m : Contents) (plan : Option (List Request)) where
       (keeps-all (trace ++ left_lines (Commands r) x) rs xs
       (keeps-line m trace (Commands r) x plan k on.0) on.1)
 
-  -- of members with these answers, of which so many were served
-  module _ {D : Type 0} (e f : EngineState D) (qs rs : List Command) (xs : List (Result Outcome Refusal))
-      (ss : List Served) (same : lines_all qs xs ≡ lines_all rs (map served_answer ss)) (trace : List Line)
+  -- of members that were answered
+  module _ {D : Type 0} (e f : EngineState D) (rs : List Command) (ss : List Served) (trace : List Line)
       (k : KeepsTo m plan trace) where
     keeps-alike : (refusal : Refusal) → leaves_line (Err refusal) ≡ false → ss ≡ each_refused refusal rs
         → KeepsTo m plan (trace ++ lines_all rs (map served_answer ss))
@@ -313,24 +392,14 @@ module _ (m : Contents) (plan : Option (List Request)) where
         (ap (λ ts. lines_all rs (map served_answer ts)) alike ∙ refused-lines refusal lineless rs)
 
     keeps_by : (b : Bool) (room n : ℕ) → e.failed ≡ b → room ≡ n → MembersAnswered e room rs ss f
-        → (e.failed ≡ false → 0 < room → AreOnPlan plan qs)
+        → (e.failed ≡ false → 0 < room → AreOnPlan plan rs)
         → KeepsTo m plan (trace ++ lines_all rs (map served_answer ss))
     keeps_by true room n dead is a on = keeps-alike Failed refl ((a.dead dead).dead dead).0
     keeps_by false room zero alive is a on = keeps-alike TraceFull refl (a.full alive is).0
-    keeps_by false room (suc n) alive is a on = subst (λ (ls : List Line). KeepsTo m plan (trace ++ ls)) same
-        (keeps-all trace qs xs k (on alive (omega (arith, is))))
+    keeps_by false room (suc n) alive is a on = keeps-all trace rs (map served_answer ss) k
+        (on alive (omega (arith, is)))
 
     pub keeps-members : (room : ℕ) → MembersAnswered e room rs ss f
-        → (e.failed ≡ false → 0 < room → AreOnPlan plan qs)
+        → (e.failed ≡ false → 0 < room → AreOnPlan plan rs)
         → KeepsTo m plan (trace ++ lines_all rs (map served_answer ss))
     keeps-members room a on = keeps_by e.failed room room refl refl a on
-
--- what holds of the members that are served holds by their names
-pub admitted-same : {D : Type 0} (P : SharedState D → List Command → Type 0) (s : SharedState D)
-    (rs qs : List Command) → qs ≡ rs → (plan : Option (List Request)) (u : SharedState D) (lent : List Command)
-    → u ≡ with_refused_off plan s qs → lent ≡ admitted plan s qs → P u lent
-    → P (with_refused_off plan s rs) (admitted plan s rs)
-admitted-same {D = D} P s rs qs same plan u lent left chosen is =
-    subst (λ (ps : List Command). P (with_refused_off plan s ps) (admitted plan s ps)) same
-    (subst (λ (ps : List Command). P (with_refused_off plan s qs) ps) chosen
-    (subst (λ (v : SharedState D). P v lent) left is))

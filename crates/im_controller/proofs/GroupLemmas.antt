@@ -50,7 +50,7 @@ module _ (e : Refusal) (lineless : leaves_line (Err e) ≡ false) where
   alike_ends m (r ∷ rs) = ap (λ n. memory_after_all n rs (map served_answer (each_refused e rs))) (stays m r)
       ∙ alike_ends m rs
 
-  pub alike_none : (rs : List Command) → lines_left (map served_answer (each_refused e rs)) ≡ 0
+  alike_none : (rs : List Command) → lines_left (map served_answer (each_refused e rs)) ≡ 0
   alike_none [] = refl
   alike_none (r ∷ rs) =
       let none : (if leaves_line (Err e) then 1 else 0) ≡ 0 = ap {B = ℕ} (λ b. if b then 1 else 0) lineless in
@@ -60,7 +60,7 @@ module _ (e : Refusal) (lineless : leaves_line (Err e) ≡ false) where
   alike_whole [] = refl
   alike_whole (r ∷ rs) = omega (arith, alike_whole rs)
 
-  pub alike_fits : (m : Contents) (rs : List Command) → Fits m rs (each_refused e rs) m
+  alike_fits : (m : Contents) (rs : List Command) → Fits m rs (each_refused e rs) m
   alike_fits m rs = record {
     whole = alike_whole rs;
     are_so = alike_so m rs;
@@ -132,7 +132,7 @@ whole_answers : (m : Contents) (left : ℕ) (rs : List Command) → length (answ
 whole_answers m left [] = refl
 whole_answers m left (r ∷ rs) = omega (arith, whole_answers (contents_with m left r) (places_behind m left r) rs)
 
-pub few_lines : (xs : List (Result Outcome Refusal)) → lines_left xs ≤ length xs
+few_lines : (xs : List (Result Outcome Refusal)) → lines_left xs ≤ length xs
 few_lines [] = omega arith
 few_lines (x ∷ xs) = omega (arith, few_lines xs, at_most (leaves_line x))
   where

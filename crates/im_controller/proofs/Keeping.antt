@@ -25,12 +25,17 @@ get-set_other xs i j x y apart there =
     slice_get-get_or (slice_set xs i x) j y (omega (arith, within, length-set xs i x))
     ∙ ap Some (get_or-set_other xs i j x y (λ e. apart (sym e)) ∙ get_or_from_slice_get xs j y y there)
 
--- other places stay free
+-- another place stays free
+pub free_other : (places : List (Option UnclaimedState)) (e element : ℕ) (w : Option UnclaimedState) → e ≢ element
+    → slice_get places element ≡ Some None → slice_get (slice_set places e w) element ≡ Some None
+free_other places e element w apart free = get-set_other places e element w None apart free
+
+-- so do those of others
 pub free_after : (places : List (Option UnclaimedState)) (e : ℕ) (w : Option UnclaimedState) (rs : List Command)
     → AreOfOthers e rs → AreFreeFor places rs → AreFreeFor (slice_set places e w) rs
 free_after places e w [] others free = tt
 free_after places e w (r ∷ rs) others free =
-    (get-set_other places e (sender_of r) w None others.0 free.0, free_after places e w rs others.1 free.1)
+    (free_other places e (sender_of r) w others.0 free.0, free_after places e w rs others.1 free.1)
 
 left_by : (b : Bool) (r : Command) (x : Result Outcome Refusal) → length (lines_by b (Commands r) x)
     ≡ (if b then 1 else 0)

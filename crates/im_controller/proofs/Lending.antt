@@ -1,159 +1,182 @@
 -- A group that is lent, and what is shown then.
-use Rattle.std.proofs.Common.{◌≡◌, ⊎_elim, ℕ, ◌+◌, ◌-◌, ◌<◌, ◌≤◌, Bool, true, false, List, [], ◌++◌, refl, sym, ap}
-use Rattle.std.proofs.Common.{◌∙◌, subst, length, map, arith}
+use Rattle.std.proofs.Common.{◌≡◌, ⊎_elim, ℕ, ◌+◌, ◌<◌, ◌≤◌, Bool, true, false, List, [], ◌++◌, refl, sym, ap}
+use Rattle.std.proofs.Common.{◌∙◌, subst, Option, length, map, arith}
 use Rattle.im_types.specs.declared.commands.Command.{Command}
+use Rattle.im_types.specs.declared.commands.Request.{Request}
 use Rattle.im_types.specs.declared.groups.Served.{Served}
-use Rattle.im_types.specs.declared.refusals.Refusal.TheVariants.{TraceFull}
 use Rattle.im_types.specs.Contents.{Contents}
 use Rattle.im_types.specs.Agreement.{WaitingAgrees}
 use Rattle.im_types.specs.Trace.{end_of}
 use Rattle.im_types.specs.Changes.{changes_of, shown_by}
 use Rattle.im_laws.proofs.Tests.{true_false}
+use Rattle.im_disk.specs.declared.disk.Disk.{Ghosts}
 use Rattle.im_engine.specs.State.{EngineState}
-use Rattle.im_engine.specs.Commands.{each_refused, CommandsAnswered}
+use Rattle.im_engine.specs.Commands.{CommandsAnswered}
 use Rattle.im_glass.specs.Panes.{PaneView}
 use Rattle.im_trace.specs.Log.{LogState}
 use Rattle.im_controller.specs.State.{SharedState}
-use Rattle.im_queue.specs.Members.{AreOneOfEach, AreSureBehind, IsCut}
-use Rattle.im_controller.specs.Groups.{served_answer, with_all_unclaimed, lines_left}
-use Rattle.im_controller.specs.Groups.{MembersAnswered, places_with}
-use Rattle.im_controller.specs.Groups.{those, AreRoomless, changes_put_all, spread, LendsGroup}
+use Rattle.im_queue.specs.Members.{AreOneOfEach, AreSureBehind, IsCut, AreFreeFor}
+use Rattle.im_controller.specs.Admitted.{free_lines, places_with, Admits}
+use Rattle.im_controller.specs.Planned.{AreOnPlan, StartsBy}
+use Rattle.im_controller.specs.Groups.{served_answer, with_all_unclaimed, lines_left, AreAnswersTo, MembersAnswered}
+use Rattle.im_controller.specs.Groups.{changes_put_all, LendsGroup}
+use Rattle.im_controller.specs.Runs.{LendsRuns}
+use Rattle.im_controller.proofs.AdmitLemmas.{admit-cut, admit-apart, admit-sure, admit-few, admit-free, admit-trace}
+use Rattle.im_controller.proofs.AdmitLemmas.{admit-limit, admit-planned, admit-all}
 use Rattle.im_controller.proofs.GroupLemmas.{Fits, members-fit, members-room}
 use Rattle.im_controller.proofs.PutLemmas.{lines_all, all-trace, GroupShows, members-shown}
-use Rattle.im_controller.proofs.Choosing.{those-sure, those-apart, those-cut, spread-fits, spread-lines, spread-left}
-use Rattle.im_controller.proofs.Choosing.{all-lent}
 use Rattle.im_controller.proofs.ShownLemmas.{pane-shows, shown-grows}
 
--- what was chosen and served
-pub record Group {D : Type 0} (e f : EngineState D) (room : ℕ) (members : List Command) (roomy : List Bool)
-    (lent : List Command) (ss answers : List Served) : Type 0 where
-  pub roomless : AreRoomless e.memory (places_with e room) roomy members
-  pub lent_is : lent ≡ those roomy members
-  pub answered : MembersAnswered e room lent ss f
-  pub answers_is : answers ≡ spread roomy ss
-
-module _ {D : Type 0} (e f : EngineState D) (room : ℕ) (members : List Command) (roomy : List Bool)
-    (lent : List Command) (ss answers : List Served) (it : Group e f room members roomy lent ss answers) where
-  fits-lent : Fits e.memory lent ss f.memory
-  fits-lent = members-fit e f lent ss room it.answered
-
-  whole-lent : length ss ≡ length (those roomy members)
-  whole-lent = fits-lent.whole ∙ ap length it.lent_is
-
-  pub group-fits : Fits e.memory members answers f.memory
-  group-fits =
-      subst (λ (xs : List Served). Fits e.memory members xs f.memory) (sym it.answers_is)
-      (spread-fits roomy members ss e.memory f.memory e.memory (places_with e room) it.roomless
-      (subst (λ (rs : List Command). Fits e.memory rs ss f.memory) it.lent_is fits-lent))
-
-  pub group-room : (limit lines : ℕ) → room ≡ limit - lines → lines ≤ limit
-      → (lines < limit → lines + length members ≤ limit) → lines + lines_left (map served_answer answers) ≤ limit
-  group-room limit lines is few enough =
-      let same = ap (λ xs. lines_left (map served_answer xs)) it.answers_is
-      ∙ spread-left roomy members ss e.memory (places_with e room) it.roomless whole-lent in
-      ⊎_elim
-      (λ none. omega (arith, none, same, few))
-      (λ some. omega (arith, group-fits.few, enough (omega (arith, some.0, is))))
-      (members-room e f lent ss room it.answered)
-
-  module _ (agrees : WaitingAgrees e.memory) (cut : IsCut members) (apart : AreOneOfEach members)
-      (sure : AreSureBehind e.memory members) where
-    shows-lent : GroupShows e.memory (lines_all lent (map served_answer ss))
-        (changes_put_all e.memory (places_with e room) lent) f.failed
-    shows-lent = members-shown e f lent ss agrees (subst IsCut (sym it.lent_is) (those-cut roomy members cut))
-        (subst AreOneOfEach (sym it.lent_is) (those-apart roomy members apart))
-        (subst (λ (rs : List Command). AreSureBehind e.memory rs) (sym it.lent_is)
-        (those-sure e.memory roomy members sure)) room it.answered
-
-    pub lines-same : lines_all members (map served_answer answers) ≡ lines_all lent (map served_answer ss)
-    lines-same =
-        ap (λ xs. lines_all members (map served_answer xs)) it.answers_is
-        ∙ spread-lines roomy members ss e.memory (places_with e room) it.roomless whole-lent
-        ∙ ap (λ rs. lines_all rs (map served_answer ss)) (sym it.lent_is)
-
-    was-alive : (b : Bool) → e.failed ≡ b → f.failed ≡ false → e.failed ≡ false
-    was-alive false is alive = is
-    was-alive true is alive = absurd
-        (true_false (sym is ∙ (sym (ap (λ (x : EngineState D). x.failed) ((it.answered.dead is).dead is).1) ∙ alive)))
-
-    -- what the pane shows then, and what was put ahead
-    pub record GroupPane (m : Contents) (l : LogState) (p r : PaneView) : Type 0 where
-      pub shown_is : r.shown ≡ shown_by m (with_all_unclaimed l members (map served_answer answers)).trace
-      pub ahead : f.failed ≡ false → r.ahead ≡ []
-      pub cells : r.cells ≡ p.cells
-      pub alive : f.failed ≡ false → r.shown ≡ p.shown ++ changes_put_all e.memory (places_with e room) lent
-      pub dead : f.failed ≡ true → r.shown ≡ p.shown
-
-    pub group-pane : (m contents : Contents) (l : LogState) (p q r : PaneView) (places : ℕ) (failed : Bool)
-        → contents ≡ e.memory → places ≡ places_with e room
-        → end_of m l.trace ≡ e.memory → p.shown ≡ shown_by m l.trace → (e.failed ≡ false → p.ahead ≡ []) → q
-        ≡ record p { ahead = p.ahead ++ changes_put_all contents places lent }
-        → failed ≡ f.failed → (failed ≡ false → r ≡ record q { shown = q.shown ++ q.ahead; ahead = [] })
-        → (failed ≡ true → r ≡ q) → GroupPane m l p r
-    group-pane m contents l p q r places failed same left ends shown none put is all hidden =
-        let changes = ap (λ (n : Contents). changes_put_all n places lent) same
-        ∙ ap (λ (n : ℕ). changes_put_all e.memory n lent) left in
-        let lines = lines_all members (map served_answer answers) in
-        let pane = pane-shows p q r (changes_put_all contents places lent) (changes_of e.memory lines) put failed
-        (λ living. none (was-alive e.failed refl (sym is ∙ living))) all hidden
-        (λ living. changes ∙ shows-lent.alive (sym is ∙ living) ∙ ap (changes_of e.memory) (sym lines-same))
-        (λ dead. ap (changes_of e.memory) lines-same ∙ shows-lent.dead (sym is ∙ dead)) in
-        record {
-          shown_is = pane.is ∙ shown-grows m e.memory l.trace lines p.shown _ ends shown refl
-              ∙ ap (shown_by m) (sym (all-trace l members (map served_answer answers)));
-          ahead = λ living. pane.ahead (is ∙ living);
-          cells = pane.cells;
-          alive = λ living. pane.is
-              ∙ ap (λ xs. p.shown ++ xs) (ap (changes_of e.memory) lines-same ∙ sym (shows-lent.alive living));
-          dead = λ dead. ap (λ (v : PaneView). v.shown) (hidden (is ∙ dead)) ∙ ap (λ (v : PaneView). v.shown) put;
-        }
-
--- a group, as its clause has it
-pub lends-group : {D : Type 0} (s s' : SharedState D) (members : List Command) (roomy : List Bool)
-    (lent : List Command) (ss answers : List Served) (room : ℕ)
-    → Group s.engine s'.engine room members roomy lent ss answers → room ≡ s.log.limit - length s.log.trace
-    → s'.log ≡ with_all_unclaimed s.log members (map served_answer answers) → s'.servers ≡ s.servers
-    → (s'.engine.failed ≡ false → s'.shown
-    ≡ s.shown ++ changes_put_all s.engine.memory (places_with s.engine room) lent)
-    → (s'.engine.failed ≡ true → s'.shown ≡ s.shown)
-    → LendsGroup s members roomy s'
-lends-group {D = D} s s' members roomy lent ss answers room it is log servers shown hidden =
-    let e = s.engine in let f = s'.engine in
-    let now = ap (places_with e) is in
-    record {
-      answers = answers;
-      lent = ss;
-      spread_is = it.answers_is;
-      roomless = subst (λ (n : ℕ). AreRoomless e.memory n roomy members) now it.roomless;
-      all = λ zero.
-          let all = all-lent roomy members ss e.memory (places_with e room) (now ∙ zero) it.roomless
-          (whole-lent e f room members roomy lent ss answers it) in (all.0, it.answers_is ∙ all.1);
-      full = λ alive over. let full = it.answered.full alive (omega (arith, is, over)) in
-          (full.0 ∙ ap (each_refused TraceFull) it.lent_is, full.1);
-      dead = λ dead. subst (λ (rs : List Command). CommandsAnswered e rs ss f) it.lent_is (it.answered.dead dead);
-      served = λ some. subst (λ (rs : List Command). CommandsAnswered e rs ss f) it.lent_is
-          (it.answered.served (omega (arith, is, some)));
-      log = log;
-      servers = servers;
-      shown = λ alive. shown alive ∙ ap (λ n. s.shown ++ changes_put_all e.memory n lent) now
-          ∙ ap (λ rs. s.shown ++ changes_put_all e.memory
-          (places_with e (s.log.limit - length s.log.trace)) rs) it.lent_is;
-      hidden = hidden;
-    }
+-- a group that was lent: what was asked of it, and what became of it
+pub record Group {D : Type 0} (plan : Option (List Request)) (s : SharedState D) (f : EngineState D)
+    (refused : LogState) (members lent : List Command) (ss : List Served) (room : ℕ) : Type 0 where
+  pub admits : Admits plan s.engine s.log members lent refused
+  pub answered : MembersAnswered s.engine room lent ss f
+  pub room_is : room ≡ free_lines s.log
+  pub within : length s.log.trace ≤ s.log.limit
+  pub agrees : WaitingAgrees s.engine.memory
+  pub cut : IsCut members
+  pub apart : AreOneOfEach members
+  pub sure : AreSureBehind s.engine.memory members
+  pub free : AreFreeFor s.log.places members
+  pub enough : length s.log.trace < s.log.limit → length s.log.trace + length members ≤ s.log.limit
 
 -- from what is called
-pub group-is : {D : Type 0} (e f : EngineState D) (room : ℕ) (members slice : List Command) (roomy bools : List Bool)
-    (lent : List Command) (ss served answers : List Served) (contents : Contents) (places : ℕ)
-    → contents ≡ e.memory → places ≡ places_with e room → slice ≡ members → AreRoomless contents places roomy slice
-    → lent ≡ those roomy slice
-    → MembersAnswered e room lent ss f → bools ≡ roomy → served ≡ ss → answers ≡ spread bools served
-    → Group e f room members roomy lent ss answers
-group-is e f room members slice roomy bools lent ss served answers contents places same left all roomless chosen answered bs xs is = record {
-  roomless =
-      subst (λ (n : Contents). AreRoomless n (places_with e room) roomy members) same
-      (subst (λ (n : ℕ). AreRoomless contents n roomy members) left
-      (subst (λ (rs : List Command). AreRoomless contents places roomy rs) all roomless));
-  lent_is = chosen ∙ ap (those roomy) all;
-  answered = answered;
-  answers_is = is ∙ ap (λ l. spread l served) bs ∙ ap (spread roomy) xs;
-}
+pub group-is : {D : Type 0} (plan p : Option (List Request)) (s t : SharedState D) (f : EngineState D)
+    (refused : LogState) (members slice lent : List Command) (ss : List Served) (room : ℕ) → s ≡ t
+    → Admits p s.engine s.log slice lent refused → p ≡ plan → slice ≡ members
+    → MembersAnswered s.engine room lent ss f → room ≡ free_lines s.log → length s.log.trace ≤ s.log.limit
+    → WaitingAgrees s.engine.memory → IsCut members → AreOneOfEach members → AreSureBehind t.engine.memory members
+    → AreFreeFor t.log.places members
+    → (length t.log.trace < t.log.limit → length t.log.trace + length members ≤ t.log.limit)
+    → Group plan s f refused members lent ss room
+group-is {D = D} plan p s t f refused members slice lent ss room same admits planned all answered is within agrees cut
+    apart sure free enough = record {
+      admits = subst (λ (q : Option (List Request)). Admits q s.engine s.log members lent refused) planned
+          (subst (λ (rs : List Command). Admits p s.engine s.log rs lent refused) all admits);
+      answered = answered;
+      room_is = is;
+      within = within;
+      agrees = agrees;
+      cut = cut;
+      apart = apart;
+      sure = subst (λ (u : SharedState D). AreSureBehind u.engine.memory members) (sym same) sure;
+      free = subst (λ (u : SharedState D). AreFreeFor u.log.places members) (sym same) free;
+      enough = subst (λ (u : SharedState D). length u.log.trace < u.log.limit
+          → length u.log.trace + length members ≤ u.log.limit) (sym same) enough;
+    }
+
+module _ {D : Type 0} (plan : Option (List Request)) (s : SharedState D) (f : EngineState D) (refused : LogState)
+    (members lent : List Command) (ss : List Served) (room : ℕ)
+    (it : Group plan s f refused members lent ss room) where
+  abbrev e : EngineState D
+  e = s.engine
+
+  pub group-fits : Fits e.memory lent ss f.memory
+  group-fits = members-fit e f lent ss room it.answered
+
+  pub group-trace : refused.trace ≡ s.log.trace
+  group-trace = admit-trace plan e s.log members lent refused it.admits
+
+  -- the log with the refusals ends in the same memory
+  pub group-ends : (m : Contents) → end_of m s.log.trace ≡ e.memory → end_of m refused.trace ≡ e.memory
+  group-ends m ends = ap (end_of m) group-trace ∙ ends
+
+  -- what it asks of the answers
+  pub record KeepsLent (m : Contents) : Type 0 where
+    pub whole : length ss ≡ length lent
+    pub are_so : AreAnswersTo (end_of m refused.trace) lent (map served_answer ss)
+    pub apart : AreOneOfEach lent
+    pub free : AreFreeFor refused.places lent
+    pub room_for : length refused.trace + lines_left (map served_answer ss) ≤ refused.limit
+
+  pub group-keeps : (m : Contents) → end_of m s.log.trace ≡ e.memory → KeepsLent m
+  group-keeps m ends =
+      let lines = ap length group-trace in
+      let limit = admit-limit plan e s.log members lent refused it.admits in
+      let few = admit-few plan e s.log members lent refused it.admits in
+      record {
+        whole = group-fits.whole;
+        are_so = subst (λ (n : Contents). AreAnswersTo n lent (map served_answer ss)) (sym (group-ends m ends))
+            group-fits.are_so;
+        apart = admit-apart plan e s.log members lent refused it.admits it.apart;
+        free = admit-free plan e s.log members lent refused it.admits it.apart it.free;
+        room_for = ⊎_elim
+            (λ none. omega (arith, none, lines, limit, it.within))
+            (λ some. omega
+            (arith, some.1, few, lines, limit, it.enough (omega (arith, some.0, it.room_is))))
+            (members-room e f lent ss room it.answered);
+      }
+
+  pub group-planned : (m : Contents) → StartsBy m plan → e.failed ≡ false → 0 < room → AreOnPlan plan lent
+  group-planned m starts alive some = admit-planned plan e s.log members lent refused it.admits m starts alive
+      (omega (arith, some, it.room_is))
+
+  shows-lent : GroupShows e.memory (lines_all lent (map served_answer ss))
+      (changes_put_all e.memory (places_with e room) lent) f.failed
+  shows-lent = members-shown e f lent ss it.agrees (admit-cut plan e s.log members lent refused it.admits it.cut)
+      (admit-apart plan e s.log members lent refused it.admits it.apart)
+      (admit-sure plan e s.log members lent refused it.admits it.sure) room it.answered
+
+  was-alive : (b : Bool) → e.failed ≡ b → f.failed ≡ false → e.failed ≡ false
+  was-alive false is alive = is
+  was-alive true is alive = absurd
+      (true_false (sym is ∙ (sym (ap (λ (x : EngineState D). x.failed) ((it.answered.dead is).dead is).1) ∙ alive)))
+
+  -- what the pane shows then, and what was put ahead
+  pub record GroupPane (m : Contents) (p r : PaneView) : Type 0 where
+    pub shown_is : r.shown ≡ shown_by m (with_all_unclaimed refused lent (map served_answer ss)).trace
+    pub ahead : f.failed ≡ false → r.ahead ≡ []
+    pub cells : r.cells ≡ p.cells
+    pub alive : f.failed ≡ false → r.shown ≡ p.shown ++ changes_put_all e.memory (places_with e (free_lines s.log)) lent
+    pub dead : f.failed ≡ true → r.shown ≡ p.shown
+
+  pub group-pane : (m : Contents) (p q r : PaneView) (failed : Bool)
+      → end_of m s.log.trace ≡ e.memory → p.shown ≡ shown_by m s.log.trace → (e.failed ≡ false → p.ahead ≡ [])
+      → q ≡ record p { ahead = p.ahead ++ changes_put_all e.memory (places_with e (free_lines s.log)) lent }
+      → failed ≡ f.failed → (failed ≡ false → r ≡ record q { shown = q.shown ++ q.ahead; ahead = [] })
+      → (failed ≡ true → r ≡ q) → GroupPane m p r
+  group-pane m p q r failed ends shown none put is all hidden =
+      let lines = lines_all lent (map served_answer ss) in
+      let now = ap (λ n. changes_put_all e.memory (places_with e n) lent) it.room_is in
+      let pane = pane-shows p q r (changes_put_all e.memory (places_with e (free_lines s.log)) lent)
+      (changes_of e.memory lines) put
+      failed (λ living. none (was-alive e.failed refl (sym is ∙ living))) all hidden
+      (λ living. sym now ∙ shows-lent.alive (sym is ∙ living)) (λ dead. shows-lent.dead (sym is ∙ dead)) in
+      record {
+        shown_is = pane.is ∙ shown-grows m e.memory refused.trace lines p.shown _ (group-ends m ends)
+            (shown ∙ ap (shown_by m) (sym group-trace)) refl
+            ∙ ap (shown_by m) (sym (all-trace refused lent (map served_answer ss)));
+        ahead = λ living. pane.ahead (is ∙ living);
+        cells = pane.cells;
+        alive = λ living. pane.is ∙ ap (λ xs. p.shown ++ xs) (sym (shows-lent.alive living) ∙ now);
+        dead = λ dead. ap (λ (v : PaneView). v.shown) (hidden (is ∙ dead)) ∙ ap (λ (v : PaneView). v.shown) put;
+      }
+
+  -- a group, as its clause has it
+  pub lends-group : (disk : Ghosts D) (s' : SharedState D) → s'.engine ≡ f
+      → s'.log ≡ with_all_unclaimed refused lent (map served_answer ss) → s'.servers ≡ s.servers
+      → (f.failed ≡ false
+      → s'.shown ≡ s.shown ++ changes_put_all e.memory (places_with e (free_lines s.log)) lent)
+      → (f.failed ≡ true → s'.shown ≡ s.shown) → LendsRuns disk e f lent
+      → LendsGroup disk plan s members s'
+  lends-group disk s' now log servers shown hidden runs = record {
+    lent = lent;
+    refused = refused;
+    admits = it.admits;
+    all = admit-all plan e s.log members lent refused it.admits;
+    answers = ss;
+    full = λ alive over. let full = it.answered.full alive (omega (arith, it.room_is, over)) in
+        (full.0, now ∙ full.1);
+    dead = λ dead. subst (λ (x : EngineState D). CommandsAnswered e lent ss x) (sym now) (it.answered.dead dead);
+    served = λ some. subst (λ (x : EngineState D). CommandsAnswered e lent ss x) (sym now)
+        (it.answered.served (omega (arith, it.room_is, some)));
+    log = log;
+    servers = servers;
+    shown = λ alive. shown (sym (failed-of now) ∙ alive);
+    hidden = λ dead. hidden (sym (failed-of now) ∙ dead);
+    runs = subst (λ (x : EngineState D). LendsRuns disk e x lent) (sym now) runs;
+  }
+    where
+      failed-of : {x y : EngineState D} → x ≡ y → x.failed ≡ y.failed
+      failed-of same = ap (λ (x : EngineState D). x.failed) same

@@ -6,7 +6,6 @@ pub mod WaitLemmas
 pub mod SureLemmas
 pub mod Keeping
 pub mod GroupLemmas
-pub mod Choosing
 pub mod Lending
 pub mod KeptLemmas
 pub mod PlannedLemmas

@@ -27,8 +27,9 @@ use Rattle.im_trace.specs.Log.{LogState, with_unclaimed}
 use Rattle.im_queue.specs.Members.{AreOneOfEach, IsCut, AreSureBehind}
 use Rattle.im_controller.specs.Groups.{served_answer, with_all_unclaimed}
 use Rattle.im_controller.specs.Groups.{MembersAnswered}
-use Rattle.im_controller.specs.Groups.{places_with, changes_put_all}
-use Rattle.im_controller.specs.Lends.{is_taken, changes_put}
+use Rattle.im_controller.specs.Groups.{changes_put_all}
+use Rattle.im_controller.specs.Admitted.{places_with}
+use Rattle.im_controller.specs.Lends.{changes_put}
 use Rattle.im_controller.proofs.LendLemmas.{ok-leaves}
 use Rattle.im_trace.proofs.LogLemmas.{end-lines}
 use Rattle.im_controller.proofs.SureLemmas.{IsLike, AreLike, like-self, like-after, with-agrees, sure-behind}
@@ -52,7 +53,7 @@ all-trace l (r ∷ rs) (x ∷ xs) = all-trace (with_unclaimed l r x) rs xs
 -- ---- one member
 
 module _ (m n : Contents) (left : ℕ) (r : Command) (like : IsLike m n r) where
-  taken-is : takes_place m left r ≡ is_taken n left r
+  taken-is : takes_place m left r ≡ takes_place n left r
   taken-is = ap (λ (b : Bool). b && nat_lt 0 left) like.accepts
 
   put-is : (b c : Bool) → is_accepted m r ≡ b → nat_lt 0 left ≡ c → changes_put n left r
@@ -119,7 +120,7 @@ refused-lines e lineless (r ∷ rs) = ap
 pub left-none : (m : Contents) (r : Command) → places_behind m 0 r ≡ 0
 left-none m r = ap (λ (b : Bool). if b then 0 - 1 else 0) (and_false (is_accepted m r))
 
-pub taken-none : (m : Contents) (r : Command) → is_taken m 0 r ≡ false
+pub taken-none : (m : Contents) (r : Command) → takes_place m 0 r ≡ false
 taken-none m r = and_false (is_accepted m r)
 
 put-none : (m : Contents) (rs : List Command) → changes_put_all m 0 rs ≡ []

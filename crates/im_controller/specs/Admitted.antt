@@ -1,42 +1,71 @@
--- Members of a group that a plan has, and those that are refused because it doesn't have them. (Own.)
-use Rattle.std.specs.Prelude.{◌-◌, List, [], Option, None, Some, Bool, true, false, length, map, nat_lt, if◌then◌else◌}
+-- The members of a group that are lent, and those that are refused before the engine is asked. (Own.)
+use Rattle.std.specs.Prelude.{◌≡◌, ◌⊎◌, ℕ, ◌-◌, List, [], ◌∷◌, Option, None, Some, Bool, true, false, Err, length}
+use Rattle.std.specs.Prelude.{nat_lt, ◌==◌, if◌then◌else◌}
 use Rattle.im_types.specs.declared.commands.Request.{Request}
 use Rattle.im_types.specs.declared.commands.Command.{Command}
-use Rattle.im_types.specs.declared.refusals.Refusal.TheVariants.{OffPlan}
-use Rattle.im_engine.specs.Commands.{each_refused}
-use Rattle.im_trace.specs.Log.{LogState}
-use Rattle.im_controller.specs.State.{SharedState}
-use Rattle.im_controller.specs.Groups.{those, served_answer, with_all_unclaimed}
+use Rattle.im_types.specs.declared.refusals.Refusal.{Refusal}
+use Rattle.im_types.specs.declared.refusals.Refusal.TheVariants.{OffPlan, NoMemory}
+use Rattle.im_types.specs.Contents.{Contents}
+use Rattle.im_groups.specs.Commands.{places, takes_place, places_behind}
+use Rattle.im_engine.specs.State.{EngineState}
+use Rattle.im_trace.specs.Log.{LogState, with_unclaimed}
 use Rattle.im_controller.specs.Planned.{has_command}
 
--- whether a plan is asked at all: it isn't if the engine has failed or the trace is full, since all members are refused
--- for that
-abbrev pub is_asked : {D : Type 0} → SharedState D → Bool
-is_asked s = if s.engine.failed then false else nat_lt 0 (s.log.limit - length s.log.trace)
+-- how many more lines a trace has room for
+abbrev pub free_lines : LogState → ℕ
+free_lines l = l.limit - length l.trace
 
--- whether a command is picked: the wanted ones are those that the plan has, or else the others
-abbrev pub is_picked : Option (List Request) → Bool → Bool → Command → Bool
-is_picked plan asked wanted c =
-    if (if asked then has_command plan c else true) then wanted else if wanted then false else true
+-- how many more commands an engine takes, and 0 if it has failed or the trace has room for no line
+abbrev pub places_with : {D : Type 0} → EngineState D → ℕ → ℕ
+places_with e room = if e.failed then 0 else if room == 0 then 0 else places e.count e.room
 
--- those that are picked
-abbrev pub picked : (Command → Bool) → List Command → List Command
-picked test cs = those (map test cs) cs
+-- whether a plan is asked at all: it isn't if the engine has failed or the trace has room for no line, since all
+-- members are refused for that
+abbrev pub is_asked : {D : Type 0} → EngineState D → ℕ → Bool
+is_asked e room = if e.failed then false else nat_lt 0 room
 
--- the members that are served; without a plan all are
-abbrev pub admitted : {D : Type 0} → Option (List Request) → SharedState D → List Command → List Command
-admitted None s cs = cs
-admitted (Some plan) s cs = picked (is_picked (Some plan) (is_asked s) true) cs
+-- whether the plan is asked and doesn't have a command
+abbrev pub is_off : Option (List Request) → Bool → Command → Bool
+is_off plan asked c = if asked then (if has_command plan c then false else true) else false
 
--- the members that are refused because the plan doesn't have them
-abbrev pub refused_off : {D : Type 0} → Option (List Request) → SharedState D → List Command → List Command
-refused_off None s cs = []
-refused_off (Some plan) s cs = picked (is_picked (Some plan) (is_asked s) false) cs
+-- Why a member isn't lent, or none if it is, given whether it is off the plan and whether it takes a place.
+pub record IsVerdict (off takes : Bool) (verdict : Option Refusal) : Type 0 where
+  pub off_plan : off ≡ true → verdict ≡ Some OffPlan
+  -- the pane may have no room for its change
+  pub placed : off ≡ false → takes ≡ true → (verdict ≡ None) ⊎ (verdict ≡ Some NoMemory)
+  pub unplaced : off ≡ false → takes ≡ false → verdict ≡ None
 
--- the log after these commands were refused with `OffPlan`; the answers wait for their ports
-abbrev pub with_off : LogState → List Command → LogState
-with_off l cs = with_all_unclaimed l cs (map served_answer (each_refused OffPlan cs))
+-- the places that are left after a member with this verdict
+abbrev pub places_after : Contents → ℕ → Command → Option Refusal → ℕ
+places_after m left c None = places_behind m left c
+places_after m left c (Some refusal) = left
 
--- what lies under the lock after the members that the plan doesn't have were refused; the answers wait for their ports
-abbrev pub with_refused_off : {D : Type 0} → Option (List Request) → SharedState D → List Command → SharedState D
-with_refused_off plan s cs = record s { log = with_off s.log (refused_off plan s cs) }
+-- These are the verdicts on the members, each by the memory before the group and by the places that those before it
+-- leave.
+abbrev pub AreVerdicts : Option (List Request) → Bool → Contents → ℕ → List (Option Refusal) → List Command → Type 0
+AreVerdicts plan asked m left [] cs = cs ≡ []
+AreVerdicts plan asked m left (v ∷ vs) [] = ⊥
+AreVerdicts plan asked m left (v ∷ vs) (c ∷ cs) =
+    IsVerdict (is_off plan asked c) (takes_place m left c) v × AreVerdicts plan asked m (places_after m left c v) vs cs
+
+-- the members that are lent
+abbrev pub lent_of : List (Option Refusal) → List Command → List Command
+lent_of [] cs = []
+lent_of (v ∷ vs) [] = []
+lent_of (None ∷ vs) (c ∷ cs) = c ∷ lent_of vs cs
+lent_of (Some refusal ∷ vs) (c ∷ cs) = lent_of vs cs
+
+-- the log with the answers to the others, which wait for their ports
+abbrev pub with_refused : LogState → List (Option Refusal) → List Command → LogState
+with_refused l [] cs = l
+with_refused l (v ∷ vs) [] = l
+with_refused l (None ∷ vs) (c ∷ cs) = with_refused l vs cs
+with_refused l (Some refusal ∷ vs) (c ∷ cs) = with_refused (with_unclaimed l c (Err refusal)) vs cs
+
+-- The members of a group that an engine is lent to, and the log with the answers to the others.
+pub record Admits {D : Type 0} (plan : Option (List Request)) (e : EngineState D) (l : LogState)
+    (members lent : List Command) (l' : LogState) : Type 0 where
+  pub verdicts : List (Option Refusal)
+  pub judged : AreVerdicts plan (is_asked e (free_lines l)) e.memory (places_with e (free_lines l)) verdicts members
+  pub lent_is : lent ≡ lent_of verdicts members
+  pub log : l' ≡ with_refused l verdicts members

@@ -1,6 +1,7 @@
 -- Groups of commands under the lock: what lending a group does. (Own.)
-use Rattle.std.specs.Prelude.{◌≡◌, ℕ, ◌+◌, ◌-◌, ◌<◌, ◌≤◌, ◌==◌, List, [], ◌∷◌, ◌++◌, Bool, true, false, Option}
-use Rattle.std.specs.Prelude.{None, Some, Result, Ok, Err, length, map, if◌then◌else◌}
+use Rattle.std.specs.Prelude.{◌≡◌, ℕ, ◌+◌, ◌<◌, ◌≤◌, List, [], ◌∷◌, ◌++◌, Bool, true, false, Option, None, Some}
+use Rattle.std.specs.Prelude.{Result, Ok, Err, length, map, if◌then◌else◌}
+use Rattle.im_types.specs.declared.commands.Request.{Request}
 use Rattle.im_types.specs.declared.commands.Command.{Command}
 use Rattle.im_types.specs.declared.commands.Outcome.{Outcome}
 use Rattle.im_types.specs.declared.commands.Call.TheVariants.{Command as Commands}
@@ -12,13 +13,16 @@ use Rattle.im_types.specs.declared.refusals.Refusal.TheVariants.{NoMemory, Trace
 use Rattle.im_types.specs.declared.changes.Change.{Change}
 use Rattle.im_types.specs.Contents.{Contents}
 use Rattle.im_types.specs.Trace.{answer_to}
-use Rattle.im_groups.specs.Commands.{places, places_behind}
+use Rattle.im_disk.specs.declared.disk.Disk.{Ghosts}
+use Rattle.im_groups.specs.Commands.{places_behind}
 use Rattle.im_engine.specs.State.{EngineState}
 use Rattle.im_engine.specs.Commands.{CommandsAnswered, each_refused}
 use Rattle.im_trace.specs.Lines.{LineCounts, leaves_line, left_lines, memory_after, counts_after}
 use Rattle.im_trace.specs.Log.{ReceiptState, LogState, plain, IsOf, with_unclaimed}
 use Rattle.im_controller.specs.State.{SharedState}
-use Rattle.im_controller.specs.Lends.{is_taken, changes_put}
+use Rattle.im_controller.specs.Lends.{changes_put}
+use Rattle.im_controller.specs.Admitted.{free_lines, places_with, is_asked, Admits}
+use Rattle.im_controller.specs.Runs.{LendsRuns}
 
 -- ---- what the members are answered
 
@@ -64,71 +68,38 @@ pub record MembersAnswered {D : Type 0} (old : EngineState D) (room : ℕ) (memb
   pub dead : old.failed ≡ true → CommandsAnswered old members answers new
   pub served : 0 < room → CommandsAnswered old members answers new
 
--- ---- the members for whose changes the pane has room
-
--- how many more commands an engine takes, and 0 if it has failed or the trace has room for no line
-abbrev pub places_with : {D : Type 0} → EngineState D → ℕ → ℕ
-places_with e room = if e.failed then 0 else if room == 0 then 0 else places e.count e.room
-
--- those of the members that are lent to the engine
-abbrev pub those : List Bool → List Command → List Command
-those [] cs = []
-those (b ∷ bs) [] = []
-those (true ∷ bs) (c ∷ cs) = c ∷ those bs cs
-those (false ∷ bs) (c ∷ cs) = those bs cs
-
--- Each member that isn't lent would be put on the disk, by the memory before the group, and while places are left.
-abbrev pub AreRoomless : Contents → ℕ → List Bool → List Command → Type 0
-AreRoomless m left [] cs = cs ≡ []
-AreRoomless m left (b ∷ bs) [] = ⊥
-AreRoomless m left (true ∷ bs) (c ∷ cs) = AreRoomless m (places_behind m left c) bs cs
-AreRoomless m left (false ∷ bs) (c ∷ cs) = (is_taken m left c ≡ true) × AreRoomless m left bs cs
+-- ---- what a group comes to
 
 -- what these commands change, by the memory before all of them
 abbrev pub changes_put_all : Contents → ℕ → List Command → List Change
 changes_put_all m left [] = []
 changes_put_all m left (c ∷ cs) = changes_put m left c ++ changes_put_all m (places_behind m left c) cs
 
--- the next answer: a member that isn't lent is refused for want of memory
-abbrev pub next_answer : Bool → List Served → Served
-next_answer true [] = Unserved
-next_answer true (s ∷ ss) = s
-next_answer false ss = Refused NoMemory
-
--- the answers after it
-abbrev pub answers_left : Bool → List Served → List Served
-answers_left true [] = []
-answers_left true (s ∷ ss) = ss
-answers_left false ss = ss
-
--- the answers to all members, given the answers to those that are lent
-abbrev pub spread : List Bool → List Served → List Served
-spread [] ss = []
-spread (b ∷ bs) ss = next_answer b ss ∷ spread bs (answers_left b ss)
-
--- A group that is lent to the engine: its members' commands are lent one after another. Their ports take the answers
--- later, and count the lines then.
-pub record LendsGroup {D : Type 0} (s : SharedState D) (members : List Command) (roomy : List Bool)
-    (s' : SharedState D) : Type 0 where
-  pub answers : List Served
-  -- members for whose changes the pane has no room aren't lent, and are refused for want of memory
-  pub lent : List Served
-  pub spread_is : answers ≡ spread roomy lent
-  pub roomless : AreRoomless s.engine.memory (places_with s.engine (s.log.limit - length s.log.trace)) roomy members
+-- A group whose members the engine is lent to, one after another, but for those that are refused before. Their ports
+-- take the answers later, and count the lines then.
+pub record LendsGroup {D : Type 0} (disk : Ghosts D) (plan : Option (List Request)) (s : SharedState D)
+    (members : List Command) (s' : SharedState D) : Type 0 where
+  -- the members that are lent, and the log with the answers to the others: `OffPlan`, or `NoMemory` if the pane has no
+  -- room for a member's change
+  pub lent : List Command
+  pub refused : LogState
+  pub admits : Admits plan s.engine s.log members lent refused
   -- if the engine has failed or the trace is full, all are lent
-  pub all : places_with s.engine (s.log.limit - length s.log.trace) ≡ 0
-      → (those roomy members ≡ members) × (answers ≡ lent)
+  pub all : is_asked s.engine (free_lines s.log) ≡ false → lent ≡ members
+  -- what those that are lent are answered
+  pub answers : List Served
   pub full : s.engine.failed ≡ false → s.log.limit ≤ length s.log.trace
-      → (lent ≡ each_refused TraceFull (those roomy members)) × (s'.engine ≡ s.engine)
-  pub dead : s.engine.failed ≡ true → CommandsAnswered s.engine (those roomy members) lent s'.engine
-  pub served : length s.log.trace < s.log.limit → CommandsAnswered s.engine (those roomy members) lent s'.engine
-  pub log : s'.log ≡ with_all_unclaimed s.log members (map served_answer answers)
+      → (answers ≡ each_refused TraceFull lent) × (s'.engine ≡ s.engine)
+  pub dead : s.engine.failed ≡ true → CommandsAnswered s.engine lent answers s'.engine
+  pub served : length s.log.trace < s.log.limit → CommandsAnswered s.engine lent answers s'.engine
+  pub log : s'.log ≡ with_all_unclaimed refused lent (map served_answer answers)
   pub servers : s'.servers ≡ s.servers
   -- all that the group changed is shown then, or nothing if the engine has failed
   pub shown : s'.engine.failed ≡ false
-      → s'.shown ≡ s.shown ++ changes_put_all s.engine.memory (places_with s.engine (s.log.limit - length s.log.trace))
-      (those roomy members)
+      → s'.shown ≡ s.shown ++ changes_put_all s.engine.memory (places_with s.engine (free_lines s.log)) lent
   pub hidden : s'.engine.failed ≡ true → s'.shown ≡ s.shown
+  -- what the disk is left with is as after the engine's own call
+  pub runs : LendsRuns disk s.engine s'.engine lent
 
 -- what a port gets while it holds the lock once: nothing yet, or the answer to its command, and then the line is
 -- counted

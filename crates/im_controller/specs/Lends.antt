@@ -1,6 +1,6 @@
 -- What is done under the lock. (Own.)
-use Rattle.std.specs.Prelude.{◌≡◌, ◌≢◌, ◌⊎◌, ℕ, ◌<◌, ◌≤◌, ◌++◌, ◌&&◌, Bool, true, false, List, [], ◌∷◌, Some}
-use Rattle.std.specs.Prelude.{Result, Ok, Err, length, count_by, nat_lt, slice_get, slice_set, if◌then◌else◌, ◌==◌}
+use Rattle.std.specs.Prelude.{◌≡◌, ◌≢◌, ◌⊎◌, ℕ, ◌<◌, ◌≤◌, ◌++◌, Bool, true, false, List, [], ◌∷◌, Some}
+use Rattle.std.specs.Prelude.{Result, Ok, Err, length, count_by, slice_get, slice_set, if◌then◌else◌, ◌==◌}
 use Rattle.im_types.specs.declared.operations.Entry.{Entry}
 use Rattle.im_types.specs.declared.operations.Entry.TheVariants.{Waiting}
 use Rattle.im_types.specs.declared.commands.Command.{Command}
@@ -13,18 +13,18 @@ use Rattle.im_types.specs.declared.refusals.Refusal.TheVariants.{NoElement, Jour
 use Rattle.im_types.specs.declared.refusals.Refusal.TheVariants.{TraceFull, Stalled, OffPlan}
 use Rattle.im_types.specs.declared.changes.Change.{Change}
 use Rattle.im_types.specs.Contents.{Contents}
-use Rattle.im_types.specs.Step.{is_accepted}
 use Rattle.im_types.specs.Trace.{told}
 use Rattle.im_types.specs.Changes.{change_by, changes_at}
 use Rattle.im_disk.specs.declared.disk.Disk.{Ghosts}
 use Rattle.im_checkpoint.specs.declared.checkpoint.TurnDone.{TurnDone}
 use Rattle.im_checkpoint.specs.declared.checkpoint.TurnDone.TheVariants.{Idle}
+use Rattle.im_groups.specs.Commands.{takes_place}
 use Rattle.im_engine.specs.Run.{Answered, TurnAnswered}
 use Rattle.im_queue.specs.declared.servers.Ask.{Ask}
 use Rattle.im_queue.specs.declared.servers.Ask.TheVariants.{Go, Wait}
 use Rattle.im_queue.specs.declared.servers.ServerState.{ServerState}
 use Rattle.im_queue.specs.declared.servers.ServerState.TheVariants.{Unmade, Active, Waits}
-use Rattle.im_controller.specs.declared.tellers.Standing.{Standing}
+use Rattle.im_controller.specs.declared.standing.Standing.{Standing}
 use Rattle.im_trace.specs.Origin.{Origin}
 use Rattle.im_trace.specs.Lines.{LineCounts, left_lines, counts_after}
 use Rattle.im_trace.specs.Log.{ReceiptState, plain, receipt_for, with_line}
@@ -38,13 +38,9 @@ pub record LeavesLine {D : Type 0} (s : SharedState D) (call : Call) (answer : R
   pub log : s'.log ≡ with_line s.log call answer
   pub servers : s'.servers ≡ s.servers
 
--- whether a command is put on the disk, given how many commands there is room for
-abbrev pub is_taken : Contents → ℕ → Command → Bool
-is_taken m left command = is_accepted m command && nat_lt 0 left
-
--- what it changes then
+-- what a command changes if it is put on the disk, given how many commands there is room for
 abbrev pub changes_put : Contents → ℕ → Command → List Change
-changes_put m left command = if is_taken m left command then change_by m command ∷ [] else []
+changes_put m left command = if takes_place m left command then change_by m command ∷ [] else []
 
 -- what is shown of a command that has this answer
 abbrev pub shows : Contents → Command → Result Outcome Refusal → List Change
@@ -54,7 +50,7 @@ shows m command (Err refusal) = []
 -- the pane has no room for the change of a command that would be put on the disk: nothing is changed
 pub record IsRoomless {D : Type 0} (s : SharedState D) (command : Command) (answer : Result ReceiptState Refusal)
     (s' : SharedState D) : Type 0 where
-  pub accepted : is_taken s.engine.memory s.engine.room command ≡ true
+  pub accepted : takes_place s.engine.memory s.engine.room command ≡ true
   pub refused : answer ≡ Err NoMemory
   pub same : s' ≡ s
 

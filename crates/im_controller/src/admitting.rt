@@ -1,96 +1,124 @@
-//! Which members of a group are lent: those that a plan has, if there is one.
-ghost use Rattle.std.specs.Prelude.{◌≡◌, ◌<◌, ◌≤◌, ◌++◌, [], ◌∷◌, length, if◌then◌else◌};
+//! Which members of a group are lent: those that the plan has, if it is asked, and for whose changes the pane has room.
+ghost use Rattle.std.specs.Prelude.{◌≡◌, ◌<◌, ◌≤◌, ◌++◌, None, Some, true, length, MatchResult, OnOk, OnErr};
+ghost use Rattle.im_types.specs.declared.TheConstants.{MAX_GROUP};
+ghost use Rattle.im_types.specs.declared.commands.Command.{Command};
+ghost use Rattle.im_types.specs.Contents.{Contents};
+ghost use Rattle.im_groups.specs.Commands.{takes_place, places_behind};
 ghost use Rattle.im_queue.specs.Members.{AreOneOfEach, AreFreeFor};
-ghost use Rattle.im_controller.specs.Planned.{StartsBy};
-ghost use Rattle.im_controller.specs.Admitted.{is_asked, is_picked, picked, admitted, with_refused_off};
+ghost use Rattle.im_controller.specs.Lends.{changes_put};
+ghost use Rattle.im_controller.specs.Groups.{changes_put_all};
+ghost use Rattle.im_controller.specs.Admitted.{free_lines, places_with, is_asked, is_off, IsVerdict, Admits};
 
-use crate::members::{keep_all, refuse_alike};
+use crate::panes::put_ahead;
 use crate::plans::has_command;
-use crate::shared::Shared;
 use arrayvec::ArrayVec;
 use im_disk::Disk;
+use im_engine::Engine;
+use im_glass::{Pane, PaneName};
+use im_memory::Memory;
 use im_planning::Plan;
-use im_trace::Name;
-use im_types::{Command, Refusal};
+use im_trace::{Log, Name};
+use im_types::{Command, MAX_GROUP, Refusal};
 
-// Puts a command at the end of these, if it is picked.
-fn push_if(chosen: &mut ArrayVec<Command, 16>, is_picked: bool, command: Command)
-    requires room { length chosen.old.items < 16 }
-    ensures { chosen.new.items ≡ chosen.old.items ++ (if is_picked then command ∷ [] else []) }
+// Returns how many commands an engine takes, and 0 if it has failed or the trace has no room.
+fn places_with<D: Disk>(engine: &Engine<D>, room: usize) -> u64
+    ensures { result ≡ places_with engine.now room }
 {
-    if is_picked {
-        chosen.push(command);
+    if engine.failed() {
+        return 0;
     }
+    if room == 0 {
+        return 0;
+    }
+    engine.places()
 }
 
-// Returns whether a member is picked. If the plan is asked, `wanted` picks the members that it has, and `!wanted` the
-// others. If it isn't asked, `wanted` picks all members, and `!wanted` none.
-fn is_picked(plan: &Option<Plan>, asked: bool, wanted: bool, member: &Command) -> bool
-    ensures { result ≡ is_picked plan.now asked wanted member.now }
+// Returns the places that are left after a member that is lent.
+fn places_behind(taken: bool, left: u64) -> u64
+    ensures { (m : Contents) (c : Command) → taken ≡ takes_place m left c → result ≡ places_behind m left c }
 {
-    if asked && !has_command(plan, member) {
-        return !wanted;
+    if taken {
+        return left.saturating_sub(1);
     }
-    wanted
-}
-
-// The members that are picked.
-fn pick(
-    plan: &Option<Plan>,
-    asked: bool,
-    wanted: bool,
-    members: &[Command],
-    chosen: &mut ArrayVec<Command, 16>,
-)
-    requires fits { length members.now ≤ 16 }
-    requires empty { chosen.old.items ≡ [] }
-    ensures picked { chosen.new.items ≡ picked (is_picked plan.now asked wanted) members.now }
-    ensures few { length chosen.new.items ≤ length members.now }
-{
-    for i in 0..members.len() {
-        let is_picked = is_picked(plan, asked, wanted, &members[i]);
-        push_if(chosen, is_picked, members[i]);
-    }
+    left
 }
 
 // Returns whether the plan is asked. It isn't if all members are refused for another reason.
-fn is_asked<D: Disk, K: Name>(shared: &Shared<D, K>) -> bool
-    ensures asked { result ≡ is_asked shared.now }
-    ensures few { length shared.now.log.trace ≤ shared.now.log.limit }
+fn is_asked<D: Disk>(engine: &Engine<D>, room: usize) -> bool
+    ensures { result ≡ is_asked engine.now room }
 {
-    let room = shared.log.room();
-    if shared.engine.failed() {
+    if engine.failed() {
         return false;
     }
     0 < room
 }
 
-// Returns the members that are lent. If the engine lives and the trace has room, these are the members that the plan
-// has. The refusals of the others wait for their ports.
-pub(crate) fn admit<D: Disk, K: Name>(
-    shared: &mut Shared<D, K>,
-    members: &[Command],
-    lent: &mut ArrayVec<Command, 16>,
-)
-    requires fits { length members.now ≤ 16 }
-    requires empty { lent.old.items ≡ [] }
-    requires apart { AreOneOfEach members.now }
-    requires free { AreFreeFor shared.old.log.places members.now }
-    ensures lent { lent.new.items ≡ admitted K.origin.plan shared.old members.now }
-    ensures shared { shared.new ≡ with_refused_off K.origin.plan shared.old members.now }
-    ensures starts { StartsBy K.origin.memory K.origin.plan }
+// Returns whether the plan is asked and doesn't have a member.
+fn is_off(plan: &Option<Plan>, asked: bool, member: &Command) -> bool
+    ensures { result ≡ is_off plan.now asked member.now }
 {
-    let asked = is_asked(shared);
-    let mut off = ArrayVec::new();
-    let mut refused = ArrayVec::new();
-    pick(&shared.plan, asked, true, members, lent);
-    pick(&shared.plan, asked, false, members, &mut off);
-    refuse_alike(Refusal::OffPlan, off.as_slice(), &mut refused);
-    keep_all(
-        &mut shared.log,
-        off.as_slice(),
-        refused.as_slice(),
-        false,
-        shared.engine.disk(),
-    );
+    asked && !has_command(plan, member)
+}
+
+// Judges a member by whether it is off the plan, and by whether the pane has room for its change, which is put ahead.
+// Returns whether it is put on the disk, or why it isn't lent.
+fn judge<J: PaneName>(
+    is_off: bool,
+    pane: &mut Pane<J>,
+    memory: &Memory,
+    left: u64,
+    member: &Command,
+) -> Result<bool, Refusal>
+    requires cells { pane.old.cells ≡ length memory.now.contents.cells }
+    ensures verdict { let takes = takes_place memory.now.contents left member.now in MatchResult result
+        (λ taken. (taken ≡ takes) × IsVerdict is_off takes None)
+        (λ refusal. IsVerdict is_off takes (Some refusal)) }
+    ensures ahead { OnOk result (pane.new ≡ record pane.old {
+      ahead = pane.old.ahead ++ changes_put memory.now.contents left member.now;
+    }) }
+    ensures same { OnErr result (pane.new ≡ pane.old) }
+{
+    if is_off {
+        return Err(Refusal::OffPlan);
+    }
+    put_ahead(pane, memory, left, member)
+}
+
+// Judges the members of a group, one after another. Returns those that are lent. The refusals of the others wait for
+// their ports, and leave no line.
+pub(crate) fn admit<D: Disk, K: Name, J: PaneName>(
+    engine: &Engine<D>,
+    plan: &Option<Plan>,
+    log: &mut Log<K>,
+    pane: &mut Pane<J>,
+    members: &[Command],
+) -> ArrayVec<Command, MAX_GROUP>
+    requires cells { pane.old.cells ≡ length engine.now.memory.cells }
+    requires fits { length members.now ≤ MAX_GROUP }
+    requires apart { AreOneOfEach members.now }
+    requires free { AreFreeFor log.old.state.places members.now }
+    ensures admits { Admits plan.now engine.now log.old.state members.now result.items log.new.state }
+    ensures times { log.new.times ≡ log.old.times }
+    ensures ahead { pane.new ≡ record pane.old {
+      ahead = pane.old.ahead
+          ++ changes_put_all engine.now.memory (places_with engine.now (free_lines log.old.state)) result.items;
+    } }
+{
+    let room = log.room();
+    let asked = is_asked(engine, room);
+    let memory = engine.memory();
+    let mut left = places_with(engine, room);
+    let mut lent = ArrayVec::new();
+    for i in 0..members.len() {
+        let member = members[i];
+        let is_off = is_off(plan, asked, &member);
+        match judge(is_off, pane, memory, left, &member) {
+            Ok(taken) => {
+                left = places_behind(taken, left);
+                lent.push(member);
+            }
+            Err(refusal) => log.keep(&member, Err(refusal), false, engine.disk()),
+        }
+    }
+    lent
 }

@@ -16,12 +16,12 @@ use crate::keeper::{KeeperStep, keep_once, mark_ended};
 use crate::ports::Port;
 use crate::shared::Shared;
 use crate::sleepers::{Sleepers, make_glance, make_port, stands_for, who_is_answered, who_sleeps};
-use crate::tellers::{Silent, Teller};
+use crate::standing::Standing;
 use im_disk::Disk;
 use im_glass::Glance;
 use im_queue::{Bell, Bells, Inbox, Turns};
 use im_trace::{Name, Receipt, Shown, element_of};
-use im_types::{Command, Refusal};
+use im_types::{Command, Observer, Refusal, Unobserved};
 use std::sync::{Mutex, MutexGuard, Wait};
 
 /// The lock round an engine and its trace, with the queue before the lock and an inbox that has a lock of its own. It
@@ -114,19 +114,20 @@ impl<D: Disk, K: Name> Controller<D, K> {
     pub fn keep_checkpoints<R: Wait>(&self, rt: &R) -> Result<(), Refusal>
         ensures only { IfErr result IsTurnFault }
     {
-        self.keep_checkpoints_and_tell(rt, &mut Silent)
+        self.keep_checkpoints_and_tell(rt, &mut Unobserved)
     }
 
-    /// Does what [`Controller::keep_checkpoints`] does, and also tells the teller how things stand. It tells after each
-    /// turn before which the teller listened, except after one after which the keeper keeps its turn in the queue.
-    pub fn keep_checkpoints_and_tell<T: Teller, R: Wait>(
+    /// Does what [`Controller::keep_checkpoints`] does, and also tells an observer how things stand. It tells after
+    /// each turn before which the observer listened, except after one after which the keeper keeps its turn in the
+    /// queue.
+    pub fn keep_checkpoints_and_tell<O: Observer<Standing>, R: Wait>(
         &self,
         rt: &R,
-        teller: &mut T,
+        observer: &mut O,
     ) -> Result<(), Refusal>
         ensures only { IfErr result IsTurnFault }
     {
-        let mut listens = teller.listens();
+        let mut listens = observer.listens();
         let mut turn = self.turns.wait_to_keep(rt);
         for _ in rt.forever() {
             let mut guard = self.shared.lock(rt);
@@ -140,7 +141,7 @@ impl<D: Disk, K: Name> Controller<D, K> {
             }
             self.turns.pass_on(rt, turn, &[]);
             if let Some(standing) = standing {
-                teller.tell(standing);
+                observer.tell(standing);
             }
             match kept {
                 Ok(KeeperStep::Ended) => return Ok(()),
@@ -151,7 +152,7 @@ impl<D: Disk, K: Name> Controller<D, K> {
                     return Err(refusal);
                 }
             }
-            listens = teller.listens();
+            listens = observer.listens();
             turn = self.turns.wait_to_keep(rt);
         }
         unreachable!()

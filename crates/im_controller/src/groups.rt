@@ -1,32 +1,31 @@
 //! Groups of commands that the engine is lent to. Their answers wait for their ports.
-ghost use Rattle.std.specs.Prelude.{◌≡◌, ◌<◌, ◌≤◌, ◌+◌, [], false, length, IfSome};
+ghost use Rattle.std.specs.Prelude.{◌≡◌, ◌<◌, ◌≤◌, ◌+◌, [], length, IfSome};
 ghost use Rattle.im_engine.specs.Commands.{CommandsAnswered, ServesCommands};
 ghost use Rattle.im_queue.specs.Members.{AreOneOfEach, AreFreeFor, AreSureBehind, IsCut};
-ghost use Rattle.im_controller.specs.Groups.{MembersAnswered, LendsGroup, CountsAnswer, those};
+ghost use Rattle.im_controller.specs.Groups.{MembersAnswered, LendsGroup, CountsAnswer};
 ghost use Rattle.im_controller.specs.Runs.{LendsRuns};
 ghost use Rattle.im_trace.specs.Log.{SeesAnswer};
-ghost use Rattle.im_controller.specs.Planned.{AreOnPlan, TellsOf};
-ghost use Rattle.im_controller.specs.Admitted.{admitted, with_refused_off};
+ghost use Rattle.im_controller.specs.Planned.{TellsOf};
 
 use crate::admitting::admit;
 use crate::keeper::make_room;
-use crate::members::{keep_all, refuse_alike, spread};
-use crate::panes::{Choice, choose, places_with, show_put};
+use crate::members::keep_all;
+use crate::panes::show_put;
 use crate::ports::Port;
 use crate::shared::Shared;
 use arrayvec::ArrayVec;
 use im_disk::Disk;
-use im_engine::Engine;
+use im_engine::{Engine, refuse_all};
 use im_queue::Inbox;
 use im_trace::{Name, Receipt};
-use im_types::{Command, Refusal, Served};
+use im_types::{Command, MAX_GROUP, Refusal, Served};
 use std::sync::{Mutex, Wait};
 
 // Serves all of these: behind the first one, each is sure.
 fn serve_each<D: Disk>(
     engine: &mut Engine<D>,
-    members: &ArrayVec<Command, 16>,
-    served: &mut ArrayVec<Served, 16>,
+    members: &ArrayVec<Command, MAX_GROUP>,
+    served: &mut ArrayVec<Served, MAX_GROUP>,
 )
     requires sure { AreSureBehind engine.old.memory members.now.items }
     requires empty { served.old.items ≡ [] }
@@ -42,8 +41,8 @@ fn serve_each<D: Disk>(
 fn serve_members<D: Disk>(
     engine: &mut Engine<D>,
     room: usize,
-    members: &ArrayVec<Command, 16>,
-    served: &mut ArrayVec<Served, 16>,
+    members: &ArrayVec<Command, MAX_GROUP>,
+    served: &mut ArrayVec<Served, MAX_GROUP>,
 )
     requires sure { AreSureBehind engine.old.memory members.now.items }
     requires empty { served.old.items ≡ [] }
@@ -51,85 +50,59 @@ fn serve_members<D: Disk>(
     ensures runs { LendsRuns D.Disk engine.old engine.new members.now.items }
 {
     if !engine.failed() && room == 0 {
-        return refuse_alike(Refusal::TraceFull, members.as_slice(), served);
+        return refuse_all(members.as_slice(), Refusal::TraceFull, served);
     }
     // A crash in this call leaves all of the group on the disk, or nothing of it.
     serve_each(engine, members, served);
-}
-
-// Lends the engine to members that the plan has, if any of them is to be served.
-fn lend_members<D: Disk, K: Name, R: Wait>(
-    rt: &R,
-    shared: &mut Shared<D, K>,
-    members: &ArrayVec<Command, 16>,
-) -> ArrayVec<bool, 16>
-    requires cut { IsCut members.now.items }
-    requires apart { AreOneOfEach members.now.items }
-    requires sure { AreSureBehind shared.old.engine.memory members.now.items }
-    requires free { AreFreeFor shared.old.log.places members.now.items }
-    requires room { length shared.old.log.trace < shared.old.log.limit
-        → length shared.old.log.trace + length members.now.items ≤ shared.old.log.limit }
-    requires planned { shared.old.engine.failed ≡ false → length shared.old.log.trace < shared.old.log.limit
-        → AreOnPlan K.origin.plan members.now.items }
-    ensures lends { LendsGroup shared.old members.now.items result.items shared.new }
-    ensures runs { LendsRuns D.Disk shared.old.engine shared.new.engine (those result.items members.now.items) }
-{
-    let mut served = ArrayVec::new();
-    let mut answers = ArrayVec::new();
-    let room = shared.log.room();
-    let count = shared.engine.count();
-    let places = places_with(&shared.engine, room);
-    let memory = shared.engine.memory();
-    let _cells = memory.cells(); // So that it is known that its lists of waiters agree with what waits.
-    let Choice { roomy, lent } = choose(&mut shared.pane, memory, places, members.as_slice());
-    serve_members(&mut shared.engine, room, &lent, &mut served);
-    let _told = show_put(rt, &mut shared.pane, shared.engine.failed(), true);
-    spread(roomy.as_slice(), served.as_slice(), &mut answers);
-    let put = count < shared.engine.count(); // Then it shares the syncs of a group.
-    keep_all(
-        &mut shared.log,
-        members.as_slice(),
-        answers.as_slice(),
-        put,
-        shared.engine.disk(),
-    );
-    roomy
 }
 
 // Lends the engine to the commands of a group. Each gets what `lend` would answer, one after another.
 // The answers wait for their ports, and their lines are counted when the ports take them. What the members change is
 // shown once, after all of them are on the disk.
 //
-// It returns, for each member that isn't off the plan, whether the pane has room for what that member changes. A
-// member without that room isn't lent, and is refused with `NoMemory`.
-//
 // Errors, in this order:
 //
 // - `Failed` for all members if the engine has failed.
 // - `TraceFull` for all members if the trace has no room left.
-// - `OffPlan` for each member that a plan doesn't have with its operation under its number.
+// - `OffPlan` for each member that a plan doesn't have with its operation under its number. It isn't lent.
+// - `NoMemory` for each member for whose change the pane has no room. It isn't lent.
 // - What `Engine::serve_commands` answers each: a refusal of numbers, `JournalFull`, or `Device` for all that are lent.
 //   `Device` leaves no line. After it the engine has failed, and nothing more is shown.
 pub(crate) fn lend_group<D: Disk, K: Name, R: Wait>(
     rt: &R,
     shared: &mut Shared<D, K>,
-    members: &ArrayVec<Command, 16>,
-) -> ArrayVec<bool, 16>
+    members: &ArrayVec<Command, MAX_GROUP>,
+)
     requires cut { IsCut members.now.items }
     requires apart { AreOneOfEach members.now.items }
     requires sure { AreSureBehind shared.old.engine.memory members.now.items }
     requires free { AreFreeFor shared.old.log.places members.now.items }
     requires room { length shared.old.log.trace < shared.old.log.limit
         → length shared.old.log.trace + length members.now.items ≤ shared.old.log.limit }
-    ensures lends { LendsGroup (with_refused_off K.origin.plan shared.old members.now.items)
-        (admitted K.origin.plan shared.old members.now.items) result.items shared.new }
-    // What the disk is left with is as after the engine's own call.
-    ensures runs { LendsRuns D.Disk shared.old.engine shared.new.engine
-        (those result.items (admitted K.origin.plan shared.old members.now.items)) }
+    ensures lends { LendsGroup D.Disk K.origin.plan shared.old members.now.items shared.new }
 {
-    let mut lent = ArrayVec::new();
-    admit(shared, members.as_slice(), &mut lent);
-    lend_members(rt, shared, &lent)
+    let mut served = ArrayVec::new();
+    let room = shared.log.room();
+    let count = shared.engine.count();
+    let memory = shared.engine.memory();
+    let _cells = memory.cells(); // So that it is known that its lists of waiters agree with what waits.
+    let lent = admit(
+        &shared.engine,
+        &shared.plan,
+        &mut shared.log,
+        &mut shared.pane,
+        members.as_slice(),
+    );
+    serve_members(&mut shared.engine, room, &lent, &mut served);
+    let _told = show_put(rt, &mut shared.pane, shared.engine.failed(), true);
+    let put = count < shared.engine.count(); // Then it shares the syncs of a group.
+    keep_all(
+        &mut shared.log,
+        lent.as_slice(),
+        served.as_slice(),
+        put,
+        shared.engine.disk(),
+    );
 }
 
 // Returns how many members a group may have: as many as the trace and the journal have room for. If one of them has
@@ -141,7 +114,7 @@ fn most_members<D: Disk, K: Name>(shared: &Shared<D, K>) -> usize
     let lines = shared.log.room();
     let slots = shared.engine.room() as usize;
     if lines == 0 {
-        return 16;
+        return MAX_GROUP;
     }
     if slots > 0 && slots < lines {
         return slots;

@@ -6,7 +6,7 @@ use crate::shared::{Shared, lend_sweep, lend_turn};
 use im_checkpoint::TurnDone;
 use im_disk::Disk;
 use im_trace::Name;
-use im_types::Refusal;
+use im_types::{MAX_GROUP, Refusal};
 use std::cmp::{max, min};
 
 // More turns than a checkpoint of the largest image takes, with all slots that it closes.
@@ -16,7 +16,7 @@ const TURNS: u32 = 65_536;
 const SWEEP: u32 = 64;
 
 // The most members of a group.
-const GROUP: u32 = 16;
+const GROUP: u32 = MAX_GROUP as u32;
 
 // What the thread that keeps checkpoints does.
 #[derive(Clone, Copy)]

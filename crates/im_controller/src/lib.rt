@@ -6,7 +6,7 @@
 //! by the definitions of `im_types`.
 #![tactic(auto)]
 
-mod admitting; // Members that a plan has.
+mod admitting; // Which members of a group are lent.
 mod controller; // The lock, and the loop of the keeper.
 mod finishing; // Its end.
 mod groups; // Groups of commands that the engine is lent to.
@@ -20,8 +20,8 @@ mod ports; // The way of one element to the lock.
 mod shared; // What lies under the lock.
 mod sleepers; // Who sleeps, and who is to be woken.
 mod starts; // With a trace that is recorded, and with one that isn't; fresh, or gone on with.
+mod standing; // How things stand.
 mod stops; // Laws of planned runs that are stopped.
-mod tellers; // Who is told how things stand.
 
 pub use controller::Controller;
 pub use finishing::{Finished, finish};
@@ -33,9 +33,9 @@ pub use looks::{begin_wait, look};
 pub use opening::Opening;
 pub use ports::Port;
 pub use shared::{Shared, lend, lend_turn};
+pub use standing::Standing;
 pub use starts::{
     resume_planned, resume_planned_unrecorded, start, start_planned, start_planned_unrecorded,
     start_unrecorded,
 };
 pub use stops::stopped_runs_end_as_one;
-pub use tellers::{Silent, Standing, Teller};

@@ -1,14 +1,11 @@
 //! What the members of a group are answered, and how their answers wait for their ports.
-ghost use Rattle.std.specs.Prelude.{◌≡◌, ◌≤◌, ◌+◌, [], length, map};
+ghost use Rattle.std.specs.Prelude.{◌≡◌, ◌≤◌, ◌+◌, length, map};
 ghost use Rattle.im_types.specs.Trace.{end_of};
-ghost use Rattle.im_engine.specs.Commands.{each_refused};
 ghost use Rattle.im_queue.specs.Members.{AreOneOfEach, AreFreeFor};
 ghost use Rattle.im_trace.specs.Log.{GoesOnAt};
 ghost use Rattle.im_controller.specs.Groups.{served_answer, with_all_unclaimed, AreAnswersTo, memory_after_all};
 ghost use Rattle.im_controller.specs.Groups.{lines_left};
-ghost use Rattle.im_controller.specs.Groups.{spread, next_answer, answers_left};
 
-use arrayvec::ArrayVec;
 use im_disk::Disk;
 use im_trace::{Log, Name};
 use im_types::{Command, Outcome, Refusal, Served};
@@ -46,55 +43,5 @@ pub(crate) fn keep_all<D: Disk, K: Name>(
 {
     for i in 0..members.len() {
         log.keep(&members[i], answer_in(served[i]), begins && i == 0, disk);
-    }
-}
-
-// Refuses all members with the same refusal.
-pub(crate) fn refuse_alike(refusal: Refusal, members: &[Command], served: &mut ArrayVec<Served, 16>)
-    requires fits { length members.now ≤ 16 }
-    requires empty { served.old.items ≡ [] }
-    ensures { served.new.items ≡ each_refused refusal members.now }
-{
-    for _i in 0..members.len() {
-        served.push(Served::Refused(refusal));
-    }
-}
-
-// Returns the next answer, for a member that was lent or for one that wasn't.
-fn next_answer(lent: bool, rest: &[Served]) -> Served
-    ensures { result ≡ next_answer lent rest.now }
-{
-    if !lent {
-        return Served::Refused(Refusal::NoMemory);
-    }
-    match rest.split_first() {
-        Some((first, _)) => *first,
-        None => Served::Unserved,
-    }
-}
-
-// Returns the answers after it.
-fn answers_left(lent: bool, rest: &[Served]) -> &[Served]
-    ensures { result.now ≡ answers_left lent rest.now }
-{
-    if !lent {
-        return rest;
-    }
-    match rest.split_first() {
-        Some((_, later)) => later,
-        None => rest,
-    }
-}
-
-// Returns the answers to all members, given the answers to those that were lent.
-pub(crate) fn spread(roomy: &[bool], served: &[Served], answers: &mut ArrayVec<Served, 16>)
-    requires fits { length roomy.now ≤ 16 }
-    requires empty { answers.old.items ≡ [] }
-    ensures { answers.new.items ≡ spread roomy.now served.now }
-{
-    let mut rest = served;
-    for i in 0..roomy.len() {
-        answers.push(next_answer(roomy[i], rest));
-        rest = answers_left(roomy[i], rest);
     }
 }

@@ -8,7 +8,7 @@ ghost use Rattle.im_controller.specs.Lends.{MakesPort, standing_in, with_server_
 use crate::keeper::wake_keeper;
 use crate::ports::Port;
 use crate::shared::Shared;
-use crate::tellers::Standing;
+use crate::standing::Standing;
 use arrayvec::ArrayVec;
 use im_disk::Disk;
 use im_glass::Glance;

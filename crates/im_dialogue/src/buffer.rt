@@ -7,6 +7,7 @@ ghost use Rattle.im_dialogue.specs.Together.{AreAsked};
 use crate::asking::{Question, read_asked};
 use crate::lines::unread;
 use im_text::Reason;
+use im_types::MAX_GROUP;
 use std::alloc::{AllocError, Global};
 use std::io::{BufRead, ErrorKind};
 
@@ -127,7 +128,7 @@ pub(crate) fn commands_among(asked: &[Question]) -> u32 {
             many = many.saturating_add(1);
         }
     }
-    many.min(16)
+    many.min(MAX_GROUP as u32)
 }
 
 /// Returns how many bytes the first `many` lines have, by where each line ends.

@@ -11,7 +11,8 @@ use crate::resting::open_with_slots;
 use crate::serving::{Dialogue, Setting};
 use im_disk::Disk;
 use im_listening::Ear;
-use im_text::{Observer, diagnose, end};
+use im_text::{News, diagnose, end};
+use im_types::Observer;
 use std::alloc::Global;
 use std::io::{BufRead, Write};
 
@@ -34,7 +35,7 @@ use std::io::{BufRead, Write};
 ///
 /// Each backup that was answered is kept, with the memory and the count of commands after the lines before it, and no
 /// other is.
-pub fn dialogue_on<D: Disk, B: Backups, R: BufRead + Ear, W: Write, N: Observer>(
+pub fn dialogue_on<D: Disk, B: Backups, R: BufRead + Ear, W: Write, N: Observer<News>>(
     alloc: Global,
     disk: D,
     backups: &mut B,
@@ -63,7 +64,7 @@ pub fn dialogue_on<D: Disk, B: Backups, R: BufRead + Ear, W: Write, N: Observer>
 }
 
 // Serves a dialogue to its end. Returns the status and the engine's disk.
-fn talk_on<D: Disk, B: Backups, R: BufRead + Ear, W: Write, N: Observer>(
+fn talk_on<D: Disk, B: Backups, R: BufRead + Ear, W: Write, N: Observer<News>>(
     mut dialogue: Dialogue<D>,
     backups: &mut B,
     input: &mut R,

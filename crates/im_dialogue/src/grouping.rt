@@ -22,7 +22,7 @@ use arrayvec::ArrayVec;
 use im_disk::Disk;
 use im_engine::Engine;
 use im_memory::Memory;
-use im_types::{Command, Request};
+use im_types::{Command, MAX_GROUP, Request};
 use std::alloc::{AllocError, Global};
 
 /// Lines that are served as one group.
@@ -33,7 +33,7 @@ pub(crate) struct Gathered {
     /// For each line, what those that watch are told behind its answer.
     pub(crate) nows: Vec<String>,
     /// The commands among the lines.
-    pub(crate) members: ArrayVec<Command, 16>,
+    pub(crate) members: ArrayVec<Command, MAX_GROUP>,
 }
 
 // ---- a member
@@ -127,7 +127,7 @@ fn member(
     ensures asks { IfOk result (λ found. IfSome found (λ part. part_question part ≡ Some (Question.Serve command))) }
 {
     let ahead = group.members.as_slice();
-    if ahead.len() >= 16 {
+    if ahead.len() >= MAX_GROUP {
         return Ok(None);
     }
     if disturbs_one(memory, ahead, &command, group.parts.as_slice()) {
@@ -167,7 +167,7 @@ fn part_of<D: Disk>(
 }
 
 // Adds the command of a part.
-fn add_member(members: &mut ArrayVec<Command, 16>, part: GroupLine)
+fn add_member(members: &mut ArrayVec<Command, MAX_GROUP>, part: GroupLine)
     requires room { length (with_member members.old.items part) ≤ MAX_GROUP }
     ensures { members.new.items ≡ with_member members.old.items part }
 {

@@ -21,7 +21,7 @@ use im_engine::Engine;
 use im_groups::judge_members;
 use im_memory::Memory;
 use im_types::layout::Version;
-use im_types::{Command, LAST, Refusal};
+use im_types::{Command, LAST, MAX_GROUP, Refusal};
 use std::cmp::min;
 
 /// Returns how many more commands can be accepted.
@@ -35,7 +35,7 @@ pub(crate) fn places_of<D: Disk>(engine: &Engine<D>) -> u64
 fn judge_all<D: Disk>(
     engine: &Engine<D>,
     ahead: &[Command],
-    put: &mut ArrayVec<Command, 16>,
+    put: &mut ArrayVec<Command, MAX_GROUP>,
 ) -> bool
     requires fits { length ahead.now ≤ MAX_GROUP }
     requires empty { put.old.items ≡ [] }
@@ -78,7 +78,7 @@ fn bounds_now(memory: &Memory, element: u16) -> Result<(u64, u64), Refusal>
 
 // Returns the bounds of an element's window after these commands, each of which is accepted in its turn.
 fn window_behind(memory: &Memory, put: &[Command], element: u16) -> Result<(u64, u64), Refusal>
-    requires few { length put.now ≤ 16 }
+    requires few { length put.now ≤ MAX_GROUP }
     ensures { result ≡ moved_by element put.now (bounds memory.now.contents.windows element) }
 {
     let mut bounds = match bounds_now(memory, element) {

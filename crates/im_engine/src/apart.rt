@@ -4,13 +4,13 @@ ghost use Rattle.im_types.specs.Groups.{AreApart};
 
 use crate::groups::are_apart;
 use arrayvec::ArrayVec;
-use im_types::Request;
+use im_types::{MAX_GROUP, Request};
 use std::marker::Model;
 
 /// The requests of a group: 16 at most, with no two of one element. Contracts see their list.
 #[derive(Debug, Drop)]
 pub struct Group {
-    requests: ArrayVec<Request, 16>,
+    requests: ArrayVec<Request, MAX_GROUP>,
 }
 
 impl Model for Group {
@@ -27,7 +27,7 @@ impl Model for Group {
 
 impl Group {
     /// Makes a group of these requests, in their order. Returns `None` exactly if two are of one element.
-    pub fn new(requests: ArrayVec<Request, 16>) -> Option<Group>
+    pub fn new(requests: ArrayVec<Request, MAX_GROUP>) -> Option<Group>
         ensures found { IfSome result (λ g. g ≡ requests.items) }
         ensures none { IsNone result ↔ (AreApart requests.items → ⊥) }
     {
@@ -38,7 +38,7 @@ impl Group {
     }
 
     /// Returns the requests, in their order.
-    pub fn requests(&self) -> &ArrayVec<Request, 16>
+    pub fn requests(&self) -> &ArrayVec<Request, MAX_GROUP>
         ensures found { result.now.items ≡ self.now }
         ensures apart { AreApart self.now }
     {

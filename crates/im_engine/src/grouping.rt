@@ -1,5 +1,6 @@
 //! How an engine serves several commands together.
 ghost use Rattle.std.specs.Prelude.{◌≡◌, ◌≤◌, [], length, take, false};
+ghost use Rattle.im_types.specs.declared.TheConstants.{MAX_GROUP};
 ghost use Rattle.im_groups.specs.Ahead.{ServesPrefix};
 ghost use Rattle.im_groups.specs.Commands.{places};
 ghost use Rattle.im_engine.specs.Commands.{CommandsAnswered, ServesCommands, AreJudged, commands_put};
@@ -12,7 +13,7 @@ use crate::groups::{Members, act_all, commands_of, places_in, put_on, refuse_all
 use arrayvec::ArrayVec;
 use im_disk::Disk;
 use im_groups::judge_each;
-use im_types::{Command, Refusal, Request, Served};
+use im_types::{Command, MAX_GROUP, Refusal, Request, Served};
 
 impl<D: Disk> Engine<D> {
     /// Serves the requests of a group as [`Engine::serve`] would one after another, those of one element in the order
@@ -26,8 +27,8 @@ impl<D: Disk> Engine<D> {
     /// not at all, the engine has failed, and the image has to be opened again.
     pub fn serve_group(
         &mut self,
-        members: &ArrayVec<Request, 16>,
-        served: &mut ArrayVec<Served, 16>,
+        members: &ArrayVec<Request, MAX_GROUP>,
+        served: &mut ArrayVec<Served, MAX_GROUP>,
     )
         requires empty { served.old.items ≡ [] }
         ensures answered { GroupAnswered self.old members.now.items served.new.items self.new }
@@ -66,8 +67,8 @@ impl<D: Disk> Engine<D> {
     /// are on the disk all together or not at all, the engine has failed, and the image has to be opened again.
     pub fn serve_commands(
         &mut self,
-        members: &ArrayVec<Command, 16>,
-        served: &mut ArrayVec<Served, 16>,
+        members: &ArrayVec<Command, MAX_GROUP>,
+        served: &mut ArrayVec<Served, MAX_GROUP>,
     )
         requires empty { served.old.items ≡ [] }
         // How many are served, and where it ends.
@@ -100,11 +101,11 @@ impl<D: Disk> Engine<D> {
         members: &[Command],
         taken: &[bool],
         commands: &[Command],
-        served: &mut ArrayVec<Served, 16>,
+        served: &mut ArrayVec<Served, MAX_GROUP>,
     )
         requires alive { self.old.failed ≡ false }
         requires members { AreJudged self.old.memory (places self.old.count self.old.room) members.now taken.now }
-        requires few { length commands.now ≤ 16 }
+        requires few { length commands.now ≤ MAX_GROUP }
         requires judged { commands.now ≡ commands_put self.old members.now }
         requires empty { served.old.items ≡ [] }
         ensures answered { CommandsAnswered self.old members.now served.new.items self.new }

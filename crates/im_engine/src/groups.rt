@@ -1,5 +1,6 @@
 //! The members of a group: what is put on the disk for them, how they act, and their answers.
 ghost use Rattle.std.specs.Prelude.{◌≡◌, ◌↔◌, ◌⊎◌, ◌+◌, ◌≤◌, ℕ, [], length, map};
+ghost use Rattle.im_types.specs.declared.TheConstants.{MAX_GROUP};
 ghost use Rattle.std.specs.Prelude.{Some, Ok, OnOk, IsTrue, true, false};
 ghost use Rattle.std.specs.Prelude.{MatchResult};
 ghost use Rattle.im_types.specs.declared.commands.Command.TheVariants.{Request as Asks};
@@ -22,7 +23,7 @@ use im_checkpoint::Checkpoint;
 use im_disk::Disk;
 use im_journal::Journal;
 use im_memory::Memory;
-use im_types::{Command, LAST, Outcome, Refusal, Request, Served};
+use im_types::{Command, LAST, MAX_GROUP, Outcome, Refusal, Request, Served};
 use std::cmp::min;
 
 // Returns whether none of the requests is of this element.
@@ -51,9 +52,9 @@ pub fn are_apart(members: &[Request]) -> bool
     true
 }
 
-/// Answers each member with this refusal.
-pub(crate) fn refuse_all(members: &[Command], refusal: Refusal, served: &mut ArrayVec<Served, 16>)
-    requires fits { length members.now ≤ 16 }
+/// Answers each member with this refusal. (Own.)
+pub fn refuse_all(members: &[Command], refusal: Refusal, served: &mut ArrayVec<Served, MAX_GROUP>)
+    requires fits { length members.now ≤ MAX_GROUP }
     requires empty { served.old.items ≡ [] }
     ensures { served.new.items ≡ each_refused refusal members.now }
 {
@@ -71,8 +72,8 @@ pub(crate) fn places_in(journal: &Journal) -> u64
 }
 
 /// Turns the requests of a group into commands.
-pub(crate) fn commands_of(members: &[Request], commands: &mut ArrayVec<Command, 16>)
-    requires fits { length members.now ≤ 16 }
+pub(crate) fn commands_of(members: &[Request], commands: &mut ArrayVec<Command, MAX_GROUP>)
+    requires fits { length members.now ≤ MAX_GROUP }
     requires empty { commands.old.items ≡ [] }
     ensures { commands.new.items ≡ map Asks members.now }
 {
@@ -210,7 +211,7 @@ pub(crate) fn act_all(
     memory: &mut Memory,
     places: u64,
     members: &Members,
-    served: &mut ArrayVec<Served, 16>,
+    served: &mut ArrayVec<Served, MAX_GROUP>,
 )
     requires judged { AreJudged memory.old.contents places members.now.all.now members.now.taken.now }
     requires empty { served.old.items ≡ [] }

@@ -16,7 +16,7 @@ mod run;
 pub use apart::Group;
 pub use emptying::Empties;
 pub use engine::Engine;
-pub use groups::are_apart;
+pub use groups::{are_apart, refuse_all};
 pub use laws::{
     files_mean_one_thing, groups_acknowledge_what_they_put, new_images_mean_the_empty_memory,
     steps_tell_of_no_failure,

@@ -1,10 +1,12 @@
 //! What an engine shows.
 ghost use Rattle.std.specs.Prelude.{◌≡◌, true, false, Err};
 ghost use Rattle.im_types.specs.Window.{ask, bounds};
+ghost use Rattle.im_groups.specs.Commands.{places};
 ghost use Rattle.im_engine.specs.Leaving.{LeavesState};
 
 use crate::emptying::Empties;
 use crate::engine::Engine;
+use crate::groups::places_in;
 use im_disk::Disk;
 use im_memory::Memory;
 use im_types::{Entry, Refusal};
@@ -41,6 +43,13 @@ impl<D: Disk> Engine<D> {
         ensures { result ≡ self.now.room }
     {
         self.journal.room()
+    }
+
+    /// How many more commands are accepted at most, by the room and by the last count. (Own.)
+    pub fn places(&self) -> u64
+        ensures { result ≡ places self.now.count self.now.room }
+    {
+        places_in(&self.journal)
     }
 
     /// How many commands have been accepted since the image was formatted.

@@ -11,7 +11,7 @@ use crate::engine::Engine;
 use arrayvec::ArrayVec;
 use im_checkpoint::TurnDone;
 use im_disk::Disk;
-use im_types::{Command, Outcome, Refusal, Served};
+use im_types::{Command, MAX_GROUP, Outcome, Refusal, Served};
 use std::alloc::Global;
 
 /// An event of an engine.
@@ -34,7 +34,7 @@ pub enum Answer {
     Served(Result<Outcome, Refusal>),
     /// The room that a group found, in commands, and the answers to its members, in their order. If all members are
     /// answered `Device`, the room says which of the group's commands are in doubt.
-    Grouped(u32, ArrayVec<Served, 16>),
+    Grouped(u32, ArrayVec<Served, MAX_GROUP>),
     /// The answer to a turn.
     Turned(Result<TurnDone, Refusal>),
     /// The answer to a sweep.

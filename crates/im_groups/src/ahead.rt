@@ -1,7 +1,7 @@
 //! A command that is judged after the commands ahead of it, before any of them acts.
 ghost use Rattle.std.specs.Prelude.{◌≡◌, ◌+◌, ◌≤◌, ◌<◌, ℕ, length, true, false, IfOk, IfSome, IsNone};
 ghost use Rattle.std.specs.List.{list_any};
-ghost use Rattle.im_types.specs.declared.TheConstants.{LAST};
+ghost use Rattle.im_types.specs.declared.TheConstants.{LAST, MAX_GROUP};
 ghost use Rattle.im_types.specs.declared.commands.Command.TheVariants.{Confirm};
 ghost use Rattle.im_types.specs.Memory.{IsMemory};
 ghost use Rattle.im_types.specs.Window.{bounds};
@@ -59,7 +59,7 @@ fn bounds_behind_all(
     ahead: &[Command],
     element: u16,
 ) -> Result<(u64, u64), Refusal>
-    requires few { length ahead.now ≤ 16 }
+    requires few { length ahead.now ≤ MAX_GROUP }
     ensures bounds { result ≡ moved_by element ahead.now (bounds memory.now.contents.windows element) }
     ensures memory { let m = memory.now.contents in IsMemory (length m.cells) (length m.windows) m }
 {
@@ -143,8 +143,8 @@ fn are_sure(memory: &Memory, ahead: &[Command], element: u16, from: u64, upto: u
 
 // ---- the judgement
 
-// Returns whether the memory accepts a command as it is.
-fn accepts(memory: &Memory, command: &Command) -> bool
+/// Returns whether the memory accepts a command as it is. (Own.)
+pub fn accepts(memory: &Memory, command: &Command) -> bool
     ensures { result ≡ is_accepted memory.now.contents command.now }
 {
     match memory.judge(command) {
@@ -155,7 +155,7 @@ fn accepts(memory: &Memory, command: &Command) -> bool
 
 // Returns whether a request is accepted after these commands.
 fn judge_request(memory: &Memory, ahead: &[Command], request: &Request) -> bool
-    requires few { length ahead.now ≤ 16 }
+    requires few { length ahead.now ≤ MAX_GROUP }
     requires accepted { AreAccepted memory.now.contents ahead.now }
     ensures { result ≡ is_accepted (after memory.now.contents ahead.now) (Command.Request request.now) }
 {
@@ -168,7 +168,7 @@ fn judge_request(memory: &Memory, ahead: &[Command], request: &Request) -> bool
 // Returns whether a confirmation is accepted after these commands. Returns `None` if it would drop an entry that isn't
 // surely answered.
 fn judge_confirm(memory: &Memory, ahead: &[Command], element: u16, upto: u64) -> Option<bool>
-    requires few { length ahead.now ≤ 16 }
+    requires few { length ahead.now ≤ MAX_GROUP }
     requires some { 0 < length ahead.now }
     requires accepted { AreAccepted memory.now.contents ahead.now }
     ensures found { IfSome result
@@ -202,7 +202,7 @@ fn judge_alone(memory: &Memory, request: &Request) -> bool
 // Returns whether a request is accepted after these commands. Their elements are marked: behind commands of others the
 // request is judged by the memory as it is.
 fn judge_marked(memory: &Memory, ahead: &[Command], marks: &[bool], request: &Request) -> bool
-    requires few { length ahead.now ≤ 16 }
+    requires few { length ahead.now ≤ MAX_GROUP }
     requires accepted { AreAccepted memory.now.contents ahead.now }
     requires marked { HaveMarks marks.now ahead.now }
     ensures { result ≡ is_accepted (after memory.now.contents ahead.now) (Command.Request request.now) }
@@ -221,7 +221,7 @@ pub(crate) fn judge_member(
     marks: &[bool],
     command: &Command,
 ) -> Option<bool>
-    requires few { length ahead.now ≤ 16 }
+    requires few { length ahead.now ≤ MAX_GROUP }
     requires accepted { AreAccepted memory.now.contents ahead.now }
     requires marked { HaveMarks marks.now ahead.now }
     ensures found { IfSome result (λ b. b ≡ is_accepted (after memory.now.contents ahead.now) command.now) }
@@ -239,7 +239,7 @@ pub(crate) fn judge_member(
 /// It returns `None` if that isn't known before they act. Then the command is a confirmation, and would drop an entry
 /// that waits now, or the entry of a fetch or a take among them. With no command ahead, it never returns `None`. (Own.)
 pub fn judge_behind(memory: &Memory, ahead: &[Command], command: &Command) -> Option<bool>
-    requires few { length ahead.now ≤ 16 }
+    requires few { length ahead.now ≤ MAX_GROUP }
     requires accepted { AreAccepted memory.now.contents ahead.now }
     ensures found { IfSome result (λ b. b ≡ is_accepted (after memory.now.contents ahead.now) command.now) }
     ensures unsure { IsNone result → IsUnsure memory.now.contents ahead.now command.now }

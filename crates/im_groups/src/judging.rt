@@ -1,24 +1,32 @@
 //! The members of a group, judged in their order before any of them acts.
 ghost use Rattle.std.specs.Prelude.{◌≡◌, ◌+◌, ◌-◌, ◌<◌, ◌≤◌, ◌&&◌, ◌++◌, ◌∷◌, [], length, take, nat_lt, if◌then◌else◌};
-ghost use Rattle.im_groups.specs.Commands.{commands_at, takes_at};
+ghost use Rattle.im_types.specs.declared.TheConstants.{MAX_GROUP};
+ghost use Rattle.im_groups.specs.Commands.{commands_at, takes_at, takes_place};
 ghost use Rattle.im_groups.specs.Ahead.{ServesPrefix};
 
-use crate::ahead::judge_member;
+use crate::ahead::{accepts, judge_member};
 use crate::marks::mark;
 use arrayvec::ArrayVec;
 use im_memory::Memory;
-use im_types::{Command, MAX_ELEMENTS};
+use im_types::{Command, MAX_ELEMENTS, MAX_GROUP};
 
 const ELEMENTS: usize = MAX_ELEMENTS as usize;
+
+/// Returns whether a command takes one of the places that are left: the memory accepts it, and there is one. (Own.)
+pub fn takes_place(memory: &Memory, left: u64, command: &Command) -> bool
+    ensures { result ≡ takes_place memory.now.contents left command.now }
+{
+    accepts(memory, command) && left > 0
+}
 
 // Adds a member's command if it is accepted and has a place. Returns whether it has.
 fn add_member(
     accepted: bool,
     left: &mut u64,
     member: &Command,
-    commands: &mut ArrayVec<Command, 16>,
+    commands: &mut ArrayVec<Command, MAX_GROUP>,
 ) -> bool
-    requires room { length commands.old.items < 16 }
+    requires room { length commands.old.items < MAX_GROUP }
     ensures commands { commands.new.items
         ≡ commands.old.items ++ (if accepted && nat_lt 0 left.old then member.now ∷ [] else []) }
     ensures left { left.new ≡ (if accepted && nat_lt 0 left.old then left.old - 1 else left.old) }
@@ -43,9 +51,9 @@ pub fn judge_members(
     memory: &Memory,
     places: u64,
     members: &[Command],
-    commands: &mut ArrayVec<Command, 16>,
+    commands: &mut ArrayVec<Command, MAX_GROUP>,
 ) -> usize
-    requires fits { length members.now ≤ 16 }
+    requires fits { length members.now ≤ MAX_GROUP }
     requires empty { commands.old.items ≡ [] }
     ensures commands { commands.new.items ≡ commands_at memory.now.contents places (take result members.now) }
     ensures begins { ServesPrefix memory.now.contents commands.new.items members.now result }
@@ -60,10 +68,10 @@ pub fn judge_each(
     memory: &Memory,
     places: u64,
     members: &[Command],
-    commands: &mut ArrayVec<Command, 16>,
-    taken: &mut ArrayVec<bool, 16>,
+    commands: &mut ArrayVec<Command, MAX_GROUP>,
+    taken: &mut ArrayVec<bool, MAX_GROUP>,
 ) -> usize
-    requires fits { length members.now ≤ 16 }
+    requires fits { length members.now ≤ MAX_GROUP }
     requires empty { commands.old.items ≡ [] }
     requires none { taken.old.items ≡ [] }
     ensures commands { commands.new.items ≡ commands_at memory.now.contents places (take result members.now) }

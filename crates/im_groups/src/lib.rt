@@ -6,5 +6,5 @@ mod ahead;
 mod judging;
 mod marks;
 
-pub use ahead::judge_behind;
-pub use judging::{judge_each, judge_members};
+pub use ahead::{accepts, judge_behind};
+pub use judging::{judge_each, judge_members, takes_place};

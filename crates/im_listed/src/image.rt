@@ -21,7 +21,7 @@ use im_disk::{DeviceFault, Disk};
 use im_engine::Engine;
 use im_memory::Waiters;
 use im_types::layout::image_length;
-use im_types::{Command, Entry, Kept, Limits, Outcome, Refusal, Served};
+use im_types::{Command, Entry, Kept, Limits, MAX_GROUP, Outcome, Refusal, Served};
 use std::alloc::Global;
 use std::marker::Model;
 
@@ -179,8 +179,8 @@ impl Image {
     /// refused with `Device` if the list couldn't grow. If a step was lost, nobody is answered.
     pub fn serve_commands(
         &mut self,
-        members: &ArrayVec<Command, 16>,
-        served: &mut ArrayVec<Served, 16>,
+        members: &ArrayVec<Command, MAX_GROUP>,
+        served: &mut ArrayVec<Served, MAX_GROUP>,
     )
         requires empty { served.old.items ≡ [] }
         ensures lost { self.old.lost ≡ true → (served.new.items ≡ []) × (self.new ≡ self.old) }

@@ -12,12 +12,12 @@ ghost use Rattle.im_image.specs.Reading.{HasSizes};
 ghost use Rattle.im_migration.specs.Migration.{IsBlank, IsLaidDown, LeavesOnlyBlankOrLaid, moved_header};
 ghost use Rattle.im_migration.specs.Laying.{AreCleared, ClosesSlots, IsBeside, IsCleared, IsLaid, StaysBlank};
 
-use crate::follower::Follower;
+use crate::news::MoveNews;
 use im_disk::{DeviceFault, Disk, open_gate};
 use im_image::{Header, encode_page};
 use im_memory::Memory;
-use im_types::Limits;
 use im_types::layout::{CLOSED, PAGE, SLOT, area_at, area_pages, image_length, journal_at};
+use im_types::{Limits, Observer};
 
 // Writes a range that has no gate of a header.
 fn write_beside<N: Disk>(new: &mut N, at: usize, bytes: &[u8]) -> Result<(), DeviceFault>
@@ -31,9 +31,10 @@ fn write_beside<N: Disk>(new: &mut N, at: usize, bytes: &[u8]) -> Result<(), Dev
 }
 
 // Reports the number of pages and slots written.
-fn tell<F: Follower>(follower: &F, limits: Limits, pages: usize, slots: usize) {
+fn tell<O: Observer<MoveNews>>(observer: &mut O, limits: Limits, pages: usize, slots: usize) {
     let all = (area_pages(limits) as u64).saturating_add(limits.slots as u64);
-    follower.writes((pages as u64).saturating_add(slots as u64), all);
+    let written = (pages as u64).saturating_add(slots as u64);
+    observer.tell(MoveNews::Writes { written, all });
 }
 
 // The first byte and the end of a page, without the gate of a header, in a file of this length.
@@ -87,11 +88,11 @@ fn clear<N: Disk>(new: &mut N, limits: Limits) -> Result<(), DeviceFault>
 }
 
 // Writes the pages of a memory into the first area.
-fn write_pages<N: Disk, F: Follower>(
+fn write_pages<N: Disk, O: Observer<MoveNews>>(
     new: &mut N,
     memory: &Memory,
     limits: Limits,
-    follower: &F,
+    observer: &mut O,
 ) -> Result<(), DeviceFault>
     requires sizes { HasSizes (sizes_of limits) memory.now.contents }
     requires size { N.honest new.old
@@ -105,7 +106,7 @@ fn write_pages<N: Disk, F: Follower>(
 {
     let mut page = [0; PAGE];
     for i in 0..area_pages(limits) {
-        tell(follower, limits, i, 0);
+        tell(observer, limits, i, 0);
         encode_page(memory, limits, i, &mut page);
         // No header is open, whatever a stop leaves of the page.
         write_beside(new, area_at(limits, 0) + PAGE * i, &page)?;
@@ -114,10 +115,10 @@ fn write_pages<N: Disk, F: Follower>(
 }
 
 // Closes the gate of each slot of the journal.
-fn close_slots<N: Disk, F: Follower>(
+fn close_slots<N: Disk, O: Observer<MoveNews>>(
     new: &mut N,
     limits: Limits,
-    follower: &F,
+    observer: &mut O,
 ) -> Result<(), DeviceFault>
     requires size { N.honest new.old
         → length (N.now new.old).bytes ≡ layout.image_length layout_in_use (sizes_of limits) }
@@ -130,7 +131,7 @@ fn close_slots<N: Disk, F: Follower>(
     let at = journal_at(limits);
     let pages = area_pages(limits);
     for slot in 0..limits.slots as usize {
-        tell(follower, limits, pages, slot);
+        tell(observer, limits, pages, slot);
         write_beside(new, at + SLOT * slot, &[CLOSED])?; // No header is open, whatever a stop leaves of the gate.
     }
     Ok(())
@@ -150,11 +151,11 @@ fn write_header<N: Disk>(new: &mut N, header: &Header) -> Result<(), DeviceFault
 /// Lays a memory down as a new image with this header. The file has the image's length, and no header in it is open.
 ///
 /// A crash during the run leaves a file without an open header, or the image. After `Ok` the image is on the disk.
-pub(crate) fn lay_down<N: Disk, F: Follower>(
+pub(crate) fn lay_down<N: Disk, O: Observer<MoveNews>>(
     new: &mut N,
     header: &Header,
     memory: &Memory,
-    follower: &F,
+    observer: &mut O,
 ) -> Result<(), DeviceFault>
     requires sizes { HasSizes (sizes_of header.now.limits) memory.now.contents }
     requires header { seen header.now ≡ moved_header (sizes_of header.now.limits) header.now.count }
@@ -169,8 +170,8 @@ pub(crate) fn lay_down<N: Disk, F: Follower>(
 {
     let _records = memory.records();
     clear(new, header.limits)?; // A stop in it leaves no header open, and so in the next three.
-    write_pages(new, memory, header.limits, follower)?;
-    close_slots(new, header.limits, follower)?;
+    write_pages(new, memory, header.limits, observer)?;
+    close_slots(new, header.limits, observer)?;
     write_header(new, header)?;
     // A stop leaves the gate closed, or open over what is then on the disk. After this call it is open for good.
     open_gate(new, 0)

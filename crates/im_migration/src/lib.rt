@@ -7,10 +7,10 @@
 
 mod asked;
 mod copying;
-mod follower;
 mod laying;
 mod misfits;
 mod moving;
+mod news;
 mod place;
 mod preparing;
 mod putting;
@@ -19,8 +19,8 @@ mod resizing;
 
 pub use asked::Asked;
 pub use copying::{copy, length_for_copy};
-pub use follower::{Follower, Unfollowed};
 pub use misfits::Misfit;
 pub use moving::{length_for, migrate};
+pub use news::MoveNews;
 pub use preparing::{Original, prepare, put_memory, put_new};
 pub use resized::Resized;

@@ -11,12 +11,12 @@ ghost use Rattle.im_image.specs.Headers.{seen, MayRefuseImage};
 ghost use Rattle.im_migration.specs.Migration.{FaultsOfTwo, HasCount, HasPlaceOrReason, LeavesBlankOrSame, MeansSame};
 ghost use Rattle.im_migration.specs.Migration.{MayRefuseMigration, UnwrittenOrDevice, moved_header};
 
-use crate::follower::Follower;
+use crate::news::MoveNews;
 use crate::putting::put_image;
 use im_disk::Disk;
 use im_image::{Header, VERSION, Versions, read_image};
 use im_types::layout::image_length;
-use im_types::{Limits, Refusal};
+use im_types::{Limits, Observer, Refusal};
 use std::alloc::Global;
 
 /// Returns the header of a new image with this count of commands in its first area.
@@ -35,7 +35,7 @@ pub(crate) fn header_for(limits: Limits, count: u64) -> Header
 
 /// Migrates an image of the first version. It puts the memory that the image means, after its journal's run, into the
 /// new file. The new file becomes an image of the layout in use, at generation 1, with all commands counted in area 0.
-/// The old file is only read. Returns the new file and the count. The follower gets the progress.
+/// The old file is only read. Returns the new file and the count. The observer gets the progress.
 ///
 /// A crash since the start may leave a file that could be left before, one with both headers closed, or one that means
 /// what the old file means. So a stopped migration can be run again. Each refusal gives the new file back.
@@ -47,11 +47,11 @@ pub(crate) fn header_for(limits: Limits, count: u64) -> Header
 /// - `NotBlank` if a header of the new file is open after a sync. Nothing was written.
 /// - `NoMemory` if `alloc` refused the room for the memory, or for what is read. Nothing was written.
 /// - `Device` if a call of either disk failed. The new file may be partly written, and its headers are as above.
-pub fn migrate<O: Disk, N: Disk, F: Follower>(
+pub fn migrate<O: Disk, N: Disk, V: Observer<MoveNews>>(
     alloc: Global,
     old: &mut O,
     mut new: N,
-    follower: &F,
+    observer: &mut V,
 ) -> Result<(N, u64), (Refusal, N)>
     // What a stop leaves of the new file, and what is there at the end.
     ensures leaves { MatchResult result
@@ -72,7 +72,7 @@ pub fn migrate<O: Disk, N: Disk, F: Follower>(
         Ok(image) => {
             let count = image.journal.count();
             let header = header_for(image.header.limits, count);
-            match put_image(&mut new, &header, &image.memory, follower) {
+            match put_image(&mut new, &header, &image.memory, observer) {
                 Ok(()) => Ok((new, count)),
                 Err(refusal) => Err((refusal, new)),
             }

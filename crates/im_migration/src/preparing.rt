@@ -12,24 +12,24 @@ ghost use Rattle.im_migration.specs.Resizing.{FitsSizes, HasNoCopy, IsResized, s
 ghost use Rattle.im_migration.specs.Copying.{IsWhole};
 
 use crate::asked::Asked;
-use crate::follower::Follower;
 use crate::misfits::Misfit;
 use crate::moving::header_for;
+use crate::news::MoveNews;
 use crate::putting::put_image;
 use crate::resized::Resized;
 use crate::resizing::{misfit_of, resize};
 use im_disk::Disk;
 use im_memory::Memory;
-use im_types::{LAST, Limits, Refusal};
+use im_types::{LAST, Limits, Observer, Refusal};
 use std::alloc::Global;
 
 /// Returns the limits that a memory of an image with the limits `old` gets. The only refusal is `BadLimits`, and the
-/// follower is told why.
-pub(crate) fn limits_asked<F: Follower>(
+/// observer is told why.
+pub(crate) fn limits_asked<O: Observer<MoveNews>>(
     memory: &Memory,
     old: Limits,
     asked: Asked,
-    follower: &F,
+    observer: &mut O,
 ) -> Result<Limits, Refusal>
     ensures sizes { IfOk result (λ l. sizes_of l ≡ sizes_asked asked (sizes_of old)) }
     ensures fits { IfOk result (λ l. FitsSizes (sizes_of l) memory.now.contents) }
@@ -37,13 +37,13 @@ pub(crate) fn limits_asked<F: Follower>(
         × HasNoCopy (sizes_asked asked (sizes_of old)) memory.now.contents) }
 {
     let Some(limits) = asked.limits(old) else {
-        follower.misfits(Misfit::Range(asked));
+        observer.tell(MoveNews::Misfits(Misfit::Range(asked)));
         return Err(Refusal::BadLimits);
     };
     match misfit_of(memory, limits) {
         None => Ok(limits),
         Some(misfit) => {
-            follower.misfits(misfit);
+            observer.tell(MoveNews::Misfits(misfit));
             Err(Refusal::BadLimits)
         }
     }
@@ -86,13 +86,13 @@ pub struct Original<'a> {
 /// element past the last one has sent nothing.
 ///
 /// Returns `BadLimits` if a size is out of its range, if a block lies past the last cell, if an element past the last
-/// one has sent requests, or if the count is past the last one. The follower is told which of the sizes. Returns
+/// one has sent requests, or if the count is past the last one. The observer is told which of the sizes. Returns
 /// `NoMemory` if `alloc` refused the room for a second memory.
-pub fn prepare<F: Follower>(
+pub fn prepare<O: Observer<MoveNews>>(
     alloc: Global,
     original: &Original,
     asked: Asked,
-    follower: &F,
+    observer: &mut O,
 ) -> Result<Resized, Refusal>
     ensures whole { IfOk result (λ r. IsWhole r) }
     ensures sizes { IfOk result (λ r.
@@ -106,7 +106,7 @@ pub fn prepare<F: Follower>(
     if original.count > LAST {
         return Err(Refusal::BadLimits);
     }
-    match limits_asked(original.memory, original.limits, asked, follower) {
+    match limits_asked(original.memory, original.limits, asked, observer) {
         Ok(limits) => resized_to(alloc, original.memory, original.count, limits),
         Err(refusal) => Err(refusal),
     }
@@ -120,10 +120,10 @@ pub fn prepare<F: Follower>(
 /// - `WrongLength` if the file doesn't have the length of the image. Nothing was written.
 /// - `NotBlank` if a header of the file is open after a sync. Nothing was written.
 /// - `Device` if a call of the disk failed. The file may be partly written, and its headers are as above.
-pub fn put_new<N: Disk, F: Follower>(
+pub fn put_new<N: Disk, O: Observer<MoveNews>>(
     mut new: N,
     source: &Resized,
-    follower: &F,
+    observer: &mut O,
 ) -> Result<N, (Refusal, N)>
     requires { IsWhole source.now }
     ensures leaves { GivesBackBlankOrLaid N.Disk new result
@@ -135,7 +135,7 @@ pub fn put_new<N: Disk, F: Follower>(
     ensures unwritten { IfErr result (λ e. UnwrittenOrDevice N.Disk new e.1 e.0) }
     ensures only { IfErr result (λ e. MayRefusePlace e.0) }
 {
-    match put_image(&mut new, &source.header, &source.memory, follower) {
+    match put_image(&mut new, &source.header, &source.memory, observer) {
         Ok(()) => Ok(new),
         Err(refusal) => Err((refusal, new)),
     }
@@ -143,10 +143,10 @@ pub fn put_new<N: Disk, F: Follower>(
 
 /// Makes a new file an image of this memory, with its limits and its count, at generation 1 and with an empty journal.
 /// Each refusal gives the file back. What a crash leaves, and the refusals, are those of [`put_new`].
-pub fn put_memory<N: Disk, F: Follower>(
+pub fn put_memory<N: Disk, O: Observer<MoveNews>>(
     mut new: N,
     original: &Original,
-    follower: &F,
+    observer: &mut O,
 ) -> Result<N, (Refusal, N)>
     requires sizes { HasSizes (sizes_of original.now.limits) original.now.memory.now.contents }
     requires last { original.now.count ≤ LAST }
@@ -159,7 +159,7 @@ pub fn put_memory<N: Disk, F: Follower>(
     ensures only { IfErr result (λ e. MayRefusePlace e.0) }
 {
     let header = header_for(original.limits, original.count);
-    match put_image(&mut new, &header, original.memory, follower) {
+    match put_image(&mut new, &header, original.memory, observer) {
         Ok(()) => Ok(new),
         Err(fault) => Err((fault, new)),
     }

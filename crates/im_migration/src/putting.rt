@@ -10,21 +10,21 @@ ghost use Rattle.im_image.specs.Reading.{HasSizes};
 ghost use Rattle.im_migration.specs.Migration.{IsLaidDown, IsNoPlace, IsPlace, LeavesBlankOrLaidSince, MayRefusePlace};
 ghost use Rattle.im_migration.specs.Migration.{UnwrittenOrDevice, moved_header};
 
-use crate::follower::Follower;
 use crate::laying::lay_down;
+use crate::news::MoveNews;
 use crate::place::find_place;
 use im_disk::Disk;
 use im_image::Header;
 use im_memory::Memory;
-use im_types::Refusal;
+use im_types::{Observer, Refusal};
 
 /// Puts a memory into a new file, as an image with this header. Returns `WrongLength` or `NotBlank`, with nothing
 /// written, if the file can't become the image, and `Device` if a call of the disk failed.
-pub(crate) fn put_image<N: Disk, F: Follower>(
+pub(crate) fn put_image<N: Disk, O: Observer<MoveNews>>(
     new: &mut N,
     header: &Header,
     memory: &Memory,
-    follower: &F,
+    observer: &mut O,
 ) -> Result<(), Refusal>
     requires sizes { HasSizes (sizes_of header.now.limits) memory.now.contents }
     requires header { seen header.now ≡ moved_header (sizes_of header.now.limits) header.now.count }
@@ -39,7 +39,7 @@ pub(crate) fn put_image<N: Disk, F: Follower>(
         (LeavesBlankOrLaidSince N.Disk new.old new.new (seen header.now) memory.now.contents) }
 {
     find_place(new, header.limits)?;
-    match lay_down(new, header, memory, follower) {
+    match lay_down(new, header, memory, observer) {
         Ok(()) => Ok(()),
         Err(_) => Err(Refusal::Device),
     }

@@ -5,8 +5,8 @@ ghost use Rattle.im_moves.specs.Moving.{LeavesBlankOrMoved, LeavesMoved, MayMean
 
 use im_disk::Disk;
 use im_dump::{Loaded, dump, read_dump, what_was_dumped_is_loaded};
-use im_migration::{Asked, Follower, Original, prepare, put_new};
-use im_types::Refusal;
+use im_migration::{Asked, MoveNews, Original, prepare, put_new};
+use im_types::{Observer, Refusal};
 use std::alloc::Global;
 
 // Returns what the dump of the image on a disk is loaded as.
@@ -35,12 +35,12 @@ fn reread<D: Disk>(alloc: Global, old: &mut D) -> Result<Loaded, Refusal>
 /// - `BadLimits` if what the image means doesn't fit into the sizes. Nothing was written.
 /// - `NoMemory` if `alloc` refused the room for the text and two memories. Nothing was written.
 /// - `WrongLength`, `NotBlank` or `Device`, as [`put_new`] returns them.
-pub fn move_by_dump<O: Disk, N: Disk, F: Follower>(
+pub fn move_by_dump<O: Disk, N: Disk, F: Observer<MoveNews>>(
     alloc: Global,
     old: &mut O,
     new: N,
     asked: Asked,
-    follower: &F,
+    observer: &mut F,
 ) -> Result<N, (Refusal, N)>
     ensures moved { IfOk result (λ to. LeavesMoved N.Disk to asked (O.honest old.new) (O.now old.old).bytes) }
     ensures leaves { IfOk result (λ to. LeavesBlankOrMoved N.Disk new to asked (O.honest old.new)
@@ -56,8 +56,8 @@ pub fn move_by_dump<O: Disk, N: Disk, F: Follower>(
         limits: loaded.limits,
         count: loaded.count,
     };
-    match prepare(alloc, &original, asked, follower) {
-        Ok(resized) => put_new(new, &resized, follower),
+    match prepare(alloc, &original, asked, observer) {
+        Ok(resized) => put_new(new, &resized, observer),
         Err(refusal) => Err((refusal, new)),
     }
 }

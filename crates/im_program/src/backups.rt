@@ -14,9 +14,9 @@ use im_disk::{Disk, FileDisk, Start, Unknown};
 use im_files::make_image;
 use im_image::image_length;
 use im_memory::Memory;
-use im_migration::{Original, Unfollowed, put_memory};
+use im_migration::{Original, put_memory};
 use im_text::{PathFault, Reason};
-use im_types::{LAST, Limits, Refusal};
+use im_types::{LAST, Limits, Refusal, Unobserved};
 use std::alloc::{AllocError, Global};
 use std::fs::File;
 use std::io::ErrorKind;
@@ -84,7 +84,7 @@ fn fill<R: Files<File = File> + AllocGlobal, S: Start>(
     ensures laid { let h = moved_header (sizes_of original.now.limits) original.now.count in IfOk result
         (λ disk. LeavesLaid ⟦<FileDisk<S> as Disk>⟧ disk h original.now.memory.now.contents) }
 {
-    match put_memory(disk, original, &Unfollowed) {
+    match put_memory(disk, original, &mut Unobserved) {
         Ok(disk) => Ok(disk),
         Err((refusal, disk)) => {
             let reason = format_reason(refusal, disk.failure(), is_made);

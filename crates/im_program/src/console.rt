@@ -1,14 +1,14 @@
 //! What the program prints for a person on standard error.
 
 use crate::descriptors::Descriptors;
-use crate::loading::{LoadFault, LoadObserver};
+use crate::loading::LoadFault;
 use crate::opening::call_of;
 use crate::shown::{EscapedName, folder_of, input_or};
 use im_disk::Failure;
 use im_files::Noting;
-use im_migration::{Follower, Misfit};
-use im_text::{Observer, PathFault, Progress, Reason, Waited, Warning, make_now};
-use im_types::{Entry, Refusal};
+use im_migration::MoveNews;
+use im_text::{News, PathFault, Progress, Reason, Waited, make_now};
+use im_types::{Observer, Refusal};
 use im_words::Work;
 use std::alloc::Global;
 use std::fmt::Display;
@@ -38,8 +38,7 @@ pub struct Console<'a, R> {
     alloc: Global,
     held: &'a Descriptors,
     image: &'a str,
-    // The second file: a script, or the new file of a migration, a copy or a load. The first one is then the old file
-    // or the text.
+    // The second file: a script, or a new file. The first one is then the old file, or the text that is loaded.
     script: &'a str,
     terminals: Terminals,
     // The last refusal, and whether its line waits until the disk says which call failed.
@@ -101,7 +100,7 @@ impl<'a, R: Eprint + AllocGlobal> Console<'a, R> {
     }
 
     // Prints why the work is refused.
-    fn tell(&self, reason: Reason) {
+    fn print_reason(&self, reason: Reason) {
         let path = EscapedName(self.path(reason));
         let _printed = match reason {
             Reason::File(PathFault::InUse) | Reason::NewFile(PathFault::InUse) => {
@@ -140,7 +139,7 @@ impl<'a, R: Eprint + AllocGlobal> Console<'a, R> {
     fn tell_call(&mut self, reason: Reason) {
         self.refused = Some(reason);
         self.waits = false;
-        self.tell(reason);
+        self.print_reason(reason);
     }
 
     /// Prints what is wrong with the file of a trace.
@@ -186,7 +185,7 @@ impl<'a, R: Eprint + AllocGlobal> Console<'a, R> {
         if self.waits {
             self.waits = false;
             if let Some(reason) = self.refused {
-                self.tell(reason);
+                self.print_reason(reason);
             }
         }
     }
@@ -202,6 +201,53 @@ impl<'a, R: Eprint + AllocGlobal> Console<'a, R> {
             }
         };
     }
+
+    // Prints the answer to a request that waited.
+    fn print_answer(&self, waited: Waited) {
+        let mut line = String::new(self.alloc);
+        if make_now(&mut line, Some(waited)).is_ok() {
+            let _printed = self.rt.eprint(line.as_str());
+        }
+    }
+
+    // Prints how far the work has come, now and then, if a person watches.
+    fn print_progress(&self, progress: Progress) {
+        let Progress {
+            served,
+            room,
+            checkpoints,
+        } = progress;
+        if self.is_watched() && served % STRIDE == 0 {
+            let _printed = eprintln!(self.rt;
+                "imem: {served} requests served, room for {room}, {checkpoints} checkpoints"
+            );
+        }
+    }
+
+    // Keeps why the work is refused, and prints it unless the disk says more of it.
+    fn refuse(&mut self, reason: Reason) {
+        self.refused = Some(reason);
+        self.waits = is_of_call(reason);
+        if !self.waits {
+            self.print_reason(reason);
+        }
+    }
+
+    // Prints what is wrong with the first file, or with the input.
+    fn print_of_input(&self, is: &impl Display) {
+        let path = EscapedName(input_or(self.image));
+        let _printed = eprintln!(self.rt; "imem: {path}: {is}");
+    }
+
+    // Prints how much of a new file is written, now and then, if a person watches.
+    fn print_written(&self, written: u64, all: u64) {
+        if self.is_watched() && written % WRITES == 0 {
+            let path = EscapedName(self.script);
+            let _printed = eprintln!(self.rt;
+                "imem: {path}: {written} of {all} pages and slots written"
+            );
+        }
+    }
 }
 
 // Whether a reason waits for what the disk says, because a call on the disk failed.
@@ -215,72 +261,40 @@ fn is_of_call(reason: Reason) -> bool {
     )
 }
 
-impl<R: Eprint + AllocGlobal> Observer for Console<'_, R> {
-    fn answered(&mut self, element: u16, number: u64, entry: Entry) {
-        let waited = Waited {
-            element,
-            number,
-            entry,
-        };
-        let mut line = String::new(self.alloc);
-        if make_now(&mut line, Some(waited)).is_ok() {
-            let _printed = self.rt.eprint(line.as_str());
-        }
-    }
-
-    fn progressed(&mut self, progress: Progress) {
-        let Progress {
-            served,
-            room,
-            checkpoints,
-        } = progress;
-        if self.is_watched() && served % STRIDE == 0 {
-            let _printed = eprintln!(self.rt;
-                "imem: {served} requests served, room for {room}, {checkpoints} checkpoints"
-            );
-        }
-    }
-
-    fn refused(&mut self, reason: Reason) {
-        self.refused = Some(reason);
-        self.waits = is_of_call(reason);
-        if !self.waits {
-            self.tell(reason);
-        }
-    }
-
-    fn warned(&mut self, warning: Warning) {
-        let path = EscapedName(self.image);
-        let _printed = eprintln!(self.rt; "imem: {path}: {warning}");
-    }
-
-    fn wants_each_line(&self) -> bool {
+impl<R: Eprint + AllocGlobal> Observer<News> for Console<'_, R> {
+    fn listens(&mut self) -> bool {
         self.terminals.output
     }
-}
 
-impl<R: Eprint + AllocGlobal> Follower for Console<'_, R> {
-    fn writes(&self, written: u64, all: u64) {
-        if self.is_watched() && written % WRITES == 0 {
-            let path = EscapedName(self.script);
-            let _printed = eprintln!(self.rt;
-                "imem: {path}: {written} of {all} pages and slots written"
-            );
+    fn tell(&mut self, news: News) {
+        match news {
+            News::Answered(waited) => self.print_answer(waited),
+            News::Progressed(progress) => self.print_progress(progress),
+            News::Refused(reason) => self.refuse(reason),
+            News::Warned(warning) => {
+                let path = EscapedName(self.image);
+                let _printed = eprintln!(self.rt; "imem: {path}: {warning}");
+            }
         }
     }
+}
 
-    fn misfits(&self, misfit: Misfit) {
-        let path = EscapedName(input_or(self.image));
-        let _printed = eprintln!(self.rt; "imem: {path}: {misfit}");
+impl<R: Eprint + AllocGlobal> Observer<MoveNews> for Console<'_, R> {
+    fn tell(&mut self, news: MoveNews) {
+        match news {
+            MoveNews::Writes { written, all } => self.print_written(written, all),
+            MoveNews::Misfits(misfit) => self.print_of_input(&misfit),
+        }
     }
 }
 
-impl<R: Eprint + AllocGlobal> LoadObserver for Console<'_, R> {
-    fn unloaded(&mut self, fault: LoadFault) {
-        let path = EscapedName(input_or(self.image));
-        let _printed = match fault {
-            LoadFault::NoInput => eprintln!(self.rt; "imem: {fault}"),
-            _ => eprintln!(self.rt; "imem: {path}: {fault}"),
-        };
+impl<R: Eprint + AllocGlobal> Observer<LoadFault> for Console<'_, R> {
+    fn tell(&mut self, fault: LoadFault) {
+        match fault {
+            LoadFault::NoInput => {
+                let _printed = eprintln!(self.rt; "imem: {fault}");
+            }
+            _ => self.print_of_input(&fault),
+        }
     }
 }

@@ -9,9 +9,9 @@ use crate::hand::AtHand;
 use crate::moving::{place_at, print_counted, source_at};
 use crate::opening::{call_of, give_up};
 use im_disk::{Disk, Failure, FileDisk, Start};
-use im_migration::{Asked, Follower, copy, length_for_copy};
-use im_text::{Observer, Reason, diagnose, end};
-use im_types::Refusal;
+use im_migration::{Asked, MoveNews, copy, length_for_copy};
+use im_text::{News, Reason, diagnose, end};
+use im_types::{Observer, Refusal};
 use im_words::Copying;
 use std::alloc::Global;
 use std::fs::File;
@@ -19,7 +19,7 @@ use std::io::Write;
 use std::rt::Files;
 
 // The length that the new file needs. If the image or the sizes are refused, the observer is told why.
-fn length_of<O: Disk, V: Observer + Follower>(
+fn length_of<O: Disk, V: Observer<News> + Observer<MoveNews>>(
     alloc: Global,
     old: &mut O,
     asked: Asked,
@@ -32,7 +32,7 @@ fn length_of<O: Disk, V: Observer + Follower>(
         Ok(length) => Ok(length),
         Err(Refusal::BadLimits) => Err(Refusal::BadLimits), // The observer was told what doesn't fit.
         Err(refusal) => {
-            observer.refused(diagnose(alloc, old, refusal));
+            observer.tell(News::Refused(diagnose(alloc, old, refusal)));
             Err(refusal)
         }
     }
@@ -76,7 +76,7 @@ pub fn copy_file<
     T: Start,
     I,
     W: Write,
-    V: Observer + Follower,
+    V: Observer<News> + Observer<MoveNews>,
 >(
     hand: AtHand<'_, R, I, V>,
     copying: &Copying,
@@ -103,7 +103,7 @@ pub fn copy_file<
         Err((refusal, to)) => {
             let reason = reason_for(refusal, to.failure(), from.failure());
             give_up(rt, new, to, is_made);
-            observer.refused(reason);
+            observer.tell(News::Refused(reason));
             Err(refusal)
         }
     }

@@ -12,8 +12,8 @@ use im_files::Noting;
 use im_image::image_length;
 use im_script::read_script;
 use im_serial::serial_on;
-use im_text::{Observer, Reason};
-use im_types::Refusal;
+use im_text::{News, Reason};
+use im_types::{Observer, Refusal};
 use im_words::{DEFAULT_CELLS, DEFAULT_ELEMENTS, DEFAULT_SLOTS};
 use std::alloc::Global;
 use std::io::{Eprint, Write};
@@ -28,10 +28,10 @@ store x+0 42
 ";
 
 // Returns the refusal of an image that was made or opened, and tells the observer why.
-fn told<N: Observer>(refusal: Refusal, observer: &mut N) -> Refusal
+fn told<N: Observer<News>>(refusal: Refusal, observer: &mut N) -> Refusal
     ensures { result ≡ refusal }
 {
-    observer.refused(Reason::Image(refusal, Damage::Unknown)); // No image that can be read.
+    observer.tell(News::Refused(Reason::Image(refusal, Damage::Unknown))); // No image that can be read.
     refusal
 }
 
@@ -48,7 +48,7 @@ fn usual_image(alloc: Global) -> Result<MemDisk, Refusal> {
 }
 
 // Serves the script on an image in memory.
-fn serve_in_memory<W: Write, N: Observer>(
+fn serve_in_memory<W: Write, N: Observer<News>>(
     alloc: Global,
     out: &mut W,
     observer: &mut N,
@@ -69,7 +69,7 @@ fn serve_in_memory<W: Write, N: Observer>(
 
 /// Serves a short script on an image in memory. Returns the status: 0, or 1 if something was refused or a write of the
 /// output failed.
-pub fn demonstrate<W: Write, N: Observer>(alloc: Global, out: &mut W, observer: &mut N) -> u8
+pub fn demonstrate<W: Write, N: Observer<News>>(alloc: Global, out: &mut W, observer: &mut N) -> u8
     ensures status { result ≤ 1 }
 {
     match serve_in_memory(alloc, out, observer) {

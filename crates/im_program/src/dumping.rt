@@ -11,15 +11,15 @@ use crate::opening::{refusal_of, warn};
 use im_disk::{Disk, FileDisk, Start};
 use im_dump::dump;
 use im_files::open_image_to_read;
-use im_text::{Observer, end};
-use im_types::Refusal;
+use im_text::{News, end};
+use im_types::{Observer, Refusal};
 use std::alloc::Global;
 use std::fs::File;
 use std::io::Write;
 use std::rt::Files;
 
 // Prints the dump of the image on a disk. Returns the status. If something is refused, the observer is told why.
-fn dump_on<D: Disk, W: Write, V: Observer>(
+fn dump_on<D: Disk, W: Write, V: Observer<News>>(
     alloc: Global,
     disk: &mut D,
     out: &mut W,
@@ -44,7 +44,7 @@ fn dump_on<D: Disk, W: Write, V: Observer>(
 /// file, an opening that writes has its lock, or a call of the system fails. The observer is told why.
 ///
 /// No clause says that an image is ever opened, because nothing is known about the contents of a folder.
-pub fn dump_file<R: Files<File = File> + AllocGlobal, S: Start, I, W: Write, V: Observer>(
+pub fn dump_file<R: Files<File = File> + AllocGlobal, S: Start, I, W: Write, V: Observer<News>>(
     hand: AtHand<'_, R, I, V>,
     image: &str,
     out: &mut W,

@@ -11,8 +11,8 @@ use im_disk::{Disk, FileDisk, Start};
 use im_engine::Engine;
 use im_files::make_image;
 use im_image::image_length;
-use im_text::{Observer, Reason};
-use im_types::{Limits, MAX_CELLS, MAX_ELEMENTS, Refusal};
+use im_text::{News, Reason};
+use im_types::{Limits, MAX_CELLS, MAX_ELEMENTS, Observer, Refusal};
 use im_words::Formatting;
 use std::fs::File;
 use std::rt::Files;
@@ -51,7 +51,7 @@ fn limits_reason(cells: u32, elements: u32, slots: u32) -> Reason {
 ///   before is then removed, and the bytes of an existing one are lost.
 ///
 /// No clause says that an image is ever made, because nothing is known about the contents of a folder.
-pub fn format_file<R: Files<File = File> + AllocGlobal, S: Start, I, N: Observer>(
+pub fn format_file<R: Files<File = File> + AllocGlobal, S: Start, I, N: Observer<News>>(
     hand: AtHand<'_, R, I, N>,
     image: &str,
     limits: Limits,
@@ -71,14 +71,14 @@ pub fn format_file<R: Files<File = File> + AllocGlobal, S: Start, I, N: Observer
         Err((refusal, disk)) => {
             let reason = format_reason(refusal, disk.failure(), is_made);
             give_up(rt, image, disk, is_made);
-            observer.refused(reason);
+            observer.tell(News::Refused(reason));
             Err(refusal)
         }
     }
 }
 
 // Returns the limits that are asked for. If a number is out of its range, the observer is told which.
-fn limits_asked<N: Observer>(asked: &Formatting, observer: &mut N) -> Result<Limits, Refusal>
+fn limits_asked<N: Observer<News>>(asked: &Formatting, observer: &mut N) -> Result<Limits, Refusal>
     ensures limits { IfOk result (λ limits. (limits.cells ≡ asked.now.cells) × (limits.elements ≡ asked.now.elements)
         × (limits.slots ≡ asked.now.slots)) }
     ensures found { IfOk result (λ _. AreLimits asked.now.cells asked.now.elements asked.now.slots) }
@@ -87,7 +87,7 @@ fn limits_asked<N: Observer>(asked: &Formatting, observer: &mut N) -> Result<Lim
     match limits_of(cells, elements, slots) {
         Ok(limits) => Ok(limits),
         Err(refusal) => {
-            observer.refused(limits_reason(cells, elements, slots));
+            observer.tell(News::Refused(limits_reason(cells, elements, slots)));
             Err(refusal)
         }
     }
@@ -95,7 +95,7 @@ fn limits_asked<N: Observer>(asked: &Formatting, observer: &mut N) -> Result<Lim
 
 /// Makes the image that the command line asks for. Returns the status 0, and the image's disk. Returns `BadLimits` if a
 /// number is out of its range; then no file is made.
-pub(crate) fn format_image<R: Files<File = File> + AllocGlobal, S: Start, I, N: Observer>(
+pub(crate) fn format_image<R: Files<File = File> + AllocGlobal, S: Start, I, N: Observer<News>>(
     hand: AtHand<'_, R, I, N>,
     formatting: &Formatting,
     start: S,

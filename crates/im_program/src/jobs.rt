@@ -8,7 +8,7 @@ use crate::console::Console;
 use crate::dumping::dump_file;
 use crate::formatting::format_image;
 use crate::hand::AtHand;
-use crate::loading::{LoadObserver, load_file};
+use crate::loading::{LoadFault, load_file};
 use crate::looking::inspect_file;
 use crate::overwriting::may_be_made;
 use crate::serving::serve_file;
@@ -17,9 +17,9 @@ use crate::work::refuse;
 use im_disk::{Disk, FileDisk, Start};
 use im_files::{Noting, note_failed_sync};
 use im_listening::Ear;
-use im_migration::Follower;
-use im_text::{Observer, PathFault, Reason};
-use im_types::Refusal;
+use im_migration::MoveNews;
+use im_text::{News, PathFault, Reason};
+use im_types::{Observer, Refusal};
 use im_words::{Formatting, Job};
 use std::fs::File;
 use std::io::{BufRead, Eprint, Write};
@@ -31,7 +31,7 @@ fn do_job<
     S: Start,
     I: BufRead + Ear,
     W: Write,
-    N: Observer + Follower + LoadObserver,
+    N: Observer<News> + Observer<MoveNews> + Observer<LoadFault>,
 >(hand: AtHand<'_, R, I, N>, job: &Job, out: &mut W, start: S) -> Result<(u8, FileDisk<S>), Refusal>
     ensures status { IfOk result (λ r. r.0 ≤ 1) }
     ensures done { IfOk result (λ r. WasDone ⟦<FileDisk<S> as Disk>⟧ S.first (I.remaining hand.entry.input.now)
@@ -110,7 +110,7 @@ fn work_alone<
     S: Start,
     I: BufRead + Ear,
     W: Write,
-    N: Observer + Follower + LoadObserver,
+    N: Observer<News> + Observer<MoveNews> + Observer<LoadFault>,
 >(hand: AtHand<'_, R, I, N>, job: &Job, out: &mut W, start: S) -> (u8, Option<FileDisk<S>>)
     ensures status { result.0 ≤ 1 }
     ensures done { IfSome result.1 (λ disk. WasDone ⟦<FileDisk<S> as Disk>⟧ S.first (I.remaining hand.entry.input.now)
@@ -162,7 +162,7 @@ pub fn act_alone<
 {
     let (rt, held, input, console) = hand.parts();
     if !may_do(rt, job, input, console) {
-        console.refused(Reason::File(PathFault::Exists));
+        console.tell(News::Refused(Reason::File(PathFault::Exists)));
         return (refuse(rt.alloc(), Refusal::Device, out), None);
     }
     let inner = AtHand {

@@ -41,7 +41,7 @@ pub use im_words::{
     Paths, ScriptRun, Serving, Talking, Transfer, WordFault, Work, read_words,
 };
 pub use jobs::act_alone;
-pub use loading::{LoadFault, LoadObserver, load_file};
+pub use loading::{LoadFault, load_file};
 pub use looking::inspect_file;
 pub use moving::{migrate_file, migrate_on};
 pub use prompting::Prompter;

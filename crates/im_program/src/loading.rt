@@ -17,10 +17,10 @@ use crate::scripts::text_of;
 use im_disk::{Disk, FileDisk, Start};
 use im_dump::{DumpFault, Loaded, read_dump};
 use im_image::image_length;
-use im_migration::{Asked, Follower, Original, Resized, prepare, put_new};
+use im_migration::{Asked, MoveNews, Original, Resized, prepare, put_new};
 use im_script::{ScriptFault, TextFault};
-use im_text::{Observer, Reason, Words, end};
-use im_types::Refusal;
+use im_text::{News, Reason, Words, end};
+use im_types::{Observer, Refusal};
 use im_words::Loading;
 use std::alloc::Global;
 use std::fmt;
@@ -69,17 +69,11 @@ impl Display for LoadFault {
     }
 }
 
-/// A receiver of why a text isn't loaded.
-pub trait LoadObserver {
-    /// Is called before a text is refused.
-    fn unloaded(&mut self, fault: LoadFault);
-}
-
 // Returns the refusal of a text, and tells the observer why.
-fn refuse_text<V: LoadObserver>(fault: LoadFault, observer: &mut V) -> Refusal
+fn refuse_text<V: Observer<LoadFault>>(fault: LoadFault, observer: &mut V) -> Refusal
     ensures { MayRefuseText result }
 {
-    observer.unloaded(fault);
+    observer.tell(fault);
     fault.refusal()
 }
 
@@ -121,7 +115,7 @@ fn read_loaded<R: Files<File = File> + AllocGlobal, I: Read>(
 }
 
 // Prepares what was loaded for an image of the sizes that are asked for. If it is refused, the observer is told why.
-fn prepare_loaded<V: Observer + Follower>(
+fn prepare_loaded<V: Observer<News> + Observer<MoveNews>>(
     alloc: Global,
     loaded: &Loaded,
     asked: Asked,
@@ -140,7 +134,7 @@ fn prepare_loaded<V: Observer + Follower>(
         Ok(resized) => Ok(resized),
         Err(refusal) => {
             if refusal == Refusal::NoMemory {
-                observer.refused(Reason::Memory);
+                observer.tell(News::Refused(Reason::Memory));
             }
             Err(refusal)
         }
@@ -149,7 +143,7 @@ fn prepare_loaded<V: Observer + Follower>(
 
 // Puts what was prepared into the new file. If it is refused, the observer is told why, and a file that was made is
 // removed.
-fn put_file<R: Files<File = File> + AllocGlobal, S: Start, V: Observer + Follower>(
+fn put_file<R: Files<File = File> + AllocGlobal, S: Start, V: Observer<News> + Observer<MoveNews>>(
     rt: &R,
     path: &str,
     resized: &Resized,
@@ -170,7 +164,7 @@ fn put_file<R: Files<File = File> + AllocGlobal, S: Start, V: Observer + Followe
                 None => Reason::New(refusal),
             };
             give_up(rt, path, to, is_made);
-            observer.refused(reason);
+            observer.tell(News::Refused(reason));
             Err(refusal)
         }
     }
@@ -200,7 +194,7 @@ pub fn load_file<
     S: Start,
     I: Read,
     W: Write,
-    V: Observer + Follower + LoadObserver,
+    V: Observer<News> + Observer<MoveNews> + Observer<LoadFault>,
 >(
     hand: AtHand<'_, R, I, V>,
     loading: &Loading,

@@ -10,8 +10,8 @@ use crate::opening::{refusal_of, warn};
 use im_disk::{Disk, FileDisk, Start};
 use im_files::open_image_to_read;
 use im_report::{View, look_on};
-use im_text::Observer;
-use im_types::Refusal;
+use im_text::News;
+use im_types::{Observer, Refusal};
 use std::fs::File;
 use std::io::Write;
 use std::rt::Files;
@@ -28,7 +28,7 @@ use std::rt::Files;
 /// [`look_on`] refuses, its status and its last line say so.
 ///
 /// No clause says that an image is ever opened, because nothing is known about the contents of a folder.
-pub fn inspect_file<R: Files<File = File> + AllocGlobal, S: Start, I, W: Write, N: Observer>(
+pub fn inspect_file<R: Files<File = File> + AllocGlobal, S: Start, I, W: Write, N: Observer<News>>(
     hand: AtHand<'_, R, I, N>,
     image: &str,
     look: &View,

@@ -14,9 +14,9 @@ use crate::opening::{is_one_file, reason_of, refusal_of, warn};
 use im_disk::{Disk, FileDisk, Start};
 use im_files::{FileFault, make_image, open_image, open_image_to_read};
 use im_image::{Versions, read_header};
-use im_migration::{Follower, length_for, migrate};
-use im_text::{Observer, PathFault, Reason, diagnose, end, put_through};
-use im_types::Refusal;
+use im_migration::{MoveNews, length_for, migrate};
+use im_text::{News, PathFault, Reason, diagnose, end, put_through};
+use im_types::{Observer, Refusal};
 use im_words::Paths;
 use std::alloc::{AllocError, Global};
 use std::fs::{self, File};
@@ -55,7 +55,7 @@ pub(crate) fn print_counted<W: Write>(
 /// A crash since the start leaves a file of the new disk that is no image, or that means what the old image means; or a
 /// file that the new disk could leave before. With status 0, each file left means what the old image means. The old
 /// disk is only read.
-pub fn migrate_on<O: Disk, N: Disk, W: Write, V: Observer + Follower>(
+pub fn migrate_on<O: Disk, N: Disk, W: Write, V: Observer<News> + Observer<MoveNews>>(
     alloc: Global,
     old: &mut O,
     new: N,
@@ -101,7 +101,7 @@ fn old_reason<O: Disk>(alloc: Global, old: &mut O, refusal: Refusal) -> Reason
 }
 
 // The length that the new file needs. If the old file is refused, the observer is told why.
-fn length_of<O: Disk, V: Observer>(
+fn length_of<O: Disk, V: Observer<News>>(
     alloc: Global,
     old: &mut O,
     observer: &mut V,
@@ -112,7 +112,7 @@ fn length_of<O: Disk, V: Observer>(
     match length_for(alloc, old) {
         Ok(length) => Ok(length),
         Err(refusal) => {
-            observer.refused(old_reason(alloc, old, refusal));
+            observer.tell(News::Refused(old_reason(alloc, old, refusal)));
             Err(refusal)
         }
     }
@@ -144,7 +144,7 @@ fn new_file<R: Files<File = File> + AllocGlobal, S: Start>(
 
 /// Opens the new file, or makes one of `len` zero bytes. Returns also whether it was made. If there is none, the
 /// observer is told why.
-pub(crate) fn place_at<R: Files<File = File> + AllocGlobal, S: Start, V: Observer>(
+pub(crate) fn place_at<R: Files<File = File> + AllocGlobal, S: Start, V: Observer<News>>(
     rt: &R,
     path: &str,
     len: usize,
@@ -157,14 +157,14 @@ pub(crate) fn place_at<R: Files<File = File> + AllocGlobal, S: Start, V: Observe
     match new_file(rt, path, len, start) {
         Ok(placed) => Ok(placed),
         Err(fault) => {
-            observer.refused(Reason::NewFile(reason_of(rt, path, fault)));
+            observer.tell(News::Refused(Reason::NewFile(reason_of(rt, path, fault))));
             Err(Refusal::from(fault))
         }
     }
 }
 
 /// Opens the old file, only for reading. If that fails, or both paths name one file, the observer is told why.
-pub(crate) fn source_at<R: Files<File = File> + AllocGlobal, T: Start, V: Observer>(
+pub(crate) fn source_at<R: Files<File = File> + AllocGlobal, T: Start, V: Observer<News>>(
     rt: &R,
     old: &str,
     new: &str,
@@ -175,7 +175,7 @@ pub(crate) fn source_at<R: Files<File = File> + AllocGlobal, T: Start, V: Observ
     ensures refused { IfErr result (λ e. e ≡ Device) }
 {
     if is_one_file(rt, old, new) {
-        observer.refused(Reason::NewFile(PathFault::Same));
+        observer.tell(News::Refused(Reason::NewFile(PathFault::Same)));
         return Err(Refusal::Device);
     }
     match open_image_to_read(rt, old, other) {
@@ -212,7 +212,7 @@ pub fn migrate_file<
     T: Start,
     I,
     W: Write,
-    V: Observer + Follower,
+    V: Observer<News> + Observer<MoveNews>,
 >(
     hand: AtHand<'_, R, I, V>,
     paths: &Paths,

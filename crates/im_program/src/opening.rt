@@ -5,8 +5,8 @@ ghost use Rattle.im_types.specs.declared.refusals.Refusal.{Refusal};
 use im_damage::Damage;
 use im_disk::{Disk, Failure, FileDisk, OpenFault, Start};
 use im_files::{FileFault, Noting, note_failed_sync, open_image, remove_image};
-use im_text::{CallFault, Observer, PathFault, Reason, Warning};
-use im_types::Refusal;
+use im_text::{CallFault, News, PathFault, Reason, Warning};
+use im_types::{Observer, Refusal};
 use std::fs::{self, File};
 use std::io::ErrorKind;
 use std::os::unix::fs::MetadataExt;
@@ -87,7 +87,7 @@ pub(crate) fn is_one_file<R: Files<File = File>>(rt: &R, one: &str, other: &str)
 }
 
 /// Returns the refusal for an image that isn't made or opened, and tells the observer why.
-pub(crate) fn refusal_of<R: Files<File = File>, N: Observer>(
+pub(crate) fn refusal_of<R: Files<File = File>, N: Observer<News>>(
     rt: &R,
     image: &str,
     fault: FileFault,
@@ -95,12 +95,12 @@ pub(crate) fn refusal_of<R: Files<File = File>, N: Observer>(
 ) -> Refusal
     ensures { result ≡ Refusal.Device }
 {
-    observer.refused(Reason::File(reason_of(rt, image, fault)));
+    observer.tell(News::Refused(Reason::File(reason_of(rt, image, fault))));
     Refusal::from(fault)
 }
 
 /// Opens the image at a path. If it isn't opened, the observer is told why.
-pub(crate) fn image_at<R: Files<File = File> + AllocGlobal, S: Start, N: Observer>(
+pub(crate) fn image_at<R: Files<File = File> + AllocGlobal, S: Start, N: Observer<News>>(
     rt: &R,
     image: &str,
     observer: &mut N,
@@ -133,8 +133,8 @@ pub(crate) fn give_up<R: Files<File = File> + AllocGlobal, S: Start>(
 }
 
 /// Warns about a file that is read although a note of this boot is beside it.
-pub(crate) fn warn<N: Observer>(is_unsynced: bool, observer: &mut N) {
+pub(crate) fn warn<N: Observer<News>>(is_unsynced: bool, observer: &mut N) {
     if is_unsynced {
-        observer.warned(Warning::Unsynced);
+        observer.tell(News::Warned(Warning::Unsynced));
     }
 }

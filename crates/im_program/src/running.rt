@@ -13,10 +13,10 @@ use crate::tracing::{keep_trace, make_file_if};
 use crate::watching::Watch;
 use crate::work::refuse;
 use im_disk::{Disk, FileDisk, Start};
-use im_run::{RunMode, STALLED, Trace, run_on, run_once_on};
-use im_serving::{Open, Watcher};
-use im_text::Observer;
-use im_types::Refusal;
+use im_run::{Assignment, RunContext, RunMode, STALLED, Trace, run_on, run_once_on};
+use im_serving::{Open, Standing};
+use im_text::News;
+use im_types::{Observer, Refusal};
 use im_words::ScriptRun;
 use std::fs::File;
 use std::io::{Eprint, Read, Write};
@@ -58,14 +58,14 @@ fn mode_of(running: &ScriptRun) -> RunMode
 pub fn run_file<
     R: Files<File = File> + AllocGlobal + Threads + Wait + Sync,
     S: Start + Send,
-    V: Watcher + Sync,
+    V: Observer<Standing> + Copy + Send,
     I: Read,
     W: Write,
-    N: Observer,
+    N: Observer<News>,
 >(
     hand: AtHand<'_, R, I, N>,
     running: &ScriptRun,
-    watcher: &V,
+    watcher: V,
     out: &mut W,
     start: S,
 ) -> Result<(u8, FileDisk<S>, Trace), Refusal>
@@ -80,17 +80,15 @@ pub fn run_file<
     let text = read_file(rt, held, running.script, input, observer)?;
     let script = script_in(rt.alloc(), text.as_slice(), true, observer)?;
     let disk = image_at(rt, running.image, observer, start)?;
-    let alloc = rt.alloc();
-    let mode = mode_of(running);
+    let context = RunContext::new(rt, rt.alloc(), &Open, watcher);
+    let asked = Assignment {
+        script: &script,
+        mode: mode_of(running),
+    };
     if running.once {
-        Ok(run_once_on(
-            rt, alloc, disk, &script, &Open, watcher, out, observer, mode,
-        ))
+        Ok(run_once_on(&context, disk, asked, out, observer))
     } else {
-        let (ended, disk, trace) = run_on(
-            rt, alloc, disk, &script, &Open, watcher, out, observer, mode,
-        );
-        Ok((ended, disk, trace))
+        Ok(run_on(&context, disk, asked, out, observer))
     }
 }
 
@@ -98,14 +96,14 @@ pub fn run_file<
 fn run_at_once<
     R: Files<File = File> + AllocGlobal + Threads + Wait + Sync,
     S: Start + Send,
-    V: Watcher + Sync,
+    V: Observer<Standing> + Copy + Send,
     I: Read,
     W: Write,
-    N: Observer,
+    N: Observer<News>,
 >(
     hand: AtHand<'_, R, I, N>,
     running: &ScriptRun,
-    watcher: &V,
+    watcher: V,
     out: &mut W,
     start: S,
 ) -> (u8, Option<FileDisk<S>>, Option<Trace>)
@@ -154,7 +152,7 @@ pub(crate) fn act_at_once<
         input,
         observer: &mut *console,
     };
-    let (status, disk, run) = run_at_once(inner, running, &watch, out, start);
+    let (status, disk, run) = run_at_once(inner, running, watch, out, start);
     keep_trace(rt, file, run, objects, console);
     settle(rt, running.image, &disk, console);
     (status, disk)

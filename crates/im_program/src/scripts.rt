@@ -6,8 +6,8 @@ ghost use Rattle.im_program.specs.Sources.{IsTextOf, bytes_at};
 
 use crate::descriptors::Descriptors;
 use im_script::{Script, ScriptFault, TextFault, read_script, read_script_with_glances, read_text};
-use im_text::{Observer, Reason};
-use im_types::Refusal;
+use im_text::{News, Reason};
+use im_types::{Observer, Refusal};
 use std::alloc::Global;
 use std::fs::File;
 use std::io::{ErrorKind, Read};
@@ -38,10 +38,10 @@ pub(crate) fn text_of<R: Files<File = File> + AllocGlobal, I: Read>(
 }
 
 // Returns the refusal of a script, and tells the observer why.
-fn refuse_script<N: Observer>(reason: Reason, observer: &mut N) -> Refusal
+fn refuse_script<N: Observer<News>>(reason: Reason, observer: &mut N) -> Refusal
     ensures { (result ≡ BadScript) ⊎ (result ≡ NoMemory) }
 {
-    observer.refused(reason);
+    observer.tell(News::Refused(reason));
     match reason {
         Reason::ScriptFile(ErrorKind::OutOfMemory) | Reason::Script(ScriptFault::NoMemory) => {
             Refusal::NoMemory
@@ -51,7 +51,7 @@ fn refuse_script<N: Observer>(reason: Reason, observer: &mut N) -> Refusal
 }
 
 /// Returns the text of a script, or `BadScript` if it can't be read.
-pub(crate) fn read_file<R: Files<File = File> + AllocGlobal, I: Read, N: Observer>(
+pub(crate) fn read_file<R: Files<File = File> + AllocGlobal, I: Read, N: Observer<News>>(
     rt: &R,
     held: &Descriptors,
     script: &str,
@@ -84,7 +84,7 @@ fn read_either(alloc: Global, text: &[u8], glances: bool) -> Result<Script<'_>, 
 
 /// Returns the script in a text, or `BadScript` if the text isn't in the grammar. `glances` says whether it may have
 /// glances.
-pub(crate) fn script_in<'a, N: Observer>(
+pub(crate) fn script_in<'a, N: Observer<News>>(
     alloc: Global,
     text: &'a [u8],
     glances: bool,

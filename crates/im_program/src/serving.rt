@@ -9,8 +9,8 @@ use crate::opening::image_at;
 use crate::scripts::{read_file, script_in};
 use im_disk::{Disk, FileDisk, Start};
 use im_serial::{serial_on, serial_once_on};
-use im_text::Observer;
-use im_types::Refusal;
+use im_text::News;
+use im_types::{Observer, Refusal};
 use im_words::Serving;
 use std::fs::File;
 use std::io::{Read, Write};
@@ -34,7 +34,13 @@ use std::rt::Files;
 ///
 /// If [`serial_on`] refuses, its status and its last line say so. No clause says that an image is ever opened, because
 /// nothing is known about the contents of a folder.
-pub fn serve_file<R: Files<File = File> + AllocGlobal, S: Start, I: Read, W: Write, N: Observer>(
+pub fn serve_file<
+    R: Files<File = File> + AllocGlobal,
+    S: Start,
+    I: Read,
+    W: Write,
+    N: Observer<News>,
+>(
     hand: AtHand<'_, R, I, N>,
     serving: &Serving,
     out: &mut W,
@@ -60,7 +66,7 @@ pub fn serve_file<R: Files<File = File> + AllocGlobal, S: Start, I: Read, W: Wri
 
 /// Serves the script that these bytes are, as [`serve_file`] does with the path `-`. What is served are the bytes
 /// themselves.
-pub fn serve_input<R: Files<File = File> + AllocGlobal, S: Start, W: Write, N: Observer>(
+pub fn serve_input<R: Files<File = File> + AllocGlobal, S: Start, W: Write, N: Observer<News>>(
     hand: AtHand<'_, R, &[u8], N>,
     image: &str,
     once: bool,

@@ -11,8 +11,8 @@ use crate::opening::image_at;
 use im_dialogue::{Backups, dialogue_on};
 use im_disk::{Disk, FileDisk, Start};
 use im_listening::Ear;
-use im_text::Observer;
-use im_types::Refusal;
+use im_text::News;
+use im_types::{Observer, Refusal};
 use im_words::Talking;
 use std::fs::File;
 use std::io::{BufRead, Write};
@@ -35,7 +35,7 @@ pub fn talk_file<
     B: Backups,
     I: BufRead + Ear,
     W: Write,
-    N: Observer,
+    N: Observer<News>,
 >(
     hand: AtHand<'_, R, I, N>,
     talking: &Talking,

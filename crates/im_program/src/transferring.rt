@@ -10,9 +10,9 @@ use crate::moving::migrate_file;
 use crate::work::refuse;
 use im_disk::{FileDisk, Start};
 use im_files::{Noting, note_failed_sync};
-use im_migration::Follower;
-use im_text::Observer;
-use im_types::Refusal;
+use im_migration::MoveNews;
+use im_text::News;
+use im_types::{Observer, Refusal};
 use im_words::Transfer;
 use std::fs::File;
 use std::io::{Eprint, Write};
@@ -25,7 +25,7 @@ fn transfer_file<
     T: Start,
     I,
     W: Write,
-    N: Observer + Follower,
+    N: Observer<News> + Observer<MoveNews>,
 >(
     hand: AtHand<'_, R, I, N>,
     transfer: &Transfer,

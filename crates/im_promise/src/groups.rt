@@ -15,7 +15,7 @@ use im_laws::{
     accepted_where_changed, forgotten_for_ever, groups_are_runs, repeat_is_told_again, runs_join,
     waiting_agrees,
 };
-use im_types::{Refusal, Request, Served};
+use im_types::{MAX_GROUP, Refusal, Request, Served};
 use std::alloc::Global;
 
 /// A group that was sent again after a crash and an opening.
@@ -24,7 +24,7 @@ pub struct GroupRepeat {
     /// The answers to the events before, and the engine over what the crash left, after the group.
     pub recovered: Recovered,
     /// The answers to the members, in their order.
-    pub again: ArrayVec<Served, 16>,
+    pub again: ArrayVec<Served, MAX_GROUP>,
 }
 
 /// Serves a group of requests on an engine whose disk may fail at any call, crashes the disk, and opens what is left.
@@ -35,8 +35,8 @@ pub struct GroupRepeat {
 pub fn recover_group(
     alloc: Global,
     mut engine: Engine<FuseDisk>,
-    members: &ArrayVec<Request, 16>,
-    served: &mut ArrayVec<Served, 16>,
+    members: &ArrayVec<Request, MAX_GROUP>,
+    served: &mut ArrayVec<Served, MAX_GROUP>,
     crash: Crash,
 ) -> Result<Engine<MemDisk>, Refusal>
     // Each element has one request at most.
@@ -62,8 +62,8 @@ pub fn recover_group(
 /// All members are answered `Device` if one of them is new and the disk fails, and `Failed` if the disk failed before.
 pub fn ask_group_again<D: Disk>(
     engine: &mut Engine<D>,
-    members: &ArrayVec<Request, 16>,
-    served: &mut ArrayVec<Served, 16>,
+    members: &ArrayVec<Request, MAX_GROUP>,
+    served: &mut ArrayVec<Served, MAX_GROUP>,
 )
     // Each element has one request at most.
     requires apart { AreApart members.now.items }
@@ -90,10 +90,10 @@ pub fn ask_group_again<D: Disk>(
 pub fn ask_group_over_a_crash(
     alloc: Global,
     mut engine: Engine<FuseDisk>,
-    members: &ArrayVec<Request, 16>,
+    members: &ArrayVec<Request, MAX_GROUP>,
     events: &[Event],
     crash: Crash,
-) -> (ArrayVec<Served, 16>, Result<GroupRepeat, Refusal>)
+) -> (ArrayVec<Served, MAX_GROUP>, Result<GroupRepeat, Refusal>)
     requires apart { AreApart members.now.items }
     ensures first { engine.failed ≡ false → IsGroupAnswer engine members.now.items result.0.items }
     ensures again { IfOk result.1 (λ r. engine.failed ≡ false → has_device result.0.items ≡ false → GroupAskedOverACrash

@@ -1,15 +1,16 @@
 //! Commands that ask to be served. Each element has a place, under a lock of its own for all places.
 ghost use Rattle.std.specs.Prelude.{◌≡◌, ◌≤◌, ◌<◌, ◌+◌, true, length, IfSome};
-ghost use Rattle.im_types.specs.Step.{is_accepted};
+ghost use Rattle.im_types.specs.declared.TheConstants.{MAX_GROUP};
 ghost use Rattle.im_trace.specs.Log.{sender_of};
 ghost use Rattle.im_queue.specs.Members.{is_social, stored_at, are_apart_at, are_together, are_joined, MayJoin};
 ghost use Rattle.im_queue.specs.Members.{IsSure, IsSureBehind, AreSureBehind, AreOneOfEach, AreFreeFor, IsCut};
 ghost use Rattle.im_queue.specs.Members.{Gathers};
 
 use arrayvec::ArrayVec;
+use im_groups::accepts;
 use im_memory::Memory;
 use im_trace::{Log, Name, element_of};
-use im_types::{Command, Op, Request};
+use im_types::{Command, MAX_GROUP, Op, Request};
 use std::alloc::{AllocError, Global};
 
 // What an element asks. The place says which element.
@@ -29,7 +30,7 @@ pub struct Inbox {
 #[derive(Drop)]
 pub struct NextGroup {
     /// Its commands, in the order of their elements.
-    pub members: ArrayVec<Command, 16>,
+    pub members: ArrayVec<Command, MAX_GROUP>,
     /// The first element that wasn't looked at.
     pub next: u16,
 }
@@ -110,16 +111,6 @@ fn may_join(command: &Command, members: &[Command]) -> bool
         }
     }
     true
-}
-
-// Returns whether the memory accepts a command.
-fn accepts(memory: &Memory, command: &Command) -> bool
-    ensures { result ≡ is_accepted memory.now.contents command.now }
-{
-    match memory.judge(command) {
-        Ok(accepted) => accepted,
-        Err(_) => false,
-    }
 }
 
 // Returns whether it is known that a command is accepted or not, before the requests ahead of it act. Of a confirmation
@@ -208,9 +199,9 @@ impl Inbox {
         log: &Log<K>,
         memory: &Memory,
         element: u16,
-        members: &mut ArrayVec<Command, 16>,
+        members: &mut ArrayVec<Command, MAX_GROUP>,
     ) -> bool
-        requires room { length members.old.items < 16 }
+        requires room { length members.old.items < MAX_GROUP }
         requires before { Gathers log.now.state.places memory.now.contents element members.old.items }
         ensures gathered { Gathers log.now.state.places memory.now.contents (element + 1) members.new.items }
         ensures few { length members.new.items ≤ length members.old.items + 1 }
@@ -247,7 +238,7 @@ impl Inbox {
         let mut members = ArrayVec::new();
         let mut next = from;
         for element in from..log.elements() {
-            if members.len() >= most || members.len() >= 16 {
+            if members.len() >= most || members.len() >= MAX_GROUP {
                 break;
             }
             if !self.gather(log, memory, element, &mut members) {

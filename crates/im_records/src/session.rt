@@ -18,7 +18,7 @@ use crate::spell::spell_place;
 use crate::window::{WindowRecord, place_of};
 use byteorder::{ByteOrder, LittleEndian};
 use im_types::layout::{PLACE, SESSION_RECORD, Version};
-use im_types::{Entry, Kept, LAST, Op, Refusal, Reply};
+use im_types::{Entry, Kept, LAST, Op, Refusal, Reply, WINDOW_1};
 use std::alloc::Global;
 
 // The bytes before the places of a session record.
@@ -101,13 +101,13 @@ fn has_reset(kept: &[Kept]) -> bool
     kept.iter().any(|kept| is_of_reset(kept))
 }
 
-/// Returns whether a version has room for a window and knows each of its entries. The first version has 16 places and
-/// knows no reset.
+/// Returns whether a version has room for a window and knows each of its entries. The first version has [`WINDOW_1`]
+/// places and knows no reset.
 pub fn has_room_for(version: Version, window: &WindowRecord) -> bool
     ensures { result ≡ has_room_for (layout_of version) window.now }
 {
     match version {
-        Version::One => window.kept().len() <= 16 && !has_reset(window.kept()),
+        Version::One => window.kept().len() <= WINDOW_1 as usize && !has_reset(window.kept()),
         Version::Two => true,
     }
 }

@@ -5,11 +5,14 @@ ghost use Rattle.im_types.specs.Records.{entry_at};
 ghost use Rattle.im_records.specs.Entries.{FitEntries};
 
 use im_types::layout::Version;
-use im_types::{Entry, Kept, Op, WINDOW};
+use im_types::{Entry, Kept, Op, WINDOW, WINDOW_1};
 use std::marker::Model;
 
 /// The maximum number of entries in a window.
 pub(crate) const PLACES: usize = WINDOW as usize;
+
+// The same of the first version.
+const PLACES_1: usize = WINDOW_1 as usize;
 
 /// The entries kept for an element, numbered from a base on. Contracts see the base and the entries.
 ///
@@ -90,7 +93,7 @@ fn past_of(version: Version, base: u64, place: usize) -> usize
         ≡ (place + (layout_of version).window - base % (layout_of version).window) % (layout_of version).window }
 {
     match version {
-        Version::One => (place + 16 - (base % 16) as usize) % 16,
+        Version::One => (place + PLACES_1 - (base % WINDOW_1) as usize) % PLACES_1,
         Version::Two => (place + PLACES - (base % WINDOW) as usize) % PLACES,
     }
 }
@@ -102,7 +105,7 @@ pub(crate) fn place_of(version: Version, base: u64, past: usize) -> usize
     ensures below { result < (layout_of version).window }
 {
     match version {
-        Version::One => ((base % 16) as usize + past) % 16,
+        Version::One => ((base % WINDOW_1) as usize + past) % PLACES_1,
         Version::Two => ((base % WINDOW) as usize + past) % PLACES,
     }
 }

@@ -15,7 +15,8 @@ use crate::{stat, stat_json};
 use im_damage::{Older, find_older};
 use im_disk::Disk;
 use im_image::{Report, inspect};
-use im_text::{Observer, Reason, Warning, diagnose, end, put_through};
+use im_text::{News, Reason, Warning, diagnose, end, put_through};
+use im_types::Observer;
 use std::alloc::{AllocError, Global};
 use std::io::Write;
 
@@ -84,14 +85,14 @@ fn tell<D: Disk, W: Write>(
 }
 
 // Warns of an old open slot of an image that was reported.
-fn warn<N: Observer>(older: Option<Older>, observer: &mut N) {
+fn warn<N: Observer<News>>(older: Option<Older>, observer: &mut N) {
     if let Some(older) = older {
-        observer.warned(Warning::Older(older));
+        observer.tell(News::Warned(Warning::Older(older)));
     }
 }
 
 // Writes what is wanted of the image on a disk, and then looks for an old open slot.
-fn tell_all<D: Disk, W: Write, N: Observer>(
+fn tell_all<D: Disk, W: Write, N: Observer<News>>(
     alloc: Global,
     disk: &mut D,
     look: &View,
@@ -125,7 +126,7 @@ fn tell_all<D: Disk, W: Write, N: Observer>(
 /// a failed write. It is `Device` if a call of the disk failed. It is `NoMemory` if `alloc` refused the room for the
 /// report, and then none of it is written. The observer gets the reason. For an image that was reported, the observer
 /// gets a warning if a slot of the journal stands open that is too old to be there.
-pub fn inspect_on<D: Disk, W: Write, N: Observer>(
+pub fn inspect_on<D: Disk, W: Write, N: Observer<News>>(
     alloc: Global,
     disk: D,
     out: &mut W,
@@ -168,7 +169,7 @@ pub fn inspect_on<D: Disk, W: Write, N: Observer>(
 ///   which is a number, `of`, `operation` and `reply`. A value, a base and a number of a request are strings.
 /// - `DumpJson`: first an object with `dump`, which is 1, `limits` and `count`, and then those of a `ReportJson` for
 ///   blocks, cells, elements and entries.
-pub fn look_on<D: Disk, W: Write, N: Observer>(
+pub fn look_on<D: Disk, W: Write, N: Observer<News>>(
     alloc: Global,
     mut disk: D,
     look: &View,

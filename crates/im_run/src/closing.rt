@@ -11,8 +11,8 @@ use im_damage::Damage;
 use im_disk::Disk;
 use im_engine::Engine;
 use im_serial::{Paper, both};
-use im_text::{Observer, Progress, Reason, finish};
-use im_types::{Entry, Refusal};
+use im_text::{News, Reason, finish};
+use im_types::{Observer, Refusal};
 use std::alloc::Global;
 use std::io::Write;
 
@@ -46,17 +46,12 @@ struct Behind<'a, N> {
     observer: &'a mut N,
 }
 
-impl<N: Observer> Observer for Behind<'_, N> {
-    fn answered(&mut self, element: u16, number: u64, entry: Entry) {
-        self.observer.answered(element, number, entry);
-    }
-
-    fn progressed(&mut self, progress: Progress) {
-        self.observer.progressed(progress);
-    }
-
-    fn refused(&mut self, reason: Reason) {
-        self.observer.refused(told_as(reason));
+impl<N: Observer<News>> Observer<News> for Behind<'_, N> {
+    fn tell(&mut self, news: News) {
+        self.observer.tell(match news {
+            News::Refused(reason) => News::Refused(told_as(reason)),
+            other => other,
+        });
     }
 }
 
@@ -98,7 +93,7 @@ pub struct Ending<D: Disk> {
 }
 
 /// Prints the lines of what was done, and the refusal. Returns the status and the engine's disk.
-pub fn close<D: Disk, W: Write, N: Observer>(
+pub fn close<D: Disk, W: Write, N: Observer<News>>(
     alloc: Global,
     ending: Ending<D>,
     mut paper: Paper,

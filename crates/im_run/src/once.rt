@@ -8,18 +8,18 @@ ghost use Rattle.im_run.specs.Once.{EndsOnce, RunsOnceOn, RunsOnceOnPlan};
 use crate::context::RunContext;
 use crate::opening::open_server;
 use crate::run::{STALLED, run_server};
-use crate::sheet::{Assignment, Commission, RunMode};
+use crate::sheet::{Assignment, Commission};
 use crate::tracing::Trace;
 use im_disk::Disk;
-use im_script::Script;
 use im_serial::Server;
-use im_serving::{Gate, Host, Watcher};
-use im_text::{Observer, Reason, finish};
+use im_serving::{Gate, Host, Standing};
+use im_text::{News, Reason, finish};
+use im_types::Observer;
 use std::alloc::Global;
 use std::io::Write;
 
 // Prints a refusal behind the lines that are kept back. Returns the status and the engine's disk.
-fn refuse_rest<D: Disk, W: Write, N: Observer>(
+fn refuse_rest<D: Disk, W: Write, N: Observer<News>>(
     alloc: Global,
     server: Server<D>,
     reason: Reason,
@@ -48,9 +48,9 @@ fn refuse_rest<D: Disk, W: Write, N: Observer>(
 fn run_rest<
     D: Disk + Drop + Send,
     W: Write,
-    N: Observer,
+    N: Observer<News>,
     G: Gate + Sync,
-    V: Watcher + Sync,
+    V: Observer<Standing> + Copy + Send,
     R: Host,
 >(
     context: &RunContext<'_, G, V, R>,
@@ -113,34 +113,27 @@ fn run_rest<
 pub fn run_once_on<
     D: Disk + Drop + Send,
     W: Write,
-    N: Observer,
+    N: Observer<News>,
     G: Gate + Sync,
-    V: Watcher + Sync,
+    V: Observer<Standing> + Copy + Send,
     R: Host,
 >(
-    rt: &R,
-    alloc: Global,
+    context: &RunContext<'_, G, V, R>,
     disk: D,
-    script: &Script<'_>,
-    gate: &G,
-    watcher: &V,
+    asked: Assignment<'_, '_>,
     out: &mut W,
     observer: &mut N,
-    mode: RunMode,
 ) -> (u8, D, Trace)
     ensures status { (result.0 ≤ 1) ⊎ (result.0 ≡ STALLED) }
-    ensures run { RunsOnceOn D.Disk script.now disk result.1 (W.contents out.old) (W.contents out.new) result.2
-        result.0 }
-    ensures planned { RunsOnceOnPlan D.Disk mode.planned script.now disk result.1 (W.contents out.old)
-        (W.contents out.new) result.2 result.0 }
-    ensures recorded { mode.recorded ≡ true → result.2.recorded ≡ true }
+    ensures run { RunsOnceOn D.Disk asked.entry.script.now disk result.1 (W.contents out.old) (W.contents out.new)
+        result.2 result.0 }
+    ensures planned { RunsOnceOnPlan D.Disk asked.entry.mode.planned asked.entry.script.now disk result.1
+        (W.contents out.old) (W.contents out.new) result.2 result.0 }
+    ensures recorded { asked.entry.mode.recorded ≡ true → result.2.recorded ≡ true }
 {
-    let context = RunContext::new(rt, alloc, gate, watcher);
+    let alloc = context.alloc;
     match open_server(alloc, disk, out, observer) {
-        Ok(server) => {
-            let asked = Assignment { script, mode };
-            run_rest(&context, server, asked, out, observer)
-        }
+        Ok(server) => run_rest(context, server, asked, out, observer),
         Err((status, disk)) => (status, disk, Trace::new(alloc)),
     }
 }

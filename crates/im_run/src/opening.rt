@@ -6,13 +6,14 @@ ghost use Rattle.im_run.specs.Setup.{HasNotOpened, HasOpened};
 use im_disk::Disk;
 use im_engine::Engine;
 use im_serial::{Desk, Server};
-use im_text::{Observer, Reason, diagnose, end};
+use im_text::{News, Reason, diagnose, end};
+use im_types::Observer;
 use std::alloc::Global;
 use std::io::Write;
 
 /// Opens the image of a disk, and makes a server over it. If that is refused, the reason is printed, and the status and
 /// the disk are returned.
-pub(crate) fn open_server<D: Disk, W: Write, N: Observer>(
+pub(crate) fn open_server<D: Disk, W: Write, N: Observer<News>>(
     alloc: Global,
     disk: D,
     out: &mut W,

@@ -19,8 +19,8 @@ use im_script::{
 };
 use im_serial::Server;
 use im_serving::Intent;
-use im_text::{Observer, Reason};
-use im_types::Line;
+use im_text::{News, Reason};
+use im_types::{Line, Observer};
 use std::alloc::Global;
 use std::io::Write;
 
@@ -81,7 +81,7 @@ pub(crate) fn add_glance(
 }
 
 // Makes a block of the setup, and notes what was served for it.
-fn make_block<D: Disk, W: Write, N: Observer>(
+fn make_block<D: Disk, W: Write, N: Observer<News>>(
     server: &mut Server<D>,
     sheet: &mut Sheet,
     block: Allocation,
@@ -104,7 +104,7 @@ fn make_block<D: Disk, W: Write, N: Observer>(
 }
 
 // Does what a line says, but for a glance.
-fn take_said<D: Disk, W: Write, N: Observer>(
+fn take_said<D: Disk, W: Write, N: Observer<News>>(
     server: &mut Server<D>,
     sheet: &mut Sheet,
     said: Said,
@@ -128,7 +128,7 @@ fn take_said<D: Disk, W: Write, N: Observer>(
 }
 
 // Does what a line says.
-fn take_heard<D: Disk, W: Write, N: Observer>(
+fn take_heard<D: Disk, W: Write, N: Observer<News>>(
     server: &mut Server<D>,
     sheet: &mut Sheet,
     heard: Heard,
@@ -149,7 +149,7 @@ fn take_heard<D: Disk, W: Write, N: Observer>(
 }
 
 // Does what each line says, in order.
-fn take_lines<D: Disk, W: Write, N: Observer>(
+fn take_lines<D: Disk, W: Write, N: Observer<News>>(
     server: &mut Server<D>,
     sheet: &mut Sheet,
     script: &Script<'_>,
@@ -184,7 +184,7 @@ fn take_lines<D: Disk, W: Write, N: Observer>(
 }
 
 // Does what each line says, and writes the setup's lines.
-fn set_up<D: Disk, W: Write, N: Observer>(
+fn set_up<D: Disk, W: Write, N: Observer<News>>(
     server: &mut Server<D>,
     sheet: &mut Sheet,
     script: &Script<'_>,
@@ -259,7 +259,7 @@ fn make_workload(
 ///
 /// It is refused with what serving a block is refused with, with `Place` if a request's place lies past the last
 /// address, and with `Memory`. The setup's calls until then are returned.
-pub fn read_orders<D: Disk, W: Write, N: Observer>(
+pub fn read_orders<D: Disk, W: Write, N: Observer<News>>(
     alloc: Global,
     server: &mut Server<D>,
     asked: Commission<'_, '_>,

@@ -13,17 +13,16 @@ use crate::context::RunContext;
 use crate::opening::open_server;
 use crate::orders::read_orders;
 use crate::served::{ServedRun, serve_orders};
-use crate::sheet::{Commission, RunMode, Workload};
+use crate::sheet::{Assignment, Commission, Workload};
 use crate::tracing::Trace;
 use crate::unserved::with_whole;
 use im_controller::Opening;
 use im_disk::Disk;
 use im_engine::Engine;
-use im_script::Script;
 use im_serial::Server;
-use im_serving::{Gate, Host, Watcher};
-use im_text::{Observer, Reason};
-use im_types::Refusal;
+use im_serving::{Gate, Host, Standing};
+use im_text::{News, Reason};
+use im_types::{Observer, Refusal};
 use std::alloc::Global;
 use std::io::Write;
 use std::marker::Brand;
@@ -43,11 +42,12 @@ fn reason_of(refused: Option<(u16, Refusal)>) -> Result<(), Reason>
 
 // Serves what each element asks for with a controller that was opened. Returns how that ended, and the calls in the
 // order of the lock.
-fn serve_opening<D: Disk + Drop + Send, G: Gate + Sync, V: Watcher + Sync, R: Host>(
-    context: &RunContext<'_, G, V, R>,
-    opening: Opening<D>,
-    work: Workload,
-) -> (Ending<D>, Calls)
+fn serve_opening<
+    D: Disk + Drop + Send,
+    G: Gate + Sync,
+    V: Observer<Standing> + Copy + Send,
+    R: Host,
+>(context: &RunContext<'_, G, V, R>, opening: Opening<D>, work: Workload) -> (Ending<D>, Calls)
     requires plan { work.mode.planned ≡ true → opening.plan
         ≡ Some (plan_of (planned_orders (asks_in work.whole) (map ask_of work.orders.items))) }
     requires fits { work.mode.planned ≡ true → FitsIfNew (asks_in work.whole) opening.engine.memory
@@ -85,9 +85,9 @@ fn no_server<D: Disk>(alloc: Global, engine: Engine<D>, reason: Reason) -> Endin
 fn serve_on<
     D: Disk + Drop + Send,
     W: Write,
-    N: Observer,
+    N: Observer<News>,
     G: Gate + Sync,
-    V: Watcher + Sync,
+    V: Observer<Standing> + Copy + Send,
     R: Host,
 >(
     context: &RunContext<'_, G, V, R>,
@@ -122,9 +122,9 @@ fn serve_on<
 pub(crate) fn run_server<
     D: Disk + Drop + Send,
     W: Write,
-    N: Observer,
+    N: Observer<News>,
     G: Gate + Sync,
-    V: Watcher + Sync,
+    V: Observer<Standing> + Copy + Send,
     R: Host,
 >(
     context: &RunContext<'_, G, V, R>,
@@ -159,8 +159,9 @@ pub(crate) fn run_server<
     }
 }
 
-/// Serves a script, which may have glances, on the image of a disk, and gives the disk back, with the trace. Each
-/// element's requests have a server of their own, and all run at once. What it prints goes to `out`, in this order:
+/// Serves the script that is asked for, which may have glances, on the image of a disk, and gives the disk back, with
+/// the trace. Each element's requests have a server of their own, and all run at once. What it prints goes to `out`, in
+/// this order:
 ///
 /// - The lines `0.N REPLY` of the setup, which is served first.
 /// - For each element from the least, its requests in order as `K.N REPLY`. K is the element, N the number, and REPLY
@@ -170,7 +171,7 @@ pub(crate) fn run_server<
 ///
 /// A server waits for what its element asked for, and confirms it as its window fills. The gate is called before and
 /// after each request. If the journal is full, servers make turns of a checkpoint, beside the thread that keeps them.
-/// That thread tells the watcher how many servers wait and what room there is.
+/// That thread tells its observer how many servers wait and what room there is.
 ///
 /// The status is 0, 3 or 1. It is 3, with `refused 19 Stalled`, if the only refusals are of servers that wait for each
 /// other. It is 1 if one of these happens:
@@ -221,39 +222,36 @@ pub(crate) fn run_server<
 pub fn run_on<
     D: Disk + Drop + Send,
     W: Write,
-    N: Observer,
+    N: Observer<News>,
     G: Gate + Sync,
-    V: Watcher + Sync,
+    V: Observer<Standing> + Copy + Send,
     R: Host,
 >(
-    rt: &R,
-    alloc: Global,
+    context: &RunContext<'_, G, V, R>,
     disk: D,
-    script: &Script<'_>,
-    gate: &G,
-    watcher: &V,
+    asked: Assignment<'_, '_>,
     out: &mut W,
     observer: &mut N,
-    mode: RunMode,
 ) -> (u8, D, Trace)
     ensures status { (result.0 ≤ 1) ⊎ (result.0 ≡ STALLED) }
     ensures ran { D.honest result.1 → (result.0 ≡ 0) ⊎ (result.0 ≡ STALLED)
         → Ran D.now result.1 (W.contents out.old) (W.contents out.new) result.0 }
-    ensures run { RunsOn D.Disk script.now disk result.1 (W.contents out.old) (W.contents out.new) result.2 result.0 }
-    ensures planned { RunsOnPlan D.Disk mode.planned script.now disk result.1 (W.contents out.old) (W.contents out.new)
-        result.2 result.0 }
-    ensures recorded { mode.recorded ≡ true → result.2.recorded ≡ true }
+    ensures run { RunsOn D.Disk asked.entry.script.now disk result.1 (W.contents out.old) (W.contents out.new) result.2
+        result.0 }
+    ensures planned { RunsOnPlan D.Disk asked.entry.mode.planned asked.entry.script.now disk result.1
+        (W.contents out.old) (W.contents out.new) result.2 result.0 }
+    ensures recorded { asked.entry.mode.recorded ≡ true → result.2.recorded ≡ true }
     ensures honest { D.honest result.1 → D.honest disk }
 {
-    let context = RunContext::new(rt, alloc, gate, watcher);
+    let alloc = context.alloc;
     match open_server(alloc, disk, out, observer) {
         Ok(server) => {
             let asked = Commission {
-                script,
+                script: asked.script,
                 once: false,
-                mode,
+                mode: asked.mode,
             };
-            run_server(&context, server, asked, out, observer)
+            run_server(context, server, asked, out, observer)
         }
         Err((status, disk)) => (status, disk, Trace::new(alloc)),
     }

@@ -16,9 +16,9 @@ use crate::sheet::Order;
 use im_controller::{Controller, Finished, Name, Opening, Port, finish};
 use im_disk::Disk;
 use im_engine::Engine;
-use im_serving::{Done, Gate, Host, Watcher, serve_elements};
+use im_serving::{Done, Gate, Host, Standing, serve_elements};
 use im_text::Waited;
-use im_types::Refusal;
+use im_types::{Observer, Refusal};
 use std::alloc::{AllocError, Global};
 
 /// What was done for an element.
@@ -197,7 +197,7 @@ fn serve_parts<
     D: Disk + Drop + Send,
     K: Name + Send + Sync,
     G: Gate + Sync,
-    V: Watcher + Sync,
+    V: Observer<Standing> + Copy + Send,
     R: Host,
 >(
     context: &RunContext<'_, G, V, R>,
@@ -220,7 +220,7 @@ fn serve_parts<
 }
 
 /// Serves what each element asks for, all at once, through a controller over an engine, and gives the engine and the
-/// trace back. The thread that keeps checkpoints tells the watcher how things stand.
+/// trace back. The thread that keeps checkpoints tells its observer how things stand.
 ///
 /// An element that doesn't exist is refused with `NoElement`, and one for which memory or a thread is missing with
 /// `NoMemory`. Nothing of it is served then. The requests of the others continue.
@@ -232,7 +232,7 @@ pub(crate) fn serve_orders<
     D: Disk + Drop + Send,
     K: Name + Send + Sync,
     G: Gate + Sync,
-    V: Watcher + Sync,
+    V: Observer<Standing> + Copy + Send,
     R: Host,
 >(context: &RunContext<'_, G, V, R>, opening: Opening<D>, orders: Vec<Order>) -> ServedRun<D>
     requires origin { IsOriginOf D.Disk opening K.origin }

@@ -15,8 +15,9 @@ use crate::run::STALLED;
 use crate::sheet::Assignment;
 use im_disk::{Disk, FuseDisk, MemDisk};
 use im_serial::Interrupted;
-use im_serving::{Gate, Host, Watcher};
-use im_text::Observer;
+use im_serving::{Gate, Host, Standing};
+use im_text::News;
+use im_types::Observer;
 use std::io::Write;
 
 /// The numbers of an element's requests that were accepted from a new image on are 1, 2, 3 and so on, in this order. So
@@ -45,7 +46,14 @@ pub fn planned_scripts_have_one_end()
 {}
 
 // Runs a script once. Returns the status and the disk.
-fn run_in<D: Disk + Drop + Send, W: Write, N: Observer, G: Gate + Sync, V: Watcher + Sync, R: Host>(
+fn run_in<
+    D: Disk + Drop + Send,
+    W: Write,
+    N: Observer<News>,
+    G: Gate + Sync,
+    V: Observer<Standing> + Copy + Send,
+    R: Host,
+>(
     context: &RunContext<'_, G, V, R>,
     disk: D,
     asked: Assignment<'_, '_>,
@@ -55,17 +63,7 @@ fn run_in<D: Disk + Drop + Send, W: Write, N: Observer, G: Gate + Sync, V: Watch
     ensures status { (result.0 ≤ 1) ⊎ (result.0 ≡ STALLED) }
     ensures keeps { KeepsRuns D.Disk asked.entry.mode.planned asked.entry.script.now disk result.1 result.0 }
 {
-    let (status, disk, _trace) = run_once_on(
-        context.rt,
-        context.alloc,
-        disk,
-        asked.script,
-        context.gate,
-        context.watcher,
-        out,
-        observer,
-        asked.mode,
-    );
+    let (status, disk, _trace) = run_once_on(context, disk, asked, out, observer);
     (status, disk)
 }
 
@@ -81,7 +79,13 @@ fn run_in<D: Disk + Drop + Send, W: Write, N: Observer, G: Gate + Sync, V: Watch
 /// so does each file in the end: the blocks of its setup were put, in their order, and then requests of its own plan,
 /// and no other. If the status is 0, all of them were. By [`planned_scripts_have_one_end`] the memory is then as if
 /// nothing had stopped.
-pub fn run_over_stops<W: Write, N: Observer, G: Gate + Sync, V: Watcher + Sync, R: Host>(
+pub fn run_over_stops<
+    W: Write,
+    N: Observer<News>,
+    G: Gate + Sync,
+    V: Observer<Standing> + Copy + Send,
+    R: Host,
+>(
     context: &RunContext<'_, G, V, R>,
     image: Interrupted,
     asked: Assignment<'_, '_>,

@@ -1,6 +1,6 @@
 //! Splits a line into words, and reads single words.
-ghost use Rattle.std.specs.Prelude.{◌≡◌, ◌==◌, ◌≤◌, ◌<◌, ◌++◌, ℕ, List, [], IfOk, IfSome, MatchOption, false, true};
-ghost use Rattle.std.specs.Prelude.{codes, drop, is_some, length, take};
+ghost use Rattle.std.specs.Prelude.{◌≡◌, ◌≢◌, ◌==◌, ◌≤◌, ◌<◌, ◌++◌, ℕ, List, [], IfOk, IfSome, MatchOption, true};
+ghost use Rattle.std.specs.Prelude.{codes, drop, false, is_some, length, take};
 ghost use Rattle.std.specs.List.{before_first, list_all, list_any, position, position_or_len};
 ghost use Rattle.std.specs.Char.{is_ascii};
 ghost use Rattle.std.specs.Option.{option_and_then, option_map, option_map_or};
@@ -32,6 +32,15 @@ pub const MOST_WORDS: usize = 5;
 /// The first words of a line.
 pub type Words<'a> = ArrayVec<&'a [u8], MOST_WORDS>;
 
+// Returns whether one look tells that a byte stands within a word: it is ASCII, and above the space. As a signed number
+// such a byte is above 32, and no other is.
+fn stands_in_word(byte: u8) -> bool
+    ensures ascii { result ≡ true → is_ascii byte ≡ true }
+    ensures other { result ≡ true → byte ≢ 32 }
+{
+    byte.cast_signed() > 32
+}
+
 /// Cuts a line at its first space. Returns what comes before it, and the rest of the line after it, or `None` for the
 /// latter if the line has no space. Returns `None` for both if a byte up to there isn't ASCII.
 fn cut_word(line: &[u8]) -> Option<(&[u8], Option<&[u8]>)>
@@ -42,6 +51,9 @@ fn cut_word(line: &[u8]) -> Option<(&[u8], Option<&[u8]>)>
     ensures smaller { IfSome result (λ cut. IfSome cut.1 (λ rest. length rest.now < length line.now)) }
 {
     for (at, byte) in line.iter().enumerate() {
+        if stands_in_word(*byte) {
+            continue;
+        }
         if *byte == b' ' {
             return Some((&line[..at], Some(&line[at + 1..])));
         }

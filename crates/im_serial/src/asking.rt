@@ -10,14 +10,18 @@ use crate::server::Server;
 use crate::waits::learn;
 use im_disk::Disk;
 use im_script::{Allocation, Reader, Said, Script, ScriptFault, ScriptLine, split_line};
-use im_text::{Observer, Progress, Reason};
-use im_types::{Command, Entry, Op, Outcome, Refusal, Reply, Request, WINDOW};
+use im_text::{News, Progress, Reason};
+use im_types::{Command, Entry, Observer, Op, Outcome, Refusal, Reply, Request, WINDOW};
 use std::alloc::Global;
 use std::io::Write;
 
 impl<D: Disk> Server<D> {
     // If an element's window is full, confirms its entries before the first that still waits.
-    fn make_place<N: Observer>(&mut self, element: u16, observer: &mut N) -> Result<(), Refusal>
+    fn make_place<N: Observer<News>>(
+        &mut self,
+        element: u16,
+        observer: &mut N,
+    ) -> Result<(), Refusal>
         ensures goes { Prepares D.Disk result self.old.engine self.old.waited.items self.old.places.marks.items
             self.new.engine self.new.waited.items self.new.places.marks.items }
         ensures lines { self.new.lines ≡ self.old.lines }
@@ -42,7 +46,7 @@ impl<D: Disk> Server<D> {
     }
 
     // Makes a place in an element's window, and room in the journal, for its next request.
-    fn prepare<N: Observer>(&mut self, element: u16, observer: &mut N) -> Result<(), Refusal>
+    fn prepare<N: Observer<News>>(&mut self, element: u16, observer: &mut N) -> Result<(), Refusal>
         ensures goes { Prepares D.Disk result self.old.engine self.old.waited.items self.old.places.marks.items
             self.new.engine self.new.waited.items self.new.places.marks.items }
         ensures lines { self.new.lines ≡ self.old.lines }
@@ -94,7 +98,7 @@ impl<D: Disk> Server<D> {
     }
 
     // Serves an element's next request, and prints what is kept for it.
-    fn request<W: Write, N: Observer>(
+    fn request<W: Write, N: Observer<News>>(
         &mut self,
         element: u16,
         op: Op,
@@ -122,7 +126,7 @@ impl<D: Disk> Server<D> {
     ///
     /// It is refused with what the engine refuses, with `Block` if the block isn't made, with `Memory`, or because a
     /// write of the output failed.
-    pub fn make_block<W: Write, N: Observer>(
+    pub fn make_block<W: Write, N: Observer<News>>(
         &mut self,
         block: Allocation,
         out: &mut W,
@@ -146,7 +150,7 @@ impl<D: Disk> Server<D> {
     }
 
     // Serves a request of a part.
-    fn serve_line<W: Write, N: Observer>(
+    fn serve_line<W: Write, N: Observer<News>>(
         &mut self,
         line: ScriptLine,
         out: &mut W,
@@ -165,7 +169,7 @@ impl<D: Disk> Server<D> {
     }
 
     // Serves what a line says.
-    fn serve_said<W: Write, N: Observer>(
+    fn serve_said<W: Write, N: Observer<News>>(
         &mut self,
         said: Said,
         out: &mut W,
@@ -183,7 +187,7 @@ impl<D: Disk> Server<D> {
     }
 
     // Serves what a line says, and writes it if that is wanted.
-    pub(crate) fn serve_and_show<W: Write, N: Observer>(
+    pub(crate) fn serve_and_show<W: Write, N: Observer<News>>(
         &mut self,
         said: Said,
         out: &mut W,
@@ -199,7 +203,7 @@ impl<D: Disk> Server<D> {
     }
 
     // Serves the script line by line as it is read, until a request is refused.
-    pub(crate) fn serve<W: Write, N: Observer>(
+    pub(crate) fn serve<W: Write, N: Observer<News>>(
         &mut self,
         alloc: Global,
         script: &Script<'_>,
@@ -232,8 +236,8 @@ impl<D: Disk> Server<D> {
 }
 
 // Tells the observer the progress, before one more request.
-fn follow<N: Observer>(progress: &mut Progress, room: u32, observer: &mut N) {
+fn follow<N: Observer<News>>(progress: &mut Progress, room: u32, observer: &mut N) {
     progress.room = room;
-    observer.progressed(*progress);
+    observer.tell(News::Progressed(*progress));
     progress.served = progress.served.saturating_add(1);
 }

@@ -11,13 +11,14 @@ use crate::past::Past;
 use crate::server::Server;
 use im_disk::Disk;
 use im_script::{Reader, Said, Script, ScriptFault, split_line};
-use im_text::{Observer, Reason};
+use im_text::{News, Reason};
+use im_types::Observer;
 use std::alloc::Global;
 use std::io::Write;
 
 impl<D: Disk> Server<D> {
     // Serves what a line says, if the image doesn't have it.
-    fn serve_new<W: Write, N: Observer>(
+    fn serve_new<W: Write, N: Observer<News>>(
         &mut self,
         said: Said,
         past: &mut Past,
@@ -36,7 +37,7 @@ impl<D: Disk> Server<D> {
     }
 
     // Serves what the image doesn't have of a script, line by line, until a request is refused.
-    fn serve_rest<W: Write, N: Observer>(
+    fn serve_rest<W: Write, N: Observer<News>>(
         &mut self,
         alloc: Global,
         script: &Script<'_>,
@@ -100,7 +101,7 @@ impl<D: Disk> Server<D> {
     }
 
     // Prints what the image has of a script, and then serves the rest of it, until a request is refused.
-    pub(crate) fn serve_once<W: Write, N: Observer>(
+    pub(crate) fn serve_once<W: Write, N: Observer<News>>(
         &mut self,
         alloc: Global,
         script: &Script<'_>,

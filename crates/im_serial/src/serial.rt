@@ -10,7 +10,8 @@ use crate::server::{Desk, Server};
 use im_disk::Disk;
 use im_engine::Engine;
 use im_script::Script;
-use im_text::{Observer, Reason, diagnose, end, finish};
+use im_text::{News, Reason, diagnose, end, finish};
+use im_types::Observer;
 use std::alloc::Global;
 use std::io::Write;
 
@@ -45,7 +46,7 @@ use std::io::Write;
 /// `now` line the entry that is kept for it at the end or that it had when it was confirmed. What was written is at
 /// each return a prefix of this text: the lines of such commands, then those of requests that had to wait, then that of
 /// the refusal. If the status is 0, it is all of it.
-pub fn serial_on<D: Disk, W: Write, N: Observer>(
+pub fn serial_on<D: Disk, W: Write, N: Observer<News>>(
     alloc: Global,
     disk: D,
     script: &Script<'_>,
@@ -70,7 +71,7 @@ pub fn serial_on<D: Disk, W: Write, N: Observer>(
 }
 
 // Serves a script on an engine. Returns the status and the engine's disk.
-fn serve_on<D: Disk, W: Write, N: Observer>(
+fn serve_on<D: Disk, W: Write, N: Observer<News>>(
     alloc: Global,
     engine: Engine<D>,
     desk: Desk,
@@ -128,7 +129,7 @@ fn serve_on<D: Disk, W: Write, N: Observer>(
 /// So stops may come anywhere, and any number of them. From a new image on, all such runs of one script are together
 /// what one run of [`serial_on`] is: its requests were put in their order, each once and with its element's next
 /// number, and names stand for the bases that were answered. If the status is 0, they are all its requests.
-pub fn serial_once_on<D: Disk, W: Write, N: Observer>(
+pub fn serial_once_on<D: Disk, W: Write, N: Observer<News>>(
     alloc: Global,
     disk: D,
     script: &Script<'_>,
@@ -144,7 +145,7 @@ pub fn serial_once_on<D: Disk, W: Write, N: Observer>(
 }
 
 // Opens the image of a disk, and serves what it doesn't have of a script. Returns the status and the disk.
-fn open_and_serve_once<D: Disk, W: Write, N: Observer>(
+fn open_and_serve_once<D: Disk, W: Write, N: Observer<News>>(
     alloc: Global,
     disk: D,
     script: &Script<'_>,
@@ -172,7 +173,7 @@ fn open_and_serve_once<D: Disk, W: Write, N: Observer>(
 }
 
 // Serves what the engine of a server doesn't have of a script. Returns the status and the engine's disk.
-fn serve_once_on<D: Disk, W: Write, N: Observer>(
+fn serve_once_on<D: Disk, W: Write, N: Observer<News>>(
     alloc: Global,
     mut server: Server<D>,
     script: &Script<'_>,

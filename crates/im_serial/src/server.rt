@@ -17,8 +17,8 @@ use crate::past::make_done;
 use crate::waits::{Places, learn_all, note, tell_earlier, waited_at};
 use im_disk::Disk;
 use im_engine::Engine;
-use im_text::{Lines, Observer, Progress, Reason, Waited, make_line, make_now};
-use im_types::Entry;
+use im_text::{Lines, News, Progress, Reason, Waited, make_line, make_now};
+use im_types::{Entry, Observer};
 use std::alloc::{AllocError, Global};
 use std::io::Write;
 
@@ -180,14 +180,14 @@ impl<D: Disk> Server<D> {
     }
 
     // Writes what is kept back, if each line is wanted as soon as it is true.
-    pub(crate) fn show<W: Write, N: Observer>(
+    pub(crate) fn show<W: Write, N: Observer<News>>(
         &mut self,
         out: &mut W,
-        observer: &N,
+        observer: &mut N,
     ) -> Result<(), Reason>
         ensures served { ServedBy D.Disk [] result self.old (W.contents out.old) self.new (W.contents out.new) }
     {
-        if observer.wants_each_line() {
+        if observer.listens() {
             self.lines.flush(out)
         } else {
             Ok(())
@@ -196,7 +196,7 @@ impl<D: Disk> Server<D> {
 
     // Learns what is kept at the end for the requests that had to wait, and tells the observer about those that waited
     // before.
-    pub(crate) fn learn_all<N: Observer>(&mut self, observer: &mut N)
+    pub(crate) fn learn_all<N: Observer<News>>(&mut self, observer: &mut N)
         ensures engine { self.new.engine ≡ self.old.engine }
         ensures lines { self.new.lines ≡ self.old.lines }
         ensures names { map who_of self.new.waited.items ≡ map who_of self.old.waited.items }

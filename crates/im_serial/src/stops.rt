@@ -9,7 +9,8 @@ ghost use Rattle.im_serial.specs.Begun.{MeansBegun, MeansDone, new_memory};
 use crate::serial::serial_once_on;
 use im_disk::{Crash, FuseDisk, MemDisk, Mode};
 use im_script::Script;
-use im_text::Observer;
+use im_text::News;
+use im_types::Observer;
 use std::alloc::Global;
 use std::io::Write;
 
@@ -45,7 +46,7 @@ pub fn new_images_have_begun()
 /// If each file that a crash may leave at first means what a run of the script comes to, as a new image does, so does
 /// each that is left in the end. If the status is 0, it means the memory after all requests of the script, each once,
 /// in their order, each with its element's next number.
-pub fn serial_over_stops<W: Write, N: Observer>(
+pub fn serial_over_stops<W: Write, N: Observer<News>>(
     alloc: Global,
     image: Interrupted,
     script: &Script<'_>,

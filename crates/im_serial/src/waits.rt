@@ -13,8 +13,8 @@ ghost use Rattle.im_serial.specs.Noted.{AreKnown, AreLast, IsLearnt, Learns, ent
 ghost use Rattle.im_serial.specs.Noted.{with_entry};
 
 use im_memory::Memory;
-use im_text::{Observer, Waited};
-use im_types::{Entry, MAX_ELEMENTS, WINDOW};
+use im_text::{News, Waited};
+use im_types::{Entry, MAX_ELEMENTS, Observer, WINDOW};
 use std::alloc::{AllocError, Global};
 
 /// Who waits at a place of a window.
@@ -131,8 +131,17 @@ fn set_entry(waited: &mut [Waited], at: usize, who: (u16, u64), entry: Entry)
     }
 }
 
+// What an observer is told of the answer under a number.
+fn answered(who: (u16, u64), entry: Entry) -> News {
+    News::Answered(Waited {
+        element: who.0,
+        number: who.1,
+        entry,
+    })
+}
+
 // Keeps the answer of a request that waited here. Tells the observer the answer of one that waited before.
-fn settle<N: Observer>(
+fn settle<N: Observer<News>>(
     waited: &mut [Waited],
     mark: Mark,
     who: (u16, u64),
@@ -145,13 +154,13 @@ fn settle<N: Observer>(
 {
     match mark {
         Mark::Nobody => {}
-        Mark::Earlier => observer.answered(who.0, who.1, entry),
+        Mark::Earlier => observer.tell(answered(who, entry)),
         Mark::Here(at) => set_entry(waited, at, who, entry),
     }
 }
 
 // Learns the answer under a number, before it is confirmed.
-fn learn_one<N: Observer>(
+fn learn_one<N: Observer<News>>(
     waited: &mut [Waited],
     places: &mut Places,
     memory: &Memory,
@@ -173,7 +182,7 @@ fn learn_one<N: Observer>(
 
 /// Learns the answers under an element's numbers, before they are confirmed. `numbers` are the element, the first of
 /// them, and the one behind the last.
-pub fn learn<N: Observer>(
+pub fn learn<N: Observer<News>>(
     waited: &mut [Waited],
     places: &mut Places,
     memory: &Memory,
@@ -217,7 +226,7 @@ pub fn learn_all(waited: &mut [Waited], memory: &Memory)
 }
 
 // Tells the observer the answers of an element's requests that waited when the image was opened.
-fn tell_element<N: Observer>(
+fn tell_element<N: Observer<News>>(
     places: &mut Places,
     memory: &Memory,
     element: u16,
@@ -230,13 +239,13 @@ fn tell_element<N: Observer>(
             continue;
         };
         if kept.entry != Entry::Waiting && places.take(element, number) == Mark::Earlier {
-            observer.answered(element, number, kept.entry);
+            observer.tell(answered((element, number), kept.entry));
         }
     }
 }
 
 /// Tells the observer the answers of all requests that waited when the image was opened.
-pub fn tell_earlier<N: Observer>(places: &mut Places, memory: &Memory, observer: &mut N) {
+pub fn tell_earlier<N: Observer<News>>(places: &mut Places, memory: &Memory, observer: &mut N) {
     for element in 0..memory.elements() {
         if let Ok(numbers) = memory.window(element) {
             tell_element(places, memory, element, numbers, observer);

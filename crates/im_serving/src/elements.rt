@@ -9,10 +9,9 @@ use crate::host::Host;
 use crate::parts::{Done, Part};
 use crate::running::Running;
 use crate::starting::begin_all;
-use crate::watching::{Counted, Watcher};
-use im_controller::{Controller, Name};
+use im_controller::{Controller, Name, Standing};
 use im_disk::Disk;
-use im_types::Refusal;
+use im_types::{Observer, Refusal};
 use std::alloc::{AllocError, Global};
 use std::sync::Wait;
 use std::thread;
@@ -26,22 +25,28 @@ struct Crew<K: Name> {
     done: Vec<Done<K>>,
 }
 
-// Keeps checkpoints until the controller ends, and tells the watcher how things stand.
-fn keep_and_tell<D: Disk, K: Name, V: Watcher, R: Wait>(
+// Keeps checkpoints until the controller ends, and tells an observer how things stand.
+fn keep_and_tell<D: Disk, K: Name, V: Observer<Standing> + Drop, R: Wait>(
     rt: &R,
     controller: &Controller<D, K>,
-    watcher: &V,
+    mut watcher: V,
 ) -> Result<(), Refusal> {
-    let mut counted = Counted::of(watcher);
-    controller.keep_checkpoints_and_tell(rt, &mut counted)
+    controller.keep_checkpoints_and_tell(rt, &mut watcher)
 }
 
 // Starts the thread that keeps checkpoints, if it can be made.
-fn keep<'s, E, D: Disk + Drop + Send, K: Name + Send + Sync, V: Watcher + Sync, R: Host>(
+fn keep<
+    's,
+    E,
+    D: Disk + Drop + Send,
+    K: Name + Send + Sync,
+    V: Observer<Standing> + Copy + Send + 's,
+    R: Host,
+>(
     rt: &'s R,
     scope: &Scope<'s, E>,
     controller: &'s Controller<D, K>,
-    watcher: &'s V,
+    watcher: V,
 ) -> Option<JoinHandle<Result<(), Refusal>>> {
     match scope.spawn(move || keep_and_tell(rt, controller, watcher)) {
         Ok(keeper) => Some(keeper),
@@ -56,13 +61,13 @@ fn serve_within<
     D: Disk + Drop + Send,
     K: Name + Send + Sync,
     G: Gate + Sync,
-    V: Watcher + Sync,
+    V: Observer<Standing> + Copy + Send + 's,
     R: Host,
 >(
     context: &Context<'s, D, K, G, R>,
     alloc: Global,
     scope: &Scope<'s, E>,
-    watcher: &'s V,
+    watcher: V,
     crew: Crew<K>,
 ) -> Vec<Done<K>>
     requires all { (length crew.parts.items ≤ vec_capacity crew.all) × (crew.all.items ≡ []) }
@@ -81,7 +86,7 @@ fn serve_within<
 }
 
 /// Serves all elements at once. Each has a thread that sends what it asks for and one that serves it. Beside them runs
-/// the thread that keeps checkpoints, which tells the watcher how things stand. Without that thread, the servers make
+/// the thread that keeps checkpoints, which tells an observer how things stand. Without that thread, the servers make
 /// the turns that they need.
 ///
 /// The ports come back in the order of the parts, each retired. If one of an element's threads can't be made, the
@@ -96,14 +101,14 @@ pub fn serve_elements<
     D: Disk + Drop + Send,
     K: Name + Send + Sync,
     G: Gate + Sync,
-    V: Watcher + Sync,
+    V: Observer<Standing> + Copy + Send,
     R: Host,
 >(
     rt: &R,
     alloc: Global,
     controller: &Controller<D, K>,
     gate: &G,
-    watcher: &V,
+    watcher: V,
     parts: Vec<Part<K>>,
 ) -> Result<Vec<Done<K>>, AllocError>
     ensures ends { IfOk result (λ all. AreEnded K.origin.memory parts.items all.items) }

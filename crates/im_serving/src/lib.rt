@@ -20,7 +20,6 @@ mod running;
 mod sender;
 mod server;
 mod starting;
-mod watching;
 
 pub use context::Context;
 pub use elements::serve_elements;
@@ -35,4 +34,3 @@ pub use parts::{Done, Part};
 pub use sender::{Sent, send_all};
 pub use server::serve_element;
 pub use starting::PIPE;
-pub use watching::{Unwatched, Watcher};

@@ -6,10 +6,10 @@ use arrayvec::ArrayVec;
 use im_checkpoint::TurnDone;
 use im_engine::{Answer, Event, Group};
 use im_story::{Cases, Phrase, Saying, command};
-use im_types::{Command, Request, Served};
+use im_types::{Command, MAX_GROUP, Request, Served};
 
 // Reads commands that are written with `with` between them.
-fn commands_of(words: &[&str]) -> Option<ArrayVec<Command, 16>> {
+fn commands_of(words: &[&str]) -> Option<ArrayVec<Command, MAX_GROUP>> {
     let mut members = ArrayVec::new();
     for part in words.split(|word| *word == "with") {
         members.try_push(command(part)?).ok()?;

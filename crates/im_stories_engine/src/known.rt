@@ -7,7 +7,7 @@ use im_memory::Memory;
 use im_plain::PlainMemory;
 use im_story::Saying;
 use im_story_disk::StoryFile;
-use im_types::{Command, Limits, Outcome, Refusal, Served};
+use im_types::{Command, Limits, MAX_GROUP, Outcome, Refusal, Served};
 use std::alloc::Global;
 
 /// An engine in a file, and what it has answered: the memory after it, and how many commands that is. The commands of
@@ -19,7 +19,7 @@ pub struct KnownEngine {
     pub plain: PlainMemory,
     /// How many commands were answered.
     pub count: u64,
-    doubt: ArrayVec<Command, 16>,
+    doubt: ArrayVec<Command, MAX_GROUP>,
     room: usize,
 }
 

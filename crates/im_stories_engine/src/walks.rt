@@ -8,7 +8,7 @@ use im_memory::Memory;
 use im_plain::PlainMemory;
 use im_story::{Dice, Phrase, Saying};
 use im_story_disk::STEADY;
-use im_types::{Command, Limits, Request};
+use im_types::{Command, Limits, MAX_GROUP, Request};
 
 // The cells of each memory.
 const CELLS: u32 = 24;
@@ -53,7 +53,7 @@ fn command(dice: &mut Dice, plain: &PlainMemory, before: &[Command]) -> Command 
 }
 
 // Returns up to sixteen commands of any elements, some of one element: each behind those before it.
-fn group(dice: &mut Dice, plain: &PlainMemory) -> ArrayVec<Command, 16> {
+fn group(dice: &mut Dice, plain: &PlainMemory) -> ArrayVec<Command, MAX_GROUP> {
     let mut members = ArrayVec::new();
     for _ in 0..dice.below(16) + 1 {
         let member = command(dice, plain, members.as_slice());

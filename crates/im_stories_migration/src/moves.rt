@@ -1,18 +1,17 @@
 //! Migrations, and what the two files mean.
 
-use im_migration::{Unfollowed, length_for, migrate};
+use im_migration::{length_for, migrate};
 use im_report::inspect_on;
 use im_story::{Phrase, Printout, Saying, change};
 use im_story_disk::StoryFile;
-use im_text::{Observer, Progress, Reason};
-use im_types::Entry;
+use im_types::Unobserved;
 
 /// Migrates the image of a file to another file. Tells how many commands it has, or why that is refused.
 pub fn move_on(old: &mut StoryFile, new: &mut StoryFile, said: &mut Saying) {
     let (Some(mut from), Some(to)) = (old.taken(), new.taken()) else {
         return said.fail("there is no old file, or no new one");
     };
-    match migrate(old.alloc, &mut from, to, &Unfollowed) {
+    match migrate(old.alloc, &mut from, to, &mut Unobserved) {
         Ok((to, count)) => {
             new.lay_down(to);
             write!(said, "migrated {count}")
@@ -49,23 +48,11 @@ pub fn tell_length(old: &mut StoryFile, said: &mut Saying) {
     old.lay_down(disk)
 }
 
-// An observer that nothing is told to.
-#[derive(Drop)]
-struct Unheard;
-
-impl Observer for Unheard {
-    fn answered(&mut self, _element: u16, _number: u64, _entry: Entry) {}
-
-    fn progressed(&mut self, _progress: Progress) {}
-
-    fn refused(&mut self, _reason: Reason) {}
-}
-
 /// Returns the report of a file. It's empty if there is no file.
 pub fn report(file: &mut StoryFile) -> Printout {
     let mut out = Printout::new(file.alloc);
     if let Some(disk) = file.taken() {
-        let (_status, disk) = inspect_on(file.alloc, disk, &mut out, &mut Unheard);
+        let (_status, disk) = inspect_on(file.alloc, disk, &mut out, &mut Unobserved);
         file.lay_down(disk);
     }
     out

@@ -1,8 +1,8 @@
 //! An observer that keeps what it is told.
 
 use im_story::Saying;
-use im_text::{Observer, Progress, Reason, Warning};
-use im_types::Entry;
+use im_text::{News, Progress};
+use im_types::Observer;
 use std::alloc::Global;
 
 /// What was told besides the output, a line each.
@@ -24,22 +24,17 @@ impl ObserverNotes {
     }
 }
 
-impl Observer for ObserverNotes {
-    fn answered(&mut self, element: u16, number: u64, entry: Entry) {
-        write!(self.told, "{element}.{number} now ");
-        self.told.entry(entry);
-        self.told.text("\n")
-    }
-
-    fn progressed(&mut self, progress: Progress) {
-        self.progress = Some(progress);
-    }
-
-    fn refused(&mut self, reason: Reason) {
-        writeln!(self.told, "{reason}")
-    }
-
-    fn warned(&mut self, warning: Warning) {
-        writeln!(self.told, "{warning}")
+impl Observer<News> for ObserverNotes {
+    fn tell(&mut self, news: News) {
+        match news {
+            News::Answered(waited) => {
+                write!(self.told, "{}.{} now ", waited.element, waited.number);
+                self.told.entry(waited.entry);
+                self.told.text("\n")
+            }
+            News::Progressed(progress) => self.progress = Some(progress),
+            News::Refused(reason) => writeln!(self.told, "{reason}"),
+            News::Warned(warning) => writeln!(self.told, "{warning}"),
+        }
     }
 }

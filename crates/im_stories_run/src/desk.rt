@@ -5,13 +5,13 @@ use crate::gates::After;
 use crate::scripts::script_of;
 use im_disk::Mode;
 use im_report::inspect_on;
-use im_run::{RunMode, run_on, run_once_on, write_trace};
+use im_run::{Assignment, RunContext, RunMode, run_on, run_once_on, write_trace};
 use im_script::read_script_with_glances;
-use im_serving::{Gate, Host, Open, Unwatched};
+use im_serving::{Gate, Host, Open};
 use im_story::{Printout, Saying};
 use im_story_disk::StoryFile;
-use im_text::{Observer, Progress, Reason};
-use im_types::{Entry, Limits, Refusal};
+use im_text::{News, Reason};
+use im_types::{Limits, Observer, Refusal, Unobserved};
 use std::alloc::Global;
 
 /// How a script is run: once or not, as a plan or not, and for its trace or not.
@@ -37,13 +37,11 @@ impl How {
 #[derive(Drop)]
 struct WhyRefused(Option<Reason>);
 
-impl Observer for WhyRefused {
-    fn answered(&mut self, _element: u16, _number: u64, _entry: Entry) {}
-
-    fn progressed(&mut self, _progress: Progress) {}
-
-    fn refused(&mut self, reason: Reason) {
-        self.0 = Some(reason);
+impl Observer<News> for WhyRefused {
+    fn tell(&mut self, news: News) {
+        if let News::Refused(reason) = news {
+            self.0 = Some(reason);
+        }
     }
 }
 
@@ -116,14 +114,15 @@ impl<'a> RunDesk<'a> {
             return 2;
         };
         let (out, reason) = (&mut self.out, &mut self.reason);
+        let context = RunContext::new(rt, alloc, gate, Unobserved);
+        let asked = Assignment {
+            script: &script,
+            mode,
+        };
         let (status, disk, trace) = if how.once {
-            run_once_on(
-                rt, alloc, disk, &script, gate, &Unwatched, out, reason, mode,
-            )
+            run_once_on(&context, disk, asked, out, reason)
         } else {
-            run_on(
-                rt, alloc, disk, &script, gate, &Unwatched, out, reason, mode,
-            )
+            run_on(&context, disk, asked, out, reason)
         };
         self.place.lay_down(disk);
         if mode.recorded {

@@ -4,10 +4,11 @@ use crate::casts::Cast;
 use crate::glances::{Looked, watch};
 use crate::players::Player;
 use crate::plays::Play;
-use im_controller::{Controller, Name, Shown, Standing, Teller};
+use im_controller::{Controller, Name, Shown, Standing};
 use im_disk::Disk;
 use im_glass::Glance;
 use im_serving::Host;
+use im_types::Observer;
 use std::alloc::Global;
 use std::sync::{Mutex, Wait};
 use std::thread;
@@ -23,7 +24,7 @@ struct LastRoom<'a, R> {
     room: &'a Mutex<u32>,
 }
 
-impl<R: Wait> Teller for LastRoom<'_, R> {
+impl<R: Wait> Observer<Standing> for LastRoom<'_, R> {
     fn listens(&mut self) -> bool {
         true
     }
@@ -66,10 +67,8 @@ fn keep<'s, E, D: Disk + Drop + Send, K: Name + Send + Sync, R: Host>(
     room: &'s Mutex<u32>,
 ) -> Option<JoinHandle<bool>> {
     let keeper = scope.spawn(move || {
-        let mut teller = LastRoom { rt, room };
-        controller
-            .keep_checkpoints_and_tell(rt, &mut teller)
-            .is_ok()
+        let mut watch = LastRoom { rt, room };
+        controller.keep_checkpoints_and_tell(rt, &mut watch).is_ok()
     });
     keeper.ok()
 }

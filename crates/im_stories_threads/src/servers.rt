@@ -2,10 +2,8 @@
 
 use crate::casts::{Cast, keep};
 use im_controller::Name;
-use im_serving::{
-    Done, Gate, Glances, Host, Intent, Part, ServedNumbers, Unwatched, serve_elements,
-};
-use im_types::{Entry, Op, Refusal};
+use im_serving::{Done, Gate, Glances, Host, Intent, Part, ServedNumbers, serve_elements};
+use im_types::{Entry, Op, Refusal, Unobserved};
 
 /// A request: its element, from 1 to 3, its number and its operation.
 pub type Wish = (u16, u64, Op);
@@ -76,7 +74,7 @@ impl<K: Name + Send + Sync, R: Host> Cast<'_, K, R> {
             }
         }
         let (rt, alloc, controller) = (self.rt, self.alloc, self.controller);
-        match serve_elements(rt, alloc, controller, gate, &Unwatched, parts) {
+        match serve_elements(rt, alloc, controller, gate, Unobserved, parts) {
             Ok(all) => {
                 for done in all {
                     self.end(done)

@@ -5,10 +5,10 @@ ghost use Rattle.std.specs.Io.KnownBytes.{Appends, Keeps};
 ghost use Rattle.im_text.specs.Printing.{Begins, IsLast, MayPrint, Prints};
 
 use crate::lines::{Lines, put_through};
-use crate::observer::Observer;
+use crate::news::News;
 use crate::reasons::Reason;
 use crate::replies::make_refusal;
-use im_types::Refusal;
+use im_types::{Observer, Refusal};
 use std::alloc::Global;
 use std::io::Write;
 
@@ -44,7 +44,7 @@ fn print_refusal<W: Write>(
 /// Ends work that keeps lines back. If the work is done, writes those lines. If it is refused, tells the observer why
 /// and writes the line of the refusal. Returns the status: 0 only if the work is done and all its lines are written,
 /// else 1.
-pub fn finish<W: Write, N: Observer>(
+pub fn finish<W: Write, N: Observer<News>>(
     alloc: Global,
     done: Result<(), Reason>,
     lines: &mut Lines,
@@ -62,12 +62,12 @@ pub fn finish<W: Write, N: Observer>(
         Ok(()) => match lines.flush(out) {
             Ok(()) => 0,
             Err(reason) => {
-                observer.refused(reason);
+                observer.tell(News::Refused(reason));
                 1
             }
         },
         Err(reason) => {
-            observer.refused(reason);
+            observer.tell(News::Refused(reason));
             if let Some(refusal) = reason.refusal() {
                 print_refusal(alloc, refusal, lines, line, out);
             }
@@ -88,7 +88,7 @@ pub fn put_refusal<W: Write>(alloc: Global, refusal: Refusal, out: &mut W)
 
 /// Returns the status of work: 0 if it is done, 1 if it is refused. On a refusal, tells the observer why and prints the
 /// line of the refusal.
-pub fn end<W: Write, N: Observer>(
+pub fn end<W: Write, N: Observer<News>>(
     alloc: Global,
     done: Result<(), Reason>,
     out: &mut W,
@@ -102,7 +102,7 @@ pub fn end<W: Write, N: Observer>(
     match done {
         Ok(()) => 0,
         Err(reason) => {
-            observer.refused(reason);
+            observer.tell(News::Refused(reason));
             if let Some(refusal) = reason.refusal() {
                 put_refusal(alloc, refusal, out);
             }

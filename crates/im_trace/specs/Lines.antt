@@ -8,14 +8,14 @@ use Rattle.im_types.specs.declared.commands.Call.{Call}
 use Rattle.im_types.specs.declared.commands.Call.TheVariants.{Command as Commands, Collect}
 use Rattle.im_types.specs.declared.commands.Line.{Line}
 use Rattle.im_types.specs.declared.refusals.Refusal.{Refusal}
-use Rattle.im_types.specs.Refusals.{number_of}
+use Rattle.im_types.specs.Refusals.{is_of_numbers}
 use Rattle.im_types.specs.Contents.{Contents}
 use Rattle.im_types.specs.Trace.{contents_after}
 
--- whether an answer leaves a line: an outcome does, and a refusal of numbers, 1 to 6
+-- whether an answer leaves a line: an outcome does, and a refusal of numbers
 abbrev pub leaves_line : Result Outcome Refusal → Bool
 leaves_line (Ok outcome) = true
-leaves_line (Err refusal) = nat_lt (number_of refusal) 7
+leaves_line (Err refusal) = is_of_numbers refusal
 
 -- a call with its answer
 abbrev pub line_of : Call → Result Outcome Refusal → Line

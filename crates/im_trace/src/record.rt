@@ -43,7 +43,7 @@ pub(crate) fn leaves_line(answer: Result<Outcome, Refusal>) -> bool
 {
     match answer {
         Ok(_) => true,
-        Err(refusal) => refusal.number() < 7,
+        Err(refusal) => refusal.is_of_numbers(),
     }
 }
 

@@ -7,7 +7,7 @@ ghost use Rattle.std.specs.Prelude.{◌≡◌, ◌*◌, ◌≤◌};
 ghost use Rattle.im_types.specs.Layout as layout;
 ghost use Rattle.im_types.specs.Layout.{layout_in_use, layout_of, sizes_of};
 
-use crate::{Limits, MAX_CELLS, MAX_ELEMENTS, MAX_SLOTS, WINDOW};
+use crate::{Limits, MAX_CELLS, MAX_ELEMENTS, MAX_SLOTS, WINDOW, WINDOW_1};
 
 /// The bytes of a page, and of a header place.
 pub const PAGE: usize = 4_096;
@@ -57,7 +57,7 @@ pub const LONGEST_IMAGE: usize = FARTHEST_JOURNAL + SLOT * MAX_SLOTS as usize;
 /// A version of the layout. Version one can be read; version two is in use.
 #[derive(Clone, Copy, Debug, PartialEq, Eq)]
 pub enum Version {
-    /// Windows of 16 entries, at most 65,536 cells, and no reset.
+    /// Windows of [`WINDOW_1`] entries, at most 65,536 cells, and no reset.
     One,
     /// Windows of 64 entries, at most 1,048,576 cells, and resets.
     Two,
@@ -92,7 +92,7 @@ impl Version {
         ensures few { (1 ≤ result) × (result ≤ WINDOW) }
     {
         match self {
-            Version::One => 16,
+            Version::One => WINDOW_1 as usize,
             Version::Two => WINDOW as usize,
         }
     }
@@ -135,7 +135,7 @@ impl Version {
         ensures { result ≡ layout.node_count (layout_of self) (sizes_of limits) }
     {
         match self {
-            Version::One => 16 * limits.elements as usize,
+            Version::One => WINDOW_1 as usize * limits.elements as usize,
             Version::Two => WINDOW as usize * limits.elements as usize,
         }
     }
@@ -145,7 +145,10 @@ impl Version {
         ensures { result ≡ layout.node_pages (layout_of self) (sizes_of limits) }
     {
         match self {
-            Version::One => (16 * limits.elements as usize + NODES_ON_A_PAGE - 1) / NODES_ON_A_PAGE,
+            Version::One => {
+                (WINDOW_1 as usize * limits.elements as usize + NODES_ON_A_PAGE - 1)
+                    / NODES_ON_A_PAGE
+            }
             Version::Two => (WINDOW as usize * limits.elements as usize + NODES_ON_A_PAGE - 1)
                 / NODES_ON_A_PAGE,
         }

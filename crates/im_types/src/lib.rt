@@ -9,6 +9,7 @@ pub mod codes;
 mod commands;
 mod groups;
 pub mod layout;
+mod observers;
 mod operations;
 mod records;
 mod refusals;
@@ -18,6 +19,7 @@ pub use cells::Cell;
 pub use changes::Change;
 pub use commands::{Call, Command, Judged, Line, Outcome, Request};
 pub use groups::Served;
+pub use observers::{Observer, Unobserved};
 pub use operations::{Block, Entry, Kept, Kind, Op, Reply, Waiter};
 pub use records::{CellRecord, NodeRecord, PresenceTag};
 pub use refusals::Refusal;
@@ -40,6 +42,9 @@ pub const MAX_GROUP: usize = 16;
 
 /// The most entries that a window keeps.
 pub const WINDOW: u64 = 64;
+
+/// The most entries that a window of the first version keeps.
+pub const WINDOW_1: u64 = 16;
 
 /// The greatest request number, sequence number, count of commands and generation.
 pub const LAST: u64 = 1 << 62;

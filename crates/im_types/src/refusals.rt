@@ -81,7 +81,7 @@ pub enum Refusal {
 }
 
 impl Refusal {
-    ghost use Rattle.im_types.specs.Refusals.{number_of};
+    ghost use Rattle.im_types.specs.Refusals.{number_of, is_of_numbers};
 
     /// Returns the refusal's number, 1 to 24.
     pub fn number(self) -> u8
@@ -113,5 +113,13 @@ impl Refusal {
             Refusal::BadPlan => 23,
             Refusal::PaneGone => 24,
         }
+    }
+
+    /// Returns whether it is a refusal of numbers, 1 to 6: a command's element or number isn't one that the memory
+    /// takes.
+    pub fn is_of_numbers(self) -> bool
+        ensures { result ≡ is_of_numbers self }
+    {
+        self.number() < Refusal::JournalFull.number()
     }
 }

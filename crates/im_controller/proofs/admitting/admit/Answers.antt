@@ -1,98 +1,64 @@
-use Rattle.std.proofs.Common.{◌≡◌, ◌≤◌, false, true, List, ap, sym, subst, ◌∙◌, length, arith}
-use Rattle.im_types.specs.declared.commands.Line.{Line}
-use Rattle.im_types.specs.declared.refusals.Refusal.TheVariants.{OffPlan}
-use Rattle.im_types.specs.Trace.{end_of}
-use Rattle.im_types.specs.Changes.{shown_by}
-use Rattle.im_engine.specs.Commands.{each_refused}
-use Rattle.im_trace.specs.Log.{LogState}
-use Rattle.im_controller.specs.State.{SharedState}
-use Rattle.im_queue.specs.Members.{AreFreeFor}
-use Rattle.im_controller.specs.Kept.{accepted_in}
-use Rattle.im_controller.proofs.KeptLemmas.{HasSince, held_of, keeps_at, since_of}
-use Rattle.im_controller.specs.Planned.{KeepsTo}
-use Rattle.im_controller.specs.Admitted.{is_picked, picked}
-use Rattle.im_controller.proofs.AdmitLemmas.{admitted-is, refused-is, off-log, off-trace, off-fits, off-shared}
-use Rattle.im_controller.proofs.PlannedLemmas.{keeps-starts}
+use Rattle.std.proofs.Common.{◌+◌, arith, drop, get_or, ap, None, Some, Bool, subst, sym, ◌∙◌}
+use Rattle.im_types.specs.declared.operations.Kind.TheVariants.{I}
+use Rattle.im_types.specs.declared.operations.Op.TheVariants.{Alloc}
+use Rattle.im_types.specs.declared.commands.Command.{Command}
+use Rattle.im_types.specs.declared.commands.Command.TheVariants.{Request as Asks}
+use Rattle.im_laws.proofs.Tests.{true_false}
+use Rattle.im_groups.specs.Commands.{takes_place}
+use Rattle.im_controller.specs.Admitted.{IsVerdict, places_with, is_asked}
+use Rattle.im_controller.proofs.AdmitLemmas.{admitting-start, admitting-cons, admitting-lent, admitting-refused}
+use Rattle.im_controller.proofs.AdmitLemmas.{admitting-ahead, admitting-end, verdict-lineless}
 use Rattle.im_controller.proofs.admitting.admit.Goals as goal
+use Rattle.im_controller.proofs.admitting.admit.Goals.{in-Ok, in-Err}
 
-pub keep_all-requires : goal.keep_all-requires
-keep_all-requires g c =
-    let rs = c.args.members.now in
-    let free = subst (λ (s : SharedState g.row.D.Denot). AreFreeFor s.log.places rs)
-    (sym c.shared.view_is) c.requires.free in
-    let few = subst (λ (s : SharedState g.row.D.Denot). length s.log.trace ≤ s.log.limit)
-    (sym c.shared.view_is) c.is_asked-asked.ensures.few in
-    rw (
-      c.as_slice-2.ensures.value,
-      c.as_slice-3.ensures.value,
-      c.refuse_alike.ensures,
-      c.as_slice.ensures.value,
-      c.pick-2.ensures.picked,
-    )
-    (let it = off-fits g.K.Name.origin.memory c.shared.inside.log.state
-    (is_picked c.shared.inside.plan c.is_asked-asked.result false) rs c.requires.apart free in
-    record {
-      whole = it.whole;
-      are_so = it.are_so;
-      apart = it.apart;
-      free = it.free;
-      room = omega
-          (arith, it.none, few);
-    })
+pub loop-i-init : goal.loop-i-init
+loop-i-init g c = rw c.new-lent.ensures
+    (admitting-start c.args.plan.now c.is_asked-asked.result c.memory-memory.result.now.contents
+    c.places_with-left.result c.args.members.now c.args.log.now c.args.pane.now c.requires.apart c.requires.free)
 
-pub invariant_of-shared : goal.invariant_of-shared
-invariant_of-shared g c =
-    let m = g.K.Name.origin.memory in let e = c.shared.inside.engine in
-    let log = off-log c.shared.inside.log.state c.keep_all.new.log.state c.pick-2.new.chosen.items
-    c.as_slice-2.result.now c.as_slice-3.result.now c.keep_all.ensures.log c.as_slice-2.ensures.value
-    (c.as_slice-3.ensures.value ∙ c.refuse_alike.ensures ∙ ap (each_refused OffPlan) c.as_slice.ensures.value) in
-    let same = sym (ap (λ (l : LogState). l.trace) log
-    ∙ off-trace c.shared.inside.log.state c.pick-2.new.chosen.items) in (
-      subst (λ (ls : List Line). end_of m ls ≡ e.memory) same c.shared.invariant.0,
-      subst (λ (ls : List Line). c.shared.inside.pane.shown ≡ shown_by m ls) same c.shared.invariant.1,
-      c.shared.invariant.2,
-      c.shared.invariant.3,
-      c.shared.invariant.4,
-      (λ honest began.
-          let old = c.shared.inside.log in let plan = g.K.Name.origin.plan in
-          let held = held_of m old.state.trace old.times in
-          let before = c.shared.invariant.5 honest began in
-          keeps_at g.D.Disk g.K.Name.origin.begun m plan
-          (length (g.D.Disk.past c.disk.result.now)) old c.keep_all.new.log e
-          (ap (λ d. length (g.D.Disk.past d)) c.disk.ensures) before.whole before.order c.keep_all.ensures.times
-          (subst (λ (ls : List Line). HasSince g.D.Disk g.K.Name.origin.begun m plan held
-          (accepted_in m ls) e) same
-          (since_of g.D.Disk g.K.Name.origin.begun m plan old.state.trace old.times e before))),
-      c.shared.invariant.6,
-      c.shared.invariant.7,
-      subst (λ (ls : List Line). KeepsTo m g.K.Name.origin.plan ls) same c.shared.invariant.8,
-    )
+pub keep-requires-clause-room : goal.keep-requires-clause-room
+keep-requires-clause-room g c = λ told. absurd (true_false (sym told ∙ verdict-lineless c.is_off-is_off.result
+    (takes_place c.memory-memory.result.now.contents c.loop-i.left _) c.in-Err.refusal c.in-Err.ensures.verdict))
 
-pub returns-clause-lent : goal.returns-clause-lent
-returns-clause-lent g c =
-    let rs = c.args.members.now in let asked = c.is_asked-asked.result in
-    c.pick.ensures.picked ∙ ap (λ p. picked (is_picked p asked true) rs) c.shared.invariant.7
-    ∙ ap (λ a. picked (is_picked g.K.Name.origin.plan a true) rs) c.is_asked-asked.ensures.asked
-    ∙ admitted-is c.args.shared.now rs g.K.Name.origin.plan
+pub keep-requires-clause-is_so : goal.keep-requires-clause-is_so
+keep-requires-clause-is_so g c = λ told. absurd (true_false (sym told ∙ verdict-lineless c.is_off-is_off.result
+    (takes_place c.memory-memory.result.now.contents c.loop-i.left _) c.in-Err.refusal c.in-Err.ensures.verdict))
 
-pub returns-clause-shared : goal.returns-clause-shared
-returns-clause-shared g c =
-    let rs = c.args.members.now in let asked = c.is_asked-asked.result in
-    let off = c.pick-2.ensures.picked ∙ ap (λ p. picked (is_picked p asked false) rs) c.shared.invariant.7
-    ∙ ap (λ a. picked (is_picked g.K.Name.origin.plan a false) rs) c.is_asked-asked.ensures.asked
-    ∙ refused-is c.args.shared.now rs g.K.Name.origin.plan in
-    let log = off-log c.shared.inside.log.state c.keep_all.new.log.state _ c.as_slice-2.result.now
-    c.as_slice-3.result.now c.keep_all.ensures.log (c.as_slice-2.ensures.value ∙ off)
-    (c.as_slice-3.ensures.value ∙ c.refuse_alike.ensures ∙ ap (each_refused OffPlan)
-    (c.as_slice.ensures.value ∙ off)) in
-    let s : SharedState g.row.D.Denot = record {
-      engine = c.shared.inside.engine;
-      log = c.shared.inside.log.state;
-      servers = c.shared.inside.servers;
-      shown = c.shared.inside.pane.shown;
-    } in
-    off-shared s c.args.shared.now c.shared.view_is c.keep_all.new.log.state g.K.Name.origin.plan rs log
+pub loop-i-preserved : goal.loop-i-preserved
+loop-i-preserved g c =
+    let plan = c.args.plan.now in let asked = c.is_asked-asked.result in
+    let m = c.memory-memory.result.now.contents in let left0 = c.places_with-left.result in
+    let rs = c.args.members.now in let i = c.loop-i.i in
+    let first : Command = Asks (record { element = 0; number = 0; op = Alloc I 0 }) in
+    let r = get_or rs i first in let left = c.loop-i.left in
+    let k = admitting-cons plan asked m left0 rs c.args.log.now c.args.pane.now left c.loop-i.lent.items c.loop-i.log
+    c.loop-i.pane i first c.loop-i-test.true c.loop-i.invariant in
+    elim c.match-judge.branch [
+      | in-Ok w ↦ rw (w.left-is, w.lent-is, w.log-is, w.push.ensures.items)
+          (admitting-lent plan asked m left0 rs c.args.log.now c.args.pane.now left r (drop (i + 1) rs)
+          c.loop-i.lent.items c.loop-i.log c.loop-i.pane k
+          (subst (λ (off : Bool). IsVerdict off (takes_place m left r) None) c.is_off-is_off.ensures
+          w.in-Ok.ensures.verdict.1)
+          w.places_behind-left.result (w.places_behind-left.ensures m r w.in-Ok.ensures.verdict.0) c.judge.new.pane
+          w.in-Ok.ensures.ahead)
+      | in-Err w ↦ rw (w.left-is, w.lent-is, w.log-is)
+          (admitting-refused plan asked m left0 rs c.args.log.now c.args.pane.now left r (drop (i + 1) rs)
+          c.loop-i.lent.items c.loop-i.log c.loop-i.pane k w.in-Err.refusal
+          (subst (λ (off : Bool). IsVerdict off (takes_place m left r) (Some w.in-Err.refusal))
+          c.is_off-is_off.ensures w.in-Err.ensures.verdict)
+          _ w.keep.new.self w.keep.ensures.log w.keep.ensures.times c.judge.new.pane w.in-Err.ensures.same)
+    ]
 
-pub returns-clause-starts : goal.returns-clause-starts
-returns-clause-starts g c = keeps-starts g.K.Name.origin.memory g.K.Name.origin.plan c.shared.inside.log.state.trace
-    c.shared.invariant.8
+pub returns-clause-admits : goal.returns-clause-admits
+returns-clause-admits g c = admitting-end c.args.plan.now c.is_asked-asked.result c.memory-memory.result.now.contents
+    c.places_with-left.result c.args.members.now c.args.log.now c.args.pane.now c.loop-i.left c.loop-i.lent.items
+    c.loop-i.log c.loop-i.pane c.loop-i.i (omega arith) c.loop-i.invariant c.args.engine.now c.memory-memory.ensures
+    (c.is_asked-asked.ensures ∙ ap (is_asked c.args.engine.now) c.room-room.ensures.room)
+    (c.places_with-left.ensures ∙ ap (places_with c.args.engine.now) c.room-room.ensures.room)
+
+pub returns-clause-ahead : goal.returns-clause-ahead
+returns-clause-ahead g c = admitting-ahead c.args.plan.now c.is_asked-asked.result
+    c.memory-memory.result.now.contents c.places_with-left.result c.args.members.now c.args.log.now c.args.pane.now
+    c.loop-i.left c.loop-i.lent.items c.loop-i.log c.loop-i.pane c.loop-i.i (omega arith) c.loop-i.invariant
+    c.args.engine.now c.memory-memory.ensures
+    (c.places_with-left.ensures ∙ ap (places_with c.args.engine.now) c.room-room.ensures.room)

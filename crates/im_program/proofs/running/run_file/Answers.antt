@@ -11,8 +11,8 @@ run_once_on-requires-send-D g c κs within =
     let disk = FileDisk-row-send (param 1 g.row.S) g.S.Start c.type_bounds.send-S in
     search (sendable, crosses) depth 40 fits 30000
 
-pub run_on-ended-requires-send-D : goal.run_on-ended-requires-send-D
-run_on-ended-requires-send-D g c κs within =
+pub run_on-requires-send-D : goal.run_on-requires-send-D
+run_on-requires-send-D g c κs within =
     let disk = FileDisk-row-send (param 1 g.row.S) g.S.Start c.type_bounds.send-S in
     search (sendable, crosses) depth 40 fits 30000
 
@@ -26,7 +26,7 @@ returns-then-running-clause-ran g c = rw c.if-running.true (record {
       (c.in_ok-script.ensures.text ∙ c.as_slice.ensures.value)
       (rw c.parts-input.ensures.input at c.in_ok-text.ensures.text);
   run = c.run_once_on.ensures.run;
-  plan = rw c.mode_of-mode.ensures.planned at c.run_once_on.ensures.planned;
+  plan = rw c.mode_of.ensures.planned at c.run_once_on.ensures.planned;
 })
 
 pub returns-clause-ran : goal.returns-clause-ran
@@ -38,13 +38,13 @@ returns-clause-ran g c = rw c.if-running.false (record {
   read = text_as _ c.in_ok-text.text.items c.in_ok-script.script
       (c.in_ok-script.ensures.text ∙ c.as_slice.ensures.value)
       (rw c.parts-input.ensures.input at c.in_ok-text.ensures.text);
-  run = c.run_on-ended.ensures.run;
-  plan = rw c.mode_of-mode.ensures.planned at c.run_on-ended.ensures.planned;
+  run = c.run_on.ensures.run;
+  plan = rw c.mode_of.ensures.planned at c.run_on.ensures.planned;
 })
 
 pub returns-then-running-clause-recorded : goal.returns-then-running-clause-recorded
 returns-then-running-clause-recorded g c = λ asked.
-    c.run_once_on.ensures.recorded (c.mode_of-mode.ensures.recorded ∙ asked)
+    c.run_once_on.ensures.recorded (c.mode_of.ensures.recorded ∙ asked)
 
 pub returns-clause-recorded : goal.returns-clause-recorded
-returns-clause-recorded g c = λ asked. c.run_on-ended.ensures.recorded (c.mode_of-mode.ensures.recorded ∙ asked)
+returns-clause-recorded g c = λ asked. c.run_on.ensures.recorded (c.mode_of.ensures.recorded ∙ asked)

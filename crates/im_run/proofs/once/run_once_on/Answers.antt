@@ -15,13 +15,13 @@ returns-in-Ok-clause-run g c = λ honest.
     let r = c.run_rest.result in
     let was = g.W.Write.contents c.open_server.new.out in
     let is = g.W.Write.contents c.run_rest.new.out in
-    let text = c.args.script.now in
+    let text = c.args.asked.script.now in
     let it = c.run_rest.ensures.ends honest in (
       o.honest it.0,
       subst (λ (w : Option (List ℕ)). RanOnce d.now d.past d.failures false text c.args.disk r.1 w is r.2 r.0)
           c.in-Ok.ensures.same
           (inr (opened_rest d false text c.args.disk start r.1 was is r.2 r.0 (o.leaves it.0) (o.nothing.means it.0)
-          o.failures (unplanned_rest d c.args.mode.planned text start r.1 was is r.2 r.0 it.1))),
+          o.failures (unplanned_rest d c.args.asked.mode.planned text start r.1 was is r.2 r.0 it.1))),
     )
 
 pub returns-in-Ok-clause-planned : goal.returns-in-Ok-clause-planned
@@ -32,7 +32,7 @@ returns-in-Ok-clause-planned g c = λ planned honest.
     let r = c.run_rest.result in
     let was = g.W.Write.contents c.open_server.new.out in
     let is = g.W.Write.contents c.run_rest.new.out in
-    let text = c.args.script.now in
+    let text = c.args.asked.script.now in
     let it = subst (λ (b : Bool). EndsOnce d b text start r.1 was is r.2 r.0) planned c.run_rest.ensures.ends honest in
     subst (λ (w : Option (List ℕ)). RanOnce d.now d.past d.failures true text c.args.disk r.1 w is r.2 r.0)
     c.in-Ok.ensures.same

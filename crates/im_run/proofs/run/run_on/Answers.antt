@@ -19,13 +19,14 @@ returns-in-Ok-clause-run g c = λ honest.
     let r = c.run_server in
     let was = g.W.Write.contents c.open_server.new.out in
     let is = g.W.Write.contents r.new.out in
-    let text = c.args.script.now in
+    let text = c.args.asked.script.now in
     let before = r.ensures.honest honest in
     inr (subst (λ (w : Option (List ℕ)). RanOn d.now d.past d.failures false false text c.args.disk r.result.1 w is
     r.result.2 r.result.0) c.in-Ok.ensures.same
     (ran_on d false false text c.args.disk start r.result.1 was is r.result.2 r.result.0 (o.leaves before)
     (o.nothing.means before) o.failures
-    (unplanned d.now d.past d.failures false c.args.mode.planned text start r.result.1 was is r.result.2 r.result.0
+    (unplanned d.now d.past d.failures false c.args.asked.mode.planned text start r.result.1 was is r.result.2
+    r.result.0
     (r.ensures.run honest))))
 
 pub returns-in-Ok-clause-planned : goal.returns-in-Ok-clause-planned
@@ -36,7 +37,7 @@ returns-in-Ok-clause-planned g c = λ planned honest.
     let r = c.run_server in
     let was = g.W.Write.contents c.open_server.new.out in
     let is = g.W.Write.contents r.new.out in
-    let text = c.args.script.now in
+    let text = c.args.asked.script.now in
     let before = r.ensures.honest honest in
     inr (subst (λ (w : Option (List ℕ)). RanOn d.now d.past d.failures false true text c.args.disk r.result.1 w is
     r.result.2 r.result.0) c.in-Ok.ensures.same
@@ -53,8 +54,8 @@ returns-in-Ok-clause-ran g c = λ honest is_end.
     let r = c.run_server in
     let was = g.W.Write.contents c.open_server.new.out in
     let is = g.W.Write.contents r.new.out in
-    let text = c.args.script.now in
-    let planned = c.args.mode.planned in
+    let text = c.args.asked.script.now in
+    let planned = c.args.asked.mode.planned in
     let before = r.ensures.honest honest in
     subst (λ (w : Option (List ℕ)). Ran d.now r.result.1 w is r.result.0) c.in-Ok.ensures.same
     (ran d false planned text c.args.disk r.result.1 was is r.result.2 r.result.0 is_end
@@ -67,7 +68,7 @@ returns-in-Ok-clause-honest g c = λ honest. c.in-Ok.ensures.opened.honest (c.ru
 pub returns-in-Err-clause-ran : goal.returns-in-Err-clause-ran
 returns-in-Err-clause-ran g c = λ honest is_end.
     let d = g.D.Disk in
-    ran d false c.args.mode.planned c.args.script.now c.args.disk c.in-Err.disk
+    ran d false c.args.asked.mode.planned c.args.asked.script.now c.args.disk c.in-Err.disk
     (g.W.Write.contents c.args.out.now) (g.W.Write.contents c.open_server.new.out) c.new.result c.in-Err.status is_end
     (inl (c.in-Err.ensures.refused.unopened honest))
 

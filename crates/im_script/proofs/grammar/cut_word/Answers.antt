@@ -26,3 +26,12 @@ loop-at-preserved c =
       none = no_end 32 _ _ c.loop-at-test.true c.if-byte-eq32.false c.loop-at.invariant.none;
       plain = sym (plain_more _ _ c.loop-at-test.true ascii) ∙ c.loop-at.invariant.plain;
     }
+
+pub loop-at-preserved-then-stands_in_word : goal.loop-at-preserved-then-stands_in_word
+loop-at-preserved-then-stands_in_word c =
+    let is_so = c.if-stands_in_word.true in
+    record {
+      none = no_end 32 _ _ c.loop-at-test.true (c.stands_in_word.ensures.other is_so) c.loop-at.invariant.none;
+      plain = sym (plain_more _ _ c.loop-at-test.true (c.stands_in_word.ensures.ascii is_so))
+          ∙ c.loop-at.invariant.plain;
+    }

@@ -2,10 +2,10 @@ use Rattle.std.proofs.Common.{[]}
 use Rattle.im_serial.proofs.ScriptedLemmas.{has_served, passes_refl, prints_on}
 use Rattle.im_serial.proofs.server.Server.show.Goals as goal
 
-pub returns-then-wants_each_line : goal.returns-then-wants_each_line
-returns-then-wants_each_line g c = record {
+pub returns-then-listens : goal.returns-then-listens
+returns-then-listens g c = record {
   served = has_served g.D.Disk c.flush.result _ _ _ _ _ (prints_on g.D.Disk _ _ _ _ _ _ _ _ c.flush.ensures.on);
 }
 
-pub returns-else-wants_each_line : goal.returns-else-wants_each_line
-returns-else-wants_each_line g c = record { served = has_served g.D.Disk _ _ _ _ _ _ (passes_refl g.D.Disk [] _ _) }
+pub returns-else-listens : goal.returns-else-listens
+returns-else-listens g c = record { served = has_served g.D.Disk _ _ _ _ _ _ (passes_refl g.D.Disk [] _ _) }

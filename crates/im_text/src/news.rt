@@ -1,8 +1,8 @@
-//! Observers of the work, which learn what the output doesn't say.
+//! What an observer of the work is told, and the output doesn't say.
 
 use crate::reasons::Reason;
+use crate::replies::Waited;
 use im_damage::Older;
-use im_types::Entry;
 use std::fmt;
 use std::fmt::{Display, Formatter};
 
@@ -37,24 +37,17 @@ impl Display for Warning {
     }
 }
 
-/// A person who follows the work. Nothing told here is part of the output.
-pub trait Observer {
-    /// Learns the answer to a request that waited when the image was opened. This is called before the request's entry
-    /// is confirmed, or at the end.
-    fn answered(&mut self, element: u16, number: u64, entry: Entry);
-
-    /// Learns how far the work has come, before each request.
-    fn progressed(&mut self, progress: Progress);
-
-    /// Learns why the work is refused.
-    fn refused(&mut self, reason: Reason);
-
-    /// Learns something odd about an image that is read all the same.
-    fn warned(&mut self, _warning: Warning) {}
-
-    /// Whether each line of the output is wanted as soon as it is true, for example by a person at a terminal. Else
-    /// lines are written in batches.
-    fn wants_each_line(&self) -> bool {
-        false
-    }
+/// What a person who follows the work is told of it. Nothing of it is part of the output. An observer that listens has
+/// each line of the output written as soon as it is true. Else lines are written in batches.
+#[derive(Clone, Copy, Debug)]
+pub enum News {
+    /// The answer to a request that waited when the image was opened. It is told before the request's entry is
+    /// confirmed, or at the end.
+    Answered(Waited),
+    /// How far the work has come. It is told before each request.
+    Progressed(Progress),
+    /// Why the work is refused.
+    Refused(Reason),
+    /// Something odd about an image that is read all the same.
+    Warned(Warning),
 }
