@@ -33,5 +33,5 @@ pub use old::old_image;
 pub use phrases::Phrase;
 pub use printout::Printout;
 pub use says::Saying;
-pub use walks::{Subject, tell_line, walk_files};
+pub use walks::{Subject, tell_line, walk_file};
 pub use words::{asked, bytes, change, changes, command, crash, entry, hex, mode, op, request};

@@ -3,7 +3,7 @@
 use crate::dice::Dice;
 use crate::phrases::Phrase;
 use crate::says::Saying;
-use std::{env, fs};
+use std::fs;
 
 /// A layer that stories are about, from its beginning on, and the words for its calls.
 pub trait Subject {
@@ -74,9 +74,14 @@ fn walk<S: Subject>(text: &str, subject: &mut S, out: &mut Saying) -> (u32, u32,
     (stories, lines, wrong)
 }
 
-// Walks the stories of a file. Tells how many there were, and each call that was answered otherwise. Returns whether
-// none was.
-fn walk_file<S: Subject>(rt: &HostRuntime, file: &str, subject: &mut S, said: &mut Saying) -> bool {
+/// Walks the stories of a file. Tells how many there were, and each call that was answered otherwise. Returns whether
+/// none was, each line is a call, each story has one, and there is a story.
+pub fn walk_file<S: Subject>(
+    rt: &HostRuntime,
+    file: &str,
+    subject: &mut S,
+    said: &mut Saying,
+) -> bool {
     let Ok(text) = fs::read_to_string(rt, file) else {
         write!(said, "{file} can't be read\n");
         return false;
@@ -87,21 +92,4 @@ fn walk_file<S: Subject>(rt: &HostRuntime, file: &str, subject: &mut S, said: &m
     write!(said, "{lines} lines, {wrong} wrong\n");
     said.also(&out);
     wrong == 0
-}
-
-/// Walks the stories of each file that the command line names, and prints a line for each file. Returns the status to
-/// end with. It is 1 if a call was answered otherwise, a line is no call, a story has no call, or no file is named.
-pub fn walk_files<S: Subject>(rt: &HostRuntime, subject: &mut S) -> u8 {
-    let Ok(words) = env::args(rt) else {
-        return 1;
-    };
-    let Ok(files) = words.skip(1).collect::<Vec<String>>(rt.alloc()) else {
-        return 1;
-    };
-    let (mut said, mut is_right) = (Saying::new(rt.alloc()), !files.is_empty());
-    for file in files.iter() {
-        is_right &= walk_file(rt, file.as_str(), subject, &mut said);
-    }
-    let status = said.print(rt);
-    if is_right { status } else { 1 }
 }

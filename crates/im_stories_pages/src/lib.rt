@@ -1,5 +1,5 @@
 //! Stories of the pages of an image: how the records of cells, waiter nodes and sessions are spelled and read, and
-//! which memory they show. The stories are in `data`, and each module lists its own words.
+//! which memory they show. Each module lists its own words.
 //!
 //! Bytes in a row are written with two digits of base 16 each, and `00*14` is fourteen of them. All other numbers are
 //! decimal, and `none` is a link to nothing.
@@ -15,8 +15,7 @@ mod spelled;
 
 use crate::pages::Pages;
 use crate::refusals::tell_refusal;
-use im_story::{Phrase, Saying, Subject, walk_files};
-use std::process::ExitCode;
+use im_story::{Phrase, Saying, Subject, walk_file};
 
 // The fewest equal bytes that are told as one.
 const RUN: usize = 3;
@@ -46,7 +45,7 @@ impl Subject for Pages {
     }
 }
 
-fn main(rt: HostRuntime) -> ExitCode {
-    let mut pages = Pages::new(rt.alloc());
-    ExitCode::from(walk_files(&rt, &mut pages))
+/// Walks the stories of a file. Returns whether nothing was answered otherwise.
+pub fn walk(rt: &HostRuntime, file: &str, said: &mut Saying) -> bool {
+    walk_file(rt, file, &mut Pages::new(rt.alloc()), said)
 }

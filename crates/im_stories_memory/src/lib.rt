@@ -14,11 +14,10 @@ mod windows;
 use accesses::Accesses;
 use im_arena::Arena;
 use im_cell::{CellTable, Slot};
-use im_story::{Dice, Phrase, Saying, Subject, walk_files};
+use im_story::{Dice, Phrase, Saying, Subject, walk_file};
 use lists::Queue;
 use memories::Memories;
 use random_walks::PlainCell;
-use std::process::ExitCode;
 use windows::Windows;
 
 // What a story is about, and what a walk keeps plainly beside it. Its first line makes it. A walk may restore a table
@@ -101,6 +100,7 @@ impl Subject for Layer {
     }
 }
 
-fn main(rt: HostRuntime) -> ExitCode {
-    ExitCode::from(walk_files(&rt, &mut Layer::Nothing))
+/// Walks the stories of a file. Returns whether nothing was answered otherwise.
+pub fn walk(rt: &HostRuntime, file: &str, said: &mut Saying) -> bool {
+    walk_file(rt, file, &mut Layer::Nothing, said)
 }

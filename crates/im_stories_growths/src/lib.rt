@@ -1,7 +1,7 @@
 //! Calls that take memory, of which any one growth may be refused. The call then returns `NoMemory`, all is as it was,
 //! and when it is asked again it does its work. If it is the record of the disk in memory that can't grow, the call
 //! returns `Device`, and the same disk is opened again. So what is told here is the same, whichever growth is refused
-//! (`scripts/refuse-each-growth im_stories_growths`).
+//! (`scripts/refuse-each-growth growths`).
 #![tactic(auto)]
 
 mod disks;
@@ -19,11 +19,7 @@ use im_story::Saying;
 use im_story_disk::StoryFile;
 use im_types::Limits;
 use std::alloc::Global;
-use std::process::ExitCode;
 use std::sync::Wait;
-
-// Room for all that is told, so that none of it grows later.
-const ROOM: usize = 4_096;
 
 // The number of bytes, items or lines that is too much.
 const TOO_MUCH: usize = 1 << 60;
@@ -113,8 +109,8 @@ fn show_too_much<R: Wait>(rt: &R, place: &mut StoryFile, limits: Limits, said: &
     write!(said, ", as it was before: {is_same}\n")
 }
 
-// Shows each call that takes memory, except for those of threads.
-fn show<R: Wait>(rt: &R, alloc: Global, said: &mut Saying) {
+/// Shows each call that takes memory, except for those of threads, in a text with room for 4,096 bytes more.
+pub fn show<R: Wait>(rt: &R, alloc: Global, said: &mut Saying) {
     let Some(limits) = Limits::new(4, 3, 16) else {
         return said.fail("these are no sizes");
     };
@@ -130,12 +126,4 @@ fn show<R: Wait>(rt: &R, alloc: Global, said: &mut Saying) {
     show_ports(rt, &mut place, limits, true, said);
     show_pipe(rt, alloc, said);
     show_too_much(rt, &mut place, limits, said)
-}
-
-fn main(rt: HostRuntime) -> ExitCode {
-    let Ok(mut said) = Saying::with_room(rt.alloc(), ROOM) else {
-        return ExitCode::from(1);
-    };
-    show(&rt, rt.alloc(), &mut said);
-    ExitCode::from(said.print(&rt))
 }

@@ -1,5 +1,5 @@
 //! Stories of an image: the disk under it and its crashes, the journal in it, its headers and pages, and the turns of a
-//! checkpoint. `im_stories_image FILE..` walks the stories of each file, which begins with its words.
+//! checkpoint. Each file of them begins with its words.
 #![tactic(auto)]
 
 mod blind;
@@ -13,8 +13,7 @@ mod memories;
 
 use crate::desk::ImageDesk;
 use crate::files::OpenFile;
-use im_story::{Phrase, Saying, Subject, tell_line, walk_files};
-use std::process::ExitCode;
+use im_story::{Phrase, Saying, Subject, tell_line, walk_file};
 
 // A disk in memory with what was made of it, a file of the folder in which the program runs, and the calls so far.
 #[derive(Drop)]
@@ -65,6 +64,7 @@ impl<'r> Subject for ImageScene<'r> {
     }
 }
 
-fn main(rt: HostRuntime) -> ExitCode {
-    ExitCode::from(walk_files(&rt, &mut ImageScene::new(&rt)))
+/// Walks the stories of a file. Returns whether nothing was answered otherwise.
+pub fn walk(rt: &HostRuntime, file: &str, said: &mut Saying) -> bool {
+    walk_file(rt, file, &mut ImageScene::new(rt), said)
 }

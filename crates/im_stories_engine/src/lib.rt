@@ -1,5 +1,5 @@
 //! Stories of the engine: images that are formatted, served, turned, stopped, crashed, damaged and opened again, and
-//! random walks beside the plain memory. `data/cells.story` begins with their words.
+//! random walks beside the plain memory. `cells.story` begins with their words.
 #![tactic(auto)]
 
 mod damage;
@@ -11,8 +11,7 @@ mod trials;
 mod walks;
 
 use crate::engines::Engines;
-use im_story::{Phrase, Saying, Subject};
-use std::process::ExitCode;
+use im_story::{Phrase, Saying, Subject, walk_file};
 
 impl Subject for Engines {
     fn begin(&mut self) {
@@ -32,7 +31,7 @@ impl Subject for Engines {
     }
 }
 
-fn main(rt: HostRuntime) -> ExitCode {
-    let mut engines = Engines::none(rt.alloc());
-    ExitCode::from(im_story::walk_files(&rt, &mut engines))
+/// Walks the stories of a file. Returns whether nothing was answered otherwise.
+pub fn walk(rt: &HostRuntime, file: &str, said: &mut Saying) -> bool {
+    walk_file(rt, file, &mut Engines::none(rt.alloc()), said)
 }

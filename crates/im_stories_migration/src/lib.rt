@@ -28,10 +28,9 @@ mod stops;
 use crate::moves::{are_same, move_on, tell_length, tell_with};
 use crate::programs::{load, run, save, tell_of_file};
 use im_program::Descriptors;
-use im_story::{Phrase, Printout, Saying, Subject, walk_files};
+use im_story::{Phrase, Printout, Saying, Subject, walk_file};
 use im_story_disk::StoryFile;
 use im_text::Reason;
-use std::process::ExitCode;
 
 /// Two files, and what was last printed and told.
 struct MigrationDesk<'a> {
@@ -121,10 +120,7 @@ impl<'a> Subject for MigrationDesk<'a> {
     }
 }
 
-fn main(rt: HostRuntime) -> ExitCode {
-    let status = match Descriptors::hold(&rt, &rt.stdin(), &rt.stdout(), &rt.stderr()) {
-        Some(held) => walk_files(&rt, &mut MigrationDesk::new(&rt, &held)),
-        None => 1,
-    };
-    ExitCode::from(status)
+/// Walks the stories of a file. Returns whether nothing was answered otherwise.
+pub fn walk(rt: &HostRuntime, held: &Descriptors, file: &str, said: &mut Saying) -> bool {
+    walk_file(rt, file, &mut MigrationDesk::new(rt, held), said)
 }

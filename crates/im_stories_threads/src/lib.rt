@@ -26,10 +26,9 @@ use crate::stops::show_stops;
 use im_controller::{start, start_unrecorded};
 use im_serving::Host;
 use im_story::Saying;
-use std::process::ExitCode;
 
 // Plays a scene with a new memory.
-fn show<R: Host>(rt: &R, play: &Play, said: &mut Saying) {
+fn show_play<R: Host>(rt: &R, play: &Play, said: &mut Saying) {
     let alloc = said.alloc();
     writeln!(said, "{}", play.head);
     let Some(engine) = new_memory(alloc, play.sizes) else {
@@ -45,12 +44,11 @@ fn show<R: Host>(rt: &R, play: &Play, said: &mut Saying) {
     }
 }
 
-fn main(rt: HostRuntime) -> ExitCode {
-    let mut said = Saying::new(rt.alloc());
+/// Plays each scene, and tells what came of it.
+pub fn show<R: Host>(rt: &R, said: &mut Saying) {
     for play in &PLAYS {
-        show(&rt, play, &mut said)
+        show_play(rt, play, said)
     }
-    show_stops(&rt, &mut said);
-    show_plans(&rt, &mut said);
-    ExitCode::from(said.print(&rt))
+    show_stops(rt, said);
+    show_plans(rt, said)
 }

@@ -5,7 +5,8 @@ use anyhow::Result;
 use crossbeam_channel::{Receiver, bounded};
 use im_listening::{Ear, Listener, Patient};
 use im_script::read_text;
-use std::io::{self, BufReader, Error, ErrorKind, Print, Read};
+use im_story::Saying;
+use std::io::{self, BufReader, Error, ErrorKind, Read};
 use std::sync::Wait;
 use std::thread::{Threads, yield_now};
 
@@ -15,10 +16,10 @@ const SAID: &[u8] = b"1.1 fetch 0\n\n2.1 store 0 42\nquit";
 // The answers of a reader that doesn't wait.
 const STEPS: &[u8] = b"..!a.b!!.c$d";
 
-// What the stories run on.
-trait Audience: AllocGlobal + Print + Threads + Wait + Copy + Drop + Send + 'static {}
+/// What the scenes run on: threads, and waiting for them.
+pub trait Audience: AllocGlobal + Threads + Wait + Copy + Drop + Send + 'static {}
 
-impl<R: AllocGlobal + Print + Threads + Wait + Copy + Drop + Send + 'static> Audience for R {}
+impl<R: AllocGlobal + Threads + Wait + Copy + Drop + Send + 'static> Audience for R {}
 
 // Gives what somebody says, a byte at a time, and waits for it.
 #[derive(Drop)]
@@ -82,7 +83,11 @@ fn wait_for<R: Wait, E: Ear>(rt: &R, ear: &mut E) {
 }
 
 // Gives all that is said in order, wherever it was asked whether something is there.
-fn tell_lines<R: Audience>(rt: &R, mut listener: Listener<R, &'static [u8]>) -> Result<()> {
+fn tell_lines<R: Audience>(
+    rt: &R,
+    mut listener: Listener<R, &'static [u8]>,
+    told: &mut Saying,
+) -> Result<()> {
     let mut given = Vec::new(rt.alloc());
     let mut part = [0u8; 3];
     for _part in 0..1_000 {
@@ -91,92 +96,100 @@ fn tell_lines<R: Audience>(rt: &R, mut listener: Listener<R, &'static [u8]>) -> 
         given.extend_from_slice(&part[..count])?;
     }
     let is_same = given.as_slice() == SAID;
-    Ok(println!(rt; "the same: {is_same}, {} bytes", given.len())?)
+    Ok(writeln!(told, "the same: {is_same}, {} bytes", given.len()))
 }
 
 // Is quiet while nobody says anything. Then a byte is said, and is given, and the end.
-fn tell_silence<R: Audience>(rt: &R) -> Result<()> {
+fn tell_silence<R: Audience>(rt: &R, told: &mut Saying) -> Result<()> {
     let (say, said) = bounded(rt.alloc(), 1)?;
     let mut listener = Listener::new(*rt, Mouth { rt: *rt, said });
-    println!(rt; "nobody listens: {}", listener.is_quiet())?;
+    writeln!(told, "nobody listens: {}", listener.is_quiet());
     listener.begin(rt.alloc());
-    println!(rt; "nothing is said: {}", listener.is_quiet())?;
-    println!(rt; "still: {}", listener.is_quiet())?;
+    writeln!(told, "nothing is said: {}", listener.is_quiet());
+    writeln!(told, "still: {}", listener.is_quiet());
     let is_said = say.send(rt, b'a').is_ok();
     wait_for(rt, &mut listener);
     let mut part = [0u8; 1];
     let count = listener.read(&mut part)?;
-    println!(rt; "said: {is_said}, {count} byte, {}", part[0])?;
-    println!(rt; "nothing more: {}", listener.is_quiet())?;
+    writeln!(told, "said: {is_said}, {count} byte, {}", part[0]);
+    writeln!(told, "nothing more: {}", listener.is_quiet());
     drop(say);
     wait_for(rt, &mut listener);
-    Ok(println!(rt; "at the end: {} bytes", listener.read(&mut part)?)?)
+    Ok(writeln!(told, "at the end: {} bytes", listener.read(&mut part)?))
 }
 
 // Tells a failure at the next read, once.
-fn tell_fault<R: Audience>(rt: &R) -> Result<()> {
+fn tell_fault<R: Audience>(rt: &R, told: &mut Saying) -> Result<()> {
     let mut listener = listening(rt, Hasty(b"?"));
     wait_for(rt, &mut listener);
     let mut part = [0u8; 3];
     let is_fault = listener.read(&mut part).is_err();
     let count = listener.read(&mut part)?;
-    Ok(println!(rt; "a fault: {is_fault}, then {count} bytes")?)
+    Ok(writeln!(told, "a fault: {is_fault}, then {count} bytes"))
 }
 
 // Reads `times` times, and tells what came: a byte, or the end.
-fn tell_reads<R: Print, I: Read>(rt: &R, input: &mut I, times: usize) -> Result<()> {
+fn tell_reads<I: Read>(input: &mut I, times: usize, told: &mut Saying) -> Result<()> {
     let mut part = [0u8; 1];
-    print!(rt; "it gives")?;
+    told.text("it gives");
     for _time in 0..times {
         match input.read(&mut part)? {
-            0 => print!(rt; " its end")?,
-            _ => print!(rt; " {}", part[0])?,
+            0 => told.text(" its end"),
+            _ => write!(told, " {}", part[0]),
         }
     }
-    Ok(println!(rt; "")?)
+    Ok(told.text("\n"))
 }
 
 // Waits for a reader that doesn't wait itself, and doesn't read again after the end.
-fn tell_waiting<R: Audience>(rt: &R) -> Result<()> {
-    tell_reads(rt, &mut Patient::new(*rt, Hasty(STEPS)), 5)?;
-    tell_reads(rt, &mut Listener::new(*rt, Hasty(STEPS)), 6)?;
+fn tell_waiting<R: Audience>(rt: &R, told: &mut Saying) -> Result<()> {
+    tell_reads(&mut Patient::new(*rt, Hasty(STEPS)), 5, told)?;
+    tell_reads(&mut Listener::new(*rt, Hasty(STEPS)), 6, told)?;
     let mut listener = listening(rt, Hasty(STEPS));
     let _quiet = listener.is_quiet();
-    tell_reads(rt, &mut listener, 6)
+    tell_reads(&mut listener, 6, told)
 }
 
 // Reads a script's text to its end, as the program reads it from standard input, and tells it.
-fn tell_whole<R: AllocGlobal + Print, I: Read>(rt: &R, input: &mut I) -> Result<()> {
+fn tell_whole<R: AllocGlobal, I: Read>(rt: &R, input: &mut I, told: &mut Saying) {
     let Ok(text) = read_text(rt.alloc(), input) else {
-        return Ok(println!(rt; "the text can't be read")?);
+        return told.text("the text can't be read\n");
     };
     let text = str::from_utf8(text.as_slice()).unwrap_or("none");
-    Ok(println!(rt; "a text: {text}")?)
+    writeln!(told, "a text: {text}")
 }
 
 // Gives the end again after a thread heard it. Nothing is quiet then, since no read would wait.
-fn tell_end<R: Audience>(rt: &R) -> Result<()> {
+fn tell_end<R: Audience>(rt: &R, told: &mut Saying) -> Result<()> {
     let mut listener = listening(rt, Hasty(b"$a"));
     wait_for(rt, &mut listener);
-    tell_reads(rt, &mut listener, 3)?;
-    Ok(println!(rt; "quiet: {}", listener.is_quiet())?)
+    tell_reads(&mut listener, 3, told)?;
+    Ok(writeln!(told, "quiet: {}", listener.is_quiet()))
 }
 
-fn main(rt: HostRuntime) -> Result<()> {
-    println!(rt; "# with nobody who listens")?;
-    tell_lines(&rt, Listener::new(rt, SAID))?;
-    println!(rt; "# with a thread that listens")?;
-    tell_lines(&rt, listening(&rt, SAID))?;
-    println!(rt; "# a silence")?;
-    tell_silence(&rt)?;
-    println!(rt; "# a fault")?;
-    tell_fault(&rt)?;
-    println!(rt; "# a reader that does not wait")?;
-    tell_waiting(&rt)?;
-    println!(rt; "# a text of a reader that does not wait")?;
-    tell_whole(&rt, &mut Patient::new(rt, Hasty(STEPS)))?;
-    let mut input = BufReader::new(rt.alloc(), Listener::new(rt, Hasty(STEPS)))?;
-    tell_whole(&rt, &mut input)?;
-    println!(rt; "# an end that is heard")?;
-    tell_end(&rt)
+// Shows each scene.
+fn show_each<R: Audience>(rt: &R, told: &mut Saying) -> Result<()> {
+    told.text("# with nobody who listens\n");
+    tell_lines(rt, Listener::new(*rt, SAID), told)?;
+    told.text("# with a thread that listens\n");
+    tell_lines(rt, listening(rt, SAID), told)?;
+    told.text("# a silence\n");
+    tell_silence(rt, told)?;
+    told.text("# a fault\n");
+    tell_fault(rt, told)?;
+    told.text("# a reader that does not wait\n");
+    tell_waiting(rt, told)?;
+    told.text("# a text of a reader that does not wait\n");
+    tell_whole(rt, &mut Patient::new(*rt, Hasty(STEPS)), told);
+    let mut input = BufReader::new(rt.alloc(), Listener::new(*rt, Hasty(STEPS)))?;
+    tell_whole(rt, &mut input, told);
+    told.text("# an end that is heard\n");
+    tell_end(rt, told)
+}
+
+/// Shows what a listener gives and tells.
+pub fn show<R: Audience>(rt: &R, told: &mut Saying) {
+    if show_each(rt, told).is_err() {
+        told.fail("a read failed, or no memory is left")
+    }
 }

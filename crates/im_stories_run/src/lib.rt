@@ -1,7 +1,7 @@
 //! Stories of runs: what is printed when each element has a server of its own, whatever the order in which they come,
 //! and when servers wait for each other; and what a script comes to that is stopped again and again.
 //!
-//! The command line names a file of scenes: titles, which are told, and calls.
+//! A file of scenes has titles, which are told, and calls.
 //!
 //! ```text
 //! new, old                       an image with nothing in it, of this version of the layout or the first
@@ -25,25 +25,19 @@ mod gates;
 mod scripts;
 
 use desk::RunDesk;
-use std::process::ExitCode;
-use std::{env, fs, io};
+use im_serving::Host;
+use im_story::Saying;
+use std::fs;
 
-// Reads the file that the command line names.
-fn scenes_of(rt: &HostRuntime) -> io::Result<String> {
-    match env::args(rt)?.nth(1) {
-        Some(file) => fs::read_to_string(rt, file.as_str()),
-        None => Err(io::ErrorKind::NotFound.into()),
-    }
-}
-
-fn main(rt: HostRuntime) -> ExitCode {
-    let Ok(text) = scenes_of(&rt) else {
-        return ExitCode::from(1);
+/// Plays the scenes of a file with these threads, and tells what came of them.
+pub fn show<R: Host>(rt: &HostRuntime, threads: &R, file: &str, said: &mut Saying) {
+    let Ok(text) = fs::read_to_string(rt, file) else {
+        return said.fail("the scenes can't be read");
     };
     let mut desk = RunDesk::new(rt.alloc(), text.as_str());
     let (scenes, _) = text.as_str().split_once("\nscript ").unwrap_or(("", ""));
     for line in scenes.lines() {
-        desk.tell(&rt, line);
+        desk.tell(threads, line);
     }
-    ExitCode::from(desk.said.print(&rt))
+    said.also(&desk.said)
 }

@@ -16,9 +16,8 @@ mod writers;
 use im_disk::Mode;
 use im_program::Descriptors;
 use im_script::Said;
-use im_story::{Phrase, Printout, Saying, Subject, walk_files};
+use im_story::{Phrase, Printout, Saying, Subject, walk_file};
 use im_story_disk::StoryFile;
-use std::process::ExitCode;
 use std::{fs, mem};
 use writers::ObserverNotes;
 
@@ -136,10 +135,7 @@ impl<'a> Subject for ProgramDesk<'a> {
     }
 }
 
-fn main(rt: HostRuntime) -> ExitCode {
-    let Some(held) = Descriptors::hold(&rt, &rt.stdin(), &rt.stdout(), &rt.stderr()) else {
-        return ExitCode::from(1);
-    };
-    let mut desk = ProgramDesk::new(&rt, &held);
-    ExitCode::from(walk_files(&rt, &mut desk))
+/// Walks the stories of a file. Returns whether nothing was answered otherwise.
+pub fn walk(rt: &HostRuntime, held: &Descriptors, file: &str, said: &mut Saying) -> bool {
+    walk_file(rt, file, &mut ProgramDesk::new(rt, held), said)
 }
