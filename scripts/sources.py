@@ -72,8 +72,8 @@ def stands_on(top=TOP):
 @functools.cache
 def stamp(crate, top=TOP):
     """Returns a short sum of all that the prover's verdict on a crate stands on: its sources, definitions and proofs,
-    those of the crates below, and the toolchain. Lines of remarks aren't part of it."""
-    total, folder = hashlib.sha256(repr((toolchain(), (top / "HANDLES").read_text(), rows(top)[crate])).encode()), top / "crates" / crate
+    those of the crates below, and the toolchain's program logic. Lines of remarks aren't part of it."""
+    total, folder = hashlib.sha256(repr((logic(), (top / "HANDLES").read_text(), rows(top)[crate])).encode()), top / "crates" / crate
     for path in sorted(it for part in ("src", "specs", "proofs") for it in (folder / part).rglob("*") if it.is_file()):
         total.update(repr((str(path.relative_to(folder)), without_remarks(path))).encode())
     total.update(repr([stamp(it, top) for it in stands_on(top)[crate]]).encode())
@@ -90,6 +90,16 @@ def without_remarks(path):
 def toolchain():
     """Returns what the toolchain says that it is."""
     return subprocess.run(["rt", "version"], capture_output=True, text=True, check=True).stdout.strip()
+
+
+def logic():
+    """Returns the program logic of the toolchain, in which its proofs are."""
+    return toolchain().partition(" ")[2]
+
+
+def kit():
+    """Returns the name of the toolchain's kit. Kits of one logic hold the same for a proof."""
+    return toolchain().partition(" ")[0].removeprefix("rattle-kit-")
 
 
 def functions(crate, top=TOP):

@@ -201,7 +201,7 @@ class Trying(WithSources):
         (self.top / "crates/im_arena/edits").mkdir()
         self.reach = trying.Reach("im_arena", edits.Known(self.top), self.top)
         sources.stamp.cache_clear()
-        mock.patch.object(sources, "toolchain", lambda: "a kit").start()
+        mock.patch.object(sources, "toolchain", lambda: "rattle-kit-1a logic 2b").start()
         self.addCleanup(mock.patch.stopall)
 
     def edit(self, name, breaks, old, file="src/lib.rt"):
@@ -248,6 +248,19 @@ class Trying(WithSources):
         self.assertEqual(trying.Record("im_arena", self.top).counts(), (1, 0, 1, 0))
         path.write_text(path.read_text().replace("+ 0", "+ 1"))
         self.assertEqual(trying.Record("im_arena", self.top).counts(), (1, 0, 0, 1))
+
+    def test_a_kit_of_the_same_logic_changes_no_stamp(self):
+        self.edit("is_full-one", ["Arena::is_full"], "self.free_count() == 1")
+        record = trying.Record("im_arena", self.top)
+        for kind in trying.KINDS:
+            record.note("is_full-one", kind, True)
+        record.write()
+        for words, found in [("rattle-kit-1c logic 2b", (1, 1, 1, 0)), ("rattle-kit-1c logic 2d", (1, 0, 1, 0))]:
+            sources.stamp.cache_clear()
+            with mock.patch.object(sources, "toolchain", lambda: words):
+                again = trying.Record("im_arena", self.top)
+                self.assertEqual(again.counts(), found)
+                self.assertEqual(again.kits(), {"1a": 1} if found[1] else {})
 
     def test_the_stamp_is_of_the_crates_below_too(self):
         (self.top / "crates.txt").write_text("im_disk:\nim_arena: im_disk\n")

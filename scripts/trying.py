@@ -3,7 +3,8 @@ scripts/try-edits.
 
 The file `tried` beside a crate's edits has a line for each edit that went well: its name, a sum of its text and its
 twin's, and the stamps of the crate (sources.stamp) at which it was refused at its clause, and at which its twin was
-proved; `-` stands for never. An edit whose text is another now wasn't tried as it is."""
+proved, each with the kit that said so; `-` stands for never. An edit whose text is another now wasn't tried as it is."""
+import collections
 import hashlib
 import re
 
@@ -42,11 +43,11 @@ class Record:
         return self.lines.get(name, {}).get(kind, "-")
 
     def is_done(self, name, kind):
-        return self.at(name, kind) == self.stamp
+        return self.at(name, kind).partition(":")[0] == self.stamp
 
     def note(self, name, kind, well):
         """Notes whether an edit, or its twin, went well at the stamp of now."""
-        self.lines.setdefault(name, dict.fromkeys(KINDS, "-"))[kind] = self.stamp if well else "-"
+        self.lines.setdefault(name, dict.fromkeys(KINDS, "-"))[kind] = f"{self.stamp}:{sources.kit()}" if well else "-"
 
     def write(self):
         lines = {name: [self.at(name, it) for it in KINDS] for name in self.sums if name in self.lines}
@@ -60,6 +61,10 @@ class Record:
         now = sum(all(self.is_done(name, it) for it in KINDS) for name in self.sums)
         ever = sum(all(self.at(name, it) != "-" for it in KINDS) for name in self.sums)
         return len(self.sums), now, ever, len(self.sums) - ever
+
+    def kits(self):
+        """Returns how many edits each kit refused at this stamp, by the kit's name."""
+        return collections.Counter(self.at(name, "edits").partition(":")[2] for name in self.sums if self.is_done(name, "edits"))
 
 
 class Reach:
