@@ -11,7 +11,7 @@ ghost use Rattle.im_c.specs.Memory.{Steps};
 ghost use Rattle.im_c.specs.Plain.{entry_outcome};
 
 use crate::parts::BoxParts;
-use crate::plain::{LtCommand, LtOutcome, NO_CALL, entry_outcome, meant, outcome_of, refused};
+use crate::plain::{LtCommand, LtOutcome, NO_CALL, entry_outcome, meant, tell, tell_refused};
 use im_memory::Memory;
 use im_types::{Limits, Refusal};
 use std::alloc::Global;
@@ -83,13 +83,13 @@ fn made(alloc: Global, limits: Limits) -> Result<Box<Memory>, Refusal>
     }
 }
 
-// Serves one command. Returns its outcome for C.
-fn step(memory: &mut Memory, command: &LtCommand) -> LtOutcome
-    ensures { Steps memory.old command.now result memory.new }
+// Serves one command, and writes its outcome for C.
+fn step(memory: &mut Memory, command: &LtCommand, outcome: &mut LtOutcome)
+    ensures { Steps memory.old command.now outcome.new memory.new }
 {
     match meant(command) {
-        Some(command) => outcome_of(memory.step(&command)),
-        None => refused(NO_CALL),
+        Some(command) => tell(memory.step(&command), outcome),
+        None => tell_refused(NO_CALL, outcome),
     }
 }
 
@@ -130,7 +130,7 @@ pub extern "C" fn lt_memory_step(
     ensures refusal { result ≡ outcome.new.refusal }
 {
     let mut held = memory.into_box();
-    *outcome = step(&mut held, command);
+    step(&mut held, command, outcome);
     *next = LtMemory::of_box(held);
     outcome.refusal
 }

@@ -188,6 +188,35 @@ pub(crate) fn outcome_of(answer: Result<Outcome, Refusal>) -> LtOutcome
     }
 }
 
+/// Writes the outcome of an answer, field by field, so that no padding is copied.
+#[inline(always)]
+pub(crate) fn tell(answer: Result<Outcome, Refusal>, outcome: &mut LtOutcome)
+    ensures { outcome.new ≡ outcome_of answer }
+{
+    match answer {
+        Ok(Outcome::Confirmed) => {
+            outcome.refusal = 0;
+            outcome.tag = CONFIRMED;
+            outcome.value = 0;
+        }
+        Ok(Outcome::Entry(entry)) => {
+            outcome.refusal = 0;
+            outcome.tag = entry_code(entry);
+            outcome.value = entry_number(entry);
+        }
+        Err(refusal) => tell_refused(refusal.number(), outcome),
+    }
+}
+
+/// Writes the outcome of the refusal with this number.
+pub(crate) fn tell_refused(number: u8, outcome: &mut LtOutcome)
+    ensures { outcome.new ≡ refused number }
+{
+    outcome.refusal = number;
+    outcome.tag = 0;
+    outcome.value = 0;
+}
+
 /// The outcome of an entry that is kept, or of the refusal if none is.
 pub(crate) fn entry_outcome(answer: Result<Entry, Refusal>) -> LtOutcome
     ensures { result ≡ entry_outcome answer }

@@ -96,6 +96,7 @@ impl Memory {
     /// `Gap` past the next number and past the last number of all, and with `WindowFull` while 64 entries are kept. A
     /// confirmation is refused with `Gap` past the next number, and with `NotAnswered` if an entry that it would drop
     /// still waits.
+    #[inline(always)]
     pub fn step(&mut self, command: &Command) -> Result<Outcome, Refusal>
         ensures answer { result ≡ (step self.old.contents command.now).answer }
         ensures contents { self.new.contents ≡ (step self.old.contents command.now).contents }
@@ -122,6 +123,7 @@ impl Memory {
         }
     }
 
+    #[inline(always)]
     fn request(&mut self, request: &Request) -> Result<Outcome, Refusal>
         ensures answer { result ≡ (step self.old.contents (Command.Request request.now)).answer }
         ensures contents { self.new.contents ≡ (step self.old.contents (Command.Request request.now)).contents }
@@ -146,6 +148,7 @@ impl Memory {
         }
     }
 
+    #[inline(never)]
     pub(crate) fn confirm(&mut self, element: u16, upto: u64) -> Result<Outcome, Refusal>
         ensures answer { result ≡ (step self.old.contents (Command.Confirm element upto)).answer }
         ensures contents { self.new.contents ≡ (step self.old.contents (Command.Confirm element upto)).contents }
