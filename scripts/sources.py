@@ -15,6 +15,8 @@ CLAUSE = re.compile(r"\s*(requires|ensures)\*? *(\w*) *\{")
 TYPE = re.compile(r"^(?:pub(?:\([a-z]+\))? )?(?:struct|enum|trait) (\w+)", re.M)
 DEFINITION = re.compile(r"^(?:abbrev pub|unfoldable pub|pub record|pub data|pub) (?!mod |use )([^\s:({]+)", re.M)
 LEMMA = re.compile(r"(|  )(?:(?:pub|abbrev|unfoldable) )*([^\s:(){},|]+) : ")
+HINT = re.compile(r"\s*#\[(?:inline|cold)\b")
+OWN_PROOF = re.compile(r"proofs/((?:\w+/)*\w+)/(?:Answers|Proof|Invariants)\.antt")
 
 
 class Clause(NamedTuple):
@@ -31,6 +33,7 @@ class Function:
     owner: str
     name: str
     is_public: bool
+    is_in_trait: bool
     clauses: list = field(default_factory=list)
     body: str = ""
     text: str = ""
@@ -38,6 +41,12 @@ class Function:
     @property
     def lines(self):
         return self.text.count("\n") + 1
+
+    @property
+    def body_lines(self):
+        """Returns the indices in its file of the lines of its body, without those of its braces."""
+        end = self.line + self.lines - 2
+        return range(end - len(self.body.splitlines()), end)
 
     @property
     def parameters(self):
@@ -72,18 +81,44 @@ def stands_on(top=TOP):
 @functools.cache
 def stamp(crate, top=TOP):
     """Returns a short sum of all that the prover's verdict on a crate stands on: its sources, definitions and proofs,
-    those of the crates below, and the toolchain's program logic. Lines of remarks aren't part of it."""
-    total, folder = hashlib.sha256(repr((logic(), (top / "HANDLES").read_text(), rows(top)[crate])).encode()), top / "crates" / crate
-    for path in sorted(it for part in ("src", "specs", "proofs") for it in (folder / part).rglob("*") if it.is_file()):
-        total.update(repr((str(path.relative_to(folder)), without_remarks(path))).encode())
-    total.update(repr([stamp(it, top) for it in stands_on(top)[crate]]).encode())
+    what it reads of the crates below, and the toolchain's program logic. Remarks and hints on inlining, which change no
+    proof, aren't part of it."""
+    folder = top / "crates" / crate
+    total = hashlib.sha256(repr((logic(), (top / "HANDLES").read_text(), rows(top)[crate])).encode())
+    for path in texts(folder):
+        total.update(repr((str(path.relative_to(folder)), proved_lines(path, path.read_text().splitlines()))).encode())
+    total.update(repr([promised(it, top) for it in stands_on(top)[crate]]).encode())
     return total.hexdigest()[:12]
 
 
-def without_remarks(path):
-    """Returns the lines of a source, a definition or a proof that aren't remarks."""
+@functools.cache
+def promised(crate, top=TOP):
+    """Returns a sum of what the prover reads of a crate for one above: all but the bodies of functions and the proofs of
+    their goals. A trait's bodies are in it, since a type may have them as its own."""
+    folder, bodies = top / "crates" / crate, {}
+    for it in functions(crate, top):
+        if not it.is_in_trait:
+            bodies.setdefault(it.file, set()).update(it.body_lines)
+    total = hashlib.sha256(repr(rows(top)[crate]).encode())
+    for path in texts(folder):
+        name = str(path.relative_to(folder))
+        if not OWN_PROOF.fullmatch(name):
+            hidden = bodies.get(path.name, ()) if path.suffix == ".rt" else ()
+            lines = [line for at, line in enumerate(path.read_text().splitlines()) if at not in hidden]
+            total.update(repr((name, proved_lines(path, lines))).encode())
+    total.update(repr([promised(it, top) for it in stands_on(top)[crate]]).encode())
+    return total.hexdigest()
+
+
+def texts(folder):
+    """Returns the files of a crate's sources, definitions and proofs."""
+    return sorted(it for part in ("src", "specs", "proofs") for it in (folder / part).rglob("*") if it.is_file())
+
+
+def proved_lines(path, lines):
+    """Returns those of a file's lines that a proof stands on: no remarks, no hints on inlining."""
     sign = "//" if path.suffix == ".rt" else "--"
-    return [line for line in path.read_text().splitlines() if not line.lstrip().startswith(sign)]
+    return [line for line in lines if not line.lstrip().startswith(sign) and not HINT.match(line)]
 
 
 @functools.cache
@@ -126,7 +161,7 @@ def function(crate, path, lines, at, found, owner, is_trait):
             at += 1
     clauses = list(clauses_of(head))
     body, text = "\n".join(lines[begin + 1 : at]), "\n".join(lines[start : at + 1])
-    return Function(crate, path.name, start + 1, owner, found[3], bool(found[2]) or is_trait, clauses, body, text)
+    return Function(crate, path.name, start + 1, owner, found[3], bool(found[2]) or is_trait, is_trait, clauses, body, text)
 
 
 def clauses_of(head):

@@ -262,13 +262,41 @@ class Trying(WithSources):
                 self.assertEqual(again.counts(), found)
                 self.assertEqual(again.kits(), {"1a": 1} if found[1] else {})
 
-    def test_the_stamp_is_of_the_crates_below_too(self):
-        (self.top / "crates.txt").write_text("im_disk:\nim_arena: im_disk\n")
-        before = sources.stamp("im_arena", self.top)
-        source = self.top / "crates/im_disk/src/gate.rt"
-        source.write_text(source.read_text() + "fn more() {}\n")
+    def changed(self, path, old, new):
+        """Whether a change of a file changes the stamp of im_arena."""
+        before, file = self.stamped(), self.top / "crates" / path
+        text = file.read_text()
+        file.write_text(text.replace(old, new))
+        self.assertNotEqual(file.read_text(), text)
+        after = self.stamped()
+        file.write_text(text)
+        return after != before
+
+    def stamped(self):
         sources.stamp.cache_clear()
-        self.assertNotEqual(sources.stamp("im_arena", self.top), before)
+        sources.promised.cache_clear()
+        return sources.stamp("im_arena", self.top)
+
+    def test_the_stamp_is_of_what_the_crates_below_promise(self):
+        (self.top / "crates.txt").write_text("im_disk:\nim_arena: im_disk\n")
+        for name, text in {"proofs/Lemmas.antt": "one : 1\n", "proofs/gate/open_gate/Answers.antt": "two\n"}.items():
+            path = self.top / "crates/im_disk" / name
+            path.parent.mkdir(parents=True, exist_ok=True)
+            path.write_text(text)
+        gate = "im_disk/src/gate.rt"
+        self.assertTrue(self.changed("im_arena/src/lib.rt", "self.free_count() == 1", "self.free_count() == 2"))
+        self.assertTrue(self.changed(gate, "at + 1", "at + 2"))
+        self.assertTrue(self.changed(gate, "at: usize", "at: u32"))
+        self.assertTrue(self.changed("im_disk/proofs/Lemmas.antt", "1", "2"))
+        self.assertFalse(self.changed(gate, "disk.sync()", "disk.sync_all()"))
+        self.assertFalse(self.changed(gate, "pub fn", "#[inline(always)]\npub fn"))
+        self.assertFalse(self.changed("im_disk/proofs/gate/open_gate/Answers.antt", "two", "three"))
+
+    def test_the_bodies_of_a_trait_below_are_promised(self):
+        (self.top / "crates.txt").write_text("im_disk:\nim_arena: im_disk\n")
+        source = self.top / "crates/im_disk/src/gate.rt"
+        source.write_text("trait Disk {\n    fn is_calm(&self) -> bool\n    {\n        true\n    }\n}\n")
+        self.assertTrue(self.changed("im_disk/src/gate.rt", "true", "false"))
 
 
 if __name__ == "__main__":

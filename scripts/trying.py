@@ -6,13 +6,11 @@ twin's, and the stamps of the crate (sources.stamp) at which it was refused at i
 proved, each with the kit that said so; `-` stands for never. An edit whose text is another now wasn't tried as it is."""
 import collections
 import hashlib
-import re
 
 import edits as reading
 import sources
 
 TOGETHER = 40
-OWN_PROOF = re.compile(r"proofs/((?:\w+/)*\w+)/(?:Answers|Proof|Invariants)\.antt")
 KINDS = ("edits", "twins")
 HEAD = "# edit, sum of its text, stamps of the crate where it was refused and where its twin was proved (scripts/try-edits)\n"
 
@@ -83,7 +81,7 @@ class Reach:
         bodies and proofs."""
         found = set()
         for file, old, _ in reading.pairs(path):
-            if own := OWN_PROOF.fullmatch(file):
+            if own := sources.OWN_PROOF.fullmatch(file):
                 name = own[1].replace("/", "::")
                 found |= {it.path() for it in self.known.by_crate[self.crate] if reading.is_named(it, name)} or {name}
             else:
