@@ -17,6 +17,8 @@ DEFINITION = re.compile(r"^(?:abbrev pub|unfoldable pub|pub record|pub data|pub)
 LEMMA = re.compile(r"(|  )(?:(?:pub|abbrev|unfoldable) )*([^\s:(){},|]+) : ")
 HINT = re.compile(r"\s*#\[(?:inline|cold)\b")
 OWN_PROOF = re.compile(r"proofs/((?:\w+/)*\w+)/(?:Answers|Proof|Invariants)\.antt")
+CITED = re.compile(r"\b(\w+)(?:\.|::)proofs(?:\.|::)(\w+)")
+IMPORT = re.compile(r"^ *(?:ghost )?use ([^;{]+?)(?:\.|::)(?:\{([^;]*)\}|(\w+));\n", re.M)
 
 
 class Clause(NamedTuple):
@@ -34,6 +36,7 @@ class Function:
     name: str
     is_public: bool
     is_in_trait: bool
+    is_seen: bool  # whether another crate can call it
     clauses: list = field(default_factory=list)
     body: str = ""
     text: str = ""
@@ -93,21 +96,50 @@ def stamp(crate, top=TOP):
 
 @functools.cache
 def promised(crate, top=TOP):
-    """Returns a sum of what the prover reads of a crate for one above: all but the bodies of functions and the proofs of
-    their goals. A trait's bodies are in it, since a type may have them as its own."""
-    folder, bodies = top / "crates" / crate, {}
+    """Returns a sum of what the prover can read of a crate for one above: its definitions, its types, the contracts of the
+    functions that another crate can call, a trait's bodies, since a type may have them as its own, the lemmas that another
+    crate cites, and the same of the crates below."""
+    folder, hidden = top / "crates" / crate, {}
     for it in functions(crate, top):
         if not it.is_in_trait:
-            bodies.setdefault(it.file, set()).update(it.body_lines)
+            hidden.setdefault(it.file, set()).update(it.body_lines if it.is_seen else range(it.line - 1, it.line - 1 + it.lines))
     total = hashlib.sha256(repr(rows(top)[crate]).encode())
     for path in texts(folder):
         name = str(path.relative_to(folder))
-        if not OWN_PROOF.fullmatch(name):
-            hidden = bodies.get(path.name, ()) if path.suffix == ".rt" else ()
-            lines = [line for at, line in enumerate(path.read_text().splitlines()) if at not in hidden]
-            total.update(repr((name, proved_lines(path, lines))).encode())
+        if path.suffix == ".rt":
+            lines = [line for at, line in enumerate(path.read_text().splitlines()) if at not in hidden.get(path.name, ())]
+            total.update(repr((name, named_alone("\n".join(proved_lines(path, lines))))).encode())
+        elif not OWN_PROOF.fullmatch(name) and (path.parent.name != "proofs" or path.stem in cited(top).get(crate, ())):
+            total.update(repr((name, proved_lines(path, path.read_text().splitlines()))).encode())
     total.update(repr([promised(it, top) for it in stands_on(top)[crate]]).encode())
     return total.hexdigest()
+
+
+@functools.cache
+def cited(top=TOP):
+    """Returns for each crate those of its files of lemmas that another crate cites, or such a file, by their names."""
+    found = {}
+    for crate in stands_on(top):
+        for path in texts(top / "crates" / crate):
+            for other, name in CITED.findall(path.read_text()):
+                if other != crate:
+                    found.setdefault(other, set()).add(name)
+    for crate, names in found.items():
+        left = list(names)
+        while left:
+            path = top / "crates" / crate / "proofs" / f"{left.pop()}.antt"
+            more = {name for _, name in CITED.findall(path.read_text())} - names if path.is_file() else ()
+            names.update(more)
+            left += more
+    return found
+
+
+def named_alone(text):
+    """Returns a source with only those of its imports that the rest of it names."""
+    rest = IMPORT.sub("", text)
+    imported = [(module, name.strip()) for module, names, one in IMPORT.findall(text) for name in (names or one).split(",")]
+    is_named = lambda name: all(it in rest for it in name.rpartition(" as ")[2].split("◌"))
+    return rest, sorted((module, name) for module, name in imported if name and is_named(name))
 
 
 def texts(folder):
@@ -116,9 +148,9 @@ def texts(folder):
 
 
 def proved_lines(path, lines):
-    """Returns those of a file's lines that a proof stands on: no remarks, no hints on inlining."""
+    """Returns those of a file's lines that a proof stands on: no remarks, no hints on inlining, no empty lines."""
     sign = "//" if path.suffix == ".rt" else "--"
-    return [line for line in lines if not line.lstrip().startswith(sign) and not HINT.match(line)]
+    return [line for line in lines if line.strip() and not line.lstrip().startswith(sign) and not HINT.match(line)]
 
 
 @functools.cache
@@ -140,17 +172,17 @@ def kit():
 def functions(crate, top=TOP):
     """The functions of a crate's sources."""
     for path in sorted((top / "crates" / crate / "src").rglob("*.rt")):
-        owner, is_trait, lines = "", False, path.read_text().splitlines()
+        owner, kind, lines = "", "", path.read_text().splitlines()
         for at, line in enumerate(lines):
             if found := OWNER.match(line):
-                owner, is_trait = found[2], found[1] == "trait"
+                owner, kind = found[2], "of a trait" if " for " in line else found[1]
             elif line == "}":
-                owner, is_trait = "", False
+                owner, kind = "", ""
             if found := FUNCTION.match(line):
-                yield function(crate, path, lines, at, found, owner if found[1] else "", is_trait)
+                yield function(crate, path, lines, at, found, owner if found[1] else "", kind)
 
 
-def function(crate, path, lines, at, found, owner, is_trait):
+def function(crate, path, lines, at, found, owner, kind):
     space, start, depth = found[1], at, lines[at].count("{") - lines[at].count("}")
     while not (lines[at] in (f"{space}{{", f"{space}{{}}") or lines[at].endswith(" {}") or ends(lines[at], depth) or opens(lines[at], space)):
         at += 1
@@ -161,7 +193,8 @@ def function(crate, path, lines, at, found, owner, is_trait):
             at += 1
     clauses = list(clauses_of(head))
     body, text = "\n".join(lines[begin + 1 : at]), "\n".join(lines[start : at + 1])
-    return Function(crate, path.name, start + 1, owner, found[3], bool(found[2]) or is_trait, is_trait, clauses, body, text)
+    is_trait, is_seen = kind == "trait", found[2] == "pub " or kind in ("trait", "of a trait")
+    return Function(crate, path.name, start + 1, owner, found[3], bool(found[2]) or is_trait, is_trait, is_seen, clauses, body, text)
 
 
 def clauses_of(head):

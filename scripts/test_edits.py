@@ -275,6 +275,7 @@ class Trying(WithSources):
     def stamped(self):
         sources.stamp.cache_clear()
         sources.promised.cache_clear()
+        sources.cited.cache_clear()
         return sources.stamp("im_arena", self.top)
 
     def test_the_stamp_is_of_what_the_crates_below_promise(self):
@@ -287,10 +288,16 @@ class Trying(WithSources):
         self.assertTrue(self.changed("im_arena/src/lib.rt", "self.free_count() == 1", "self.free_count() == 2"))
         self.assertTrue(self.changed(gate, "at + 1", "at + 2"))
         self.assertTrue(self.changed(gate, "at: usize", "at: u32"))
-        self.assertTrue(self.changed("im_disk/proofs/Lemmas.antt", "1", "2"))
+        self.assertTrue(self.changed(gate, "pub fn", "use one::CallsBy;\npub fn"))
+        self.assertFalse(self.changed(gate, "pub fn", "use one::Two;\npub fn"))
+        self.assertFalse(self.changed(gate, "pub fn", "fn more() {}\n\npub fn"))
         self.assertFalse(self.changed(gate, "disk.sync()", "disk.sync_all()"))
         self.assertFalse(self.changed(gate, "pub fn", "#[inline(always)]\npub fn"))
         self.assertFalse(self.changed("im_disk/proofs/gate/open_gate/Answers.antt", "two", "three"))
+        self.assertFalse(self.changed("im_disk/proofs/Lemmas.antt", "1", "2"))
+        (self.top / "crates/im_arena/proofs").mkdir()
+        (self.top / "crates/im_arena/proofs/Own.antt").write_text("use Rattle.im_disk.proofs.Lemmas.{one}\n")
+        self.assertTrue(self.changed("im_disk/proofs/Lemmas.antt", "1", "2"))
 
     def test_the_bodies_of_a_trait_below_are_promised(self):
         (self.top / "crates.txt").write_text("im_disk:\nim_arena: im_disk\n")
