@@ -18,7 +18,7 @@ use Rattle.im_cell.specs.declared.state.State.{State}
 use Rattle.im_cell.specs.declared.state.State.TheVariants.{Free, EmptyI, WaitingI, FullI, ClashedI, EmptyM, WaitingM}
 use Rattle.im_cell.specs.declared.state.State.TheVariants.{FullM, ClashedM}
 use Rattle.im_cell.specs.declared.state.TheConstants.{NOWHERE}
-use Rattle.im_cell.specs.Slots.{slot_at, new_slot, with_cell, is_waiting_slot}
+use Rattle.im_cell.specs.Slots.{slot_at, new_slot, with_cell}
 use Rattle.im_cell.specs.Cells.{block_by_extent, state_slot, state_for, value_of, tag_kind, slots_in, IsFilled}
 use Rattle.im_cell.specs.Table.{base_in}
 
@@ -130,16 +130,16 @@ set-read states values extents now k state s v cell ev ex view less read some is
     ∙ ap (with_cell cell) (sym was))
     ∙ ap (λ s. set s k (with_cell cell (slot_at s k))) view
 
--- the same, of whether it was waited for
-pub waited-read : (states : List State) (values : List ℕ) (extents : List Extent) (now : List (Option Slot)) (k : ℕ)
-    (state : State) (b : Bool) → length values ≡ length states → length extents ≡ length states
-    → slots_in states values extents ≡ now → k < length states → state ≡ get_or states k state
-    → ((v : ℕ) (x : Extent) → b ≡ is_waiting_slot (state_slot state v x)) → b ≡ is_waiting_slot (slot_at now k)
-waited-read states values extents now k state b ev ex view less read is =
+-- the same, of a test that its state decides
+pub tested-read : (test : Option Slot → Bool) (states : List State) (values : List ℕ) (extents : List Extent)
+    (now : List (Option Slot)) (k : ℕ) (state : State) (b : Bool) → length values ≡ length states
+    → length extents ≡ length states → slots_in states values extents ≡ now → k < length states
+    → state ≡ get_or states k state → ((v : ℕ) (x : Extent) → b ≡ test (state_slot state v x))
+    → b ≡ test (slot_at now k)
+tested-read test states values extents now k state b ev ex view less read is =
     is (get_or values k 0) (get_or extents k NOWHERE)
-    ∙ ap (λ t. is_waiting_slot (state_slot t (get_or values k 0) (get_or extents k NOWHERE))) read
-    ∙ ap is_waiting_slot (sym (at-slots states values extents k state 0 NOWHERE ev ex less) ∙ ap
-    (λ s. slot_at s k) view)
+    ∙ ap (λ t. test (state_slot t (get_or values k 0) (get_or extents k NOWHERE))) read
+    ∙ ap test (sym (at-slots states values extents k state 0 NOWHERE ev ex less) ∙ ap (λ s. slot_at s k) view)
 
 -- the base of a cell's block is in its extent
 base-of : (s : State) (v : ℕ) (x : Extent) → IsSome (state_slot s v x) → x.base ≡ base_in (state_slot s v x)

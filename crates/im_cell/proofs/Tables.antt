@@ -21,6 +21,10 @@ pub none-some : {X : Type 0} (o : Option X) → is_none o ≡ false → IsSome o
 none-some None e = absurd (true_false e)
 none-some (Some x) e = search rules
 
+pub none-is : {X : Type 0} (o : Option X) → is_none o ≡ true → o ≡ None
+none-is None e = refl
+none-is (Some x) e = absurd (true_false (sym e))
+
 pub some-held : {X : Type 0} (o : Option X) → IsSome o → is_none o ≡ false
 some-held None s = absurd (cc)
 some-held (Some x) s = refl

@@ -1,5 +1,5 @@
 //! The records of the cells, one for each cell.
-ghost use Rattle.std.specs.Prelude.{◌≡◌, ◌-◌, ◌<◌, ◌≤◌, length, slice_set, IsSome};
+ghost use Rattle.std.specs.Prelude.{◌≡◌, ◌-◌, ◌<◌, ◌≤◌, true, false, None, length, slice_set, IsSome};
 ghost use Rattle.im_types.specs.Place.{fill};
 ghost use Rattle.im_cell.specs.Slots.{slot_at, with_cell, is_waiting_slot};
 ghost use Rattle.im_cell.specs.Cells.{slots_in, IsFilled};
@@ -82,6 +82,28 @@ impl Cells {
         ensures { result ≡ slot_at self.now at }
     {
         self.states[at].slot(self.values[at], self.extents[at])
+    }
+
+    /// Returns whether there is a free cell at a place.
+    #[inline(always)]
+    pub(crate) fn is_free(&self, at: usize) -> bool
+        ensures inside { result ≡ true → at < length self.now }
+        ensures free { result ≡ true → slot_at self.now at ≡ None }
+        ensures held { result ≡ false → at < length self.now → IsSome (slot_at self.now at) }
+    {
+        if at >= self.states.len() {
+            return false;
+        }
+        self.states[at].is_free()
+    }
+
+    /// Returns whether requests wait for a cell.
+    #[inline(always)]
+    pub(crate) fn is_waiting(&self, at: usize) -> bool
+        requires { at < length self.now }
+        ensures { result ≡ is_waiting_slot (slot_at self.now at) }
+    {
+        self.states[at].is_waiting()
     }
 
     /// Returns the base of a cell's block.

@@ -9,20 +9,19 @@ ghost use Rattle.std.specs.List.{list_any};
 ghost use Rattle.im_cell.specs.Table.{CanMove, base_in, moved, waits_at, waits_before, HasCounts, IsTable, IsHeldBy};
 ghost use Rattle.im_cell.specs.Table.{IsFreeTo};
 
+use crate::cells::Cells;
 use crate::state::is_waited_for;
 use crate::units::CellUnits;
 use im_holes::Holes;
 use im_types::{Block, Cell};
 
-// Adds 1 to the count of the block at an address, or takes 1 from it.
+// Adds 1 to the count of the block with this base, or takes 1 from it.
 #[inline(always)]
-fn recount(slots: &CellUnits, holes: &mut Holes, a: u32, more: bool)
-    requires block { IsSome (slot_at slots.now a) }
-    requires held { (n : ℕ) × (holder_at holes.old (base_in (slot_at slots.now a)) ≡ Some n) × CanMove more n }
-    ensures { (n : ℕ) → holder_at holes.old (base_in (slot_at slots.now a)) ≡ Some n
-        → holes.new ≡ slice_set holes.old (base_in (slot_at slots.now a)) (Some (moved more n)) }
+fn recount(holes: &mut Holes, base: u32, more: bool)
+    requires held { (n : ℕ) × (holder_at holes.old base ≡ Some n) × CanMove more n }
+    ensures { (n : ℕ) → holder_at holes.old base ≡ Some n
+        → holes.new ≡ slice_set holes.old base (Some (moved more n)) }
 {
-    let base = slots.base(a);
     let number = holes.number(base);
     holes.set_number(base, next_number(number, more));
 }
@@ -46,87 +45,64 @@ pub(crate) fn set_cell(slots: &mut CellUnits, holes: &mut Holes, a: u32, cell: C
     let waited = slots.set(a, cell);
     let waits = is_waited_for(cell);
     if waits != waited {
-        recount(slots, holes, a, waits);
+        recount(holes, slots.base(a), waits);
     }
 }
 
-fn waits(slots: &CellUnits, a: u32) -> bool
-    ensures { result ≡ waits_at slots.now a }
-{
-    let Some(slot) = slots.slot(a) else {
-        return false;
-    };
-    is_waited_for(slot.cell)
-}
-
 // Counts the cell at `a` if requests wait for it. The cells before it are already counted.
-fn count_cell(slots: &CellUnits, holes: &mut Holes, a: u32)
-    requires few { length slots.now < 2 ^ 32 }
-    requires blocks { HoldsBlocks slots.now }
-    requires held { IsHeldBy holes.old (length slots.now) }
-    requires waits { HasCounts slots.now (waits_before slots.now a) holes.old }
-    ensures held { IsHeldBy holes.new (length slots.now) }
-    ensures waits { HasCounts slots.now (waits_before slots.now (a + 1)) holes.new }
+fn count_cell(cells: &Cells, holes: &mut Holes, a: usize)
+    requires few { length cells.now < 2 ^ 32 }
+    requires inside { a < length cells.now }
+    requires blocks { HoldsBlocks cells.now }
+    requires held { IsHeldBy holes.old (length cells.now) }
+    requires waits { HasCounts cells.now (waits_before cells.now a) holes.old }
+    ensures held { IsHeldBy holes.new (length cells.now) }
+    ensures waits { HasCounts cells.now (waits_before cells.now (a + 1)) holes.new }
 {
-    if waits(slots, a) {
-        recount(slots, holes, a, true);
+    if cells.is_waiting(a) {
+        recount(holes, cells.base(a), true);
     }
 }
 
 /// Counts the cells that requests wait for. No cell has a count yet.
-pub(crate) fn count_waiting(slots: &CellUnits, holes: &mut Holes)
-    requires few { length slots.now < 2 ^ 32 }
-    requires blocks { HoldsBlocks slots.now }
-    requires none { holes.old ≡ replicate (length slots.now) (Some 0) }
-    ensures waits { HasCounts slots.now (waits_at slots.now) holes.new }
-    ensures held { IsHeldBy holes.new (length slots.now) }
+pub(crate) fn count_waiting(cells: &Cells, holes: &mut Holes)
+    requires few { length cells.now < 2 ^ 32 }
+    requires blocks { HoldsBlocks cells.now }
+    requires none { holes.old ≡ replicate (length cells.now) (Some 0) }
+    ensures waits { HasCounts cells.now (waits_at cells.now) holes.new }
+    ensures held { IsHeldBy holes.new (length cells.now) }
 {
-    for a in 0..slots.len() {
-        count_cell(slots, holes, a);
-    }
-}
-
-// Returns whether there is a free cell at an address.
-fn is_free_at(slots: &CellUnits, at: u32) -> bool
-    ensures inside { result ≡ true → at < length slots.now }
-    ensures free { result ≡ true → slot_at slots.now at ≡ None }
-    ensures held { result ≡ false → at < length slots.now → IsSome (slot_at slots.now at) }
-{
-    if at >= slots.len() {
-        return false;
-    }
-    match slots.slot(at) {
-        Some(_) => false,
-        None => true,
+    for a in 0..cells.len() {
+        count_cell(cells, holes, a);
     }
 }
 
 // Returns the first cell from `from` on that isn't free, or the end of the table.
-fn free_until(slots: &CellUnits, from: u32) -> u32
-    requires few { length slots.now < 2 ^ 32 }
-    requires inside { from < length slots.now }
-    ensures { IsFreeTo slots.now from result }
+fn free_until(cells: &Cells, from: usize) -> usize
+    requires few { length cells.now < 2 ^ 32 }
+    requires inside { from < length cells.now }
+    ensures { IsFreeTo cells.now from result }
 {
     let mut at = from;
-    while is_free_at(slots, at) {
+    while cells.is_free(at) {
         at += 1;
     }
     at
 }
 
 /// Makes holes of the free cells. Each cell is still held.
-pub(crate) fn give_free(slots: &CellUnits, holes: &mut Holes)
-    requires few { length slots.now < 2 ^ 32 }
-    requires blocks { HoldsBlocks slots.now }
-    requires waits { HasCounts slots.now (waits_at slots.now) holes.old }
-    requires held { IsHeldBy holes.old (length slots.now) }
-    ensures { IsTable slots.now holes.new }
+pub(crate) fn give_free(cells: &Cells, holes: &mut Holes)
+    requires few { length cells.now < 2 ^ 32 }
+    requires blocks { HoldsBlocks cells.now }
+    requires waits { HasCounts cells.now (waits_at cells.now) holes.old }
+    requires held { IsHeldBy holes.old (length cells.now) }
+    ensures { IsTable cells.now holes.new }
 {
     let mut at = 0;
-    while at < slots.len() {
-        let end = free_until(slots, at);
+    while at < cells.len() {
+        let end = free_until(cells, at);
         if at < end {
-            holes.give(at, end - at);
+            holes.give(at as u32, (end - at) as u32);
             at = end;
         } else {
             at += 1;

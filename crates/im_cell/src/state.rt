@@ -1,5 +1,5 @@
 //! The part of a cell that is kept in one byte, and the place of its block.
-ghost use Rattle.std.specs.Prelude.{◌≡◌, ℕ, Some};
+ghost use Rattle.std.specs.Prelude.{◌≡◌, ℕ, Some, is_none};
 ghost use Rattle.im_cell.specs.Slots.{new_slot, is_waiting_slot, cell_waits, with_cell};
 ghost use Rattle.im_cell.specs.Cells.{block_by_extent, state_slot, state_for, value_of, tag_kind};
 
@@ -102,6 +102,14 @@ impl State {
             State::EmptyM | State::WaitingM | State::FullM | State::ClashedM => Kind::M,
             _ => Kind::I,
         }
+    }
+
+    /// Returns whether the cell is free.
+    #[inline(always)]
+    pub(crate) fn is_free(self) -> bool
+        ensures { (value : ℕ) (extent : Extent) → result ≡ is_none (state_slot self value extent) }
+    {
+        matches!(self, State::Free)
     }
 
     /// Returns whether requests wait for the cell.

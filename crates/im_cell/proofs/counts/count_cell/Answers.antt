@@ -1,24 +1,35 @@
-use Rattle.std.proofs.Common.{◌∙◌, sym}
+use Rattle.std.proofs.Common.{◌≡◌, ℕ, Some, true, set, ◌∙◌, sym, subst}
+use Rattle.im_holes.specs.Holes.{holder_at}
+use Rattle.im_cell.specs.Table.{moved, CanMove}
 use Rattle.im_cell.proofs.Begun.{count-held, count-slot, held-step, counts-step, counts-passed}
 use Rattle.im_cell.proofs.counts.count_cell.Goals as goal
 
-pub recount-requires-clause-block : goal.recount-requires-clause-block
-recount-requires-clause-block c = count-slot c.args.slots.now c.args.holes.now c.args.a c.requires.blocks c.requires.few
-    c.requires.held (sym c.waits.ensures ∙ c.if-waits.true) c.requires.waits
+pub base-requires : goal.base-requires
+base-requires c = count-slot c.args.cells.now c.args.holes.now c.args.a c.requires.blocks c.requires.few
+    c.requires.held (sym c.is_waiting.ensures ∙ c.if-is_waiting.true) c.requires.waits
 
-pub recount-requires-clause-held : goal.recount-requires-clause-held
-recount-requires-clause-held c = count-held c.args.slots.now c.args.holes.now c.args.a c.requires.blocks c.requires.few
-    c.requires.held (sym c.waits.ensures ∙ c.if-waits.true) c.requires.waits
+pub recount-requires : goal.recount-requires
+recount-requires c = record {
+  held =
+      subst (λ b. (n : ℕ) × (holder_at c.args.holes.now b ≡ Some n) × CanMove true n) (sym c.base.ensures)
+      (count-held c.args.cells.now c.args.holes.now c.args.a c.requires.blocks c.requires.few
+      c.requires.held (sym c.is_waiting.ensures ∙ c.if-is_waiting.true) c.requires.waits);
+}
 
-pub returns-then-waits-clause-held : goal.returns-then-waits-clause-held
-returns-then-waits-clause-held c = held-step c.args.slots.now c.args.holes.now c.args.a c.requires.blocks c.requires.few
-    c.requires.held (sym c.waits.ensures ∙ c.if-waits.true) c.requires.waits c.recount.new.holes c.recount.ensures
+pub returns-then-is_waiting-clause-held : goal.returns-then-is_waiting-clause-held
+returns-then-is_waiting-clause-held c = held-step c.args.cells.now c.args.holes.now c.args.a c.requires.blocks
+    c.requires.few c.requires.held (sym c.is_waiting.ensures ∙ c.if-is_waiting.true) c.requires.waits
+    c.recount.new.holes
+    (subst (λ b. (n : ℕ) → holder_at c.args.holes.now b ≡ Some n
+    → c.recount.new.holes ≡ set c.args.holes.now b (Some (moved true n))) c.base.ensures c.recount.ensures)
 
-pub returns-then-waits-clause-waits : goal.returns-then-waits-clause-waits
-returns-then-waits-clause-waits c = counts-step c.args.slots.now c.args.holes.now c.args.a c.requires.blocks
-    c.requires.few
-    c.requires.held (sym c.waits.ensures ∙ c.if-waits.true) c.requires.waits c.recount.new.holes c.recount.ensures
+pub returns-then-is_waiting-clause-waits : goal.returns-then-is_waiting-clause-waits
+returns-then-is_waiting-clause-waits c = counts-step c.args.cells.now c.args.holes.now c.args.a c.requires.blocks
+    c.requires.few c.requires.held (sym c.is_waiting.ensures ∙ c.if-is_waiting.true) c.requires.waits
+    c.recount.new.holes
+    (subst (λ b. (n : ℕ) → holder_at c.args.holes.now b ≡ Some n
+    → c.recount.new.holes ≡ set c.args.holes.now b (Some (moved true n))) c.base.ensures c.recount.ensures)
 
-pub returns-else-waits-clause-waits : goal.returns-else-waits-clause-waits
-returns-else-waits-clause-waits c = counts-passed c.args.slots.now c.args.holes.now c.args.a
-    (sym c.waits.ensures ∙ c.if-waits.false) c.requires.waits
+pub returns-else-is_waiting-clause-waits : goal.returns-else-is_waiting-clause-waits
+returns-else-is_waiting-clause-waits c = counts-passed c.args.cells.now c.args.holes.now c.args.a
+    (sym c.is_waiting.ensures ∙ c.if-is_waiting.false) c.requires.waits

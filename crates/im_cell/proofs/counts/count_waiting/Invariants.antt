@@ -4,6 +4,6 @@ use Rattle.im_cell.proofs.counts.count_waiting.Given as goal
 
 abbrev pub invariant-loop-a : goal.invariant-loop-a
 invariant-loop-a l = record {
-  held : IsHeldBy l.holes (length l.slots);
-  waits : HasCounts l.slots (waits_before l.slots l.a) l.holes;
+  held : IsHeldBy l.holes (length l.cells);
+  waits : HasCounts l.cells (waits_before l.cells l.a) l.holes;
 }

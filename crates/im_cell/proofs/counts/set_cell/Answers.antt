@@ -6,13 +6,17 @@ use Rattle.im_cell.proofs.Counted.{differ-yes, differ-no}
 use Rattle.im_cell.proofs.Tables.{set-kept, number-set, set-moved}
 use Rattle.im_cell.proofs.counts.set_cell.Goals as goal
 
-pub recount-requires-clause-held : goal.recount-requires-clause-held
-recount-requires-clause-held c =
-    subst (λ s. (n : ℕ) × (holder_at c.args.holes.now (base_in (slot_at s c.args.a)) ≡ Some n)
-    × CanMove c.is_waited_for-waits.result n) (sym c.set-waited.ensures.set)
-    (number-set c.args.slots.now c.args.holes.now c.args.a c.args.cell c.requires.table c.requires.held
-    c.set-waited.result c.set-waited.ensures.waited c.is_waited_for-waits.result c.is_waited_for-waits.ensures
-    (differ-yes c.is_waited_for-waits.result c.set-waited.result c.if-waits-waited.true))
+pub recount-requires : goal.recount-requires
+recount-requires c = record {
+  held =
+      subst (λ b. (n : ℕ) × (holder_at c.args.holes.now b ≡ Some n) × CanMove c.is_waited_for-waits.result n)
+      (sym c.base.ensures)
+      (subst (λ s. (n : ℕ) × (holder_at c.args.holes.now (base_in (slot_at s c.args.a)) ≡ Some n)
+      × CanMove c.is_waited_for-waits.result n) (sym c.set-waited.ensures.set)
+      (number-set c.args.slots.now c.args.holes.now c.args.a c.args.cell c.requires.table c.requires.held
+      c.set-waited.result c.set-waited.ensures.waited c.is_waited_for-waits.result c.is_waited_for-waits.ensures
+      (differ-yes c.is_waited_for-waits.result c.set-waited.result c.if-waits-waited.true)));
+}
 
 pub returns-then-waits-waited-clause-table : goal.returns-then-waits-waited-clause-table
 returns-then-waits-waited-clause-table c =
@@ -22,7 +26,10 @@ returns-then-waits-waited-clause-table c =
     (differ-yes c.is_waited_for-waits.result c.set-waited.result c.if-waits-waited.true) c.recount.new.holes
     (subst (λ s. (n : ℕ) → holder_at c.args.holes.now (base_in (slot_at s c.args.a)) ≡ Some n
     → c.recount.new.holes ≡ set c.args.holes.now (base_in (slot_at s c.args.a))
-    (Some (moved c.is_waited_for-waits.result n))) c.set-waited.ensures.set c.recount.ensures))
+    (Some (moved c.is_waited_for-waits.result n))) c.set-waited.ensures.set
+    (subst (λ b. (n : ℕ) → holder_at c.args.holes.now b ≡ Some n
+    → c.recount.new.holes ≡ set c.args.holes.now b (Some (moved c.is_waited_for-waits.result n)))
+    c.base.ensures c.recount.ensures)))
 
 pub returns-else-waits-waited-clause-table : goal.returns-else-waits-waited-clause-table
 returns-else-waits-waited-clause-table c =

@@ -1,6 +1,7 @@
 use Rattle.std.proofs.Common.{◌∙◌, ap, arith}
+use Rattle.im_cell.specs.Slots.{is_waiting_slot}
 use Rattle.im_cell.specs.Cells.{state_for}
-use Rattle.im_cell.proofs.Kept.{long-slots, some-inside, set-read, waited-read}
+use Rattle.im_cell.proofs.Kept.{long-slots, some-inside, set-read, tested-read}
 use Rattle.im_cell.proofs.cells.Cells.set.Goals as goal
 
 pub index-state-requires : goal.index-state-requires
@@ -36,7 +37,7 @@ returns-clause-set c = set-read c.self.inside.states.items c.self.inside.values.
     c.value_in.ensures
 
 pub returns-clause-waited : goal.returns-clause-waited
-returns-clause-waited c = waited-read c.self.inside.states.items c.self.inside.values.items c.self.inside.extents.items c.args.self.now c.args.at _ _
+returns-clause-waited c = tested-read is_waiting_slot c.self.inside.states.items c.self.inside.values.items c.self.inside.extents.items c.args.self.now c.args.at _ _
     c.self.invariant.0 c.self.invariant.1 c.self.view_is
     (omega (
       arith,
