@@ -11,7 +11,7 @@ use Rattle.im_laws.proofs.BlockLemmas.{length-fill, get_or-fill_in}
 use Rattle.im_cell.specs.declared.slots.Slot.{Slot}
 use Rattle.im_cell.specs.declared.unit.TheConstants.{UNIT}
 use Rattle.im_cell.specs.declared.unit.Unit.{Unit}
-use Rattle.im_cell.specs.declared.unit.Unit.TheVariants.{Each, Free, Block}
+use Rattle.im_cell.specs.declared.unit.Unit.TheVariants.{Each, Free, BlockI, BlockM}
 use Rattle.im_cell.specs.Slots.{slot_at}
 use Rattle.im_cell.specs.Cells.{IsFilled}
 use Rattle.im_cell.specs.Units.{unit_at, is_own, common_slot, slot_by, shown_from, shown_units}
@@ -51,12 +51,14 @@ past-shown units slots k past = get_or_past (shown_units units slots) k None (om
 pub by-common : (unit : Unit) (own : Option Slot) → is_own unit ≡ false → slot_by unit own ≡ common_slot unit
 by-common Each own e = absurd (cc)
 by-common Free own e = refl
-by-common (Block block) own e = refl
+by-common (BlockI extent) own e = refl
+by-common (BlockM extent) own e = refl
 
 pub own-each : (unit : Unit) → is_own unit ≡ true → unit ≡ Each
 own-each Each e = refl
 own-each Free e = absurd (cc)
-own-each (Block block) e = absurd (cc)
+own-each (BlockI extent) e = absurd (cc)
+own-each (BlockM extent) e = absurd (cc)
 
 -- where none does, a cell has its own
 pub at-own : (units : List Unit) (slots : List (Option Slot)) (k : ℕ) → unit_at units (k / UNIT) ≡ Each → k

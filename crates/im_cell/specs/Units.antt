@@ -1,11 +1,13 @@
 -- Units of cells. One record may stand for all cells of a unit. (Own.)
 use Rattle.std.specs.Prelude.{ℕ, suc, ◌/◌, List, [], ◌∷◌, Bool, true, false, Option, None, slice_index_or}
 use Rattle.im_types.specs.declared.cells.Cell.TheVariants.{Empty}
+use Rattle.im_types.specs.declared.operations.Kind.TheVariants.{I, M}
 use Rattle.im_cell.specs.declared.slots.Slot.{Slot}
 use Rattle.im_cell.specs.declared.unit.Unit.{Unit}
-use Rattle.im_cell.specs.declared.unit.Unit.TheVariants.{Each, Free, Block}
+use Rattle.im_cell.specs.declared.unit.Unit.TheVariants.{Each, Free, BlockI, BlockM}
 use Rattle.im_cell.specs.declared.unit.TheConstants.{UNIT}
 use Rattle.im_cell.specs.Slots.{new_slot}
+use Rattle.im_cell.specs.Cells.{block_by_extent}
 
 -- a unit; past the last unit each cell has its own record
 abbrev pub unit_at : List Unit → ℕ → Unit
@@ -15,19 +17,22 @@ unit_at units j = slice_index_or units j Each
 abbrev pub is_own : Unit → Bool
 is_own Each = true
 is_own Free = false
-is_own (Block block) = false
+is_own (BlockI extent) = false
+is_own (BlockM extent) = false
 
 -- the slot of each cell of a unit with one record for all
 abbrev pub common_slot : Unit → Option Slot
 common_slot Each = None
 common_slot Free = None
-common_slot (Block block) = new_slot block Empty
+common_slot (BlockI extent) = new_slot (block_by_extent extent I) Empty
+common_slot (BlockM extent) = new_slot (block_by_extent extent M) Empty
 
 -- the slot of a cell in a unit, with this record of its own
 abbrev pub slot_by : Unit → Option Slot → Option Slot
 slot_by Each own = own
 slot_by Free own = None
-slot_by (Block block) own = new_slot block Empty
+slot_by (BlockI extent) own = new_slot (block_by_extent extent I) Empty
+slot_by (BlockM extent) own = new_slot (block_by_extent extent M) Empty
 
 -- the slots of the cells from one on
 abbrev pub shown_from : ℕ → List Unit → List (Option Slot) → List (Option Slot)

@@ -97,8 +97,7 @@ pub(crate) fn fill_shown(units: &mut [Unit], cells: &mut Cells, base: usize, end
     fill_uncut(units, cells, base, end, unit);
 }
 
-// Gives each cell of a unit its own record. It takes a cell of it: so LLVM finds the unit's place once for a look and
-// for a write behind it.
+// Gives each cell of a cell's unit its own record. It takes the cell, so LLVM finds the unit's place once for a call.
 #[inline(never)]
 fn write_out_around(units: &mut [Unit], cells: &mut Cells, at: usize)
     requires inside { at / UNIT < length units.old }

@@ -1,27 +1,43 @@
 //! Units of cells. One record may stand for all cells of a unit.
-ghost use Rattle.std.specs.Prelude.{◌≡◌, ℕ};
+ghost use Rattle.std.specs.Prelude.{◌≡◌, ℕ, false};
+ghost use Rattle.im_types.specs.declared.cells.Cell.TheVariants.{Empty};
+ghost use Rattle.im_cell.specs.Slots.{new_slot};
 ghost use Rattle.im_cell.specs.Cells.{state_slot};
 ghost use Rattle.im_cell.specs.Units.{common_slot, is_own};
 
 use crate::slots::Slot;
-use crate::state::{Extent, NOWHERE, State, state_of};
-use im_types::{Block, Cell};
+use crate::state::{Extent, NOWHERE, State};
+use im_types::{Block, Kind};
 
 /// The number of cells in a unit.
 pub(crate) const UNIT: usize = 128;
 
-/// What stands for the cells of a unit.
+/// What stands for the cells of a unit. It has three words, as the kind of a block is its variant.
 #[derive(Clone, Copy, Debug, PartialEq, Eq)]
 pub(crate) enum Unit {
     /// Each cell has a record of its own.
     Each,
     /// All of them are free.
     Free,
-    /// All of them are empty cells of this block.
-    Block(Block),
+    /// All of them are empty cells of the I block at this place.
+    BlockI(Extent),
+    /// All of them are empty cells of the M block at this place.
+    BlockM(Extent),
 }
 
 impl Unit {
+    /// Returns what stands for units of empty cells of a block.
+    pub(crate) fn of(block: Block) -> Unit
+        ensures own { is_own result ≡ false }
+        ensures slot { common_slot result ≡ new_slot block Empty }
+    {
+        let Block { base, length, kind } = block;
+        match kind {
+            Kind::I => Unit::BlockI(Extent { base, length }),
+            Kind::M => Unit::BlockM(Extent { base, length }),
+        }
+    }
+
     /// Returns whether each cell has its own record.
     #[inline(always)]
     pub(crate) fn is_own(self) -> bool
@@ -34,13 +50,8 @@ impl Unit {
     pub(crate) fn slot(self) -> Option<Slot>
         ensures { result ≡ common_slot self }
     {
-        match self {
-            Unit::Block(block) => Some(Slot {
-                block,
-                cell: Cell::Empty,
-            }),
-            _ => None,
-        }
+        let (state, extent) = self.parts();
+        state.slot(0, extent)
     }
 
     /// Returns the state of each cell, and the place of its block.
@@ -48,13 +59,8 @@ impl Unit {
         ensures { (value : ℕ) → state_slot result.0 value result.1 ≡ common_slot self }
     {
         match self {
-            Unit::Block(block) => (
-                state_of(block.kind, Cell::Empty),
-                Extent {
-                    base: block.base,
-                    length: block.length,
-                },
-            ),
+            Unit::BlockI(extent) => (State::EmptyI, extent),
+            Unit::BlockM(extent) => (State::EmptyM, extent),
             _ => (State::Free, NOWHERE),
         }
     }

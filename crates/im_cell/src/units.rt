@@ -91,7 +91,8 @@ impl CellUnits {
         match unit_of(self.units.as_slice(), at / UNIT) {
             Unit::Each => self.cells.base(at),
             Unit::Free => 0,
-            Unit::Block(block) => block.base,
+            Unit::BlockI(extent) => extent.base,
+            Unit::BlockM(extent) => extent.base,
         }
     }
 

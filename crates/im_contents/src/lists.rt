@@ -7,11 +7,11 @@ use std::marker::Model;
 
 /// Lists of waiters, one for each cell. Contracts see the lists by cell.
 ///
-/// The waiters stand in one row, in the order of their cells. So an empty list takes the room of one number.
+/// The waiters stand in one row, in the order of their cells. So an empty list takes four bytes.
 #[derive(Drop)]
 pub struct Lists {
     pub(crate) waiters: Vec<Waiter>,
-    pub(crate) ends: Vec<usize>,
+    pub(crate) ends: Vec<u32>,
 }
 
 impl Model for Lists {
@@ -47,15 +47,15 @@ impl Lists {
         ensures { result.now ≡ slice_index_or self.now cell [] }
     {
         let start = start_of(&self.ends, cell);
-        let end = self.ends[cell];
+        let end = self.ends[cell] as usize;
         &self.waiters[start..end]
     }
 }
 
 // A list begins where the list before it ends.
-fn start_of(ends: &[usize], cell: usize) -> usize
+fn start_of(ends: &[u32], cell: usize) -> usize
     requires { cell < length ends.now }
     ensures { result ≡ slice_index_or (0 ∷ ends.now) cell 0 }
 {
-    if cell == 0 { 0 } else { ends[cell - 1] }
+    if cell == 0 { 0 } else { ends[cell - 1] as usize }
 }

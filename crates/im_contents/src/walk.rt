@@ -113,7 +113,11 @@ fn find_lists(
         if !walk_cell(nodes, &cells.at(cell), marks, &mut waiters)? {
             return Ok(None);
         }
-        ends.push(waiters.len())?;
+        let end = waiters.len();
+        if end > u32::MAX as usize {
+            return Err(AllocError);
+        }
+        ends.push(end as u32)?;
     }
     if are_reached(marks, nodes) {
         Ok(Some(Lists { waiters, ends }))

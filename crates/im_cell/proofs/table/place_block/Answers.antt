@@ -1,4 +1,5 @@
-use Rattle.std.proofs.Common.{◌∙◌, sym, subst}
+use Rattle.std.proofs.Common.{◌∙◌, ap, sym, subst}
+use Rattle.im_types.specs.Place.{fill}
 use Rattle.im_laws.proofs.BlockLemmas.{place-fits}
 use Rattle.im_cell.specs.Table.{IsTable}
 use Rattle.im_cell.proofs.Changed.{place-table, IsTable-made}
@@ -14,7 +15,8 @@ fill-requires-clause-inside c = place-fits c.args.n c.args.slots.now c.in-Some.b
 
 pub returns-in-Some-clause-table : goal.returns-in-Some-clause-table
 returns-in-Some-clause-table c =
-    subst (λ s. IsTable s c.take.new.self) (sym c.fill.ensures)
+    subst (λ s. IsTable s c.take.new.self)
+    (sym (c.fill.ensures ∙ ap (fill c.args.slots.now c.in-Some.base c.args.n) c.of.ensures.slot))
     (IsTable-made c.args.slots.now c.args.holes.now c.take.new.self c.in-Some.base c.args.n c.args.kind
     c.requires.table c.requires.some
     (sym (place-table c.args.slots.now c.args.holes.now c.args.n c.requires.table) ∙ sym c.in-Some.ensures.place)

@@ -41,7 +41,7 @@ loop-cell-preserved c =
     ∙ ap (λ (b : Bool). if b then Some
     (record { waiters = c.walk_cell.new.waiters.items; marks = c.walk_cell.new.marks })
     else None) c.if-not-branch.false) in
-    let count : c.len-in-loop-cell.result ≡ length c.walk_cell.new.waiters.items = omega arith in
+    let count : c.len-end.result ≡ length c.walk_cell.new.waiters.items = omega arith in
     let ends : c.push.new.self.items ≡ c.loop-cell.ends.items ++ length c.walk_cell.new.waiters.items ∷ [] =
     c.in_ok-push.ensures.items ∙ ap (λ (n : ℕ). c.loop-cell.ends.items ++ n ∷ []) count in
     record {

@@ -54,10 +54,23 @@ returns-in-Free c =
     )))
     ∙ ap (λ s. slot_at s c.args.a) c.self.view_is)
 
-pub returns-in-Block : goal.returns-in-Block
-returns-in-Block c =
+pub returns-in-BlockI : goal.returns-in-BlockI
+returns-in-BlockI c =
     ap (λ u. base_in (slot_by u (slot_at c.self.inside.cells c.args.a)))
-    (c.in-Block.ensures ∙ ap (λ us. unit_at us (c.args.a / UNIT)) c.as_slice.ensures.value)
+    (c.in-BlockI.ensures ∙ ap (λ us. unit_at us (c.args.a / UNIT)) c.as_slice.ensures.value)
+    ∙ ap base_in (sym (at-shown c.self.inside.units.items c.self.inside.cells c.args.a
+    (omega (
+      arith,
+      some-inside c.args.self.now c.args.a c.requires,
+      length-shown c.self.inside.units.items c.self.inside.cells,
+      ap length c.self.view_is,
+    )))
+    ∙ ap (λ s. slot_at s c.args.a) c.self.view_is)
+
+pub returns-in-BlockM : goal.returns-in-BlockM
+returns-in-BlockM c =
+    ap (λ u. base_in (slot_by u (slot_at c.self.inside.cells c.args.a)))
+    (c.in-BlockM.ensures ∙ ap (λ us. unit_at us (c.args.a / UNIT)) c.as_slice.ensures.value)
     ∙ ap base_in (sym (at-shown c.self.inside.units.items c.self.inside.cells c.args.a
     (omega (
       arith,

@@ -10,20 +10,20 @@ start_of-start-requires c =
     let same : length c.deref.result.now ≡ length c.self.inside.ends.items = ap length c.deref.ensures.value in
     omega (arith, c.requires)
 
-pub index-end-requires : goal.index-end-requires
-index-end-requires c =
+pub index-requires : goal.index-requires
+index-requires c =
     let count : length c.args.self.now ≡ length c.self.inside.ends.items = ap length (sym c.self.view_is)
     ∙ length-cut c.self.inside.waiters.items 0 c.self.inside.ends.items in
     omega (arith, c.requires)
 
 -- where the list stands
 place : (c : goal.After-deref-2)
-    → Stands c.self.inside.waiters.items c.args.self.now c.args.cell c.start_of-start.result c.index-end.result.now
+    → Stands c.self.inside.waiters.items c.args.self.now c.args.cell c.start_of-start.result c.index.result.now
 place c =
     stands_at c.self.inside.waiters.items c.self.inside.ends.items c.args.self.now c.args.cell c.start_of-start.result
-    c.index-end.result.now
+    c.index.result.now
     c.self.view_is c.self.invariant c.requires c.deref.result.now c.deref.ensures.value c.start_of-start.ensures
-    c.index-end.result.now c.index-end.ensures
+    c.index.result.now c.index.ensures
 
 pub offset_bounds-deref-start : goal.offset_bounds-deref-start
 offset_bounds-deref-start c =
@@ -48,8 +48,8 @@ pub returns : goal.returns
 returns c =
     let s =
     stands_at c.self.inside.waiters.items c.self.inside.ends.items c.args.self.now c.args.cell c.start_of-start.result
-    c.index-end.result.now
+    c.index.result.now
     c.self.view_is c.self.invariant c.requires c.deref.result.now c.deref.ensures.value c.start_of-start.ensures
-    c.index-end.result.now c.index-end.ensures in
-    ap (λ (l : List Waiter). take (c.index-end.result.now - c.start_of-start.result)
+    c.index.result.now c.index.ensures in
+    ap (λ (l : List Waiter). take (c.index.result.now - c.start_of-start.result)
     (drop c.start_of-start.result l)) c.deref-2.ensures.value ∙ s.list
