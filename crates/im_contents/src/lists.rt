@@ -57,5 +57,9 @@ fn start_of(ends: &[u32], cell: usize) -> usize
     requires { cell < length ends.now }
     ensures { result ≡ slice_index_or (0 ∷ ends.now) cell 0 }
 {
-    if cell == 0 { 0 } else { ends[cell - 1] as usize }
+    if cell == 0 {
+        0
+    } else {
+        ends[cell - 1] as usize
+    }
 }

@@ -11,8 +11,8 @@ index-requires c = omega (
 )
 
 pub returns : goal.returns
-returns c = tested-read is_waiting_slot c.self.inside.states.items c.self.inside.values.items c.self.inside.extents.items
-    c.args.self.now c.args.at _ _ c.self.invariant.0 c.self.invariant.1 c.self.view_is
+returns c = tested-read is_waiting_slot c.self.inside.states.items c.self.inside.values.items
+    c.self.inside.extents.items c.args.self.now c.args.at _ _ c.self.invariant.0 c.self.invariant.1 c.self.view_is
     (omega (
       arith,
       long-slots c.self.inside.states.items c.self.inside.values.items
