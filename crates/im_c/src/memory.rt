@@ -4,6 +4,7 @@ ghost use Rattle.std.specs.declared.option.Option.{Option};
 ghost use Rattle.im_types.specs.Contents.{empty_contents};
 ghost use Rattle.im_types.specs.Window.{ask};
 ghost use Rattle.im_types.specs.Sizes.{AreLimits};
+ghost use Rattle.im_types.specs.Slot.{op_of};
 ghost use Rattle.im_memory.specs.State.{MemoryState};
 ghost use Rattle.im_c.specs.Held.{holds_memory};
 ghost use Rattle.im_c.specs.Handing.{ShowsHeld, Becomes};
@@ -11,9 +12,12 @@ ghost use Rattle.im_c.specs.Memory.{Steps};
 ghost use Rattle.im_c.specs.Plain.{entry_outcome};
 
 use crate::parts::BoxParts;
-use crate::plain::{LtCommand, LtOutcome, NO_CALL, entry_outcome, meant, tell, tell_refused};
+use crate::plain::{
+    LtCommand, LtOutcome, NO_CALL, entry_outcome, meant, request_of, tell, tell_read, tell_refused,
+    tell_write,
+};
 use im_memory::Memory;
-use im_types::{Limits, Refusal};
+use im_types::{Limits, Op, Refusal};
 use std::alloc::Global;
 use std::marker::Model;
 
@@ -83,8 +87,75 @@ fn made(alloc: Global, limits: Limits) -> Result<Box<Memory>, Refusal>
     }
 }
 
-// Serves one command, and writes its outcome for C.
+// Serves one command, and writes its outcome for C. Two tests find the tag of an access, in place of a table of tags.
+// Then its request is put together as that of its operation, field by field from C's command.
 fn step(memory: &mut Memory, command: &LtCommand, outcome: &mut LtOutcome)
+    ensures { Steps memory.old command.now outcome.new memory.new }
+{
+    if command.tag % 2 == 0 {
+        step_even(memory, command, outcome);
+    } else {
+        step_odd(memory, command, outcome);
+    }
+}
+
+// Serves a command with an even tag, as those of reads are.
+#[inline(always)]
+fn step_even(memory: &mut Memory, command: &LtCommand, outcome: &mut LtOutcome)
+    ensures { Steps memory.old command.now outcome.new memory.new }
+{
+    match command.tag {
+        4 => read(memory, command, Op::Fetch(command.address), outcome),
+        6 => read(memory, command, Op::Take(command.address), outcome),
+        _ => step_any(memory, command, outcome),
+    }
+}
+
+// Serves a command with an odd tag, as those of writes are.
+#[inline(always)]
+fn step_odd(memory: &mut Memory, command: &LtCommand, outcome: &mut LtOutcome)
+    ensures { Steps memory.old command.now outcome.new memory.new }
+{
+    match command.tag {
+        5 => write(
+            memory,
+            command,
+            Op::Store(command.address, command.value),
+            outcome,
+        ),
+        7 => write(
+            memory,
+            command,
+            Op::Put(command.address, command.value),
+            outcome,
+        ),
+        _ => step_any(memory, command, outcome),
+    }
+}
+
+// Serves a request of this operation, a fetch or a take.
+#[inline(always)]
+fn read(memory: &mut Memory, command: &LtCommand, op: Op, outcome: &mut LtOutcome)
+    requires { op_of command.now.tag command.now.address command.now.value ≡ Some op }
+    ensures { Steps memory.old command.now outcome.new memory.new }
+{
+    let asked = request_of(command, op);
+    tell_read(memory.step(&asked), outcome);
+}
+
+// Serves a request of this operation, a store or a put.
+#[inline(always)]
+fn write(memory: &mut Memory, command: &LtCommand, op: Op, outcome: &mut LtOutcome)
+    requires { op_of command.now.tag command.now.address command.now.value ≡ Some op }
+    ensures { Steps memory.old command.now outcome.new memory.new }
+{
+    let asked = request_of(command, op);
+    tell_write(memory.step(&asked), outcome);
+}
+
+// Serves any command, or tells that it is none. It is a call of its own, so that an access isn't laid out with it.
+#[inline(never)]
+fn step_any(memory: &mut Memory, command: &LtCommand, outcome: &mut LtOutcome)
     ensures { Steps memory.old command.now outcome.new memory.new }
 {
     match meant(command) {

@@ -1,10 +1,11 @@
 //! Commands and outcomes in C's form.
-ghost use Rattle.std.specs.Prelude.{◌≡◌};
+ghost use Rattle.std.specs.Prelude.{◌≡◌, Some, Ok};
 ghost use Rattle.im_types.specs.Bytes.{entry_code, entry_number};
+ghost use Rattle.im_types.specs.Slot.{op_of};
 ghost use Rattle.im_c.specs.Plain.{meant, outcome_of, entry_outcome, refused};
 
 use im_types::codes::op_of;
-use im_types::{Command, Entry, Outcome, Refusal, Reply, Request};
+use im_types::{Command, Entry, Op, Outcome, Refusal, Reply, Request};
 
 /// The number of the refusal of something that is no call, such as an unknown tag.
 pub(crate) const NO_CALL: u8 = 255;
@@ -126,6 +127,19 @@ pub(crate) fn meant(command: &LtCommand) -> Option<Command>
     }
 }
 
+/// Returns the command that is meant if its tag is that of this operation.
+#[inline(always)]
+pub(crate) fn request_of(command: &LtCommand, op: Op) -> Command
+    requires { op_of command.now.tag command.now.address command.now.value ≡ Some op }
+    ensures { meant command.now ≡ Some result }
+{
+    Command::Request(Request {
+        element: command.element,
+        number: command.number,
+        op,
+    })
+}
+
 // The code of an entry.
 fn entry_code(entry: Entry) -> u8
     ensures { result ≡ entry_code entry }
@@ -188,23 +202,57 @@ pub(crate) fn outcome_of(answer: Result<Outcome, Refusal>) -> LtOutcome
     }
 }
 
+// Writes the outcome of a call that isn't refused.
+#[inline(always)]
+fn tell_tag(tag: u8, value: u64, outcome: &mut LtOutcome)
+    ensures { outcome.new ≡ record { refusal = 0; tag = tag; value = value } }
+{
+    outcome.refusal = 0;
+    outcome.tag = tag;
+    outcome.value = value;
+}
+
+// Writes the outcome of an entry. It is a call of its own, which an access with its usual answer is spared.
+#[inline(never)]
+fn tell_entry(entry: Entry, outcome: &mut LtOutcome)
+    ensures { outcome.new ≡ entry_outcome (Ok entry) }
+{
+    tell_tag(entry_code(entry), entry_number(entry), outcome);
+}
+
 /// Writes the outcome of an answer, field by field, so that no padding is copied.
 #[inline(always)]
 pub(crate) fn tell(answer: Result<Outcome, Refusal>, outcome: &mut LtOutcome)
     ensures { outcome.new ≡ outcome_of answer }
 {
     match answer {
-        Ok(Outcome::Confirmed) => {
-            outcome.refusal = 0;
-            outcome.tag = CONFIRMED;
-            outcome.value = 0;
-        }
-        Ok(Outcome::Entry(entry)) => {
-            outcome.refusal = 0;
-            outcome.tag = entry_code(entry);
-            outcome.value = entry_number(entry);
-        }
+        Ok(Outcome::Confirmed) => tell_tag(CONFIRMED, 0, outcome),
+        Ok(Outcome::Entry(entry)) => tell_entry(entry, outcome),
         Err(refusal) => tell_refused(refusal.number(), outcome),
+    }
+}
+
+/// Writes the outcome of an answer to a fetch or a take, as [`tell`] does. First it looks for a value, or whether the
+/// request waits.
+#[inline(always)]
+pub(crate) fn tell_read(answer: Result<Outcome, Refusal>, outcome: &mut LtOutcome)
+    ensures { outcome.new ≡ outcome_of answer }
+{
+    match answer {
+        Ok(Outcome::Entry(Entry::Answered(Reply::Value(value)))) => tell_tag(4, value, outcome),
+        Ok(Outcome::Entry(Entry::Waiting)) => tell_tag(0, 0, outcome),
+        _ => tell(answer, outcome),
+    }
+}
+
+/// Writes the outcome of an answer to a store or a put, as [`tell`] does. First it looks whether the value was stored.
+#[inline(always)]
+pub(crate) fn tell_write(answer: Result<Outcome, Refusal>, outcome: &mut LtOutcome)
+    ensures { outcome.new ≡ outcome_of answer }
+{
+    match answer {
+        Ok(Outcome::Entry(Entry::Answered(Reply::Stored))) => tell_tag(5, 0, outcome),
+        _ => tell(answer, outcome),
     }
 }
 
