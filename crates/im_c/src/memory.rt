@@ -17,6 +17,7 @@ use crate::plain::{
     tell_write,
 };
 use im_memory::Memory;
+use im_types::codes::op_of;
 use im_types::{Limits, Op, Refusal};
 use std::alloc::Global;
 use std::marker::Model;
@@ -99,14 +100,15 @@ fn step(memory: &mut Memory, command: &LtCommand, outcome: &mut LtOutcome)
     }
 }
 
-// Serves a command with an even tag, as those of reads are.
+// Serves a command with an even tag, as those of reads and confirmations are.
 #[inline(always)]
 fn step_even(memory: &mut Memory, command: &LtCommand, outcome: &mut LtOutcome)
     ensures { Steps memory.old command.now outcome.new memory.new }
 {
     match command.tag {
-        4 => read(memory, command, Op::Fetch(command.address), outcome),
-        6 => read(memory, command, Op::Take(command.address), outcome),
+        4 => access(memory, command, Op::Fetch(command.address), true, outcome),
+        6 => access(memory, command, Op::Take(command.address), true, outcome),
+        8 => step_rest(memory, command, outcome),
         _ => step_any(memory, command, outcome),
     }
 }
@@ -116,46 +118,46 @@ fn step_even(memory: &mut Memory, command: &LtCommand, outcome: &mut LtOutcome)
 fn step_odd(memory: &mut Memory, command: &LtCommand, outcome: &mut LtOutcome)
     ensures { Steps memory.old command.now outcome.new memory.new }
 {
+    let (a, value) = (command.address, command.value);
     match command.tag {
-        5 => write(
-            memory,
-            command,
-            Op::Store(command.address, command.value),
-            outcome,
-        ),
-        7 => write(
-            memory,
-            command,
-            Op::Put(command.address, command.value),
-            outcome,
-        ),
+        5 => access(memory, command, Op::Store(a, value), false, outcome),
+        7 => access(memory, command, Op::Put(a, value), false, outcome),
         _ => step_any(memory, command, outcome),
     }
 }
 
-// Serves a request of this operation, a fetch or a take.
+// Serves a request of this operation, a read or a write of a cell.
 #[inline(always)]
-fn read(memory: &mut Memory, command: &LtCommand, op: Op, outcome: &mut LtOutcome)
+fn access(memory: &mut Memory, command: &LtCommand, op: Op, reads: bool, outcome: &mut LtOutcome)
     requires { op_of command.now.tag command.now.address command.now.value ≡ Some op }
     ensures { Steps memory.old command.now outcome.new memory.new }
 {
     let asked = request_of(command, op);
-    tell_read(memory.step(&asked), outcome);
-}
-
-// Serves a request of this operation, a store or a put.
-#[inline(always)]
-fn write(memory: &mut Memory, command: &LtCommand, op: Op, outcome: &mut LtOutcome)
-    requires { op_of command.now.tag command.now.address command.now.value ≡ Some op }
-    ensures { Steps memory.old command.now outcome.new memory.new }
-{
-    let asked = request_of(command, op);
-    tell_write(memory.step(&asked), outcome);
+    let answer = memory.step(&asked);
+    if reads {
+        tell_read(answer, outcome);
+    } else {
+        tell_write(answer, outcome);
+    }
 }
 
 // Serves any command, or tells that it is none. It is a call of its own, so that an access isn't laid out with it.
 #[inline(never)]
 fn step_any(memory: &mut Memory, command: &LtCommand, outcome: &mut LtOutcome)
+    ensures { Steps memory.old command.now outcome.new memory.new }
+{
+    match op_of(command.tag, command.address, command.value) {
+        Some(op) => {
+            let asked = request_of(command, op);
+            tell(memory.step(&asked), outcome);
+        }
+        None => step_rest(memory, command, outcome),
+    }
+}
+
+// Serves a command that need not be a request, or tells that it is none.
+#[inline(always)]
+fn step_rest(memory: &mut Memory, command: &LtCommand, outcome: &mut LtOutcome)
     ensures { Steps memory.old command.now outcome.new memory.new }
 {
     match meant(command) {

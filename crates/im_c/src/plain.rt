@@ -227,8 +227,19 @@ pub(crate) fn tell(answer: Result<Outcome, Refusal>, outcome: &mut LtOutcome)
 {
     match answer {
         Ok(Outcome::Confirmed) => tell_tag(CONFIRMED, 0, outcome),
-        Ok(Outcome::Entry(entry)) => tell_entry(entry, outcome),
+        Ok(Outcome::Entry(entry)) => tell_tag(entry_code(entry), entry_number(entry), outcome),
         Err(refusal) => tell_refused(refusal.number(), outcome),
+    }
+}
+
+// Writes the outcome of an answer as [`tell`] does, but that of an entry by a call.
+#[inline(always)]
+fn tell_rest(answer: Result<Outcome, Refusal>, outcome: &mut LtOutcome)
+    ensures { outcome.new ≡ outcome_of answer }
+{
+    match answer {
+        Ok(Outcome::Entry(entry)) => tell_entry(entry, outcome),
+        _ => tell(answer, outcome),
     }
 }
 
@@ -241,7 +252,7 @@ pub(crate) fn tell_read(answer: Result<Outcome, Refusal>, outcome: &mut LtOutcom
     match answer {
         Ok(Outcome::Entry(Entry::Answered(Reply::Value(value)))) => tell_tag(4, value, outcome),
         Ok(Outcome::Entry(Entry::Waiting)) => tell_tag(0, 0, outcome),
-        _ => tell(answer, outcome),
+        _ => tell_rest(answer, outcome),
     }
 }
 
@@ -252,7 +263,7 @@ pub(crate) fn tell_write(answer: Result<Outcome, Refusal>, outcome: &mut LtOutco
 {
     match answer {
         Ok(Outcome::Entry(Entry::Answered(Reply::Stored))) => tell_tag(5, 0, outcome),
-        _ => tell(answer, outcome),
+        _ => tell_rest(answer, outcome),
     }
 }
 
