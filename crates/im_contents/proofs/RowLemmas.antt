@@ -1,13 +1,17 @@
 -- Lists of waiters in one row.
-use Rattle.std.proofs.Common.{◌≡◌, ℕ, zero, suc, ◌-◌, ◌<◌, ◌≤◌, List, [], ◌∷◌, ◌++◌, length, replicate, ◌+◌, get_or}
-use Rattle.std.proofs.Common.{take, drop, refl, sym, ap, ◌∙◌, subst, arith}
+use Rattle.std.proofs.Common.{◌≡◌, ℕ, zero, suc, ◌-◌, ◌*◌, ◌<◌, ◌≤◌, List, [], ◌∷◌, ◌++◌, length, replicate, ◌+◌}
+use Rattle.std.proofs.Common.{get_or, take, drop, refl, sym, ap, ◌∙◌, subst, arith, ⊎_elim}
 use Rattle.std.specs.Prelude.{slice_range}
 use Rattle.std.specs.List.{sum_by}
 use Rattle.std.proofs.Math.Seq.{drop-append_seam, take-length}
 use Rattle.std.proofs.lemmas.List.{take-append-le, drop-append-le, length-append, length-drop, length-take-le}
-use Rattle.std.proofs.lemmas.List.Sums.{sum_by-cons}
+use Rattle.std.proofs.lemmas.List.{append-nil, append_assoc, length-replicate, replicate_more, get_or-append_right}
+use Rattle.std.proofs.lemmas.List.{get_or-replicate}
+use Rattle.std.proofs.lemmas.List.Sums.{sum_by-cons, sum_by-append}
+use Rattle.std.proofs.lemmas.List.Folds.{sum_by-replicate}
+use Rattle.im_laws.proofs.Tests.{below_or_from}
 use Rattle.im_types.specs.declared.operations.Waiter.{Waiter}
-use Rattle.im_contents.specs.Row.{cut, Rise}
+use Rattle.im_contents.specs.Row.{cut, spread, Rise}
 
 pub Rise-from : (start : ℕ) (ends : List ℕ) (size : ℕ) → Rise start ends size → start ≤ size
 Rise-from start [] size rise = omega arith
@@ -18,6 +22,29 @@ pub Rise-push : (start : ℕ) (ends : List ℕ) (size bigger : ℕ) → Rise sta
     → Rise start (ends ++ bigger ∷ []) bigger
 Rise-push start [] size bigger rise le = (omega arith, refl)
 Rise-push start (end ∷ ends) size bigger rise le = (rise.0, Rise-push end ends size bigger rise.1 le)
+
+-- empty lists behind the others
+Rise-same : (start n size : ℕ) → start ≡ size → Rise start (replicate n size) size
+Rise-same start zero size is = is
+Rise-same start (suc n) size is = (omega (arith, is), Rise-same size n size refl)
+
+Rise-fill : (start : ℕ) (ends : List ℕ) (n size : ℕ) → Rise start ends size → Rise start (ends ++ replicate n size) size
+Rise-fill start [] n size rise = Rise-same start n size rise
+Rise-fill start (end ∷ ends) n size rise = (rise.0, Rise-fill end ends n size rise.1)
+
+cut-same : (waiters : List Waiter) (start n size : ℕ) → start ≡ size → cut waiters start (replicate n size)
+    ≡ replicate n []
+cut-same waiters start zero size is = refl
+cut-same waiters start (suc n) size is =
+    let none : size - start ≡ 0 = omega (arith, is) in
+    ap (λ (k : ℕ). take k (drop start waiters) ∷ cut waiters size (replicate n size)) none
+    ∙ ap (λ (ls : List (List Waiter)). [] ∷ ls) (cut-same waiters size n size refl)
+
+cut-fill : (waiters : List Waiter) (start : ℕ) (ends : List ℕ) (n : ℕ) → Rise start ends (length waiters)
+    → cut waiters start (ends ++ replicate n (length waiters)) ≡ cut waiters start ends ++ replicate n []
+cut-fill waiters start [] n rise = cut-same waiters start n (length waiters) rise
+cut-fill waiters start (end ∷ ends) n rise = ap (λ (ls : List (List Waiter)). slice_range waiters start end ∷ ls)
+    (cut-fill waiters end ends n rise.1)
 
 module _ (waiters more : List Waiter) where
   -- what is behind doesn't matter
@@ -44,9 +71,108 @@ module _ (waiters more : List Waiter) where
       (range-front start end rise.0 (Rise-from end ends (length waiters) rise.1))
       ∙ ap (λ (ls : List (List Waiter)). slice_range waiters start end ∷ ls) (cut-push end ends rise.1)
 
+-- The ends when the list of one more cell is found. Only a list with somebody on it has an end kept.
+pub record IsEndKept (ends kept : List ℕ) (cell start end : ℕ) : Type 0 where
+  pub some : start < end → kept ≡ ends ++ replicate (cell - length ends) start ++ end ∷ []
+  pub none : end ≤ start → kept ≡ ends
+
+pub record AreSpread (front : List (List Waiter)) (list now : List Waiter) (ends : List ℕ) (cells : ℕ) : Type 0 where
+  pub rise : Rise 0 ends (length now)
+  pub few : length ends ≤ cells
+  pub is : spread now ends cells ≡ front ++ list ∷ []
+
+module _ (waiters more : List Waiter) (ends : List ℕ) (cell : ℕ) (rise : Rise 0 ends (length waiters))
+    (few : length ends ≤ cell) where
+  abbrev filled : List ℕ
+  filled = ends ++ replicate (cell - length ends) (length waiters)
+
+  count-filled : length filled ≡ cell
+  count-filled = omega (
+    arith,
+    few,
+    length-append ends (replicate (cell - length ends) (length waiters)),
+    length-replicate (cell - length ends) (length waiters),
+  )
+
+  spread-some : AreSpread (spread waiters ends cell) more (waiters ++ more)
+      (filled ++ length (waiters ++ more) ∷ []) (cell + 1)
+  spread-some =
+      let fills = Rise-fill 0 ends (cell - length ends) (length waiters) rise in
+      let count : length (filled ++ length (waiters ++ more) ∷ []) ≡ cell + 1 =
+      length-append filled (length (waiters ++ more) ∷ []) ∙ ap (λ (n : ℕ). n + 1) count-filled in
+      let none : (cell + 1) - length (filled ++ length (waiters ++ more) ∷ []) ≡ 0 = omega (arith, count) in
+      record {
+        rise = Rise-push 0 filled (length waiters) (length (waiters ++ more)) fills
+            (omega (arith, length-append waiters more));
+        few = omega (arith, count);
+        is = ap (λ (n : ℕ). cut (waiters ++ more) 0 (filled ++ length (waiters ++ more) ∷ []) ++ replicate n []) none
+            ∙ append-nil (cut (waiters ++ more) 0 (filled ++ length (waiters ++ more) ∷ []))
+            ∙ cut-push waiters more 0 filled fills
+            ∙ ap (λ (ls : List (List Waiter)). ls ++ more ∷ [])
+            (cut-fill waiters 0 ends (cell - length ends) rise);
+      }
+
+  spread-none : AreSpread (spread waiters ends cell) [] waiters ends (cell + 1)
+  spread-none =
+      let count : (cell + 1) - length ends ≡ (cell - length ends) + 1 = omega (arith, few) in
+      record {
+        rise = rise;
+        few = omega (arith, few);
+        is = ap (λ (n : ℕ). cut waiters 0 ends ++ replicate n []) count
+            ∙ ap (λ (ls : List (List Waiter)). cut waiters 0 ends ++ ls)
+            (sym (replicate_more (cell - length ends) []))
+            ∙ sym (append_assoc (cut waiters 0 ends) (replicate (cell - length ends) []) ([] ∷ []));
+      }
+
+spread-same : (waiters more : List Waiter) (ends : List ℕ) (cell : ℕ) → Rise 0 ends (length waiters)
+    → length ends ≤ cell → length (waiters ++ more) ≤ length waiters
+    → AreSpread (spread waiters ends cell) more (waiters ++ more) ends (cell + 1)
+spread-same waiters [] ends cell rise few le = subst
+    (λ (now : List Waiter). AreSpread (spread waiters ends cell) [] now ends (cell + 1)) (sym (append-nil waiters))
+    (spread-none waiters [] ends cell rise few)
+spread-same waiters (who ∷ more) ends cell rise few le =
+    let longer : length (waiters ++ who ∷ more) ≡ length waiters + suc (length more) =
+    length-append waiters (who ∷ more) in
+    absurd (omega (arith, longer, le))
+
+-- one more list behind the others, in a row of ends that reach only as far as somebody waits
+pub spread-push : (waiters more : List Waiter) (ends kept : List ℕ) (cell : ℕ) → Rise 0 ends (length waiters)
+    → length ends ≤ cell → IsEndKept ends kept cell (length waiters) (length (waiters ++ more))
+    → AreSpread (spread waiters ends cell) more (waiters ++ more) kept (cell + 1)
+spread-push waiters more ends kept cell rise few is = ⊎_elim
+    (λ (l : length waiters < length (waiters ++ more)). subst
+    (λ (es : List ℕ). AreSpread (spread waiters ends cell) more (waiters ++ more) es (cell + 1)) (sym (is.some l))
+    (spread-some waiters more ends cell rise few))
+    (λ (r : length (waiters ++ more) ≤ length waiters). subst
+    (λ (es : List ℕ). AreSpread (spread waiters ends cell) more (waiters ++ more) es (cell + 1)) (sym (is.none r))
+    (spread-same waiters more ends cell rise few r))
+    (below_or_from (length waiters) (length (waiters ++ more)))
+
 pub length-cut : (waiters : List Waiter) (start : ℕ) (ends : List ℕ) → length (cut waiters start ends) ≡ length ends
 length-cut waiters start [] = refl
 length-cut waiters start (end ∷ ends) = ap suc (length-cut waiters end ends)
+
+pub length-spread : (waiters : List Waiter) (ends : List ℕ) (cells : ℕ) → length ends ≤ cells
+    → length (spread waiters ends cells) ≡ cells
+length-spread waiters ends cells few =
+    omega (
+      arith,
+      few,
+      length-append (cut waiters 0 ends) (replicate (cells - length ends) []),
+      length-cut waiters 0 ends,
+      length-replicate {A = List Waiter} (cells - length ends) [],
+    )
+
+-- nobody is on a list behind the last end
+pub spread-behind : (waiters : List Waiter) (ends : List ℕ) (cells i : ℕ) (lists : List (List Waiter))
+    → spread waiters ends cells ≡ lists → length ends ≤ cells → i < length lists → length ends ≤ i
+    → get_or lists i [] ≡ []
+spread-behind waiters ends cells i lists view few lt past =
+    let count : length lists ≡ cells = ap length (sym view) ∙ length-spread waiters ends cells few in
+    ap (λ (ls : List (List Waiter)). get_or ls i []) (sym view)
+    ∙ get_or-append_right (cut waiters 0 ends) (replicate (cells - length ends) []) (length ends) i []
+    (length-cut waiters 0 ends) past
+    ∙ get_or-replicate (cells - length ends) (i - length ends) [] [] (omega (arith, count, few, lt, past))
 
 -- a list stands in the row from here to there
 pub record Stands (waiters : List Waiter) (lists : List (List Waiter)) (i start end : ℕ) : Type 0 where
@@ -68,22 +194,29 @@ stands waiters first (end ∷ ends) (suc i) rise lt d =
     let s = stands waiters end ends i rise.1 (omega arith) d in
     record { from = s.from; to = s.to; list = s.list }
 
+get_or-front : (xs ys : List (List Waiter)) (i : ℕ) → i < length xs → get_or (xs ++ ys) i [] ≡ get_or xs i []
+get_or-front [] ys i lt = absurd (omega (arith, lt))
+get_or-front (x ∷ xs) ys zero lt = refl
+get_or-front (x ∷ xs) ys (suc i) lt = get_or-front xs ys i (omega (arith, lt))
+
 pub stands_at : (waiters : List Waiter) (ends : List ℕ) (lists : List (List Waiter)) (i start end : ℕ)
-    → cut waiters 0 ends ≡ lists → Rise 0 ends (length waiters) → i < length lists
+    → (cells : ℕ) → spread waiters ends cells ≡ lists → Rise 0 ends (length waiters) → i < length ends
     → (read : List ℕ) → read ≡ ends → start ≡ get_or (0 ∷ read) i 0 → (d : ℕ) → end ≡ get_or ends i d
     → Stands waiters lists i start end
-stands_at waiters ends lists i start end view rise lt read same starts d is =
-    subst (λ (ls : List (List Waiter)). Stands waiters ls i start end) view
-    (subst (λ (s : ℕ). Stands waiters (cut waiters 0 ends) i s end)
+stands_at waiters ends lists i start end cells view rise lt read same starts d is =
+    let s =
+    subst (λ (s : ℕ). Stands waiters (cut waiters 0 ends) i s end)
     (sym (starts ∙ ap (λ (es : List ℕ). get_or (0 ∷ es) i 0) same))
     (subst (λ (e : ℕ). Stands waiters (cut waiters 0 ends) i (get_or (0 ∷ ends) i 0) e) (sym is)
-    (stands waiters 0 ends i rise below d)))
-  where
-    count : length lists ≡ length ends
-    count = ap length (sym view) ∙ length-cut waiters 0 ends
-
-    below : i < length ends
-    below = omega (arith, lt, count)
+    (stands waiters 0 ends i rise lt d)) in
+    record {
+      from = s.from;
+      to = s.to;
+      list = s.list
+          ∙ sym (get_or-front (cut waiters 0 ends) (replicate (cells - length ends) []) i
+          (omega (arith, lt, length-cut waiters 0 ends)))
+          ∙ ap (λ (ls : List (List Waiter)). get_or ls i []) view;
+    }
 
 -- there are as many waiters behind the start of the first list as in all lists
 pub sum-cut : (waiters : List Waiter) (start : ℕ) (ends : List ℕ) → Rise start ends (length waiters)
@@ -99,6 +232,14 @@ sum-cut waiters start (end ∷ ends) rise =
     let here : length (slice_range waiters start end)
     ≡ end - start = length-take-le (end - start) (drop start waiters) (omega (arith, behind, to, from)) in
     omega (arith, sum_by-cons length (slice_range waiters start end) (cut waiters end ends), more, here, from)
+
+pub sum-spread : (waiters : List Waiter) (ends : List ℕ) (cells : ℕ) → Rise 0 ends (length waiters)
+    → sum_by length (spread waiters ends cells) ≡ length waiters
+sum-spread waiters ends cells rise =
+    let n : ℕ = cells - length ends in
+    let none : List (List Waiter) = replicate n [] in
+    let empty : sum_by (length {A = Waiter}) none ≡ n * 0 = sum_by-replicate (length {A = Waiter}) n [] in
+    omega (arith, sum_by-append (length {A = Waiter}) (cut waiters 0 ends) none, empty, sum-cut waiters 0 ends rise)
 
 -- lists with nobody on them are empty
 pub none-behind : (waiters : List Waiter) (lists : List (List Waiter)) → sum_by length (waiters ∷ lists) ≡ 0

@@ -3,18 +3,18 @@ use Rattle.std.proofs.Common.{◌≡◌, ℕ, suc, ◌+◌, ◌-◌, ◌<◌, �
 use Rattle.std.proofs.Common.{None, Some, length, drop, replicate, set, refl, sym, ap, ◌∙◌, subst, arith}
 use Rattle.std.proofs.Common.{if◌then◌else◌}
 use Rattle.std.specs.Prelude.{option_and_then}
-use Rattle.std.proofs.lemmas.List.{append_assoc, append-nil, length-append, drop_all}
+use Rattle.std.proofs.lemmas.List.{append_assoc, append-nil, drop_all}
 use Rattle.im_types.specs.declared.TheConstants.{NONE}
 use Rattle.im_types.specs.declared.operations.Waiter.{Waiter}
 use Rattle.im_types.specs.declared.records.CellRecord.{CellRecord}
 use Rattle.im_types.specs.declared.records.NodeRecord.{NodeRecord}
 use Rattle.im_types.specs.declared.records.NodeRecord.TheVariants.{Free as FreeNode, Listed as ListNode}
-use Rattle.im_contents.specs.Row.{cut, Rise}
+use Rattle.im_contents.specs.Row.{spread, Rise}
 use Rattle.im_contents.specs.Walk.{Walked, unvisited_node, node_behind, met_after, visit, walk, walk_cell}
 use Rattle.im_contents.specs.Walk.{AllWalked, after_list}
 use Rattle.im_contents.specs.Walk.{after_lists, walk_all, are_reached, lists_if_reached, lists_in}
 use Rattle.im_contents.proofs.MarkLemmas.{none_some, some_same, when, unless}
-use Rattle.im_contents.proofs.RowLemmas.{Rise-push, cut-push}
+use Rattle.im_contents.proofs.RowLemmas.{IsEndKept, spread-push}
 
 behind-behind : (front : List Waiter) (who : Waiter) (rest : Option Walked)
     → met_after front (met_after (who ∷ []) rest)
@@ -77,11 +77,11 @@ after_after front waiters (Some r) = ap (λ (l : List (List Waiter)). Some (reco
 
 -- the walks have come to a cell
 module _ (nodes : List NodeRecord) (cell : CellRecord) (cells : List CellRecord) (marks : List Bool)
-    (waiters : List Waiter) (ends : List ℕ) (whole : Option AllWalked)
-    (inv : whole ≡ after_lists (cut waiters 0 ends) (walk_all nodes (cell ∷ cells) marks)) where
+    (waiters : List Waiter) (ends : List ℕ) (at : ℕ) (whole : Option AllWalked)
+    (inv : whole ≡ after_lists (spread waiters ends at) (walk_all nodes (cell ∷ cells) marks)) where
   -- there is no list for it
   pub cell_lost : met_after waiters (walk_cell nodes cell marks) ≡ None → whole ≡ None
-  cell_lost e = inv ∙ ap (λ (o : Option Walked). after_lists (cut waiters 0 ends)
+  cell_lost e = inv ∙ ap (λ (o : Option Walked). after_lists (spread waiters ends at)
       (option_and_then (λ w. after_list w.waiters (walk_all nodes cells w.marks)) o))
       (none_behind (walk_cell nodes cell marks) e)
     where
@@ -90,33 +90,41 @@ module _ (nodes : List NodeRecord) (cell : CellRecord) (cells : List CellRecord)
       none_behind (Some w) e = absurd (none_some (record { waiters = waiters ++ w.waiters; marks = w.marks }) (sym e))
 
   -- its list was found
-  pub record IsFurther (now : List Waiter) (marked : List Bool) : Type 0 where
-    pub rise : Rise 0 (ends ++ length now ∷ []) (length now)
-    pub is : whole ≡ after_lists (cut now 0 (ends ++ length now ∷ [])) (walk_all nodes cells marked)
+  pub record IsFurther (kept : List ℕ) (now : List Waiter) (marked : List Bool) : Type 0 where
+    pub rise : Rise 0 kept (length now)
+    pub few : length kept ≤ at + 1
+    pub is : whole ≡ after_lists (spread now kept (at + 1)) (walk_all nodes cells marked)
 
-  pub cell_found : Rise 0 ends (length waiters) → (now : List Waiter) (marked : List Bool)
-      → met_after waiters (walk_cell nodes cell marks) ≡ Some (record { waiters = now; marks = marked })
-      → IsFurther now marked
-  cell_found rise now marked e = by_walk (walk_cell nodes cell marks) refl e
+  pub cell_found : Rise 0 ends (length waiters) → length ends ≤ at → (kept : List ℕ) (now : List Waiter)
+      (marked : List Bool) → met_after waiters (walk_cell nodes cell marks)
+      ≡ Some (record { waiters = now; marks = marked })
+      → IsEndKept ends kept at (length waiters) (length now)
+      → IsFurther kept now marked
+  cell_found rise few kept now marked e keeps = by_walk (walk_cell nodes cell marks) refl e
     where
-      found : (w : Walked) → walk_cell nodes cell marks ≡ Some w → IsFurther (waiters ++ w.waiters) w.marks
-      found w is = record {
-        rise = Rise-push 0 ends (length waiters) (length (waiters ++ w.waiters)) rise
-            (omega (arith, length-append waiters w.waiters));
-        is = inv
-            ∙ ap (λ (o : Option Walked). after_lists (cut waiters 0 ends)
-            (option_and_then (λ v. after_list v.waiters (walk_all nodes cells v.marks)) o)) is
-            ∙ after_after (cut waiters 0 ends) w.waiters (walk_all nodes cells w.marks)
-            ∙ ap (λ (l : List (List Waiter)). after_lists l (walk_all nodes cells w.marks))
-            (sym (cut-push waiters w.waiters 0 ends rise));
-      }
+      found : (w : Walked) → walk_cell nodes cell marks ≡ Some w
+          → IsEndKept ends kept at (length waiters) (length (waiters ++ w.waiters))
+          → IsFurther kept (waiters ++ w.waiters) w.marks
+      found w is keeps =
+          let s = spread-push waiters w.waiters ends kept at rise few keeps in
+          record {
+            rise = s.rise;
+            few = s.few;
+            is = inv
+                ∙ ap (λ (o : Option Walked). after_lists (spread waiters ends at)
+                (option_and_then (λ v. after_list v.waiters (walk_all nodes cells v.marks)) o)) is
+                ∙ after_after (spread waiters ends at) w.waiters (walk_all nodes cells w.marks)
+                ∙ ap (λ (l : List (List Waiter)). after_lists l (walk_all nodes cells w.marks)) (sym s.is);
+          }
 
       by_walk : (o : Option Walked) → walk_cell nodes cell marks ≡ o → met_after waiters o
-          ≡ Some (record { waiters = now; marks = marked }) → IsFurther now marked
+          ≡ Some (record { waiters = now; marks = marked }) → IsFurther kept now marked
       by_walk None is f = absurd (none_some (record { waiters = now; marks = marked }) f)
-      by_walk (Some w) is f = subst (λ (x : Walked). IsFurther x.waiters x.marks)
+      by_walk (Some w) is f = subst
+          (λ (x : Walked). IsEndKept ends kept at (length waiters) (length x.waiters)
+          → IsFurther kept x.waiters x.marks)
           (some_same (record { waiters = waiters ++ w.waiters; marks = w.marks })
-          (record { waiters = now; marks = marked }) f) (found w is)
+          (record { waiters = now; marks = marked }) f) (found w is) keeps
 
 -- the walks are at their end
 module _ (nodes : List NodeRecord) (cells : List CellRecord) where

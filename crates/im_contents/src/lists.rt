@@ -7,23 +7,25 @@ use std::marker::Model;
 
 /// Lists of waiters, one for each cell. Contracts see the lists by cell.
 ///
-/// The waiters stand in one row, in the order of their cells. So an empty list takes four bytes.
+/// The waiters stand in one row, in the order of their cells. An empty list takes four bytes, and none behind the last
+/// cell that somebody waits for.
 #[derive(Drop)]
 pub struct Lists {
     pub(crate) waiters: Vec<Waiter>,
     pub(crate) ends: Vec<u32>,
+    pub(crate) cells: usize,
 }
 
 impl Model for Lists {
-    ghost use Rattle.std.specs.Prelude.{List, length};
+    ghost use Rattle.std.specs.Prelude.{◌≤◌, List, length};
     ghost use Rattle.im_types.specs.declared.operations.Waiter.{Waiter};
-    ghost use Rattle.im_contents.specs.Row.{cut, Rise};
+    ghost use Rattle.im_contents.specs.Row.{spread, Rise};
 
     ghost Value = { List (List Waiter) };
 
-    ghost view = { λ l. cut l.waiters.items 0 l.ends.items };
+    ghost view = { λ l. spread l.waiters.items l.ends.items l.cells };
 
-    ghost invariant = { λ l. Rise 0 l.ends.items (length l.waiters.items) };
+    ghost invariant = { λ l. Rise 0 l.ends.items (length l.waiters.items) × (length l.ends.items ≤ l.cells) };
 }
 
 impl Lists {
@@ -31,7 +33,7 @@ impl Lists {
     pub fn len(&self) -> usize
         ensures { result ≡ length self.now }
     {
-        self.ends.len()
+        self.cells
     }
 
     /// Returns whether nobody waits at any cell. It takes one step.
@@ -46,6 +48,9 @@ impl Lists {
         requires { cell < length self.now }
         ensures { result.now ≡ slice_index_or self.now cell [] }
     {
+        if cell >= self.ends.len() {
+            return &[];
+        }
         let start = start_of(&self.ends, cell);
         let end = self.ends[cell] as usize;
         &self.waiters[start..end]

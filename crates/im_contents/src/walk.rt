@@ -1,5 +1,6 @@
 //! Reads lists of waiters from linked nodes, whatever the links are.
-ghost use Rattle.std.specs.Prelude.{◌≡◌, ◌≤◌, ◌⊎◌, List, Option, Some, None, IfOk, IfErr, IsErrOf, length, replicate};
+ghost use Rattle.std.specs.Prelude.{◌≡◌, ◌<◌, ◌≤◌, ◌⊎◌, ◌-◌, ◌++◌, ◌∷◌, [], List, Option, Some, None, IfOk, IfErr};
+ghost use Rattle.std.specs.Prelude.{IsErrOf, length, replicate};
 ghost use Rattle.std.specs.Prelude.{false, if◌then◌else◌};
 ghost use Rattle.im_types.specs.declared.operations.Waiter.{Waiter};
 ghost use Rattle.im_types.specs.declared.records.CellRecord.{CellRecord};
@@ -97,6 +98,25 @@ fn are_reached(marks: &[bool], nodes: &[NodeRecord]) -> bool
     true
 }
 
+// Keeps where the list of a cell ends, if somebody waits there. The lists of the cells before it that have no end are
+// empty.
+fn keep_end(ends: &mut Vec<u32>, cell: usize, start: usize, end: usize) -> Result<(), AllocError>
+    requires few { length ends.old.items ≤ cell }
+    ensures some { IfOk result (λ _. start < end → ends.new.items
+        ≡ ends.old.items ++ replicate (cell - length ends.old.items) start ++ end ∷ []) }
+    ensures none { IfOk result (λ _. end ≤ start → ends.new.items ≡ ends.old.items) }
+{
+    if end <= start {
+        return Ok(());
+    }
+    if end > u32::MAX as usize {
+        return Err(AllocError);
+    }
+    ends.resize(cell, start as u32)?;
+    ends.push(end as u32)?;
+    Ok(())
+}
+
 // The lists of all cells, if each list is in order and each node of a list is in one of them. No node is marked before.
 fn find_lists(
     alloc: Global,
@@ -110,17 +130,19 @@ fn find_lists(
     let mut waiters = Vec::new(alloc);
     let mut ends = Vec::with_capacity(alloc, cells.len())?;
     for cell in 0..cells.len() {
+        let start = waiters.len();
         if !walk_cell(nodes, &cells.at(cell), marks, &mut waiters)? {
             return Ok(None);
         }
-        let end = waiters.len();
-        if end > u32::MAX as usize {
-            return Err(AllocError);
-        }
-        ends.push(end as u32)?;
+        keep_end(&mut ends, cell, start, waiters.len())?;
     }
     if are_reached(marks, nodes) {
-        Ok(Some(Lists { waiters, ends }))
+        let cells = cells.len();
+        Ok(Some(Lists {
+            waiters,
+            ends,
+            cells,
+        }))
     } else {
         Ok(None)
     }

@@ -1,5 +1,5 @@
-use Rattle.std.proofs.Common.{◌≡◌, length, drop, replicate, false}
-use Rattle.im_contents.specs.Row.{cut, Rise}
+use Rattle.std.proofs.Common.{◌≡◌, ◌≤◌, length, drop, replicate, false}
+use Rattle.im_contents.specs.Row.{spread, Rise}
 use Rattle.im_contents.specs.Walk.{walk_all, after_lists}
 use Rattle.im_contents.proofs.walk.find_lists.Given as goal
 
@@ -7,6 +7,7 @@ abbrev pub invariant-loop-cell : goal.invariant-loop-cell
 invariant-loop-cell l = record {
   size : length l.marks ≡ length l.nodes;
   rise : Rise 0 l.ends.items (length l.waiters.items);
+  few : length l.ends.items ≤ l.cell;
   walked : walk_all l.nodes l.cells (replicate (length l.nodes) false)
-      ≡ after_lists (cut l.waiters.items 0 l.ends.items) (walk_all l.nodes (drop l.cell l.cells) l.marks);
+      ≡ after_lists (spread l.waiters.items l.ends.items l.cell) (walk_all l.nodes (drop l.cell l.cells) l.marks);
 }

@@ -1,28 +1,22 @@
 use Rattle.std.proofs.Common.{◌≡◌, ◌-◌, List, length, take, drop, sym, ap, ◌∙◌, arith}
 use Rattle.im_types.specs.declared.operations.Waiter.{Waiter}
-use Rattle.im_contents.proofs.RowLemmas.{length-cut, stands_at, Stands}
+use Rattle.im_contents.proofs.RowLemmas.{spread-behind, stands_at, Stands}
 use Rattle.im_contents.proofs.lists.Lists.at.Goals as goal
 
-pub start_of-start-requires : goal.start_of-start-requires
-start_of-start-requires c =
-    let count : length c.args.self.now ≡ length c.self.inside.ends.items = ap length (sym c.self.view_is)
-    ∙ length-cut c.self.inside.waiters.items 0 c.self.inside.ends.items in
-    let same : length c.deref.result.now ≡ length c.self.inside.ends.items = ap length c.deref.ensures.value in
-    omega (arith, c.requires)
-
-pub index-requires : goal.index-requires
-index-requires c =
-    let count : length c.args.self.now ≡ length c.self.inside.ends.items = ap length (sym c.self.view_is)
-    ∙ length-cut c.self.inside.waiters.items 0 c.self.inside.ends.items in
-    omega (arith, c.requires)
+pub returns-then-cell-len : goal.returns-then-cell-len
+returns-then-cell-len c =
+    let i = c.self.inside in
+    sym (spread-behind i.waiters.items i.ends.items i.cells c.args.cell c.args.self.now c.self.view_is
+    c.self.invariant.1 c.requires (omega arith))
 
 -- where the list stands
 place : (c : goal.After-deref-2)
     → Stands c.self.inside.waiters.items c.args.self.now c.args.cell c.start_of-start.result c.index.result.now
 place c =
-    stands_at c.self.inside.waiters.items c.self.inside.ends.items c.args.self.now c.args.cell c.start_of-start.result
-    c.index.result.now
-    c.self.view_is c.self.invariant c.requires c.deref.result.now c.deref.ensures.value c.start_of-start.ensures
+    let i = c.self.inside in
+    stands_at i.waiters.items i.ends.items c.args.self.now c.args.cell c.start_of-start.result
+    c.index.result.now i.cells
+    c.self.view_is c.self.invariant.0 (omega arith) c.deref.result.now c.deref.ensures.value c.start_of-start.ensures
     c.index.result.now c.index.ensures
 
 pub offset_bounds-deref-start : goal.offset_bounds-deref-start
@@ -38,8 +32,8 @@ slice_bounds-result-count c = (place c).from
 pub slice_bounds-result-start : goal.slice_bounds-result-start
 slice_bounds-result-start c = (place c).from
 
-pub slice_bounds-result-end : goal.slice_bounds-result-end
-slice_bounds-result-end c =
+pub slice_bounds-result-end-2 : goal.slice_bounds-result-end-2
+slice_bounds-result-end-2 c =
     let s = place c in
     let same : length c.deref-2.result.now ≡ length c.self.inside.waiters.items = ap length c.deref-2.ensures.value in
     omega (arith, s.to)
@@ -48,8 +42,8 @@ pub returns : goal.returns
 returns c =
     let s =
     stands_at c.self.inside.waiters.items c.self.inside.ends.items c.args.self.now c.args.cell c.start_of-start.result
-    c.index.result.now
-    c.self.view_is c.self.invariant c.requires c.deref.result.now c.deref.ensures.value c.start_of-start.ensures
+    c.index.result.now c.self.inside.cells
+    c.self.view_is c.self.invariant.0 (omega arith) c.deref.result.now c.deref.ensures.value c.start_of-start.ensures
     c.index.result.now c.index.ensures in
     ap (λ (l : List Waiter). take (c.index.result.now - c.start_of-start.result)
     (drop c.start_of-start.result l)) c.deref-2.ensures.value ∙ s.list

@@ -2,7 +2,7 @@ use Rattle.std.proofs.Common.{◌≡◌, ℕ, List, length, sym, ap, ◌∙◌, 
 use Rattle.std.specs.Prelude.{◌==◌}
 use Rattle.std.specs.List.{sum_by}
 use Rattle.im_types.specs.declared.operations.Waiter.{Waiter}
-use Rattle.im_contents.proofs.RowLemmas.{sum-cut}
+use Rattle.im_contents.proofs.RowLemmas.{sum-spread}
 use Rattle.im_contents.proofs.lists.Lists.has_nobody.Goals as goal
 
 pub returns : goal.returns
@@ -10,5 +10,5 @@ returns c =
     let i = c.self.inside in
     let all : sum_by length (c.args.self.now) ≡ i.waiters.len =
     ap (λ (ls : List (List Waiter)). sum_by length ls) (sym c.self.view_is)
-    ∙ omega (arith, sum-cut i.waiters.items 0 i.ends.items c.self.invariant) in
+    ∙ omega (arith, sum-spread i.waiters.items i.ends.items i.cells c.self.invariant.0) in
     c.is_empty.ensures ∙ ap (λ (n : ℕ). n == 0) (sym all)
