@@ -9,3 +9,4 @@ pub mod Joining
 pub mod Places
 pub mod Counterexamples
 pub mod Words
+pub mod Filled

@@ -3,3 +3,4 @@ pub mod Entries
 pub mod Placed
 pub mod Paging
 pub mod Words
+pub mod Filled

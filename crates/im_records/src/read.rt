@@ -1,13 +1,14 @@
-//! Reads the records of an area. The fields say which record the bytes may be, and its spelling says whether they are.
+//! Reads the records of an area. The fields say which record the bytes may be, and the other bytes, or its spelling, say
+//! whether they are.
 ghost use Rattle.std.specs.Prelude.{◌≡◌, ◌≤◌, ◌+◌, ◌*◌, ◌↔◌, IsTrue, length, Some, None, if◌then◌else◌};
 ghost use Rattle.im_types.specs.Bytes.{same_bytes, number_at};
 ghost use Rattle.im_types.specs.Records.{node_bytes};
 ghost use Rattle.im_formats.specs.Reading.{read_cell, read_node, read_place, cell_in, node_in, place_in, cell_if};
 ghost use Rattle.im_formats.specs.Reading.{place_if, kept_of, block_cell};
-ghost use Rattle.im_records.specs.Words.{SameAt};
+ghost use Rattle.im_records.specs.Filled.{FillTag, FillCell, AreUnusedZero};
 
 use crate::fields::{entry_of, kind_of, tag_of};
-use crate::spell::{spell_cell, spell_node, spell_place};
+use crate::spell::{spell_node, spell_place};
 use byteorder::{ByteOrder, LittleEndian};
 use im_types::codes::op_of;
 use im_types::layout::{CELL_RECORD, NODE_RECORD, PLACE};
@@ -61,30 +62,46 @@ fn word(bytes: &[u8; CELL_RECORD], at: usize) -> u64
     LittleEndian::read_u64(&bytes[at..at + 8])
 }
 
-// Returns whether both have the same eight bytes at a place.
-fn has_same_word(bytes: &[u8; CELL_RECORD], others: &[u8; CELL_RECORD], at: usize) -> bool
-    requires { at + 8 ≤ CELL_RECORD }
-    ensures { IsTrue result ↔ SameAt bytes.now others.now at 8 }
+// Returns whether bytes of which this tag was read say that a cell with it has no waiter node, or no value.
+fn fill_tag(bytes: &[u8; CELL_RECORD], tag: PresenceTag) -> bool
+    ensures { IsTrue result ↔ FillTag bytes.now tag }
 {
-    word(bytes, at) == word(others, at)
+    match tag {
+        PresenceTag::Empty => word(bytes, 12) == u64::MAX && word(bytes, 24) == 0,
+        PresenceTag::Waiting { .. } => word(bytes, 24) == 0,
+        PresenceTag::Full(_) => word(bytes, 12) == u64::MAX,
+        PresenceTag::Clashed(_) => word(bytes, 12) == u64::MAX,
+    }
 }
 
-// Compares the bytes, eight at a time.
-fn are_same(bytes: &[u8; CELL_RECORD], others: &[u8; CELL_RECORD]) -> bool
-    ensures { result ≡ same_bytes bytes.now others.now }
+// Returns whether the bytes that no record uses are zero.
+fn are_unused_zero(bytes: &[u8; CELL_RECORD]) -> bool
+    ensures { IsTrue result ↔ AreUnusedZero bytes.now }
 {
-    for i in 0..4 {
-        if !has_same_word(bytes, others, 8 * i) {
-            return false;
+    LittleEndian::read_u16(&bytes[2..4]) == 0 && LittleEndian::read_u32(&bytes[20..24]) == 0
+}
+
+// Returns whether bytes of which this cell was read have beside its fields what its spelling has there.
+fn fill_cell(bytes: &[u8; CELL_RECORD], cell: &CellRecord) -> bool
+    ensures { IsTrue result ↔ FillCell bytes.now cell.now }
+{
+    let tag = match *cell {
+        CellRecord::Free { .. } => {
+            if bytes[0] != 0 {
+                return false;
+            }
+            PresenceTag::Empty
         }
-    }
-    true
+        CellRecord::Held { tag, .. } => tag,
+    };
+    are_unused_zero(bytes) && fill_tag(bytes, tag)
 }
 
 fn cell_if(bytes: &[u8; CELL_RECORD], cell: CellRecord) -> Option<CellRecord>
+    requires { cell_in bytes.now ≡ Some cell }
     ensures { result ≡ cell_if bytes.now cell }
 {
-    if are_same(bytes, &spell_cell(&cell)) {
+    if fill_cell(bytes, &cell) {
         Some(cell)
     } else {
         None
