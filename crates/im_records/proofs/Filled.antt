@@ -1,5 +1,5 @@
 -- Bytes that have the fields of a cell, and beside them what its spelling has there, are its spelling.
-use Rattle.std.proofs.Common.{◌≡◌, ℕ, zero, suc, ◌+◌, ◌-◌, ◌/◌, ◌%◌, ◌*◌, ◌<◌, ◌≤◌, ◌^◌, ◌==◌, ◌∷◌, ◌++◌, [], Bool, true, false, List, Option, None, Some, length}
+use Rattle.std.proofs.Common.{◌≡◌, ℕ, zero, suc, ◌+◌, ◌-◌, ◌/◌, ◌<◌, ◌^◌, ◌==◌, ◌∷◌, ◌++◌, [], Bool, true, false, List, Option, None, Some, length}
 use Rattle.std.proofs.Common.{get_or, slice_range, take, drop, refl, sym, ap, ◌∙◌, arith, if◌then◌else◌, subst}
 use Rattle.std.proofs.Math.Nat.{mod-lt}
 use Rattle.std.proofs.lemmas.Bool.Decides.{nat_tests}
@@ -19,10 +19,10 @@ use Rattle.im_types.specs.declared.records.CellRecord.TheVariants.{Free as FreeC
 use Rattle.im_types.specs.Records.{tag_code, tag_first, tag_last, tag_value, cell_bytes}
 use Rattle.std.proofs.lemmas.List.{get_or-drop}
 use Rattle.im_formats.proofs.Same.{same_bytes_true}
-use Rattle.im_formats.specs.Reading.{tag_of, kind_of, block_cell, cell_of, cell_in}
+use Rattle.im_formats.specs.Reading.{tag_of, kind_of, block_cell, cell_in}
 use Rattle.im_records.specs.Words.{SameAt}
 use Rattle.im_records.proofs.Words.{same_both, same_byte, same_of_number, all_same}
-use Rattle.im_records.specs.Filled.{FillTag, FillCell, AreUnusedZero}
+use Rattle.im_records.specs.Filled.{FillTag, FillCell}
 
 -- a tag has the numbers that it is read of
 abbrev pub HasNumbers : PresenceTag → ℕ → ℕ → ℕ → Type 0
@@ -158,9 +158,12 @@ held_by false None tag base long block t e = cc
 held_by false (Some k) None base long block t e = cc
 held_by false (Some k) (Some s) base long block t e =
     let same : (record { base = base; length = long; kind = k }) ≡ block = cc in
-    let tags : s ≡ t = cc in
-    (ap (λ (b : Block). Some b.kind) same, ap Some tags, ap (λ (b : Block). b.base) same,
-    ap (λ (b : Block). b.length) same)
+    let tags : s ≡ t = cc in (
+      ap (λ (b : Block). Some b.kind) same,
+      ap Some tags,
+      ap (λ (b : Block). b.base) same,
+      ap (λ (b : Block). b.length) same,
+    )
 
 zero_told : (n : ℕ) → (n == 0) ≡ true → n ≡ 0
 zero_told n e = grind (arith, nat_tests)
@@ -175,10 +178,12 @@ links_and_value bytes block TagEmpty few told fill = (
   fill.1,
 )
 links_and_value bytes block (TagWaiting first last) few told fill =
-    let cell = BlockCell block (TagWaiting first last) in
-    (same_both bytes (cell_bytes cell) 12 4 4
-    (same_of_number 4 bytes (cell_bytes cell) 12 few (few_cell cell) (back 4 12 bytes first few told.0))
-    (same_of_number 4 bytes (cell_bytes cell) 16 few (few_cell cell) (back 4 16 bytes last few told.1)), fill)
+    let cell = BlockCell block (TagWaiting first last) in (
+      same_both bytes (cell_bytes cell) 12 4 4
+          (same_of_number 4 bytes (cell_bytes cell) 12 few (few_cell cell) (back 4 12 bytes first few told.0))
+          (same_of_number 4 bytes (cell_bytes cell) 16 few (few_cell cell) (back 4 16 bytes last few told.1)),
+      fill,
+    )
 links_and_value bytes block (TagFull v) few told fill =
     let cell = BlockCell block (TagFull v) in
     (same_of_number 8 bytes (cell_bytes cell) 12 few (few_cell cell) fill, back 8 24 bytes v few told)

@@ -4,7 +4,7 @@ ghost use Rattle.std.specs.Prelude.{◌≡◌, ◌≤◌, ◌+◌, ◌*◌, ◌�
 ghost use Rattle.im_types.specs.Bytes.{same_bytes, number_at};
 ghost use Rattle.im_types.specs.Records.{node_bytes};
 ghost use Rattle.im_formats.specs.Reading.{read_cell, read_node, read_place, cell_in, node_in, place_in, cell_if};
-ghost use Rattle.im_formats.specs.Reading.{place_if, kept_of, block_cell};
+ghost use Rattle.im_formats.specs.Reading.{place_if, kept_of};
 ghost use Rattle.im_records.specs.Filled.{FillTag, FillCell, AreUnusedZero};
 
 use crate::fields::{entry_of, kind_of, tag_of};
@@ -13,22 +13,6 @@ use byteorder::{ByteOrder, LittleEndian};
 use im_types::codes::op_of;
 use im_types::layout::{CELL_RECORD, NODE_RECORD, PLACE};
 use im_types::{Block, CellRecord, Entry, Kept, Kind, NodeRecord, Op, PresenceTag, Waiter};
-
-fn block_cell(
-    base: u32,
-    length: u32,
-    kind: Option<Kind>,
-    tag: Option<PresenceTag>,
-) -> Option<CellRecord>
-    ensures { result ≡ block_cell base length kind tag }
-{
-    let kind = kind?;
-    let tag = tag?;
-    Some(CellRecord::Held {
-        block: Block { base, length, kind },
-        tag,
-    })
-}
 
 // The record that the fields stand for. It ignores all other bytes.
 #[tactic(auto, unfolding(im_formats::specs::Reading::cell_in))]
@@ -43,15 +27,15 @@ fn cell_in(bytes: &[u8; CELL_RECORD]) -> Option<CellRecord>
             next: length,
         });
     }
+    let kind = kind_of(bytes[1])?;
     let first = LittleEndian::read_u32(&bytes[12..16]);
     let last = LittleEndian::read_u32(&bytes[16..20]);
     let value = LittleEndian::read_u64(&bytes[24..32]);
-    block_cell(
-        base,
-        length,
-        kind_of(bytes[1]),
-        tag_of(bytes[0], first, last, value),
-    )
+    let tag = tag_of(bytes[0], first, last, value)?;
+    Some(CellRecord::Held {
+        block: Block { base, length, kind },
+        tag,
+    })
 }
 
 // The number in eight bytes at a place.
@@ -94,7 +78,7 @@ fn fill_cell(bytes: &[u8; CELL_RECORD], cell: &CellRecord) -> bool
         }
         CellRecord::Held { tag, .. } => tag,
     };
-    are_unused_zero(bytes) && fill_tag(bytes, tag)
+    fill_tag(bytes, tag) && are_unused_zero(bytes)
 }
 
 fn cell_if(bytes: &[u8; CELL_RECORD], cell: CellRecord) -> Option<CellRecord>

@@ -1,4 +1,4 @@
-use Rattle.std.proofs.Common.{None, Some, true, false, ◌≡◌, ap, arith, sym, ◌∙◌, if◌then◌else◌}
+use Rattle.std.proofs.Common.{None, Some, ap, arith, sym, ◌∙◌, if◌then◌else◌}
 use Rattle.im_records.proofs.Filled.{filled, not_filled}
 use Rattle.im_records.proofs.Reading.{false_true}
 use Rattle.im_records.proofs.read.cell_if.Goals as goal
