@@ -1,5 +1,7 @@
 -- Bytes that have the fields of a cell, and beside them what its spelling has there, are its spelling.
-use Rattle.std.proofs.Common.{◌≡◌, ℕ, zero, suc, ◌+◌, ◌-◌, ◌/◌, ◌<◌, ◌^◌, ◌==◌, ◌∷◌, ◌++◌, [], Bool, true, false, List, Option, None, Some, length}
+use Rattle.std.proofs.Common.{◌≡◌, ℕ, zero, suc, ◌+◌, ◌-◌, ◌/◌, ◌<◌, ◌^◌, ◌==◌, ◌∷◌, ◌++◌, [], Bool, true, false}
+use Rattle.std.proofs.Common.{List, Option}
+use Rattle.std.proofs.Common.{None, Some, length}
 use Rattle.std.proofs.Common.{get_or, slice_range, take, drop, refl, sym, ap, ◌∙◌, arith, if◌then◌else◌, subst}
 use Rattle.std.proofs.Math.Nat.{mod-lt}
 use Rattle.std.proofs.lemmas.Bool.Decides.{nat_tests}
@@ -38,7 +40,8 @@ kind_told code M e = grind (arith, nat_tests)
 tag_told : (code first last value : ℕ) (tag : PresenceTag) → tag_of code first last value ≡ Some tag
     → (code ≡ tag_code tag) × HasNumbers tag first last value
 tag_told code first last value TagEmpty e = (grind (arith, nat_tests), refl)
-tag_told code first last value (TagWaiting f l) e = (grind (arith, nat_tests), (grind (arith, nat_tests), grind (arith, nat_tests)))
+tag_told code first last value (TagWaiting f l) e =
+    (grind (arith, nat_tests), (grind (arith, nat_tests), grind (arith, nat_tests)))
 tag_told code first last value (TagFull v) e = (grind (arith, nat_tests), grind (arith, nat_tests))
 tag_told code first last value (TagClashed v) e = (grind (arith, nat_tests), grind (arith, nat_tests))
 

@@ -1,5 +1,5 @@
-//! Reads the records of an area. The fields say which record the bytes may be, and the other bytes, or its spelling, say
-//! whether they are.
+//! Reads the records of an area. The fields say which record the bytes may be. What is beside the fields of a cell says
+//! whether they are; for other records their spelling says it.
 ghost use Rattle.std.specs.Prelude.{◌≡◌, ◌≤◌, ◌+◌, ◌*◌, ◌↔◌, IsTrue, length, Some, None, if◌then◌else◌};
 ghost use Rattle.im_types.specs.Bytes.{same_bytes, number_at};
 ghost use Rattle.im_types.specs.Records.{node_bytes};
