@@ -1,6 +1,7 @@
 -- The members of a group: how they act, and requests as commands.
 use Rattle.std.proofs.Common.{◌≡◌, ℕ, zero, suc, ◌+◌, ◌-◌, ◌<◌, ◌≤◌, List, [], ◌∷◌, ◌++◌, length, take, drop, get_or}
-use Rattle.std.proofs.Common.{map, Bool, true, false, Some, refl, sym, ap, ◌∙◌, arith, append_assoc, if◌then◌else◌}
+use Rattle.std.proofs.Common.{map, Bool, true, false, Some, refl, sym, ap, subst, ◌∙◌, arith, append_assoc}
+use Rattle.std.proofs.Common.{length-take-le, if◌then◌else◌}
 use Rattle.std.specs.Prelude.{◌&&◌, ◌==◌, nat_lt, Result, Err, slice_get}
 use Rattle.std.proofs.lemmas.Bool.Decides.{nat_tests}
 use Rattle.std.proofs.Math.Seq.{drop-cons}
@@ -21,11 +22,13 @@ use Rattle.im_journal.specs.Holding.{JournalState, IsJournal, room_after, longer
 use Rattle.im_image.specs.Reading.{HasSizes}
 use Rattle.im_checkpoint.specs.Step.{CheckpointState}
 use Rattle.im_groups.specs.Commands.{answer_with, contents_with, places_behind, answers_with, contents_after_all}
-use Rattle.im_groups.specs.Commands.{takes_place, takes_at, most_pages_at}
+use Rattle.im_groups.specs.Commands.{takes_place, takes_at, commands_at, most_pages_at}
 use Rattle.im_memory.specs.Covering.{most_pages}
 use Rattle.im_laws.proofs.Tests.{and_both}
 use Rattle.im_laws.proofs.GroupLemmas.{above_zero}
-use Rattle.im_groups.specs.Ahead.{ServesPrefix}
+use Rattle.im_groups.specs.Ahead.{AreAccepted, ServesPrefix}
+use Rattle.im_groups.proofs.AheadLemmas.{accepted_first}
+use Rattle.im_groups.proofs.WholeLemmas.{whole-takes, whole-commands}
 use Rattle.im_engine.specs.Commands.{each_refused}
 
 -- a list goes on by what comes of the next element
@@ -201,6 +204,46 @@ taken_next m left (c ∷ cs) (t ∷ ts) (suc i) d m2 left2 within are contents l
     ap (λ (n : ℕ). drop n (t ∷ ts)) next
     ∙ taken_next m left cs ts i d m2 left2 (omega (arith, within)) are contents less
     ∙ ap (λ (n : ℕ). takes_at m2 left2 (drop n (c ∷ cs))) (sym next)
+
+-- members that are all accepted, with places for them: the first of those that are left
+accepted_parts : (m : Contents) (cs : List Command) (i : ℕ) (d : Command) → i < length cs
+    → AreAccepted m (drop i cs) → (is_accepted m (get_or cs i d) ≡ true)
+    × AreAccepted (step m (get_or cs i d)).contents (drop (i + 1) cs)
+accepted_parts m cs i d within accepted =
+    let next : suc i ≡ i + 1 = omega arith in
+    accepted_first m (get_or cs i d) (drop (i + 1) cs)
+    (subst (λ (n : ℕ). AreAccepted m (get_or cs i d ∷ drop n cs)) next
+    (subst (λ (l : List Command). AreAccepted m l) (drop-cons cs i d within) accepted))
+
+pub whole_first : (m : Contents) (left : ℕ) (cs : List Command) (i : ℕ) (d : Command) → i < length cs
+    → AreAccepted m (drop i cs) → length cs ≤ left + i → takes_place m left (get_or cs i d) ≡ true
+whole_first m left cs i d within accepted enough = whole-takes m left (get_or cs i d)
+    (accepted_parts m cs i d within accepted).0 (omega (arith, within, enough))
+
+-- and the rest
+pub whole_next : (m : Contents) (left : ℕ) (cs : List Command) (i : ℕ) (d : Command) (m2 : Contents) → i < length cs
+    → AreAccepted m (drop i cs) → length cs ≤ left + i → m2 ≡ contents_with m left (get_or cs i d)
+    → AreAccepted m2 (drop (i + 1) cs)
+whole_next m left cs i d m2 within accepted enough contents =
+    subst (λ (n : Contents). AreAccepted n (drop (i + 1) cs))
+    (contents_taken m left (get_or cs i d) (whole_first m left cs i d within accepted enough) ∙ sym contents)
+    (accepted_parts m cs i d within accepted).1
+
+-- a beginning of the members that is served whole
+pub whole_served : (ms items : List Command) (judged many : ℕ) → ms ≡ items → judged ≤ length ms
+    → many ≡ length (take judged ms) → take judged ms ≡ take many items
+whole_served ms items judged many same within is =
+    ap (take judged) same ∙ ap (λ (n : ℕ). take n items) (sym (is ∙ length-take-le judged ms within))
+
+pub whole_begins : (m : Contents) (left : ℕ) (ms items : List Command) (judged many : ℕ) → ms ≡ items
+    → AreAccepted m (take judged ms) → judged ≤ left → ServesPrefix m (take judged ms) ms judged
+    → many ≡ length (take judged ms) → ServesPrefix m (commands_at m left (take many items)) items many
+whole_begins m left ms items judged many same accepted enough it is =
+    let all : length (take judged ms) ≡ judged = length-take-le judged ms it.within in
+    subst (λ (l : List Command). ServesPrefix m (commands_at m left (take many l)) l many) same
+    (subst (λ (n : ℕ). ServesPrefix m (commands_at m left (take n ms)) ms n) (sym (is ∙ all))
+    (subst (λ (l : List Command). ServesPrefix m l ms judged)
+    (sym (whole-commands m left (take judged ms) accepted (omega (arith, all, enough)))) it))
 
 pub length_taken : (m : Contents) (left : ℕ) (cs : List Command) → length (takes_at m left cs) ≡ length cs
 length_taken m left [] = refl

@@ -14,6 +14,7 @@ use Rattle.im_journal.specs.Holding.{room_after}
 use Rattle.im_checkpoint.specs.Turns.{AddsAtMost}
 use Rattle.im_groups.specs.Commands.{places, answers_with, contents_after_all, commands_at, takes_at}
 use Rattle.im_groups.specs.Commands.{most_pages_with}
+use Rattle.im_groups.specs.Ahead.{AreAccepted}
 use Rattle.im_engine.specs.State.{EngineState, MeansState}
 use Rattle.im_engine.specs.Groups.{GroupCalls, GroupFaults, calls_for_group}
 
@@ -21,10 +22,13 @@ use Rattle.im_engine.specs.Groups.{GroupCalls, GroupFaults, calls_for_group}
 abbrev pub commands_put : {D : Type 0} → EngineState D → List Command → List Command
 commands_put s members = commands_at s.memory (places s.count s.room) members
 
--- members of a group, and of each whether it takes a place, judged at this memory with this number of places
-pub record AreJudged (m : Contents) (left : ℕ) (members : List Command) (told : List Bool) : Type 0 where
+-- members of a group, judged at this memory with this number of places: whether all of them take places, and if not, of
+-- each whether it does
+pub record AreJudged (m : Contents) (left : ℕ) (members : List Command) (whole : Bool) (told : List Bool) : Type 0 where
   pub few : length members ≤ MAX_GROUP
-  pub taken : told ≡ takes_at m left members
+  pub accepted : whole ≡ true → AreAccepted m members
+  pub enough : whole ≡ true → length members ≤ left
+  pub taken : whole ≡ false → told ≡ takes_at m left members
 
 -- the engine after these commands, one after another
 abbrev pub after_commands : {D : Type 0} → EngineState D → List Command → EngineState D

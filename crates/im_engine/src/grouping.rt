@@ -1,7 +1,7 @@
 //! How an engine serves several commands together.
 ghost use Rattle.std.specs.Prelude.{◌≡◌, ◌≤◌, [], length, take, false};
 ghost use Rattle.im_types.specs.declared.TheConstants.{MAX_GROUP};
-ghost use Rattle.im_groups.specs.Ahead.{ServesPrefix};
+ghost use Rattle.im_groups.specs.Ahead.{AreAccepted, ServesPrefix};
 ghost use Rattle.im_groups.specs.Commands.{places};
 ghost use Rattle.im_engine.specs.Commands.{CommandsAnswered, ServesCommands, AreJudged, commands_put};
 ghost use Rattle.im_engine.specs.Groups.{GroupAnswered, GroupCalls, GroupFaults, MeansGroup};
@@ -12,7 +12,7 @@ use crate::engine::Engine;
 use crate::groups::{Members, act_all, commands_of, places_in, put_on, refuse_all};
 use arrayvec::ArrayVec;
 use im_disk::Disk;
-use im_groups::judge_each;
+use im_groups::{judge_each, judge_whole};
 use im_types::{Command, MAX_GROUP, Refusal, Request, Served};
 
 impl<D: Disk> Engine<D> {
@@ -84,48 +84,85 @@ impl<D: Disk> Engine<D> {
             return refuse_all(members, Refusal::Failed, served);
         }
         let places = places_in(&self.journal);
-        let mut commands = ArrayVec::new();
-        let mut taken = ArrayVec::new();
-        let judged = judge_each(&self.memory, places, members, &mut commands, &mut taken);
-        self.serve_judged(
-            &members[..judged],
-            taken.as_slice(),
-            commands.as_slice(),
-            served,
-        );
+        match judge_whole(&self.memory, places, members) {
+            Some(judged) => self.serve_whole(&members[..judged], served),
+            None => self.serve_some(members, served),
+        }
     }
 
-    // Puts the commands of judged members on the disk as one group, and lets the members act behind that.
-    fn serve_judged(
-        &mut self,
-        members: &[Command],
-        taken: &[bool],
-        commands: &[Command],
-        served: &mut ArrayVec<Served, MAX_GROUP>,
-    )
+    // Serves judged members that all take places.
+    fn serve_whole(&mut self, members: &[Command], served: &mut ArrayVec<Served, MAX_GROUP>)
         requires alive { self.old.failed ≡ false }
-        requires members { AreJudged self.old.memory (places self.old.count self.old.room) members.now taken.now }
-        requires few { length commands.now ≤ MAX_GROUP }
-        requires judged { commands.now ≡ commands_put self.old members.now }
+        requires few { length members.now ≤ MAX_GROUP }
+        requires accepted { AreAccepted self.old.memory members.now }
+        requires enough { length members.now ≤ places self.old.count self.old.room }
         requires empty { served.old.items ≡ [] }
         ensures answered { CommandsAnswered self.old members.now served.new.items self.new }
         ensures length { length served.new.items ≡ length members.now }
         ensures runs { ServesCommands D.Disk self.old self.new members.now }
     {
+        let judged = Members {
+            all: members,
+            whole: true,
+            taken: &[],
+        };
+        // A stop in it leaves all of the group on the disk, or nothing of it: no answer is given before.
+        self.serve_judged(&judged, members, served);
+    }
+
+    // Serves commands of which some may take no place.
+    #[inline(never)]
+    fn serve_some(&mut self, members: &[Command], served: &mut ArrayVec<Served, MAX_GROUP>)
+        requires alive { self.old.failed ≡ false }
+        requires few { length members.now ≤ MAX_GROUP }
+        requires empty { served.old.items ≡ [] }
+        ensures begins { let many = length served.new.items in ServesPrefix self.old.memory
+            (commands_put self.old (take many members.now)) members.now many }
+        ensures answered { CommandsAnswered self.old (take (length served.new.items) members.now)
+            served.new.items self.new }
+        ensures runs { ServesCommands D.Disk self.old self.new (take (length served.new.items) members.now) }
+    {
+        let places = places_in(&self.journal);
+        let mut commands = ArrayVec::new();
+        let mut taken = ArrayVec::new();
+        let many = judge_each(&self.memory, places, members, &mut commands, &mut taken);
+        let judged = Members {
+            all: &members[..many],
+            whole: false,
+            taken: taken.as_slice(),
+        };
+        // A stop in it leaves all of the group on the disk, or nothing of it: no answer is given before.
+        self.serve_judged(&judged, commands.as_slice(), served);
+    }
+
+    // Puts the commands of judged members on the disk as one group, and lets the members act behind that.
+    fn serve_judged(
+        &mut self,
+        members: &Members,
+        commands: &[Command],
+        served: &mut ArrayVec<Served, MAX_GROUP>,
+    )
+        requires alive { self.old.failed ≡ false }
+        requires members { AreJudged self.old.memory (places self.old.count self.old.room)
+            members.now.all.now members.now.whole members.now.taken.now }
+        requires few { length commands.now ≤ MAX_GROUP }
+        requires judged { commands.now ≡ commands_put self.old members.now.all.now }
+        requires empty { served.old.items ≡ [] }
+        ensures answered { CommandsAnswered self.old members.now.all.now served.new.items self.new }
+        ensures length { length served.new.items ≡ length members.now.all.now }
+        ensures runs { ServesCommands D.Disk self.old self.new members.now.all.now }
+    {
         let places = places_in(&self.journal);
         // A stop in it leaves all of the group on the disk, or nothing of it: no answer is given before.
         if let Err(_) = put_on(&mut self.journal, &mut self.disk, commands) {
             self.failed = true; // All of the group is there, or nothing of it.
-            return refuse_all(members, Refusal::Device, served);
+            return refuse_all(members.all, Refusal::Device, served);
         }
         act_all(
             &mut self.checkpoint,
             &mut self.memory,
             places,
-            &Members {
-                all: members,
-                taken,
-            },
+            members,
             served,
         );
     }

@@ -13,7 +13,8 @@ ghost use Rattle.im_image.specs.Reading.{HasSizes};
 ghost use Rattle.im_memory.specs.Covering.{most_pages};
 ghost use Rattle.im_checkpoint.specs.Keeping.{paged, IsKept};
 ghost use Rattle.im_groups.specs.Commands.{places, answer_with, contents_with, places_behind, answers_with};
-ghost use Rattle.im_groups.specs.Commands.{contents_after_all, takes_place};
+ghost use Rattle.im_groups.specs.Commands.{contents_after_all, takes_place, takes_at};
+ghost use Rattle.im_groups.specs.Ahead.{AreAccepted};
 ghost use Rattle.im_groups.specs.Commands.{most_pages_at, most_pages_with};
 ghost use Rattle.im_engine.specs.Groups.{FitsGroup, GroupPut, LeavesAllOrNone, KeepsAfter, StaysBut};
 ghost use Rattle.im_engine.specs.Commands.{AreJudged, each_refused};
@@ -198,22 +199,54 @@ fn as_served(answer: Result<Outcome, Refusal>) -> Served
     }
 }
 
-/// The members of a group, and of each whether it takes a place.
+/// The members of a group: whether all of them take places, and if not, of each whether it does.
 #[derive(Clone, Copy)]
 pub(crate) struct Members<'a> {
     pub(crate) all: &'a [Command],
+    pub(crate) whole: bool,
     pub(crate) taken: &'a [bool],
 }
 
-/// Lets all members act in their order. The disk already has the commands of those that are accepted and have a place.
-pub(crate) fn act_all(
+// Lets members act in their order that all take places. The disk already has their commands.
+#[inline(always)]
+fn act_whole(
+    checkpoint: &mut Checkpoint,
+    memory: &mut Memory,
+    places: u64,
+    members: &[Command],
+    served: &mut ArrayVec<Served, MAX_GROUP>,
+)
+    requires few { length members.now ≤ MAX_GROUP }
+    requires accepted { AreAccepted memory.old.contents members.now }
+    requires enough { length members.now ≤ places }
+    requires empty { served.old.items ≡ [] }
+    requires sizes { HasSizes checkpoint.old.state.header.sizes memory.old.contents }
+    ensures answers { served.new.items ≡ map as_served (answers_with memory.old.contents places members.now) }
+    ensures contents { memory.new.contents ≡ contents_after_all memory.old.contents places members.now }
+    ensures sizes { HasSizes checkpoint.new.state.header.sizes memory.new.contents }
+    ensures stays { StaysBut (most_pages_with memory.old.contents places members.now) checkpoint.old checkpoint.new }
+    ensures kept { (m : Contents) (j : JournalState) (now : Moment)
+        → IsKept checkpoint.old.state (paged checkpoint.old memory.old) m j now
+        → IsKept checkpoint.new.state (paged checkpoint.new memory.new) m j now }
+{
+    let mut left = places;
+    for i in 0..members.len() {
+        let answer = act_taken(checkpoint, memory, &mut left, &members[i]);
+        served.push(as_served(answer));
+    }
+}
+
+// Lets members act in their order of which some take no place.
+#[inline(never)]
+fn act_each(
     checkpoint: &mut Checkpoint,
     memory: &mut Memory,
     places: u64,
     members: &Members,
     served: &mut ArrayVec<Served, MAX_GROUP>,
 )
-    requires judged { AreJudged memory.old.contents places members.now.all.now members.now.taken.now }
+    requires few { length members.now.all.now ≤ MAX_GROUP }
+    requires taken { members.now.taken.now ≡ takes_at memory.old.contents places members.now.all.now }
     requires empty { served.old.items ≡ [] }
     requires sizes { HasSizes checkpoint.old.state.header.sizes memory.old.contents }
     ensures answers { served.new.items
@@ -231,5 +264,34 @@ pub(crate) fn act_all(
         let taken = members.taken[i];
         let answer = act_one(checkpoint, memory, &mut left, taken, &members.all[i]);
         served.push(as_served(answer));
+    }
+}
+
+/// Lets all members act in their order. The disk already has the commands of those that are accepted and have a place.
+pub(crate) fn act_all(
+    checkpoint: &mut Checkpoint,
+    memory: &mut Memory,
+    places: u64,
+    members: &Members,
+    served: &mut ArrayVec<Served, MAX_GROUP>,
+)
+    requires judged { AreJudged memory.old.contents places
+        members.now.all.now members.now.whole members.now.taken.now }
+    requires empty { served.old.items ≡ [] }
+    requires sizes { HasSizes checkpoint.old.state.header.sizes memory.old.contents }
+    ensures answers { served.new.items
+        ≡ map as_served (answers_with memory.old.contents places members.now.all.now) }
+    ensures contents { memory.new.contents ≡ contents_after_all memory.old.contents places members.now.all.now }
+    ensures sizes { HasSizes checkpoint.new.state.header.sizes memory.new.contents }
+    ensures stays { StaysBut (most_pages_with memory.old.contents places members.now.all.now)
+        checkpoint.old checkpoint.new }
+    ensures kept { (m : Contents) (j : JournalState) (now : Moment)
+        → IsKept checkpoint.old.state (paged checkpoint.old memory.old) m j now
+        → IsKept checkpoint.new.state (paged checkpoint.new memory.new) m j now }
+{
+    if members.whole {
+        act_whole(checkpoint, memory, places, members.all, served);
+    } else {
+        act_each(checkpoint, memory, places, members, served);
     }
 }

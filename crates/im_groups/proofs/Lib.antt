@@ -3,3 +3,4 @@ pub mod RequestLemmas
 pub mod AheadLemmas
 pub mod JudgedLemmas
 pub mod MarkLemmas
+pub mod WholeLemmas

@@ -1,8 +1,10 @@
 //! The members of a group, judged in their order before any of them acts.
-ghost use Rattle.std.specs.Prelude.{◌≡◌, ◌+◌, ◌-◌, ◌<◌, ◌≤◌, ◌&&◌, ◌++◌, ◌∷◌, [], length, take, nat_lt, if◌then◌else◌};
+ghost use Rattle.std.specs.Prelude.{◌≡◌, ◌⊎◌, ◌+◌, ◌-◌, ◌<◌, ◌≤◌, ◌&&◌, ◌++◌, ◌∷◌, [], length, take, nat_lt};
+ghost use Rattle.std.specs.Prelude.{None, IfSome, IsNone, if◌then◌else◌};
 ghost use Rattle.im_types.specs.declared.TheConstants.{MAX_GROUP};
+ghost use Rattle.im_types.specs.Meaning.{accept_each};
 ghost use Rattle.im_groups.specs.Commands.{commands_at, takes_at, takes_place};
-ghost use Rattle.im_groups.specs.Ahead.{ServesPrefix};
+ghost use Rattle.im_groups.specs.Ahead.{AreAccepted, ServesPrefix};
 
 use crate::ahead::{accepts, judge_member};
 use crate::marks::mark;
@@ -90,4 +92,35 @@ pub fn judge_each(
         }
     }
     members.len()
+}
+
+/// Judges the members of a group as [`judge_each`] does, if each judged member is accepted and has a place. Returns the
+/// number of judged members then: their commands are the members themselves, so none is copied. Returns `None` if there
+/// are fewer places than members, or if a member isn't accepted in its turn. It takes no memory. (Own.)
+pub fn judge_whole(memory: &Memory, places: u64, members: &[Command]) -> Option<usize>
+    requires fits { length members.now ≤ MAX_GROUP }
+    ensures accepted { IfSome result (λ many. AreAccepted memory.now.contents (take many members.now)) }
+    ensures enough { IfSome result (λ many. many ≤ places) }
+    ensures begins { IfSome result (λ many.
+        ServesPrefix memory.now.contents (take many members.now) members.now many) }
+    ensures none { IsNone result
+        → (places < length members.now) ⊎ (accept_each memory.now.contents members.now ≡ None) }
+{
+    if members.len() as u64 > places {
+        return None;
+    }
+    let mut marks = [false; ELEMENTS];
+    for i in 0..members.len() {
+        let member = &members[i];
+        match judge_member(memory, &members[..i], &marks, member) {
+            Some(accepted) => {
+                if !accepted {
+                    return None;
+                }
+                mark(&mut marks, member);
+            }
+            None => return Some(i),
+        }
+    }
+    Some(members.len())
 }

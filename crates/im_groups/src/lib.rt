@@ -7,4 +7,4 @@ mod judging;
 mod marks;
 
 pub use ahead::{accepts, judge_behind};
-pub use judging::{judge_each, judge_members, takes_place};
+pub use judging::{judge_each, judge_members, judge_whole, takes_place};

@@ -1,5 +1,50 @@
-use Rattle.std.proofs.Common.{rules}
+use Rattle.std.proofs.Common.{◌≡◌, ◌≤◌, List, length, take, sym, subst, arith, length-take-le, rules}
+use Rattle.im_types.specs.declared.commands.Command.{Command}
+use Rattle.im_groups.specs.Ahead.{AreAccepted, ServesPrefix}
+use Rattle.im_groups.specs.Commands.{places, commands_at}
+use Rattle.im_engine.specs.State.{EngineState}
+use Rattle.im_engine.specs.Commands.{CommandsAnswered, ServesCommands}
+use Rattle.im_engine.proofs.Members.{whole_served, whole_begins}
 use Rattle.im_engine.proofs.engine.Engine.serve_commands.Goals as goal
 
-pub serve_judged-requires-clause-members : goal.serve_judged-requires-clause-members
-serve_judged-requires-clause-members g c = record { few = search rules; taken = search rules }
+pub serve_whole-requires-clause-accepted : goal.serve_whole-requires-clause-accepted
+serve_whole-requires-clause-accepted g c =
+    subst (λ (s : EngineState g.row.D.Denot). AreAccepted s.memory (take c.in-Some.judged c.as_slice-members.result.now))
+    c.self.view_is c.in-Some.ensures.accepted
+
+pub serve_whole-requires-clause-enough : goal.serve_whole-requires-clause-enough
+serve_whole-requires-clause-enough g c =
+    let all = length-take-le c.in-Some.judged c.as_slice-members.result.now c.in-Some.ensures.begins.within in
+    subst (λ (s : EngineState g.row.D.Denot). length (take c.in-Some.judged c.as_slice-members.result.now)
+    ≤ places s.count s.room) c.self.view_is
+    (omega (arith, all, c.in-Some.ensures.enough, c.places_in-places.ensures.places))
+
+pub returns-in-Some-clause-answered : goal.returns-in-Some-clause-answered
+returns-in-Some-clause-answered g c =
+    subst (λ (l : List Command). CommandsAnswered c.args.self.now l c.serve_whole.new.served.items
+    c.serve_whole.new.self)
+    (whole_served c.as_slice-members.result.now c.args.members.now.items c.in-Some.judged _ c.as_slice-members.ensures.value
+    c.in-Some.ensures.begins.within c.serve_whole.ensures.length)
+    c.serve_whole.ensures.answered
+
+pub returns-in-Some-clause-runs : goal.returns-in-Some-clause-runs
+returns-in-Some-clause-runs g c =
+    subst (λ (l : List Command). ServesCommands g.D.Disk c.args.self.now c.serve_whole.new.self l)
+    (whole_served c.as_slice-members.result.now c.args.members.now.items c.in-Some.judged _ c.as_slice-members.ensures.value
+    c.in-Some.ensures.begins.within c.serve_whole.ensures.length)
+    c.serve_whole.ensures.runs
+
+pub returns-in-Some-clause-begins : goal.returns-in-Some-clause-begins
+returns-in-Some-clause-begins g c =
+    let m = c.args.self.now.memory in
+    let judged = c.in-Some.judged in
+    let ms = c.as_slice-members.result.now in
+    whole_begins m (places c.args.self.now.count c.args.self.now.room) ms c.args.members.now.items judged _
+    c.as_slice-members.ensures.value
+    (subst (λ (s : EngineState g.row.D.Denot). AreAccepted s.memory (take judged ms)) c.self.view_is
+    c.in-Some.ensures.accepted)
+    (subst (λ (s : EngineState g.row.D.Denot). judged ≤ places s.count s.room) c.self.view_is
+    (omega (arith, c.in-Some.ensures.enough, c.places_in-places.ensures.places)))
+    (subst (λ (s : EngineState g.row.D.Denot). ServesPrefix s.memory (take judged ms) ms judged) c.self.view_is
+    c.in-Some.ensures.begins)
+    c.serve_whole.ensures.length

@@ -1,4 +1,4 @@
-use Rattle.std.proofs.Common.{◌≡◌, true, false, List, length, map, Result, Ok, Err, rules, sym, ◌∙◌, ap, subst}
+use Rattle.std.proofs.Common.{◌≡◌, ◌≤◌, ℕ, true, false, List, length, map, Result, Ok, Err, rules, sym, ◌∙◌, ap, subst}
 use Rattle.im_types.specs.declared.groups.Served.{Served}
 use Rattle.im_types.specs.declared.refusals.Refusal.TheVariants.{Device}
 use Rattle.im_types.specs.Contents.{Contents}
@@ -7,6 +7,7 @@ use Rattle.im_disk.proofs.SinceLemmas.{only_weaker}
 use Rattle.im_checkpoint.specs.Step.{changed_in}
 use Rattle.im_checkpoint.specs.Turns.{AddsAtMost}
 use Rattle.im_checkpoint.specs.Keeping.{paged, IsKept}
+use Rattle.im_groups.specs.Ahead.{AreAccepted}
 use Rattle.im_groups.specs.Commands.{places, answers_with, contents_after_all, takes_at, most_pages_with}
 use Rattle.im_engine.specs.State.{EngineState, engine_of}
 use Rattle.im_engine.specs.Commands.{commands_put, MeansCommands, CommandsAnswered, ServesCommands}
@@ -19,14 +20,14 @@ use Rattle.im_engine.proofs.engine.Engine.serve_judged.Goals as goal
 pub put_on-requires-clause-fits : goal.put_on-requires-clause-fits
 put_on-requires-clause-fits g c =
     let e = c.self.inside in
-    let are = c.requires.judged ∙ ap (λ (s : EngineState g.row.D.Denot). commands_put s c.args.members.now) (sym
+    let are = c.requires.judged ∙ ap (λ (s : EngineState g.row.D.Denot). commands_put s c.args.members.now.all.now) (sym
     c.self.view_is) in
     record {
       known = c.places_in-places.ensures.known;
       few = c.requires.few;
-      room = room_for e.disk e.checkpoint e.memory e.journal e.failed c.args.members.now
+      room = room_for e.disk e.checkpoint e.memory e.journal e.failed c.args.members.now.all.now
           c.places_in-places.ensures.known c.args.commands.now are;
-      last = last_for e.disk e.checkpoint e.memory e.journal e.failed c.args.members.now
+      last = last_for e.disk e.checkpoint e.memory e.journal e.failed c.args.members.now.all.now
           c.places_in-places.ensures.known c.args.commands.now are;
     }
 
@@ -44,40 +45,40 @@ not_both (Err y) x e is it = cc
 pub returns-in-Err-clause-answered : goal.returns-in-Err-clause-answered
 returns-in-Err-clause-answered g c =
     let e = c.self.inside in
-    let are = c.requires.judged ∙ ap (λ (s : EngineState g.row.D.Denot). commands_put s c.args.members.now) (sym
+    let are = c.requires.judged ∙ ap (λ (s : EngineState g.row.D.Denot). commands_put s c.args.members.now.all.now) (sym
     c.self.view_is) in
     let alive : e.failed ≡ false = ap (λ (s : EngineState g.row.D.Denot). s.failed) c.self.view_is ∙ c.requires.alive in
-    subst (λ (s : EngineState g.row.D.Denot). CommandsAnswered s c.args.members.now
+    subst (λ (s : EngineState g.row.D.Denot). CommandsAnswered s c.args.members.now.all.now
     c.refuse_all.new.served.items (engine_of c.put_on.new.disk e.checkpoint e.memory c.put_on.new.journal
     true)) c.self.view_is
-    (group_failed e.disk e.checkpoint e.memory e.journal e.failed c.args.members.now c.places_in-places.ensures.known
+    (group_failed e.disk e.checkpoint e.memory e.journal e.failed c.args.members.now.all.now c.places_in-places.ensures.known
     c.args.commands.now are alive c.put_on.new.disk c.put_on.new.journal c.in-Err.ensures.state
     (λ none. not_both c.put_on.result tt c.in-Err.field-0 c.in-Err.is (c.put_on.ensures.calls.none none).0)
     c.refuse_all.new.served.items c.refuse_all.ensures)
 
 pub returns-in-Err-clause-length : goal.returns-in-Err-clause-length
 returns-in-Err-clause-length g c = ap (λ (l : List Served). length l) c.refuse_all.ensures ∙ length_refused
-    Device c.args.members.now
+    Device c.args.members.now.all.now
 
 pub returns-in-Err-clause-runs : goal.returns-in-Err-clause-runs
 returns-in-Err-clause-runs g c =
     let e = c.self.inside in
-    let are = c.requires.judged ∙ ap (λ (s : EngineState g.row.D.Denot). commands_put s c.args.members.now) (sym
+    let are = c.requires.judged ∙ ap (λ (s : EngineState g.row.D.Denot). commands_put s c.args.members.now.all.now) (sym
     c.self.view_is) in
     let alive : e.failed ≡ false = ap (λ (s : EngineState g.row.D.Denot). s.failed) c.self.view_is ∙ c.requires.alive in
     let known = c.places_in-places.ensures.known in
     let only = λ (h : g.D.Disk.honest c.put_on.new.disk). only_weaker g.D.Disk.now g.D.Disk.past e.disk c.put_on.new.disk _
-    (MeansCommands (engine_of e.disk e.checkpoint e.memory e.journal e.failed) c.args.members.now)
+    (MeansCommands (engine_of e.disk e.checkpoint e.memory e.journal e.failed) c.args.members.now.all.now)
     (c.put_on.ensures.leaves h e.checkpoint.state (paged e.checkpoint e.memory) e.memory.contents
-    (contents_after_all e.memory.contents (places e.journal.count e.journal.room) c.args.members.now)
-    (accepts e.disk e.checkpoint e.memory e.journal e.failed c.args.members.now known c.args.commands.now are)
+    (contents_after_all e.memory.contents (places e.journal.count e.journal.room) c.args.members.now.all.now)
+    (accepts e.disk e.checkpoint e.memory e.journal e.failed c.args.members.now.all.now known c.args.commands.now are)
     (c.self.invariant.1 (c.put_on.ensures.honest h) alive))
-    (means_group e.disk e.checkpoint e.memory e.journal e.failed c.args.members.now known c.args.commands.now are) in
+    (means_group e.disk e.checkpoint e.memory e.journal e.failed c.args.members.now.all.now known c.args.commands.now are) in
     subst (λ (s : EngineState g.row.D.Denot). ServesCommands g.D.Disk s (engine_of c.put_on.new.disk e.checkpoint
-    e.memory c.put_on.new.journal true) c.args.members.now) c.self.view_is
+    e.memory c.put_on.new.journal true) c.args.members.now.all.now) c.self.view_is
     (record {
       honest = λ h. c.put_on.ensures.honest h;
-      calls = λ h. calls_failed e.disk e.checkpoint e.memory e.journal e.failed c.args.members.now known
+      calls = λ h. calls_failed e.disk e.checkpoint e.memory e.journal e.failed c.args.members.now.all.now known
           c.args.commands.now are g.D.Disk.past c.put_on.new.disk c.put_on.result c.in-Err.field-0 c.in-Err.is
           (c.put_on.ensures.calls.made h);
       faults = search rules;
@@ -89,10 +90,10 @@ returns-in-Err-clause-runs g c =
 pub invariant_of-self-2 : goal.invariant_of-self-2
 invariant_of-self-2 g c =
     let e = c.self.inside in
-    let are = c.requires.judged ∙ ap (λ (s : EngineState g.row.D.Denot). commands_put s c.args.members.now) (sym
+    let are = c.requires.judged ∙ ap (λ (s : EngineState g.row.D.Denot). commands_put s c.args.members.now.all.now) (sym
     c.self.view_is) in
     let known = c.places_in-places.ensures.known in
-    let contents = c.act_all.ensures.contents ∙ ap (λ n. contents_after_all e.memory.contents n c.args.members.now)
+    let contents = c.act_all.ensures.contents ∙ ap (λ n. contents_after_all e.memory.contents n c.args.members.now.all.now)
     c.places_in-places.ensures.places in (
       fits_group e.checkpoint.state c.act_all.new.checkpoint.state e.memory.contents c.act_all.new.memory.contents
           e.journal c.put_on.new.journal (length c.args.commands.now) c.self.invariant.0 c.act_all.ensures.stays.state
@@ -102,31 +103,31 @@ invariant_of-self-2 g c =
           (g.D.Disk.now c.put_on.new.disk))
           (sym contents)
           (c.act_all.ensures.kept
-          (contents_after_all e.memory.contents (places e.journal.count e.journal.room) c.args.members.now)
+          (contents_after_all e.memory.contents (places e.journal.count e.journal.room) c.args.members.now.all.now)
           c.put_on.new.journal (g.D.Disk.now c.put_on.new.disk)
           (c.in_default.ensures.kept h e.checkpoint.state (paged e.checkpoint e.memory) e.memory.contents
-          (contents_after_all e.memory.contents (places e.journal.count e.journal.room) c.args.members.now)
-          (accepts e.disk e.checkpoint e.memory e.journal e.failed c.args.members.now known c.args.commands.now are)
+          (contents_after_all e.memory.contents (places e.journal.count e.journal.room) c.args.members.now.all.now)
+          (accepts e.disk e.checkpoint e.memory e.journal e.failed c.args.members.now.all.now known c.args.commands.now are)
           (c.self.invariant.1 (c.put_on.ensures.honest h) f))),
     )
 
 pub returns-clause-answered : goal.returns-clause-answered
 returns-clause-answered g c =
     let e = c.self.inside in
-    let are = c.requires.judged ∙ ap (λ (s : EngineState g.row.D.Denot). commands_put s c.args.members.now) (sym
+    let are = c.requires.judged ∙ ap (λ (s : EngineState g.row.D.Denot). commands_put s c.args.members.now.all.now) (sym
     c.self.view_is) in
     let alive : e.failed ≡ false = ap (λ (s : EngineState g.row.D.Denot). s.failed) c.self.view_is ∙ c.requires.alive in
-    let contents = c.act_all.ensures.contents ∙ ap (λ n. contents_after_all e.memory.contents n c.args.members.now)
+    let contents = c.act_all.ensures.contents ∙ ap (λ n. contents_after_all e.memory.contents n c.args.members.now.all.now)
     c.places_in-places.ensures.places in
     let answers = c.act_all.ensures.answers ∙ ap (λ n. map as_served (answers_with e.memory.contents n
-    c.args.members.now)) c.places_in-places.ensures.places in
-    let adds = subst (λ n. AddsAtMost (most_pages_with e.memory.contents n c.args.members.now)
+    c.args.members.now.all.now)) c.places_in-places.ensures.places in
+    let adds = subst (λ n. AddsAtMost (most_pages_with e.memory.contents n c.args.members.now.all.now)
     (changed_in e.checkpoint) (changed_in c.act_all.new.checkpoint)) c.places_in-places.ensures.places
     c.act_all.ensures.stays.pages in
-    subst (λ (s : EngineState g.row.D.Denot). CommandsAnswered s c.args.members.now c.act_all.new.served.items
+    subst (λ (s : EngineState g.row.D.Denot). CommandsAnswered s c.args.members.now.all.now c.act_all.new.served.items
     (engine_of c.put_on.new.disk c.act_all.new.checkpoint c.act_all.new.memory c.put_on.new.journal e.failed))
     c.self.view_is
-    (group_done e.disk e.checkpoint e.memory e.journal e.failed c.args.members.now c.places_in-places.ensures.known
+    (group_done e.disk e.checkpoint e.memory e.journal e.failed c.args.members.now.all.now c.places_in-places.ensures.known
     c.args.commands.now are alive c.put_on.new.disk c.act_all.new.checkpoint c.act_all.new.memory
     c.put_on.new.journal c.in_default.ensures.state (λ none. (c.put_on.ensures.calls.none none).1)
     c.act_all.ensures.stays.state contents
@@ -134,30 +135,30 @@ returns-clause-answered g c =
 
 pub returns-clause-length : goal.returns-clause-length
 returns-clause-length g c = ap (λ (l : List Served). length l) c.act_all.ensures.answers
-    ∙ length_answers c.self.inside.memory.contents c.places_in-places.result c.args.members.now
+    ∙ length_answers c.self.inside.memory.contents c.places_in-places.result c.args.members.now.all.now
 
 pub returns-clause-runs : goal.returns-clause-runs
 returns-clause-runs g c =
     let e = c.self.inside in
-    let are = c.requires.judged ∙ ap (λ (s : EngineState g.row.D.Denot). commands_put s c.args.members.now) (sym
+    let are = c.requires.judged ∙ ap (λ (s : EngineState g.row.D.Denot). commands_put s c.args.members.now.all.now) (sym
     c.self.view_is) in
     let alive : e.failed ≡ false = ap (λ (s : EngineState g.row.D.Denot). s.failed) c.self.view_is ∙ c.requires.alive in
     let known = c.places_in-places.ensures.known in
-    let contents = c.act_all.ensures.contents ∙ ap (λ n. contents_after_all e.memory.contents n c.args.members.now)
+    let contents = c.act_all.ensures.contents ∙ ap (λ n. contents_after_all e.memory.contents n c.args.members.now.all.now)
     c.places_in-places.ensures.places in
     let only = λ (h : g.D.Disk.honest c.put_on.new.disk). only_weaker g.D.Disk.now g.D.Disk.past e.disk c.put_on.new.disk _
-    (MeansCommands (engine_of e.disk e.checkpoint e.memory e.journal e.failed) c.args.members.now)
+    (MeansCommands (engine_of e.disk e.checkpoint e.memory e.journal e.failed) c.args.members.now.all.now)
     (c.put_on.ensures.leaves h e.checkpoint.state (paged e.checkpoint e.memory) e.memory.contents
-    (contents_after_all e.memory.contents (places e.journal.count e.journal.room) c.args.members.now)
-    (accepts e.disk e.checkpoint e.memory e.journal e.failed c.args.members.now known c.args.commands.now are)
+    (contents_after_all e.memory.contents (places e.journal.count e.journal.room) c.args.members.now.all.now)
+    (accepts e.disk e.checkpoint e.memory e.journal e.failed c.args.members.now.all.now known c.args.commands.now are)
     (c.self.invariant.1 (c.put_on.ensures.honest h) alive))
-    (means_group e.disk e.checkpoint e.memory e.journal e.failed c.args.members.now known c.args.commands.now are) in
+    (means_group e.disk e.checkpoint e.memory e.journal e.failed c.args.members.now.all.now known c.args.commands.now are) in
     subst (λ (s : EngineState g.row.D.Denot). ServesCommands g.D.Disk s (engine_of c.put_on.new.disk
-    c.act_all.new.checkpoint c.act_all.new.memory c.put_on.new.journal e.failed) c.args.members.now)
+    c.act_all.new.checkpoint c.act_all.new.memory c.put_on.new.journal e.failed) c.args.members.now.all.now)
     c.self.view_is
     (record {
       honest = λ h. c.put_on.ensures.honest h;
-      calls = λ h. calls_done e.disk e.checkpoint e.memory e.journal e.failed c.args.members.now known
+      calls = λ h. calls_done e.disk e.checkpoint e.memory e.journal e.failed c.args.members.now.all.now known
           c.args.commands.now are g.D.Disk.past c.put_on.new.disk c.put_on.result _ c.in_default.is
           (c.put_on.ensures.calls.made h);
       faults = search rules;
@@ -171,23 +172,30 @@ returns-clause-runs g c =
           (g.D.Disk.now c.put_on.new.disk))
           (sym contents)
           (c.act_all.ensures.kept
-          (contents_after_all e.memory.contents (places e.journal.count e.journal.room) c.args.members.now)
+          (contents_after_all e.memory.contents (places e.journal.count e.journal.room) c.args.members.now.all.now)
           c.put_on.new.journal (g.D.Disk.now c.put_on.new.disk)
           (c.in_default.ensures.kept h e.checkpoint.state (paged e.checkpoint e.memory) e.memory.contents
-          (contents_after_all e.memory.contents (places e.journal.count e.journal.room) c.args.members.now)
-          (accepts e.disk e.checkpoint e.memory e.journal e.failed c.args.members.now known c.args.commands.now are)
+          (contents_after_all e.memory.contents (places e.journal.count e.journal.room) c.args.members.now.all.now)
+          (accepts e.disk e.checkpoint e.memory e.journal e.failed c.args.members.now.all.now known c.args.commands.now are)
           (c.self.invariant.1 (c.put_on.ensures.honest h) f))));
     })
 
 pub act_all-requires-clause-judged : goal.act_all-requires-clause-judged
-act_all-requires-clause-judged g c = record {
-  few = c.requires.members.few;
-  taken = c.requires.members.taken
-      ∙ ap (λ (s : EngineState g.row.D.Denot). takes_at s.memory (places s.count s.room) c.args.members.now)
-      (sym c.self.view_is)
-      ∙ ap (λ n. takes_at c.self.inside.memory.contents n c.args.members.now)
-      (sym c.places_in-places.ensures.places);
-}
+act_all-requires-clause-judged g c =
+    let members = c.args.members.now.all.now in
+    let at = c.places_in-places.ensures.places in
+    record {
+      few = c.requires.members.few;
+      accepted = λ whole. subst (λ (s : EngineState g.row.D.Denot). AreAccepted s.memory members) (sym c.self.view_is)
+          (c.requires.members.accepted whole);
+      enough = λ whole. subst (λ (n : ℕ). length members ≤ n) (sym at)
+          (subst (λ (s : EngineState g.row.D.Denot). length members ≤ places s.count s.room) (sym c.self.view_is)
+          (c.requires.members.enough whole));
+      taken = λ some. c.requires.members.taken some
+          ∙ ap (λ (s : EngineState g.row.D.Denot). takes_at s.memory (places s.count s.room) members)
+          (sym c.self.view_is)
+          ∙ ap (λ n. takes_at c.self.inside.memory.contents n members) (sym at);
+    }
 
 pub refuse_all-requires-clause-fits : goal.refuse_all-requires-clause-fits
 refuse_all-requires-clause-fits g c = c.requires.members.few

@@ -8,7 +8,7 @@ use Rattle.im_checkpoint.specs.Keeping.{paged, IsKept}
 use Rattle.im_checkpoint.specs.Step.{changed_in}
 use Rattle.im_groups.specs.Commands.{answers_with, contents_after_all, takes_at, most_pages_with}
 use Rattle.im_engine.proofs.Adding.{AddsSoFar}
-use Rattle.im_engine.proofs.groups.act_all.Given as goal
+use Rattle.im_engine.proofs.groups.act_each.Given as goal
 
 abbrev pub invariant-loop-i : goal.invariant-loop-i
 invariant-loop-i l = record {

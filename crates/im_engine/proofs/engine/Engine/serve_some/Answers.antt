@@ -1,0 +1,10 @@
+use Rattle.std.proofs.Common.{rules}
+use Rattle.im_engine.proofs.engine.Engine.serve_some.Goals as goal
+
+pub serve_judged-requires-clause-members : goal.serve_judged-requires-clause-members
+serve_judged-requires-clause-members g c = record {
+  few = search rules;
+  accepted = λ whole. absurd (cc);
+  enough = λ whole. absurd (cc);
+  taken = λ some. search rules;
+}

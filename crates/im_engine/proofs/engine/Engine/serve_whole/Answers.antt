@@ -1,0 +1,16 @@
+use Rattle.std.proofs.Common.{◌≡◌, sym, true, false}
+use Rattle.im_groups.proofs.WholeLemmas.{whole-commands}
+use Rattle.im_groups.specs.Commands.{places}
+use Rattle.im_engine.proofs.engine.Engine.serve_whole.Goals as goal
+
+pub serve_judged-requires-clause-members : goal.serve_judged-requires-clause-members
+serve_judged-requires-clause-members g c = record {
+  few = c.requires.few;
+  accepted = λ whole. c.requires.accepted;
+  enough = λ whole. c.requires.enough;
+  taken = λ some. absurd (cc);
+}
+
+pub serve_judged-requires-clause-judged : goal.serve_judged-requires-clause-judged
+serve_judged-requires-clause-judged g c = sym (whole-commands c.args.self.now.memory
+    (places c.args.self.now.count c.args.self.now.room) c.args.members.now c.requires.accepted c.requires.enough)
