@@ -108,6 +108,7 @@ pub(crate) fn put_on<D: Disk>(
 }
 
 // Lets an accepted command act. The disk already has it.
+#[inline(always)]
 fn act(
     checkpoint: &mut Checkpoint,
     memory: &mut Memory,
@@ -129,6 +130,7 @@ fn act(
 }
 
 // Lets a member act that takes a place.
+#[inline(always)]
 fn act_taken(
     checkpoint: &mut Checkpoint,
     memory: &mut Memory,
@@ -190,6 +192,7 @@ fn act_one(
     }
 }
 
+#[inline(always)]
 fn as_served(answer: Result<Outcome, Refusal>) -> Served
     ensures { result ≡ as_served answer }
 {

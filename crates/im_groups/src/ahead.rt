@@ -44,6 +44,7 @@ fn bounds_behind(bounds: (u64, u64), element: u16, command: &Command) -> (u64, u
 }
 
 // Returns the bounds of an element's window in the memory. The next number is at most one past the last number of all.
+#[inline(always)]
 fn bounds_now(memory: &Memory, element: u16) -> Result<(u64, u64), Refusal>
     ensures bounds { result ≡ bounds memory.now.contents.windows element }
     ensures low { IfOk result (λ b. b.1 ≤ LAST + 1) }
@@ -75,6 +76,7 @@ fn bounds_behind_all(
 
 // Returns whether a request is the next one within these bounds, its number isn't past the last one of all, and the
 // window has room.
+#[inline(always)]
 fn is_next(bounds: (u64, u64), request: &Request) -> bool
     requires low { bounds.0 ≤ LAST + 1 }
     ensures { result ≡ is_next bounds request.now }
@@ -154,6 +156,7 @@ pub fn accepts(memory: &Memory, command: &Command) -> bool
 }
 
 // Returns whether a request is accepted after these commands.
+#[inline(never)]
 fn judge_request(memory: &Memory, ahead: &[Command], request: &Request) -> bool
     requires few { length ahead.now ≤ MAX_GROUP }
     requires accepted { AreAccepted memory.now.contents ahead.now }
@@ -190,6 +193,7 @@ fn judge_confirm(memory: &Memory, ahead: &[Command], element: u16, upto: u64) ->
 }
 
 // Returns whether the memory accepts a request as it is.
+#[inline(always)]
 fn judge_alone(memory: &Memory, request: &Request) -> bool
     ensures { result ≡ is_accepted memory.now.contents (Command.Request request.now) }
 {
@@ -201,6 +205,7 @@ fn judge_alone(memory: &Memory, request: &Request) -> bool
 
 // Returns whether a request is accepted after these commands. Their elements are marked: behind commands of others the
 // request is judged by the memory as it is.
+#[inline(always)]
 fn judge_marked(memory: &Memory, ahead: &[Command], marks: &[bool], request: &Request) -> bool
     requires few { length ahead.now ≤ MAX_GROUP }
     requires accepted { AreAccepted memory.now.contents ahead.now }
@@ -215,6 +220,7 @@ fn judge_marked(memory: &Memory, ahead: &[Command], marks: &[bool], request: &Re
 }
 
 /// Returns what [`judge_behind`] does. The elements of the commands ahead are marked.
+#[inline(always)]
 pub(crate) fn judge_member(
     memory: &Memory,
     ahead: &[Command],
@@ -238,6 +244,7 @@ pub(crate) fn judge_member(
 ///
 /// It returns `None` if that isn't known before they act. Then the command is a confirmation, and would drop an entry
 /// that waits now, or the entry of a fetch or a take among them. With no command ahead, it never returns `None`. (Own.)
+#[inline(never)]
 pub fn judge_behind(memory: &Memory, ahead: &[Command], command: &Command) -> Option<bool>
     requires few { length ahead.now ≤ MAX_GROUP }
     requires accepted { AreAccepted memory.now.contents ahead.now }

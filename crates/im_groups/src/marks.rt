@@ -5,6 +5,7 @@ ghost use Rattle.im_groups.specs.Marks.{element_behind, has_mark};
 use im_types::Command;
 
 // Returns the element that a command is of.
+#[inline(always)]
 fn element_of(command: &Command) -> u16
     ensures { result ≡ element_behind command.now }
 {
@@ -15,6 +16,7 @@ fn element_of(command: &Command) -> u16
 }
 
 /// Returns whether an element has a mark, or is past the last mark.
+#[inline(always)]
 pub(crate) fn has_mark(marks: &[bool], element: u16) -> bool
     ensures { result ≡ has_mark marks.now element }
 {
@@ -22,6 +24,7 @@ pub(crate) fn has_mark(marks: &[bool], element: u16) -> bool
 }
 
 /// Marks the element that a command is of.
+#[inline(always)]
 pub(crate) fn mark(marks: &mut [bool], command: &Command)
     ensures { marks.new ≡ slice_set marks.old (element_behind command.now) true }
 {
