@@ -22,13 +22,23 @@ use Rattle.im_engine.specs.Groups.{GroupCalls, GroupFaults, calls_for_group}
 abbrev pub commands_put : {D : Type 0} → EngineState D → List Command → List Command
 commands_put s members = commands_at s.memory (places s.count s.room) members
 
+-- members of a group that all take places: each is accepted in its turn, and there are places for all of them
+pub record AreWhole (m : Contents) (left : ℕ) (members : List Command) : Type 0 where
+  pub few : length members ≤ MAX_GROUP
+  pub accepted : AreAccepted m members
+  pub enough : length members ≤ left
+
+-- members of a group, and of each whether it takes a place
+pub record AreTold (m : Contents) (left : ℕ) (members : List Command) (told : List Bool) : Type 0 where
+  pub few : length members ≤ MAX_GROUP
+  pub taken : told ≡ takes_at m left members
+
 -- members of a group, judged at this memory with this number of places: whether all of them take places, and if not, of
 -- each whether it does
-pub record AreJudged (m : Contents) (left : ℕ) (members : List Command) (whole : Bool) (told : List Bool) : Type 0 where
+pub record AreJudged (m : Contents) (left : ℕ) (members : List Command) (is_whole : Bool) (told : List Bool) : Type 0 where
   pub few : length members ≤ MAX_GROUP
-  pub accepted : whole ≡ true → AreAccepted m members
-  pub enough : whole ≡ true → length members ≤ left
-  pub taken : whole ≡ false → told ≡ takes_at m left members
+  pub whole : is_whole ≡ true → AreWhole m left members
+  pub each : is_whole ≡ false → AreTold m left members told
 
 -- the engine after these commands, one after another
 abbrev pub after_commands : {D : Type 0} → EngineState D → List Command → EngineState D

@@ -1,9 +1,9 @@
 //! How an engine serves several commands together.
 ghost use Rattle.std.specs.Prelude.{◌≡◌, ◌≤◌, [], length, take, false};
 ghost use Rattle.im_types.specs.declared.TheConstants.{MAX_GROUP};
-ghost use Rattle.im_groups.specs.Ahead.{AreAccepted, ServesPrefix};
+ghost use Rattle.im_groups.specs.Ahead.{ServesPrefix};
 ghost use Rattle.im_groups.specs.Commands.{places};
-ghost use Rattle.im_engine.specs.Commands.{CommandsAnswered, ServesCommands, AreJudged, commands_put};
+ghost use Rattle.im_engine.specs.Commands.{CommandsAnswered, ServesCommands, AreJudged, AreWhole, commands_put};
 ghost use Rattle.im_engine.specs.Groups.{GroupAnswered, GroupCalls, GroupFaults, MeansGroup};
 ghost use Rattle.im_engine.specs.Groups.{group_put, calls_for_group};
 ghost use Rattle.im_engine.specs.Leaving.{LeavesSince, LeavesAfter, LeavesState};
@@ -93,9 +93,7 @@ impl<D: Disk> Engine<D> {
     // Serves judged members that all take places.
     fn serve_whole(&mut self, members: &[Command], served: &mut ArrayVec<Served, MAX_GROUP>)
         requires alive { self.old.failed ≡ false }
-        requires few { length members.now ≤ MAX_GROUP }
-        requires accepted { AreAccepted self.old.memory members.now }
-        requires enough { length members.now ≤ places self.old.count self.old.room }
+        requires whole { AreWhole self.old.memory (places self.old.count self.old.room) members.now }
         requires empty { served.old.items ≡ [] }
         ensures answered { CommandsAnswered self.old members.now served.new.items self.new }
         ensures length { length served.new.items ≡ length members.now }

@@ -13,11 +13,10 @@ ghost use Rattle.im_image.specs.Reading.{HasSizes};
 ghost use Rattle.im_memory.specs.Covering.{most_pages};
 ghost use Rattle.im_checkpoint.specs.Keeping.{paged, IsKept};
 ghost use Rattle.im_groups.specs.Commands.{places, answer_with, contents_with, places_behind, answers_with};
-ghost use Rattle.im_groups.specs.Commands.{contents_after_all, takes_place, takes_at};
-ghost use Rattle.im_groups.specs.Ahead.{AreAccepted};
+ghost use Rattle.im_groups.specs.Commands.{contents_after_all, takes_place};
 ghost use Rattle.im_groups.specs.Commands.{most_pages_at, most_pages_with};
 ghost use Rattle.im_engine.specs.Groups.{FitsGroup, GroupPut, LeavesAllOrNone, KeepsAfter, StaysBut};
-ghost use Rattle.im_engine.specs.Commands.{AreJudged, each_refused};
+ghost use Rattle.im_engine.specs.Commands.{AreJudged, AreTold, AreWhole, each_refused};
 
 use arrayvec::ArrayVec;
 use im_checkpoint::Checkpoint;
@@ -219,9 +218,7 @@ fn act_whole(
     members: &[Command],
     served: &mut ArrayVec<Served, MAX_GROUP>,
 )
-    requires few { length members.now ≤ MAX_GROUP }
-    requires accepted { AreAccepted memory.old.contents members.now }
-    requires enough { length members.now ≤ places }
+    requires whole { AreWhole memory.old.contents places members.now }
     requires empty { served.old.items ≡ [] }
     requires sizes { HasSizes checkpoint.old.state.header.sizes memory.old.contents }
     ensures answers { served.new.items ≡ map as_served (answers_with memory.old.contents places members.now) }
@@ -248,8 +245,7 @@ fn act_each(
     members: &Members,
     served: &mut ArrayVec<Served, MAX_GROUP>,
 )
-    requires few { length members.now.all.now ≤ MAX_GROUP }
-    requires taken { members.now.taken.now ≡ takes_at memory.old.contents places members.now.all.now }
+    requires told { AreTold memory.old.contents places members.now.all.now members.now.taken.now }
     requires empty { served.old.items ≡ [] }
     requires sizes { HasSizes checkpoint.old.state.header.sizes memory.old.contents }
     ensures answers { served.new.items

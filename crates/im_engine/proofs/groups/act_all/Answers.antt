@@ -1,10 +1,7 @@
 use Rattle.im_engine.proofs.groups.act_all.Goals as goal
 
-pub act_whole-requires-clause-accepted : goal.act_whole-requires-clause-accepted
-act_whole-requires-clause-accepted c = c.requires.judged.accepted c.if-members.true
+pub act_whole-requires-clause-whole : goal.act_whole-requires-clause-whole
+act_whole-requires-clause-whole c = c.requires.judged.whole c.if-members.true
 
-pub act_whole-requires-clause-enough : goal.act_whole-requires-clause-enough
-act_whole-requires-clause-enough c = c.requires.judged.enough c.if-members.true
-
-pub act_each-requires-clause-taken : goal.act_each-requires-clause-taken
-act_each-requires-clause-taken c = c.requires.judged.taken c.if-members.false
+pub act_each-requires-clause-told : goal.act_each-requires-clause-told
+act_each-requires-clause-told c = c.requires.judged.each c.if-members.false

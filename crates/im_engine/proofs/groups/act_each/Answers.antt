@@ -43,6 +43,6 @@ act_one-answer-requires-clause-taken c =
 pub bounds-members-i : goal.bounds-members-i
 bounds-members-i c =
     let same : length c.args.members.now.taken.now
-    ≡ length c.args.members.now.all.now = ap (λ (l : List Bool). length l) c.requires.taken
+    ≡ length c.args.members.now.all.now = ap (λ (l : List Bool). length l) c.requires.told.taken
     ∙ length_taken c.args.memory.now.contents c.args.places c.args.members.now.all.now in
     omega (arith, same, c.loop-i-test.true)

@@ -3,21 +3,21 @@ use Rattle.im_types.specs.declared.commands.Command.{Command}
 use Rattle.im_groups.specs.Ahead.{AreAccepted, ServesPrefix}
 use Rattle.im_groups.specs.Commands.{places, commands_at}
 use Rattle.im_engine.specs.State.{EngineState}
-use Rattle.im_engine.specs.Commands.{CommandsAnswered, ServesCommands}
+use Rattle.im_engine.specs.Commands.{AreWhole, CommandsAnswered, ServesCommands}
 use Rattle.im_engine.proofs.Members.{whole_served, whole_begins}
 use Rattle.im_engine.proofs.engine.Engine.serve_commands.Goals as goal
 
-pub serve_whole-requires-clause-accepted : goal.serve_whole-requires-clause-accepted
-serve_whole-requires-clause-accepted g c =
-    subst (λ (s : EngineState g.row.D.Denot). AreAccepted s.memory (take c.in-Some.judged c.as_slice-members.result.now))
-    c.self.view_is c.in-Some.ensures.accepted
-
-pub serve_whole-requires-clause-enough : goal.serve_whole-requires-clause-enough
-serve_whole-requires-clause-enough g c =
-    let all = length-take-le c.in-Some.judged c.as_slice-members.result.now c.in-Some.ensures.begins.within in
-    subst (λ (s : EngineState g.row.D.Denot). length (take c.in-Some.judged c.as_slice-members.result.now)
-    ≤ places s.count s.room) c.self.view_is
-    (omega (arith, all, c.in-Some.ensures.enough, c.places_in-places.ensures.places))
+pub serve_whole-requires-clause-whole : goal.serve_whole-requires-clause-whole
+serve_whole-requires-clause-whole g c =
+    let ms = c.as_slice-members.result.now in
+    let all = length-take-le c.in-Some.judged ms c.in-Some.ensures.begins.within in
+    subst (λ (s : EngineState g.row.D.Denot). AreWhole s.memory (places s.count s.room) (take c.in-Some.judged ms))
+    c.self.view_is
+    (record {
+      few = omega (arith, all, c.in-Some.ensures.begins.within, c.as_slice-members.ensures.fits);
+      accepted = c.in-Some.ensures.accepted;
+      enough = omega (arith, all, c.in-Some.ensures.enough, c.places_in-places.ensures.places);
+    })
 
 pub returns-in-Some-clause-answered : goal.returns-in-Some-clause-answered
 returns-in-Some-clause-answered g c =

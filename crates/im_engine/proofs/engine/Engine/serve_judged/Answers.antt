@@ -7,10 +7,9 @@ use Rattle.im_disk.proofs.SinceLemmas.{only_weaker}
 use Rattle.im_checkpoint.specs.Step.{changed_in}
 use Rattle.im_checkpoint.specs.Turns.{AddsAtMost}
 use Rattle.im_checkpoint.specs.Keeping.{paged, IsKept}
-use Rattle.im_groups.specs.Ahead.{AreAccepted}
 use Rattle.im_groups.specs.Commands.{places, answers_with, contents_after_all, takes_at, most_pages_with}
 use Rattle.im_engine.specs.State.{EngineState, engine_of}
-use Rattle.im_engine.specs.Commands.{commands_put, MeansCommands, CommandsAnswered, ServesCommands}
+use Rattle.im_engine.specs.Commands.{AreWhole, AreTold, commands_put, MeansCommands, CommandsAnswered, ServesCommands}
 use Rattle.im_engine.proofs.Keeping.{all_mean, all_hold}
 use Rattle.im_engine.proofs.Members.{length_refused, length_answers}
 use Rattle.im_engine.proofs.Together.{room_for, last_for, accepts, means_group, group_done, group_failed}
@@ -186,15 +185,12 @@ act_all-requires-clause-judged g c =
     let at = c.places_in-places.ensures.places in
     record {
       few = c.requires.members.few;
-      accepted = λ whole. subst (λ (s : EngineState g.row.D.Denot). AreAccepted s.memory members) (sym c.self.view_is)
-          (c.requires.members.accepted whole);
-      enough = λ whole. subst (λ (n : ℕ). length members ≤ n) (sym at)
-          (subst (λ (s : EngineState g.row.D.Denot). length members ≤ places s.count s.room) (sym c.self.view_is)
-          (c.requires.members.enough whole));
-      taken = λ some. c.requires.members.taken some
-          ∙ ap (λ (s : EngineState g.row.D.Denot). takes_at s.memory (places s.count s.room) members)
-          (sym c.self.view_is)
-          ∙ ap (λ n. takes_at c.self.inside.memory.contents n members) (sym at);
+      whole = λ is. subst (λ (n : ℕ). AreWhole c.self.inside.memory.contents n members) (sym at)
+          (subst (λ (s : EngineState g.row.D.Denot). AreWhole s.memory (places s.count s.room) members)
+          (sym c.self.view_is) (c.requires.members.whole is));
+      each = λ is. subst (λ (n : ℕ). AreTold c.self.inside.memory.contents n members c.args.members.now.taken.now)
+          (sym at) (subst (λ (s : EngineState g.row.D.Denot). AreTold s.memory (places s.count s.room) members
+          c.args.members.now.taken.now) (sym c.self.view_is) (c.requires.members.each is));
     }
 
 pub refuse_all-requires-clause-fits : goal.refuse_all-requires-clause-fits

@@ -4,7 +4,6 @@ use Rattle.im_engine.proofs.engine.Engine.serve_some.Goals as goal
 pub serve_judged-requires-clause-members : goal.serve_judged-requires-clause-members
 serve_judged-requires-clause-members g c = record {
   few = search rules;
-  accepted = λ whole. absurd (cc);
-  enough = λ whole. absurd (cc);
-  taken = λ some. search rules;
+  whole = λ is. absurd (cc);
+  each = λ is. record { few = search rules; taken = search rules };
 }
