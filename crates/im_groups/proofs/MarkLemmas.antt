@@ -1,7 +1,7 @@
 -- Marks of the elements of commands.
-use Rattle.std.proofs.Common.{◌≡◌, ◌≢◌, ◌≤◌, ⊎_elim, ℕ, zero, suc, ◌+◌, List, [], ◌∷◌, ◌++◌, length, set, get_or, Bool}
-use Rattle.std.proofs.Common.{true, false, None, Some, Result, Ok, Err, refl, sym, ap, subst, ◌∙◌, arith, if◌then◌else◌}
-use Rattle.std.specs.Prelude.{◌==◌, slice_get}
+use Rattle.std.proofs.Common.{◌≡◌, ℕ, zero, suc, ◌+◌, List, [], ◌∷◌, ◌++◌, set, Bool}
+use Rattle.std.proofs.Common.{true, false, Result, Ok, Err, refl, sym, ap, subst, ◌∙◌, if◌then◌else◌}
+use Rattle.std.specs.Prelude.{◌==◌}
 use Rattle.im_types.specs.declared.commands.Request.{Request}
 use Rattle.im_types.specs.declared.commands.Command.{Command}
 use Rattle.im_types.specs.declared.commands.Command.TheVariants.{Request as Asks, Confirm}
@@ -11,7 +11,7 @@ use Rattle.im_types.specs.Window.{bounds}
 use Rattle.im_types.specs.Step.{is_accepted}
 use Rattle.im_types.specs.Run.{after}
 use Rattle.im_laws.proofs.Tests.{true_false, eq_by_test}
-use Rattle.im_groups.specs.Ahead.{AreAccepted, bounds_behind, bounds_behind_all, moved_by, is_next}
+use Rattle.im_groups.specs.Ahead.{AreAccepted, bounds_behind, bounds_behind_all, moved_by}
 use Rattle.im_groups.specs.Marks.{element_behind, has_mark, HaveMarks}
 use Rattle.im_groups.proofs.AheadLemmas.{request-judged, request-nowhere, request-behind, request-lost}
 

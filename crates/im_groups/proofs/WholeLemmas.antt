@@ -9,7 +9,7 @@ use Rattle.im_types.specs.Contents.{Contents}
 use Rattle.im_types.specs.Step.{step, is_accepted}
 use Rattle.im_types.specs.Run.{after}
 use Rattle.im_types.specs.Meaning.{accept_each}
-use Rattle.im_groups.specs.Commands.{takes_place, contents_with, places_behind, commands_at}
+use Rattle.im_groups.specs.Commands.{takes_place, commands_at}
 use Rattle.im_groups.specs.Ahead.{AreAccepted}
 use Rattle.im_groups.proofs.AheadLemmas.{accepted_first}
 

@@ -1,5 +1,5 @@
 //! A command that is judged after the commands ahead of it, before any of them acts.
-ghost use Rattle.std.specs.Prelude.{◌≡◌, ◌+◌, ◌≤◌, ◌<◌, ℕ, length, true, false, IfOk, IfSome, IsNone};
+ghost use Rattle.std.specs.Prelude.{◌≡◌, ◌+◌, ◌≤◌, ◌<◌, ℕ, length, true, false, IfOk, IfSome, IsNone, slice_set};
 ghost use Rattle.std.specs.List.{list_any};
 ghost use Rattle.im_types.specs.declared.TheConstants.{LAST, MAX_GROUP};
 ghost use Rattle.im_types.specs.declared.commands.Command.TheVariants.{Confirm};
@@ -9,9 +9,9 @@ ghost use Rattle.im_types.specs.Step.{is_accepted};
 ghost use Rattle.im_types.specs.Run.{after};
 ghost use Rattle.im_groups.specs.Ahead.{AreAccepted, bounds_behind, moved_by, is_next, is_at_once, asks_at_once};
 ghost use Rattle.im_groups.specs.Ahead.{is_sure, IsUnsure};
-ghost use Rattle.im_groups.specs.Marks.{HaveMarks};
+ghost use Rattle.im_groups.specs.Marks.{element_behind, HaveMarks};
 
-use crate::marks::has_mark;
+use crate::marks::{has_mark, mark};
 use im_memory::Memory;
 use im_types::{Command, Entry, LAST, Op, Refusal, Request, WINDOW};
 
@@ -236,6 +236,39 @@ pub(crate) fn judge_member(
     match command {
         Command::Request(request) => Some(judge_marked(memory, ahead, marks, request)),
         Command::Confirm { .. } => judge_behind(memory, ahead, command),
+    }
+}
+
+/// Returns what [`judge_behind`] does, and marks the member's element if it is accepted. The elements of the commands
+/// ahead are marked.
+#[inline(always)]
+pub(crate) fn take_member(
+    memory: &Memory,
+    ahead: &[Command],
+    marks: &mut [bool],
+    member: &Command,
+) -> Option<bool>
+    requires few { length ahead.now ≤ MAX_GROUP }
+    requires accepted { AreAccepted memory.now.contents ahead.now }
+    requires marked { HaveMarks marks.old ahead.now }
+    ensures found { IfSome result (λ b. b ≡ is_accepted (after memory.now.contents ahead.now) member.now) }
+    ensures unsure { IsNone result → IsUnsure memory.now.contents ahead.now member.now }
+    ensures marks { IfSome result (λ b. b ≡ true
+        → marks.new ≡ slice_set marks.old (element_behind member.now) true) }
+{
+    match member {
+        Command::Request(request) => {
+            // Constants, so that the caller tests neither of them again.
+            if !judge_marked(memory, ahead, marks, request) {
+                return Some(false);
+            }
+            mark(marks, member);
+            Some(true)
+        }
+        Command::Confirm { .. } => {
+            mark(marks, member);
+            judge_behind(memory, ahead, member)
+        }
     }
 }
 

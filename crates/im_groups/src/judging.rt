@@ -6,7 +6,7 @@ ghost use Rattle.im_types.specs.Meaning.{accept_each};
 ghost use Rattle.im_groups.specs.Commands.{commands_at, takes_at, takes_place};
 ghost use Rattle.im_groups.specs.Ahead.{AreAccepted, ServesPrefix};
 
-use crate::ahead::{accepts, judge_member};
+use crate::ahead::{accepts, judge_member, take_member};
 use crate::marks::mark;
 use arrayvec::ArrayVec;
 use im_memory::Memory;
@@ -112,12 +112,11 @@ pub fn judge_whole(memory: &Memory, places: u64, members: &[Command]) -> Option<
     let mut marks = [false; ELEMENTS];
     for i in 0..members.len() {
         let member = &members[i];
-        match judge_member(memory, &members[..i], &marks, member) {
+        match take_member(memory, &members[..i], &mut marks, member) {
             Some(accepted) => {
                 if !accepted {
                     return None;
                 }
-                mark(&mut marks, member);
             }
             None => return Some(i),
         }

@@ -1,4 +1,4 @@
-use Rattle.std.proofs.Common.{◌≡◌, ◌≤◌, inl, inr, refl, sym, take, length, true, arith, length-take, rules}
+use Rattle.std.proofs.Common.{inr, refl, take, true, arith, length-take}
 use Rattle.std.proofs.lemmas.List.{take_more}
 use Rattle.im_groups.proofs.JudgedLemmas.{stops-begins, all-begins}
 use Rattle.im_groups.proofs.MarkLemmas.{marked-next}
@@ -12,7 +12,8 @@ loop-i-preserved c =
     record {
       accepted = accepted-next c.args.memory.now.contents members c.loop-i.i _ c.in-Some.accepted c.loop-i-test.true
           inv.accepted c.in-Some.ensures.found c.if-not-accepted.false;
-      marked = marked-next c.loop-i.marks _ (take c.loop-i.i members) _ _ true inv.marked c.mark.ensures
+      marked = marked-next c.loop-i.marks _ (take c.loop-i.i members) _ _ true inv.marked
+          (c.in-Some.ensures.marks c.if-not-accepted.false)
           (take_more members c.loop-i.i _ c.loop-i-test.true);
     }
 
