@@ -256,7 +256,7 @@ inline make_room() {
   did = false
 }
 /* of im_controller::lend_group 30704dd5b1e5
-   of im_engine::Engine::serve_commands 4c544e4a010c: the fault may fall before each member, which begins a group then. */
+   of im_engine::Engine::serve_commands b7eb8decfe98: the fault may fall before each member, which begins a group then. */
 inline serve_member(m) {
   may_fail();
   if :: failed -> unclaimed[m] = Failed

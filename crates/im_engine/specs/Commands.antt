@@ -29,16 +29,16 @@ pub record AreWhole (m : Contents) (left : ℕ) (members : List Command) : Type 
   pub enough : length members ≤ left
 
 -- members of a group, and of each whether it takes a place
-pub record AreTold (m : Contents) (left : ℕ) (members : List Command) (told : List Bool) : Type 0 where
+pub record AreParted (m : Contents) (left : ℕ) (members : List Command) (told : List Bool) : Type 0 where
   pub few : length members ≤ MAX_GROUP
   pub taken : told ≡ takes_at m left members
 
 -- members of a group, judged at this memory with this number of places: whether all of them take places, and if not, of
 -- each whether it does
-pub record AreJudged (m : Contents) (left : ℕ) (members : List Command) (is_whole : Bool) (told : List Bool) : Type 0 where
+pub record AreJudged (m : Contents) (left : ℕ) (members : List Command) (all : Bool) (told : List Bool) : Type 0 where
   pub few : length members ≤ MAX_GROUP
-  pub whole : is_whole ≡ true → AreWhole m left members
-  pub each : is_whole ≡ false → AreTold m left members told
+  pub whole : all ≡ true → AreWhole m left members
+  pub each : all ≡ false → AreParted m left members told
 
 -- the engine after these commands, one after another
 abbrev pub after_commands : {D : Type 0} → EngineState D → List Command → EngineState D

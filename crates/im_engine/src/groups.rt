@@ -16,8 +16,9 @@ ghost use Rattle.im_groups.specs.Commands.{places, answer_with, contents_with, p
 ghost use Rattle.im_groups.specs.Commands.{contents_after_all, takes_place};
 ghost use Rattle.im_groups.specs.Commands.{most_pages_at, most_pages_with};
 ghost use Rattle.im_engine.specs.Groups.{FitsGroup, GroupPut, LeavesAllOrNone, KeepsAfter, StaysBut};
-ghost use Rattle.im_engine.specs.Commands.{AreJudged, AreTold, AreWhole, each_refused};
+ghost use Rattle.im_engine.specs.Commands.{AreJudged, AreParted, each_refused};
 
+use crate::whole::act_whole;
 use arrayvec::ArrayVec;
 use im_checkpoint::Checkpoint;
 use im_disk::Disk;
@@ -107,7 +108,6 @@ pub(crate) fn put_on<D: Disk>(
 }
 
 // Lets an accepted command act. The disk already has it.
-#[inline(always)]
 fn act(
     checkpoint: &mut Checkpoint,
     memory: &mut Memory,
@@ -129,7 +129,6 @@ fn act(
 }
 
 // Lets a member act that takes a place.
-#[inline(always)]
 fn act_taken(
     checkpoint: &mut Checkpoint,
     memory: &mut Memory,
@@ -191,8 +190,9 @@ fn act_one(
     }
 }
 
+/// Turns an answer of the memory into a member's answer.
 #[inline(always)]
-fn as_served(answer: Result<Outcome, Refusal>) -> Served
+pub(crate) fn as_served(answer: Result<Outcome, Refusal>) -> Served
     ensures { result ≡ as_served answer }
 {
     match answer {
@@ -209,33 +209,6 @@ pub(crate) struct Members<'a> {
     pub(crate) taken: &'a [bool],
 }
 
-// Lets members act in their order that all take places. The disk already has their commands.
-#[inline(always)]
-fn act_whole(
-    checkpoint: &mut Checkpoint,
-    memory: &mut Memory,
-    places: u64,
-    members: &[Command],
-    served: &mut ArrayVec<Served, MAX_GROUP>,
-)
-    requires whole { AreWhole memory.old.contents places members.now }
-    requires empty { served.old.items ≡ [] }
-    requires sizes { HasSizes checkpoint.old.state.header.sizes memory.old.contents }
-    ensures answers { served.new.items ≡ map as_served (answers_with memory.old.contents places members.now) }
-    ensures contents { memory.new.contents ≡ contents_after_all memory.old.contents places members.now }
-    ensures sizes { HasSizes checkpoint.new.state.header.sizes memory.new.contents }
-    ensures stays { StaysBut (most_pages_with memory.old.contents places members.now) checkpoint.old checkpoint.new }
-    ensures kept { (m : Contents) (j : JournalState) (now : Moment)
-        → IsKept checkpoint.old.state (paged checkpoint.old memory.old) m j now
-        → IsKept checkpoint.new.state (paged checkpoint.new memory.new) m j now }
-{
-    let mut left = places;
-    for i in 0..members.len() {
-        let answer = act_taken(checkpoint, memory, &mut left, &members[i]);
-        served.push(as_served(answer));
-    }
-}
-
 // Lets members act in their order of which some take no place.
 #[inline(never)]
 fn act_each(
@@ -245,7 +218,7 @@ fn act_each(
     members: &Members,
     served: &mut ArrayVec<Served, MAX_GROUP>,
 )
-    requires told { AreTold memory.old.contents places members.now.all.now members.now.taken.now }
+    requires told { AreParted memory.old.contents places members.now.all.now members.now.taken.now }
     requires empty { served.old.items ≡ [] }
     requires sizes { HasSizes checkpoint.old.state.header.sizes memory.old.contents }
     ensures answers { served.new.items

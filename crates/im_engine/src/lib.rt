@@ -12,6 +12,7 @@ mod laws;
 mod looking;
 mod open;
 mod run;
+mod whole;
 
 pub use apart::Group;
 pub use emptying::Empties;

@@ -19,13 +19,15 @@ impl Memory {
         ensures changes { ChangesOnly (touched self.old command.now) self.old.records self.new.records }
     {
         match command {
-            Command::Request(request) => Ok(Outcome::Entry(self.serve_new(request))),
+            Command::Request(request) => Ok(Outcome::Entry(self.accept_request(request))),
             Command::Confirm { element, upto } => self.confirm(*element, *upto),
         }
     }
 
-    // Serves a request that the memory accepts.
-    fn serve_new(&mut self, request: &Request) -> Entry
+    /// Serves a request that the memory accepts, as [`Memory::accept`] does, and returns the entry that it is answered
+    /// with. The call takes no memory.
+    #[inline(always)]
+    pub fn accept_request(&mut self, request: &Request) -> Entry
         requires accepted { is_accepted self.old.contents (Command.Request request.now) ≡ true }
         ensures answer { Ok (Outcome.Entry result)
             ≡ (step self.old.contents (Command.Request request.now)).answer }

@@ -21,7 +21,8 @@ loop-i-preserved c =
       size = search rules;
       answers = ap (λ (l : List Served). l ++ more)
           (c.push.ensures.items ∙ ap (λ (s : Served). c.loop-i.served.items ++ s ∷ []) c.as_served.ensures)
-          ∙ answers_next m left c.loop-i.served.items rs i _ c.act_one-answer.result c.act_one-answer.new.memory.contents c.act_one-answer.new.left c.loop-i-test.true e.answer e.contents e.left ∙ inv.answers;
+          ∙ answers_next m left c.loop-i.served.items rs i _ c.act_one-answer.result
+          c.act_one-answer.new.memory.contents c.act_one-answer.new.left c.loop-i-test.true e.answer e.contents e.left ∙ inv.answers;
       contents = contents_next m left rs i _ c.act_one-answer.new.memory.contents c.act_one-answer.new.left
           c.loop-i-test.true e.contents e.left ∙ inv.contents;
       taken = taken_next m left rs c.args.members.now.taken.now i _ c.act_one-answer.new.memory.contents

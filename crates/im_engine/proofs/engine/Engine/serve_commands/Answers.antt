@@ -23,14 +23,16 @@ pub returns-in-Some-clause-answered : goal.returns-in-Some-clause-answered
 returns-in-Some-clause-answered g c =
     subst (λ (l : List Command). CommandsAnswered c.args.self.now l c.serve_whole.new.served.items
     c.serve_whole.new.self)
-    (whole_served c.as_slice-members.result.now c.args.members.now.items c.in-Some.judged _ c.as_slice-members.ensures.value
+    (whole_served c.as_slice-members.result.now c.args.members.now.items c.in-Some.judged _
+    c.as_slice-members.ensures.value
     c.in-Some.ensures.begins.within c.serve_whole.ensures.length)
     c.serve_whole.ensures.answered
 
 pub returns-in-Some-clause-runs : goal.returns-in-Some-clause-runs
 returns-in-Some-clause-runs g c =
     subst (λ (l : List Command). ServesCommands g.D.Disk c.args.self.now c.serve_whole.new.self l)
-    (whole_served c.as_slice-members.result.now c.args.members.now.items c.in-Some.judged _ c.as_slice-members.ensures.value
+    (whole_served c.as_slice-members.result.now c.args.members.now.items c.in-Some.judged _
+    c.as_slice-members.ensures.value
     c.in-Some.ensures.begins.within c.serve_whole.ensures.length)
     c.serve_whole.ensures.runs
 

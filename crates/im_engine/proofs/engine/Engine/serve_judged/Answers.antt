@@ -9,7 +9,7 @@ use Rattle.im_checkpoint.specs.Turns.{AddsAtMost}
 use Rattle.im_checkpoint.specs.Keeping.{paged, IsKept}
 use Rattle.im_groups.specs.Commands.{places, answers_with, contents_after_all, takes_at, most_pages_with}
 use Rattle.im_engine.specs.State.{EngineState, engine_of}
-use Rattle.im_engine.specs.Commands.{AreWhole, AreTold, commands_put, MeansCommands, CommandsAnswered, ServesCommands}
+use Rattle.im_engine.specs.Commands.{AreWhole, AreParted, commands_put, MeansCommands, CommandsAnswered, ServesCommands}
 use Rattle.im_engine.proofs.Keeping.{all_mean, all_hold}
 use Rattle.im_engine.proofs.Members.{length_refused, length_answers}
 use Rattle.im_engine.proofs.Together.{room_for, last_for, accepts, means_group, group_done, group_failed}
@@ -50,7 +50,8 @@ returns-in-Err-clause-answered g c =
     subst (λ (s : EngineState g.row.D.Denot). CommandsAnswered s c.args.members.now.all.now
     c.refuse_all.new.served.items (engine_of c.put_on.new.disk e.checkpoint e.memory c.put_on.new.journal
     true)) c.self.view_is
-    (group_failed e.disk e.checkpoint e.memory e.journal e.failed c.args.members.now.all.now c.places_in-places.ensures.known
+    (group_failed e.disk e.checkpoint e.memory e.journal e.failed c.args.members.now.all.now
+    c.places_in-places.ensures.known
     c.args.commands.now are alive c.put_on.new.disk c.put_on.new.journal c.in-Err.ensures.state
     (λ none. not_both c.put_on.result tt c.in-Err.field-0 c.in-Err.is (c.put_on.ensures.calls.none none).0)
     c.refuse_all.new.served.items c.refuse_all.ensures)
@@ -66,13 +67,15 @@ returns-in-Err-clause-runs g c =
     c.self.view_is) in
     let alive : e.failed ≡ false = ap (λ (s : EngineState g.row.D.Denot). s.failed) c.self.view_is ∙ c.requires.alive in
     let known = c.places_in-places.ensures.known in
-    let only = λ (h : g.D.Disk.honest c.put_on.new.disk). only_weaker g.D.Disk.now g.D.Disk.past e.disk c.put_on.new.disk _
+    let only = λ (h : g.D.Disk.honest c.put_on.new.disk). only_weaker g.D.Disk.now g.D.Disk.past e.disk
+    c.put_on.new.disk _
     (MeansCommands (engine_of e.disk e.checkpoint e.memory e.journal e.failed) c.args.members.now.all.now)
     (c.put_on.ensures.leaves h e.checkpoint.state (paged e.checkpoint e.memory) e.memory.contents
     (contents_after_all e.memory.contents (places e.journal.count e.journal.room) c.args.members.now.all.now)
     (accepts e.disk e.checkpoint e.memory e.journal e.failed c.args.members.now.all.now known c.args.commands.now are)
     (c.self.invariant.1 (c.put_on.ensures.honest h) alive))
-    (means_group e.disk e.checkpoint e.memory e.journal e.failed c.args.members.now.all.now known c.args.commands.now are) in
+    (means_group e.disk e.checkpoint e.memory e.journal e.failed c.args.members.now.all.now known c.args.commands.now
+    are) in
     subst (λ (s : EngineState g.row.D.Denot). ServesCommands g.D.Disk s (engine_of c.put_on.new.disk e.checkpoint
     e.memory c.put_on.new.journal true) c.args.members.now.all.now) c.self.view_is
     (record {
@@ -92,7 +95,8 @@ invariant_of-self-2 g c =
     let are = c.requires.judged ∙ ap (λ (s : EngineState g.row.D.Denot). commands_put s c.args.members.now.all.now) (sym
     c.self.view_is) in
     let known = c.places_in-places.ensures.known in
-    let contents = c.act_all.ensures.contents ∙ ap (λ n. contents_after_all e.memory.contents n c.args.members.now.all.now)
+    let contents = c.act_all.ensures.contents ∙ ap (λ n. contents_after_all e.memory.contents n
+    c.args.members.now.all.now)
     c.places_in-places.ensures.places in (
       fits_group e.checkpoint.state c.act_all.new.checkpoint.state e.memory.contents c.act_all.new.memory.contents
           e.journal c.put_on.new.journal (length c.args.commands.now) c.self.invariant.0 c.act_all.ensures.stays.state
@@ -106,7 +110,8 @@ invariant_of-self-2 g c =
           c.put_on.new.journal (g.D.Disk.now c.put_on.new.disk)
           (c.in_default.ensures.kept h e.checkpoint.state (paged e.checkpoint e.memory) e.memory.contents
           (contents_after_all e.memory.contents (places e.journal.count e.journal.room) c.args.members.now.all.now)
-          (accepts e.disk e.checkpoint e.memory e.journal e.failed c.args.members.now.all.now known c.args.commands.now are)
+          (accepts e.disk e.checkpoint e.memory e.journal e.failed c.args.members.now.all.now known c.args.commands.now
+          are)
           (c.self.invariant.1 (c.put_on.ensures.honest h) f))),
     )
 
@@ -116,7 +121,8 @@ returns-clause-answered g c =
     let are = c.requires.judged ∙ ap (λ (s : EngineState g.row.D.Denot). commands_put s c.args.members.now.all.now) (sym
     c.self.view_is) in
     let alive : e.failed ≡ false = ap (λ (s : EngineState g.row.D.Denot). s.failed) c.self.view_is ∙ c.requires.alive in
-    let contents = c.act_all.ensures.contents ∙ ap (λ n. contents_after_all e.memory.contents n c.args.members.now.all.now)
+    let contents = c.act_all.ensures.contents ∙ ap (λ n. contents_after_all e.memory.contents n
+    c.args.members.now.all.now)
     c.places_in-places.ensures.places in
     let answers = c.act_all.ensures.answers ∙ ap (λ n. map as_served (answers_with e.memory.contents n
     c.args.members.now.all.now)) c.places_in-places.ensures.places in
@@ -126,7 +132,8 @@ returns-clause-answered g c =
     subst (λ (s : EngineState g.row.D.Denot). CommandsAnswered s c.args.members.now.all.now c.act_all.new.served.items
     (engine_of c.put_on.new.disk c.act_all.new.checkpoint c.act_all.new.memory c.put_on.new.journal e.failed))
     c.self.view_is
-    (group_done e.disk e.checkpoint e.memory e.journal e.failed c.args.members.now.all.now c.places_in-places.ensures.known
+    (group_done e.disk e.checkpoint e.memory e.journal e.failed c.args.members.now.all.now
+    c.places_in-places.ensures.known
     c.args.commands.now are alive c.put_on.new.disk c.act_all.new.checkpoint c.act_all.new.memory
     c.put_on.new.journal c.in_default.ensures.state (λ none. (c.put_on.ensures.calls.none none).1)
     c.act_all.ensures.stays.state contents
@@ -143,15 +150,18 @@ returns-clause-runs g c =
     c.self.view_is) in
     let alive : e.failed ≡ false = ap (λ (s : EngineState g.row.D.Denot). s.failed) c.self.view_is ∙ c.requires.alive in
     let known = c.places_in-places.ensures.known in
-    let contents = c.act_all.ensures.contents ∙ ap (λ n. contents_after_all e.memory.contents n c.args.members.now.all.now)
+    let contents = c.act_all.ensures.contents ∙ ap (λ n. contents_after_all e.memory.contents n
+    c.args.members.now.all.now)
     c.places_in-places.ensures.places in
-    let only = λ (h : g.D.Disk.honest c.put_on.new.disk). only_weaker g.D.Disk.now g.D.Disk.past e.disk c.put_on.new.disk _
+    let only = λ (h : g.D.Disk.honest c.put_on.new.disk). only_weaker g.D.Disk.now g.D.Disk.past e.disk
+    c.put_on.new.disk _
     (MeansCommands (engine_of e.disk e.checkpoint e.memory e.journal e.failed) c.args.members.now.all.now)
     (c.put_on.ensures.leaves h e.checkpoint.state (paged e.checkpoint e.memory) e.memory.contents
     (contents_after_all e.memory.contents (places e.journal.count e.journal.room) c.args.members.now.all.now)
     (accepts e.disk e.checkpoint e.memory e.journal e.failed c.args.members.now.all.now known c.args.commands.now are)
     (c.self.invariant.1 (c.put_on.ensures.honest h) alive))
-    (means_group e.disk e.checkpoint e.memory e.journal e.failed c.args.members.now.all.now known c.args.commands.now are) in
+    (means_group e.disk e.checkpoint e.memory e.journal e.failed c.args.members.now.all.now known c.args.commands.now
+    are) in
     subst (λ (s : EngineState g.row.D.Denot). ServesCommands g.D.Disk s (engine_of c.put_on.new.disk
     c.act_all.new.checkpoint c.act_all.new.memory c.put_on.new.journal e.failed) c.args.members.now.all.now)
     c.self.view_is
@@ -175,7 +185,8 @@ returns-clause-runs g c =
           c.put_on.new.journal (g.D.Disk.now c.put_on.new.disk)
           (c.in_default.ensures.kept h e.checkpoint.state (paged e.checkpoint e.memory) e.memory.contents
           (contents_after_all e.memory.contents (places e.journal.count e.journal.room) c.args.members.now.all.now)
-          (accepts e.disk e.checkpoint e.memory e.journal e.failed c.args.members.now.all.now known c.args.commands.now are)
+          (accepts e.disk e.checkpoint e.memory e.journal e.failed c.args.members.now.all.now known c.args.commands.now
+          are)
           (c.self.invariant.1 (c.put_on.ensures.honest h) f))));
     })
 
@@ -188,8 +199,8 @@ act_all-requires-clause-judged g c =
       whole = λ is. subst (λ (n : ℕ). AreWhole c.self.inside.memory.contents n members) (sym at)
           (subst (λ (s : EngineState g.row.D.Denot). AreWhole s.memory (places s.count s.room) members)
           (sym c.self.view_is) (c.requires.members.whole is));
-      each = λ is. subst (λ (n : ℕ). AreTold c.self.inside.memory.contents n members c.args.members.now.taken.now)
-          (sym at) (subst (λ (s : EngineState g.row.D.Denot). AreTold s.memory (places s.count s.room) members
+      each = λ is. subst (λ (n : ℕ). AreParted c.self.inside.memory.contents n members c.args.members.now.taken.now)
+          (sym at) (subst (λ (s : EngineState g.row.D.Denot). AreParted s.memory (places s.count s.room) members
           c.args.members.now.taken.now) (sym c.self.view_is) (c.requires.members.each is));
     }
 

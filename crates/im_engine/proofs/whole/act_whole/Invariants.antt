@@ -9,7 +9,7 @@ use Rattle.im_checkpoint.specs.Step.{changed_in}
 use Rattle.im_groups.specs.Ahead.{AreAccepted}
 use Rattle.im_groups.specs.Commands.{answers_with, contents_after_all, most_pages_with}
 use Rattle.im_engine.proofs.Adding.{AddsSoFar}
-use Rattle.im_engine.proofs.groups.act_whole.Given as goal
+use Rattle.im_engine.proofs.whole.act_whole.Given as goal
 
 abbrev pub invariant-loop-i : goal.invariant-loop-i
 invariant-loop-i l = record {
