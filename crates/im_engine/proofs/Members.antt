@@ -25,7 +25,6 @@ use Rattle.im_groups.specs.Commands.{answer_with, contents_with, places_behind, 
 use Rattle.im_groups.specs.Commands.{takes_place, takes_at, commands_at, most_pages_at}
 use Rattle.im_memory.specs.Covering.{most_pages}
 use Rattle.im_laws.proofs.Tests.{and_both}
-use Rattle.im_laws.proofs.GroupLemmas.{above_zero}
 use Rattle.im_groups.specs.Ahead.{AreAccepted, ServesPrefix}
 use Rattle.im_groups.proofs.AheadLemmas.{accepted_first}
 use Rattle.im_groups.proofs.WholeLemmas.{whole-takes, whole-commands}

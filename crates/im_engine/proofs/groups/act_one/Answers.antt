@@ -1,9 +1,8 @@
-use Rattle.std.proofs.Common.{◌≡◌, ℕ, false, refl, sym, ◌∙◌, ap, subst}
+use Rattle.std.proofs.Common.{ℕ, refl, sym, ◌∙◌, ap, subst}
 use Rattle.im_image.specs.Reading.{HasSizes}
 use Rattle.im_memory.specs.State.{MemoryState}
 use Rattle.im_checkpoint.specs.Step.{changed_in}
 use Rattle.im_checkpoint.specs.Keeping.{paged, IsKept}
-use Rattle.im_groups.specs.Commands.{takes_place}
 use Rattle.im_engine.specs.Groups.{StaysBut}
 use Rattle.im_engine.proofs.Adding.{none_added}
 use Rattle.im_engine.proofs.Members.{contents_none, left_none, pages_none}

@@ -1,4 +1,4 @@
-use Rattle.std.proofs.Common.{◌≡◌, ◌++◌, ◌∷◌, [], List, length, map, refl, sym, ◌+◌, ◌-◌, drop, ◌∙◌, ap, arith}
+use Rattle.std.proofs.Common.{◌≡◌, ◌++◌, List, length, map, refl, sym, ◌+◌, ◌-◌, drop, ◌∙◌, ap, arith}
 use Rattle.std.proofs.Common.{length-append}
 use Rattle.im_types.specs.declared.groups.Served.{Served}
 use Rattle.im_types.specs.Groups.{as_served}

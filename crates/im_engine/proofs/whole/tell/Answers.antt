@@ -1,9 +1,7 @@
-use Rattle.std.proofs.Common.{◌≡◌, ◌++◌, ◌∷◌, [], List, Ok, ap, sym, ◌∙◌, subst}
+use Rattle.std.proofs.Common.{◌≡◌, ◌++◌, ◌∷◌, [], Ok, ap, sym, ◌∙◌, subst}
 use Rattle.im_types.specs.declared.commands.Command.{Command}
-use Rattle.im_types.specs.declared.commands.Command.TheVariants.{Request as Asks}
 use Rattle.im_types.specs.declared.commands.Outcome.TheVariants.{Entry as Tells}
 use Rattle.im_types.specs.declared.groups.Served.{Served}
-use Rattle.im_types.specs.Contents.{Contents}
 use Rattle.im_types.specs.Groups.{as_served}
 use Rattle.im_types.specs.Step.{step}
 use Rattle.im_memory.specs.Touched.{touched, ChangesOnly}

@@ -1,7 +1,7 @@
-use Rattle.std.proofs.Common.{◌≡◌, ◌≤◌, List, length, take, sym, subst, arith, length-take-le, rules}
+use Rattle.std.proofs.Common.{◌≤◌, List, take, subst, arith, length-take-le}
 use Rattle.im_types.specs.declared.commands.Command.{Command}
 use Rattle.im_groups.specs.Ahead.{AreAccepted, ServesPrefix}
-use Rattle.im_groups.specs.Commands.{places, commands_at}
+use Rattle.im_groups.specs.Commands.{places}
 use Rattle.im_engine.specs.State.{EngineState}
 use Rattle.im_engine.specs.Commands.{AreWhole, CommandsAnswered, ServesCommands}
 use Rattle.im_engine.proofs.Members.{whole_served, whole_begins}

@@ -1,4 +1,4 @@
-use Rattle.std.proofs.Common.{◌≡◌, ◌≤◌, ℕ, true, false, List, length, map, Result, Ok, Err, rules, sym, ◌∙◌, ap, subst}
+use Rattle.std.proofs.Common.{◌≡◌, ℕ, true, false, List, length, map, Result, Ok, Err, rules, sym, ◌∙◌, ap, subst}
 use Rattle.im_types.specs.declared.groups.Served.{Served}
 use Rattle.im_types.specs.declared.refusals.Refusal.TheVariants.{Device}
 use Rattle.im_types.specs.Contents.{Contents}
@@ -7,7 +7,7 @@ use Rattle.im_disk.proofs.SinceLemmas.{only_weaker}
 use Rattle.im_checkpoint.specs.Step.{changed_in}
 use Rattle.im_checkpoint.specs.Turns.{AddsAtMost}
 use Rattle.im_checkpoint.specs.Keeping.{paged, IsKept}
-use Rattle.im_groups.specs.Commands.{places, answers_with, contents_after_all, takes_at, most_pages_with}
+use Rattle.im_groups.specs.Commands.{places, answers_with, contents_after_all, most_pages_with}
 use Rattle.im_engine.specs.State.{EngineState, engine_of}
 use Rattle.im_engine.specs.Commands.{AreWhole, AreParted, commands_put, MeansCommands, CommandsAnswered, ServesCommands}
 use Rattle.im_engine.proofs.Keeping.{all_mean, all_hold}

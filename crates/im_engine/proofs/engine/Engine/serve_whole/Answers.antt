@@ -1,4 +1,4 @@
-use Rattle.std.proofs.Common.{◌≡◌, sym, true, false}
+use Rattle.std.proofs.Common.{sym}
 use Rattle.im_groups.proofs.WholeLemmas.{whole-commands}
 use Rattle.im_groups.specs.Commands.{places}
 use Rattle.im_engine.proofs.engine.Engine.serve_whole.Goals as goal
