@@ -4,7 +4,6 @@ ghost use Rattle.im_disk.specs.Account.{accounted_call, is_measured, is_usable};
 
 use crate::account::Ledger;
 use std::fs::File;
-use std::io;
 use std::io::ErrorKind;
 use std::os::unix::fs::FileExt;
 
@@ -42,19 +41,24 @@ pub(crate) fn is_inside(at: usize, size: usize, len: u64) -> bool {
     size <= len && at <= len - size
 }
 
-// Writes what is left of some bytes after a call that wrote so many of them.
+// Writes what is left of some bytes after a call that wrote so many of them. Returns the kind of the error if a call
+// fails. It stands by itself, so that a write that is done by one call clears no place for an error.
 #[inline(never)]
-fn write_rest(file: &File, at: u64, bytes: &[u8], written: usize) -> io::Result<()> {
+fn write_rest(file: &File, at: u64, bytes: &[u8], written: usize) -> Result<(), ErrorKind> {
     let written = written.min(bytes.len());
-    file.write_all_at(&bytes[written..], at.wrapping_add(written as u64))
+    match file.write_all_at(&bytes[written..], at.wrapping_add(written as u64)) {
+        Ok(()) => Ok(()),
+        Err(error) => Err(error.kind()),
+    }
 }
 
-// Writes bytes by one call of the system, or by more if that one writes only a part of them.
-pub(crate) fn write_whole(file: &File, at: u64, bytes: &[u8]) -> io::Result<()> {
+// Writes bytes by one call of the system, or by more if that one writes only a part of them. Returns the kind of the
+// error if a call fails.
+pub(crate) fn write_whole(file: &File, at: u64, bytes: &[u8]) -> Result<(), ErrorKind> {
     match file.write_at(bytes, at) {
         Ok(written) if written == bytes.len() => Ok(()),
         Ok(written) => write_rest(file, at, bytes, written),
         Err(error) if error.kind() == ErrorKind::Interrupted => write_rest(file, at, bytes, 0),
-        Err(error) => Err(error),
+        Err(error) => Err(error.kind()),
     }
 }

@@ -197,9 +197,9 @@ impl<S: Start> FileDisk<S> {
                 note_written(&mut self.ledger, &[WRITTEN, at as u64, 1], bytes);
                 Ok(())
             }
-            Err(error) => {
+            Err(kind) => {
                 note_written(&mut self.ledger, &[WRITTEN, at as u64, 0], bytes);
-                Err(self.failing.fail(Failure::Write(error.kind())))
+                Err(self.failing.fail(Failure::Write(kind)))
             }
         }
     }

@@ -32,8 +32,9 @@ pub(crate) fn write_bodies<D: Disk>(
         → AreWritten (ring_at base slots) from commands.now (D.now disk.old) (D.now disk.new)) }
 {
     let group = commands.len() as u8;
+    let mut slot = [0; 64];
     for i in 0..commands.len() {
-        let slot = spell_in(count_at(group, i), &commands[i], from + i as u64);
+        spell_in(&mut slot, count_at(group, i), &commands[i], from + i as u64);
         let at = base + 64 * (((from + i as u64) % slots as u64) as usize);
         disk.write_at(at + 1, &slot[1..])?; // A stop may leave any bytes there: the group's gate is closed.
     }

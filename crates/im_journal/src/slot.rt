@@ -26,13 +26,13 @@ struct SlotFields {
 }
 
 // Spells the fields of a slot behind an open gate.
-fn spell_fields(f: SlotFields) -> [u8; 64]
-    ensures bytes { result
+fn spell_fields(slot: &mut [u8; 64], f: SlotFields)
+    ensures bytes { slot.new
         ≡ open_gate ∷ slot_fields f.group f.code f.element f.sequence f.number f.address f.value }
     ensures fits { (f.element < 2 ^ 16) × (f.sequence < 2 ^ 64) × (f.number < 2 ^ 64) × (f.address < 2 ^ 32) ×
         (f.value < 2 ^ 64) }
 {
-    let mut slot = [0; 64];
+    *slot = [0; 64];
     slot[0] = OPEN;
     slot[1] = f.group;
     slot[2] = f.code;
@@ -41,36 +41,41 @@ fn spell_fields(f: SlotFields) -> [u8; 64]
     LittleEndian::write_u64(&mut slot[16..24], f.number);
     LittleEndian::write_u32(&mut slot[24..28], f.address);
     LittleEndian::write_u64(&mut slot[32..40], f.value);
-    slot
 }
 
-/// Spells a command as a slot with this group count and sequence number. [`spell`] does the same for a command alone in
-/// its group. [`read_in`] gives the command back.
-pub(crate) fn spell_in(group: u8, command: &Command, sequence: u64) -> [u8; 64]
-    ensures bytes { result ≡ open_gate ∷ slot_body group sequence command.now }
+/// Spells a command as a slot with this group count and sequence number, over whatever the slot has. [`spell`] does the
+/// same for a command alone in its group. [`read_in`] gives the command back.
+pub(crate) fn spell_in(slot: &mut [u8; 64], group: u8, command: &Command, sequence: u64)
+    ensures bytes { slot.new ≡ open_gate ∷ slot_body group sequence command.now }
     ensures fits { FitsCommand command.now }
-    ensures sequence { sequence_of result ≡ sequence }
-    ensures reads_back { read_in group result ≡ Some command.now }
+    ensures sequence { sequence_of slot.new ≡ sequence }
+    ensures reads_back { read_in group slot.new ≡ Some command.now }
 {
     match *command {
-        Command::Request(r) => spell_fields(SlotFields {
-            group,
-            code: op_code(r.op),
-            element: r.element,
-            sequence,
-            number: r.number,
-            address: address_of(r.op),
-            value: op_value(r.op),
-        }),
-        Command::Confirm { element, upto } => spell_fields(SlotFields {
-            group,
-            code: CONFIRM,
-            element,
-            sequence,
-            number: upto,
-            address: 0,
-            value: 0,
-        }),
+        Command::Request(r) => spell_fields(
+            slot,
+            SlotFields {
+                group,
+                code: op_code(r.op),
+                element: r.element,
+                sequence,
+                number: r.number,
+                address: address_of(r.op),
+                value: op_value(r.op),
+            },
+        ),
+        Command::Confirm { element, upto } => spell_fields(
+            slot,
+            SlotFields {
+                group,
+                code: CONFIRM,
+                element,
+                sequence,
+                number: upto,
+                address: 0,
+                value: 0,
+            },
+        ),
     }
 }
 
@@ -82,7 +87,9 @@ pub fn spell(command: &Command, sequence: u64) -> [u8; 64]
     ensures sequence { sequence_of result ≡ sequence }
     ensures reads_back { read_slot result ≡ Some command.now }
 {
-    spell_in(1, command, sequence)
+    let mut slot = [0; 64];
+    spell_in(&mut slot, 1, command, sequence);
+    slot
 }
 
 fn command_of(code: u8, element: u16, number: u64, op: Option<Op>) -> Option<Command>
@@ -129,7 +136,9 @@ pub(crate) fn read_in(group: u8, slot: &[u8; 64]) -> Option<Command>
     ensures spelled { IfSome result (λ c. drop 1 slot.now ≡ slot_body group (sequence_of slot.now) c) }
 {
     let command = command_in(slot)?;
-    if spell_in(group, &command, sequence_in(slot))[1..] == slot[1..] {
+    let mut spelled = [0; 64];
+    spell_in(&mut spelled, group, &command, sequence_in(slot));
+    if spelled[1..] == slot[1..] {
         Some(command)
     } else {
         None

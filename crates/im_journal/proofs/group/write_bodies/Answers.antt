@@ -34,7 +34,7 @@ returns-in_err-write_at-clause-runs g c = record {
       (take c.loop-i.i c.args.commands.now) c.loop-i.i so_many c.loop-i-test.true c.requires.fits.once_round
       c.requires.fits.ring.0 c.loop-i.disk
       (c.requires.inside h0) (c.loop-i.invariant.writing h) _
-      (spelled_long _ _ _ _ c.spell_in-slot.ensures.bytes) c.write_at.new.self (c.write_at.ensures.moment h1);
+      (spelled_long _ _ _ _ c.spell_in.ensures.bytes) c.write_at.new.self (c.write_at.ensures.moment h1);
   calls = search rules;
   failures = search rules;
 }
@@ -53,9 +53,9 @@ loop-i-preserved g c = record {
       (take c.loop-i.i c.args.commands.now) c.loop-i.i so_many c.loop-i-test.true c.requires.fits.once_round
       c.requires.fits.ring.0 c.loop-i.disk
       (c.requires.inside h0) (c.loop-i.invariant.writing h) _
-      (spelled_long _ _ _ _ c.spell_in-slot.ensures.bytes) c.write_at.new.self
-      _ c.spell_in-slot.ensures.fits
-      (counted_body _ _ _ _ _ _ c.spell_in-slot.ensures.bytes c.count_at.ensures (omega arith)) tick.now
+      (spelled_long _ _ _ _ c.spell_in.ensures.bytes) c.write_at.new.self
+      _ c.spell_in.ensures.fits
+      (counted_body _ _ _ _ _ _ c.spell_in.ensures.bytes c.count_at.ensures (omega arith)) tick.now
       (c.write_at.ensures.moment h1) tick.past
       (take (c.loop-i.i + 1) c.args.commands.now) (next_taken c.args.commands.now c.loop-i.i _ c.loop-i-test.true);
   failures = c.in_ok-write_at.ensures.failures ∙ c.loop-i.invariant.failures;

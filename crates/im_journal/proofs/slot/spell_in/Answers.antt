@@ -9,14 +9,14 @@ use Rattle.im_journal.proofs.slot.spell_in.Goals as goal
 
 pub returns-in-Request-clause-sequence : goal.returns-in-Request-clause-sequence
 returns-in-Request-clause-sequence c =
-    let bytes : c.spell_fields.result
+    let bytes : c.spell_fields.new.slot
     ≡ open_gate ∷ slot_body c.args.group c.args.sequence (Asks c.in-Request.r) = search rules in
     ap sequence_of bytes ∙ sequence_of-spelled c.args.group open_gate c.args.sequence
     (Asks c.in-Request.r) c.spell_fields.ensures.fits.1
 
 pub returns-in-Request-clause-reads_back : goal.returns-in-Request-clause-reads_back
 returns-in-Request-clause-reads_back c =
-    let bytes : c.spell_fields.result
+    let bytes : c.spell_fields.new.slot
     ≡ open_gate ∷ slot_body c.args.group c.args.sequence (Asks c.in-Request.r) = search rules in
     let fits = c.spell_fields.ensures.fits in
     let address : address_of c.in-Request.r.op < 2 ^ 32 = subst (λ (n : ℕ). n < 2 ^ 32) c.address_of.ensures fits.3 in
@@ -39,7 +39,7 @@ returns-in-Confirm-clause-fits c = subst FitsCommand (sym c.in-Confirm.is)
 
 pub returns-in-Confirm-clause-sequence : goal.returns-in-Confirm-clause-sequence
 returns-in-Confirm-clause-sequence c =
-    let bytes : c.spell_fields-in-Confirm.result
+    let bytes : c.spell_fields-in-Confirm.new.slot
     ≡ open_gate ∷ slot_body c.args.group c.args.sequence
     (Confirm c.in-Confirm.element c.in-Confirm.upto) = search rules in
     ap sequence_of bytes ∙ sequence_of-spelled c.args.group open_gate c.args.sequence
@@ -47,7 +47,7 @@ returns-in-Confirm-clause-sequence c =
 
 pub returns-in-Confirm-clause-reads_back : goal.returns-in-Confirm-clause-reads_back
 returns-in-Confirm-clause-reads_back c =
-    let bytes : c.spell_fields-in-Confirm.result
+    let bytes : c.spell_fields-in-Confirm.new.slot
     ≡ open_gate ∷ slot_body c.args.group c.args.sequence
     (Confirm c.in-Confirm.element c.in-Confirm.upto) = search rules in
     let fits = c.spell_fields-in-Confirm.ensures.fits in
