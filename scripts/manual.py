@@ -11,6 +11,7 @@ from sources import TOP
 
 BULLET = "\\(bu"
 NOTHING = "\\&"
+WIDEST = 71  # Columns of a line that stands as it is, on a page of 80.
 ABOUT = "a durable memory of I-structure and M-structure cells"
 
 
@@ -58,8 +59,15 @@ def line(text):
     return f"\\&{done}" if done.startswith((".", "\\(aq")) else done
 
 
+def folded(text):
+    """Returns a line, or two if it is too wide and has a pipe: behind it the shell reads on."""
+    head, pipe, rest = text.rpartition(" | ")
+    return [f"{head} |", f"    {rest}"] if pipe and len(text) > WIDEST else [text]
+
+
 def as_it_stands(lines):
-    return [".PP", ".RS 2", ".nf", *map(line, textwrap.dedent("\n".join(lines)).splitlines()), ".fi", ".RE"]
+    shown = [part for text in textwrap.dedent("\n".join(lines)).splitlines() for part in folded(text)]
+    return [".PP", ".RS 2", ".nf", *map(line, shown), ".fi", ".RE"]
 
 
 def heading(name, section, about):
@@ -75,11 +83,13 @@ def finished(lines):
 def indented(lines):
     """Returns lines that begin with a space: as a list if they have two columns, else as they are."""
     rows = [re.split(r" {2,}", it.strip(), maxsplit=1) for it in lines]
-    if sum(len(row) == 2 for row in rows) < len(rows) - len(rows) // 4:
+    goes_on = [it.startswith(" " * 12) for it in lines]  # Text for the row above.
+    of_heads = [len(row) for row, more in zip(rows, goes_on) if not more]
+    if of_heads.count(2) < len(of_heads) - len(of_heads) // 4:
         return as_it_stands(lines)
     made = []
-    for text, row in zip(lines, rows):
-        if text.startswith(" " * 12):  # Text for the row above, whose words have the line for themselves.
+    for text, row, more in zip(lines, rows, goes_on):
+        if more:
             made.append(line(text.strip()))
             continue
         head = f"\\fB{escaped(row[0])}\\fR"
@@ -191,7 +201,8 @@ def table(rows):
     widths = [max(len(row[at]) for row in cells if at < len(row)) for at in range(count)]
     is_wide = sum(widths) + 3 * count > 72
     forms = ["lx" if is_wide and width > 12 else "l" for width in widths]
-    yield from (".PP", ".TS", "tab(@);", " ".join(it.replace("l", "lb", 1) for it in forms), " ".join(forms) + ".")
+    room = f".ne {2 * len(cells)}"  # Else a page ends in the table, and groff warns.
+    yield from (".PP", room, ".TS", "tab(@);", " ".join(it.replace("l", "lb", 1) for it in forms), " ".join(forms) + ".")
     for row in cells:
         yield "@".join(cell(it, "x" in form) for it, form in zip(row, forms))
     yield ".TE"

@@ -327,8 +327,8 @@ class Owner:
         try:
             replies = self.image.ask_group(group.commands)
         except BaseException as fault:
-            for asked in filter(None, group.asked):
-                give(asked.future, fault)
+            for failed in filter(None, group.asked):
+                give(failed.future, fault)
             self.tell_lost()
             return
         self.ready.extendleft(filter(None, reversed(group.asked[len(replies) :])))
