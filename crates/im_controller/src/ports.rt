@@ -54,13 +54,25 @@ impl<K: Name> Port<K> {
         &self.seen
     }
 
-    /// Asks for an operation under a number of this element, and waits until it is answered. This port serves it, or
-    /// another port serves it in a group. If this port serves while the journal is short of room, it makes room in the
-    /// keeper's place.
+    /// Asks for an operation under a number of this element, and waits until it is answered.
+    ///
+    /// This port serves it, or another port serves it in a group. If this port serves while the journal is short of
+    /// room, it makes room in the keeper's place.
     ///
     /// It is refused as by [`lend`](crate::lend): `Failed`, `TraceFull`, `OffPlan`, `NoMemory`, a refusal of numbers,
-    /// `JournalFull`, `Device`. Under a plan the receipt tells what the plan says, in whatever order its requests are
-    /// served.
+    /// `JournalFull`, `Device`.
+    ///
+    /// Ensures, in words:
+    ///
+    /// - `asked`: the receipt is of this request.
+    /// - `planned`: under a plan the request is the plan's, and the receipt tells what the plan says, in whatever order
+    ///   its requests are served.
+    /// - `legal`: the receipt's trace is legal: one sequential memory gives its answers.
+    /// - `last`: it ends in this request's line, with the answer that the receipt tells.
+    /// - `counts`: the lines that this port was told of grow by those that the call left.
+    /// - `element`: the port keeps its element.
+    /// - `order`: the request's line stands after all that this port has seen, so its calls have their lines in its own
+    ///   order.
     pub fn submit<D: Disk, R: Wait>(
         &mut self,
         rt: &R,

@@ -16,25 +16,32 @@ use im_types::Observer;
 use std::alloc::Global;
 use std::io::{BufRead, Write};
 
-/// Opens the image of a disk, serves a dialogue on it as [`Dialogue::serve_lines`] does, and gives the disk back. While
-/// nothing is there to be read, it takes turns of a checkpoint if there is room for less than half of what the journal
-/// holds.
+/// Opens the image of a disk, answers the lines of an input until it ends or asks for `quit`, and gives the disk back.
+/// [`Dialogue::serve_lines`] has the lines and their answers.
+///
+/// While nothing is there to be read, it takes turns of a checkpoint if there is room for less than half of what the
+/// journal holds.
 ///
 /// The status is 0, or 1 if something ended the dialogue: the image was refused at opening; a call of the disk failed;
 /// the input can't be read; the output can't be written; or there was not enough memory. The observer is told why.
 /// `refused N NAME` is printed as the last line, unless the output can't be written.
 ///
-/// If the image isn't opened, a crash leaves nothing that it couldn't leave before. From the opening on, a crash leaves
-/// the memory after a prefix of the commands that were put on the image. At the end it leaves the memory after all
-/// commands that were answered. If a call of the disk failed, the commands of the line or group that it was for may be
-/// there too.
+/// Ensures, in words:
 ///
-/// What was said is what the lines of the input ask for, where its bytes are known: with status 0 all of them, or up to
-/// `quit`, else the first of them. What was printed is a prefix of the answers, followed by the refusal. If the status
-/// is 0, it is all answers and nothing else.
-///
-/// Each backup that was answered is kept, with the memory and the count of commands after the lines before it, and no
-/// other is.
+/// - `status`: it is 0 or 1.
+/// - `talked`, an image that isn't opened: a crash leaves nothing that it couldn't leave before. The status is 1, at
+///   most a refusal is printed, and no backup is kept.
+/// - `talked`, answers: each line is answered on the memory after the lines before it.
+/// - `talked`, the input: what was said is what its lines ask for, where its bytes are known. With status 0 it is all
+///   of them, or up to `quit`, else the first of them.
+/// - `talked`, a crash: from the opening on it leaves the memory after a prefix of the commands that were put. At the
+///   end it leaves the memory after all commands that were answered. If a call of the disk failed, the commands of the
+///   line or group that it was for may be there too, all of them or none.
+/// - `talked`, what was printed: a prefix of the answers, then at most the refusal. With status 0 it is all answers and
+///   nothing else.
+/// - `talked`, backups: each that was answered is kept, with the memory and the count of commands after the lines
+///   before it, and no other is.
+/// - `honest`: the disk was honest at the start, if it is at the end. What `talked` says holds of such a disk.
 pub fn dialogue_on<D: Disk, B: Backups, R: BufRead + Ear, W: Write, N: Observer<News>>(
     alloc: Global,
     disk: D,

@@ -68,14 +68,29 @@ impl<D: Disk> Model for Engine<D> {
 }
 
 impl<D: Disk> Engine<D> {
-    /// Serves one command: it is judged, and where it is accepted it is put on the disk, by four calls, and then
-    /// acts. Any other command is answered with no call of the disk, and changes nothing: a repeat by its kept entry, a
-    /// confirmation that forgets nothing by `Confirmed`. It takes no memory.
+    /// Serves one command and returns its answer. If the command is accepted, it is on the disk by then, and acts once.
+    ///
+    /// It is judged, and where it is accepted it is put on the disk, by four calls, and then acts. Any other command is
+    /// answered with no call of the disk, and changes nothing: a repeat by its kept entry, a confirmation that forgets
+    /// nothing by `Confirmed`. It takes no memory.
     ///
     /// `Failed` exactly where an earlier call failed on the disk. The refusals of numbers, where the command isn't
     /// accepted. `JournalFull` exactly where it would be accepted and there is no room. All of these leave all as it
     /// is. `Device` where a call of the disk failed: then the command is on the disk or not, the engine has failed, and
     /// the image has to be opened again.
+    ///
+    /// Ensures, in words:
+    ///
+    /// - `answered`: the answer and the engine after it are those of the definition of a step, or one of these
+    ///   refusals.
+    /// - `calls`: four calls of the disk for an accepted command, none for another; at a refusal no more.
+    /// - `faults`: `Device` if a call of the disk failed, and only then; nothing else moves the count of failures.
+    /// - `leaves`: if the engine worked, each file that a crash may leave from the start on means the state before the
+    ///   command or after it.
+    /// - `doubt`: so does each file that a crash may leave at the return.
+    /// - `means`: if the engine works at the return, each such file means the state that the engine has.
+    /// - `honest`: the disk was honest at the start, if it is at the end. What `calls` to `means` say holds of such a
+    ///   disk.
     pub fn serve(&mut self, command: &Command) -> Result<Outcome, Refusal>
         ensures answered { Answered self.old command.now result self.new }
         // Four calls of the disk for an accepted command, and none for another.

@@ -36,10 +36,20 @@ pub struct Outage {
 }
 
 /// Runs commands, groups, turns and sweeps on an engine whose disk may fail at any call, crashes the disk, and opens
-/// what is left.
+/// what is left: every accepted command that was answered is there.
 ///
 /// Returns `NoMemory` or `Device` if `alloc` or the record of the disk in memory refused room. It never returns a fault
 /// of the image.
+///
+/// Ensures, in words, of an engine that worked:
+///
+/// - `recovers`, answers: each event is answered in its turn, as the sequential memory does; after a call of the disk
+///   that failed, `Failed`.
+/// - `recovers`, memory and count: they are those after all acknowledged commands, in their order. The commands of the
+///   call in doubt may follow, all of them or none.
+/// - `recovers`, doubt: at most one call is in doubt, so at most one command, or the members of one group.
+/// - `works`: the engine that is returned works.
+/// - `refused`: it is `NoMemory` or `Device`.
 pub fn recover(
     alloc: Global,
     mut engine: Engine<FuseDisk>,

@@ -159,19 +159,16 @@ pub(crate) fn run_server<
     }
 }
 
-/// Serves the script that is asked for, which may have glances, on the image of a disk, and gives the disk back, with
-/// the trace. Each element's requests have a server of their own, and all run at once. What it prints goes to `out`, in
-/// this order:
+/// Runs a script on the image of a disk, with a server for each element and all of them at once, prints their answers,
+/// and gives the disk and the trace back. The script may have glances.
+///
+/// What it prints goes to `out`, in this order:
 ///
 /// - The lines `0.N REPLY` of the setup, which is served first.
 /// - For each element from the least, its requests in order as `K.N REPLY`. K is the element, N the number, and REPLY
 ///   tells the final entry. Among them stands each glance in its place, as `K glance A value V` or `K glance A none`. A
 ///   request that wasn't sent, or a glance that wasn't made, has no line.
 /// - At last `refused N NAME`, if something was refused.
-///
-/// A server waits for what its element asked for, and confirms it as its window fills. The gate is called before and
-/// after each request. If the journal is full, servers make turns of a checkpoint, beside the thread that keeps them.
-/// That thread tells its observer how many servers wait and what room there is.
 ///
 /// The status is 0, 3 or 1. It is 3, with `refused 19 Stalled`, if the only refusals are of servers that wait for each
 /// other. It is 1 if one of these happens:
@@ -187,38 +184,38 @@ pub(crate) fn run_server<
 /// The observer is told why. If the refusal is `Failed`, the request came after a call of the disk that failed, for
 /// another element or for a checkpoint. Then the observer is told of that call.
 ///
-/// If the image isn't opened, a crash leaves nothing that it couldn't leave before. From the opening on, a crash at any
-/// moment leaves the memory after a prefix of the accepted commands that were put on the image. The setup's commands
-/// come first, then those of all servers in the order of the lock. At the end a crash leaves the memory after all
-/// acknowledged commands. If a call of the disk failed, the commands that it left in doubt may be there too, all of
-/// them or none.
-///
-/// What was written is at each return a prefix of the lines. Each line of the setup is of a command that is in every
-/// file that a crash leaves. Each entry of an element's line is in the memory of every such file, or was told to a
-/// server that confirmed it.
-///
-/// The trace has each call that the setup and the servers made, with its answer: the setup's, then those of all servers
-/// in the order of the lock. What the servers were answered is legal from the memory after the setup, and the commands
-/// that were accepted are those that were put on the image behind the setup's. The servers' calls are recorded only if
+/// A server waits for what its element asked for, and confirms it as its window fills. The gate is called before and
+/// after each request. If the journal is full, servers make turns of a checkpoint, beside the thread that keeps them.
+/// That thread tells its observer how many servers wait and what room there is. The servers' calls are recorded only if
 /// `mode` says so; else no memory is held for them.
 ///
-/// The setup's commands are, confirmations aside, the requests of the script's blocks: element 0's, in their order,
-/// each with its next number. They are the first ones, and all if the status is 0. A name stands for the base in its
-/// block's answer. Nothing comes behind a block that isn't made.
+/// Ensures, in words:
 ///
-/// What the elements' lines tell is of the script: of each element, from the least, a prefix of what its lines ask for,
-/// in their order, and all of it if the status is 0. Its requests have the numbers from its next one on. A request's
-/// line with its number and its operation stands in the trace: its entry is the answer there, or what was found later
-/// under that number. What a glance tells was seen by its element's reader.
-///
-/// If the run is planned, the plan is of all requests of the script's parts. It fits the memory after the setup. At the
-/// end the entry that is kept for a request has its result by the plan, or it waits. If the status is 0, all requests
-/// were served, and the memory after the setup and the plan alone say what is kept for them. If the requests make no
-/// plan that fits, none is served.
-///
-/// If the status is 0 or 3, each file that a crash may leave at the return means one memory. If it is 0, all lines are
-/// written. The elements' lines tell the entries that this memory keeps, or what a server was told of an entry that it
-/// confirmed, and what was seen at glances.
+/// - `status`: it is 0, 1 or 3.
+/// - `ran`: with status 0 or 3 each file that a crash may leave at the return means one memory. With 0 all lines are
+///   written: they tell the entries that this memory keeps, or what a server was told of an entry that it confirmed,
+///   and what was seen at glances.
+/// - `run`, an image that isn't opened: a crash leaves nothing that it couldn't leave before.
+/// - `run`, the setup: the commands put first are, confirmations aside, the requests of the script's blocks: element
+///   0's, in their order, each with its next number, and all if the status is 0. A name stands for the base in its
+///   block's answer. Nothing comes behind a block that isn't made.
+/// - `run`, a crash: from the opening on it leaves the memory after a prefix of the commands that were put: the
+///   setup's, then those of all servers in the order of the lock. At the end it has all acknowledged commands. If a
+///   call of the disk failed, those that it left in doubt may be there too, all of them or none.
+/// - `run`, what was written: a prefix of the lines. A line of the setup is of a command that is in every file that a
+///   crash leaves. The entry in an element's line is in the memory of each such file, or was told to a server that
+///   confirmed it.
+/// - `run`, the trace: each call that the setup and the servers made, with its answer, in the order of the lock. The
+///   servers' answers are legal from the memory after the setup, and the commands accepted are those that were put.
+/// - `run`, the script: of each element, from the least, a prefix of its lines is told, in their order; all if the
+///   status is 0. Its requests have the numbers from its next one on. A request's entry is its answer in the trace, or
+///   what was found later under its number. What a glance tells was seen by its element's reader.
+/// - `planned`: if it is planned, the same by the plan of all requests of the script's parts, which fits the memory
+///   after the setup. An entry kept for a request has its result by the plan, or it waits. With status 0 all were
+///   served, and that memory and the plan alone say what is kept. If there is no plan that fits, none is served.
+/// - `recorded`: the servers' calls are in the trace, if `mode` says so.
+/// - `honest`: the disk was honest at the start, if it is at the end. What `ran`, `run` and `planned` say holds of such
+///   a disk.
 pub fn run_on<
     D: Disk + Drop + Send,
     W: Write,

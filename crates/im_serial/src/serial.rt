@@ -15,11 +15,17 @@ use im_types::Observer;
 use std::alloc::Global;
 use std::io::Write;
 
-/// Serves a script on the image of a disk, and gives the disk back. What it prints goes to `out`, in this order:
+/// Serves a script's requests one after another on the image of a disk, prints their answers, and gives the disk back.
+///
+/// What it prints goes to `out`, in this order:
 ///
 /// - The line `K.N REPLY` for each request, in order. K is its element and N its number.
 /// - `K.N now REPLY` for each request that had to wait, with its entry as last kept.
 /// - At last `refused N NAME`, if something was refused. That ends the script.
+///
+/// The status is 0, or 1 if something was refused: the image, at opening; a request; a block of the setup that can't be
+/// made (`BadScript`); the room for what is kept of the script (`NoMemory`); or a write that failed. The observer is
+/// told why.
 ///
 /// If an element's window is full, its entries before the first that still waits are confirmed before its next request.
 /// If a request that waited when the image was opened gets its answer, the observer is told: before its entry is
@@ -29,23 +35,21 @@ use std::io::Write;
 /// Each line is written whole after its command is on the disk, in batches of at most 4,096 bytes, and the rest at the
 /// end. A write that fails ends the script: nothing more is served or written.
 ///
-/// The status is 0, or 1 if something was refused: the image, at opening; a request; a block of the setup that can't be
-/// made (`BadScript`); the room for what is kept of the script (`NoMemory`); or a write that failed. The observer is
-/// told why.
+/// Ensures, in words:
 ///
-/// If the image isn't opened, a crash leaves nothing that it couldn't leave before. From the opening on, a crash leaves
-/// the memory after a prefix of the accepted commands that were put on the image. At the end it leaves the memory after
-/// all of them, or after all but the last if a call of the disk failed. If the status is 0, it leaves the memory after
-/// all of them.
-///
-/// The commands that were put are the script's first requests, in their order, each with its element's next number, and
-/// confirmations. Element 0 asks for the blocks of the setup, and a name stands for the base in its block's answer. If
-/// the status is 0, they are all the script's requests.
-///
-/// Each command whose line was written is in every file that a crash leaves. A request's line tells its answer, and a
-/// `now` line the entry that is kept for it at the end or that it had when it was confirmed. What was written is at
-/// each return a prefix of this text: the lines of such commands, then those of requests that had to wait, then that of
-/// the refusal. If the status is 0, it is all of it.
+/// - `status`: it is 0 or 1.
+/// - `served`, an image that isn't opened: a crash leaves nothing that it couldn't leave before. The status is 1, and
+///   at most a refusal is printed.
+/// - `served`, what was put: the script's first requests, in their order, each with its element's next number, and
+///   confirmations. Element 0 asks for the blocks of the setup, and a name stands for the base in its block's answer.
+///   With status 0 they are all the script's requests.
+/// - `served`, a crash: from the opening on it leaves the memory after a prefix of the commands that were put. At the
+///   end it leaves the memory after all of them, or after all but the last if a call of the disk failed. With status 0
+///   it is after all of them.
+/// - `served`, what was written: a prefix of the lines. First come answers of commands that are in every file that a
+///   crash leaves, then `now` lines, then a refusal. A `now` line tells the entry that is kept at the end, or that was
+///   kept when it was confirmed. With status 0 all lines are written.
+/// - `honest`: the disk was honest at the start, if it is at the end. What `served` says holds of such a disk.
 pub fn serial_on<D: Disk, W: Write, N: Observer<News>>(
     alloc: Global,
     disk: D,
