@@ -526,10 +526,22 @@ static int read_all(int file, uint8_t **bytes, size_t *length) {
     return 0;
 }
 
+/* Puts what an earlier run wrote on the disk. Then it asks the system to drop its pages of the file, so that the file
+ * shows what the disk has. The system need not: pages that are dirty, locked or mapped stay. */
+static int settle(const struct ltf *file) {
+    int error = fsync(file->file) < 0 ? errno : 0;
+    if (error)
+        leave_note(file->note);
+    else
+        (void)posix_fadvise(file->file, 0, 0, POSIX_FADV_DONTNEED);
+    return -error;
+}
+
 static int read_image(struct ltf *file) {
     uint8_t *bytes = NULL;
     size_t length = 0;
-    int answer = note_stands(file->note) ? LTF_UNSYNCED : read_all(file->file, &bytes, &length);
+    int answer = note_stands(file->note) ? LTF_UNSYNCED : settle(file);
+    if (answer == 0) answer = read_all(file->file, &bytes, &length);
     if (answer == 0) answer = lt_open(bytes, length, &file->image);
     if (answer == 0) answer = lt_limits(bytes, length, &file->limits);
     if (answer == 0) answer = forget_woken(file, MEMBERS);
