@@ -1,41 +1,72 @@
-"""Reads the wrong bodies of this repository and the prover's words about one, for the scripts beside this file."""
+"""Reads the wrong bodies of this repository and the prover's words about one, for the scripts beside this file.
+
+Of an edit the gate's tool reads the lines `file:`, `old:` and `new:`. The others begin with `# `, as it remarks on what it
+doesn't read. A twin's file is the one that was named last.
+"""
 import re
 from dataclasses import dataclass, field
 from pathlib import Path
 
 import sources
 
-BREAKS = "# breaks: "
+LINE = re.compile(r"(file|old|new|(?:# )?(?:breaks|case|twin-file|twin-old|twin-new)):(?: (.*))?$")
 FLAW = re.compile(r"^(?:\./)?(\S+?):\d+:\d+: error: (?:`([^`]*)`: )?(.*)$", re.M)
 NOTE = re.compile(r"^note: (?:\./)?(src/\S+):(\d+):\d+: .* \(`([^`]+)`\)(?:;.*)?$", re.M)
 GONE = re.compile(r"is not in scope|has no (?!atom in common)|is no name|was not admitted|no such goal|operand is missing|expected the end|cannot continue")
 OPEN = re.compile(r"^(?:fn|impl) (\S+): (?:not proved|no proof: expected)(.*)$", re.M)
 UNSHOWN = re.compile(r"`search` did not prove ((?:`[^`]*`(?:, | and |, and )?)+)")
+OWN_PROOF = re.compile(r"proofs/((?:\w+/)*\w+)/(?:Answers|Proof|Invariants)\.antt")
 NO_CLAUSES = ("loop", "invariant", "requires", "overflow", "lemma")
+IN_THE_GATE = 130
+
+
+@dataclass
+class Edit:
+    """A wrong body with its twin, each as replacements in a crate's files: file, old text, new text."""
+
+    path: Path
+    breaks: list = field(default_factory=list)  # functions, as the prover names them, each with words for a part of it (`is_of`)
+    case: str = ""
+    wrong: list = field(default_factory=list)
+    twin: list = field(default_factory=list)
+
+
+def read(path):
+    edit, file, old = Edit(path), None, None
+    for line in path.read_text().split("\n"):
+        kind, text = (found[1].removeprefix("# "), found[2] or "") if (found := LINE.match(line)) else ("", "")
+        if kind in ("file", "twin-file"):
+            file = text.strip()
+        elif kind in ("old", "twin-old"):
+            old = text
+        elif kind in ("new", "twin-new"):
+            (edit.wrong if kind == "new" else edit.twin).append((file, old, text))
+        elif kind == "breaks":
+            edit.breaks.append(tuple(text.split(None, 1)))
+        elif kind == "case":
+            edit.case = text.strip()
+    return edit
 
 
 def edits_of(crate, top=sources.TOP):
     """Returns the edits of a crate by their names: those that the gate tries, and the others."""
     folder = top / "crates" / crate
-    return {it.stem: it for part in ("must-fail", "edits") for it in sorted((folder / part).glob("*.edit"))}
+    return {it.stem: read(it) for part in ("must-fail", "edits") for it in sorted((folder / part).glob("*.edit"))}
 
 
-def pairs(path):
-    """Yields the replacements of an edit or a twin: file, old text, new text."""
-    file = old = None
-    for line in path.read_text().split("\n"):
-        if line.startswith("file: "):
-            file = line[len("file: ") :].strip()
-        elif line.startswith("old: "):
-            old = line[len("old: ") :]
-        elif line.startswith("new:"):
-            yield file, old, line[len("new:") :].removeprefix(" ")
+def rewritten(folder, pairs):
+    """Returns the texts of a crate's files with these replacements made in turn, and the first text that doesn't stand
+    there once, or None."""
+    texts = {}
+    for file, old, new in pairs:
+        text = texts.get(file) or (folder / file).read_text()
+        if text.count(old) != 1:
+            return texts, old
+        texts[file] = text.replace(old, new)
+    return texts, None
 
 
-def breaks(path):
-    """Returns what an edit is meant to break: a function, as the prover names it, and in words which part of it
-    (`is_of`)."""
-    return [tuple(line[len(BREAKS) :].split(None, 1)) for line in path.read_text().split("\n") if line.startswith(BREAKS)]
+# ---- What the prover says
 
 
 def is_of(goal, what):
@@ -61,7 +92,7 @@ def is_of(goal, what):
 class Words:
     """The prover's words about a crate that isn't proved."""
 
-    goals: dict = field(default_factory=dict)  # of each function: its goals that are open, those first that no answer is written for
+    goals: dict = field(default_factory=dict)  # of each function: its goals that are open
     gone: dict = field(default_factory=dict)  # of each function: what its answers name and the function no longer has
     lemmas: list = field(default_factory=list)  # what is wrong in the crate's own lemmas
     refused: list = field(default_factory=list)  # the functions that aren't proved
@@ -75,19 +106,18 @@ class Words:
 
     def missed(self, function, what):
         """Returns what the prover says instead, if no goal of that is open."""
-        goals, gone = self.goals.get(function), self.gone.get(function)
+        goals, gone = self.goals.get(function), ", ".join(self.gone.get(function, []))
         if goals:
-            also = f"; gone: {', '.join(gone)}" if gone else ""
-            return f"BAD: refused, but not at {what} of {function}; open: {', '.join(goals)}{also}"
+            return f"refused, but not at {what} of {function}; open: {', '.join(goals)}" + (f"; gone: {gone}" if gone else "")
         if gone:
-            return f"BAD: an answer of {function} names what it no longer has, so no clause was tried: {', '.join(gone)}"
-        return f"BAD: refused, but not in {function}: {self.place()}"
+            return f"an answer of {function} names what it no longer has, so no clause was tried: {gone}"
+        return f"refused, but not in {function}: {self.place()}"
 
     def place(self):
         """Returns where the prover stopped: the first function with a goal that isn't proved."""
         for function, goals in self.goals.items():
-            return f"`{function}`: `{goals[0]}`"
-        return f"`-`: {self.flaws[0][2][:80] if self.flaws else '-'}"
+            return f"{function}: {goals[0]}"
+        return self.flaws[0][2][:80] if self.flaws else "-"
 
     def unread_in(self, changed):
         """Returns a message which says that an edit of these files can't be read at all, so that no contract was
@@ -144,10 +174,14 @@ def is_gone(message):
     return GONE.search(re.sub(r"`[^`]*`", "", message)) is not None
 
 
+# ---- What an edit says of the sources
+
+
 class Known:
     """The functions of the repository with their clauses, in which to look up what an edit is meant to break."""
 
     def __init__(self, top=sources.TOP):
+        self.top = top
         self.by_crate = {crate: list(sources.functions(crate, top)) for crate in sources.stands_on(top)}
         self.all = [it for functions in self.by_crate.values() for it in functions]
 
@@ -159,72 +193,78 @@ class Known:
         traits = {owner.removeprefix(it.owner) for it in found if owner != it.owner}
         return found + [it for it in self.all if it.name == name and it.owner and it.owner in traits]
 
-    def around(self, crate, file, old, top=sources.TOP):
+    def around(self, crate, file, old):
         """Returns the function that has this text of a file, in its contract or its body, or None."""
-        text = (top / "crates" / crate / file).read_text()
+        text = (self.top / "crates" / crate / file).read_text() if file.startswith("src/") else ""
         return function_at(self.by_crate[crate], file, text[: text.index(old)].count("\n") + 1) if text.count(old) == 1 else None
 
-    def elsewhere(self, crate, path, said, top):
-        """Returns a function that an edit, or its twin, rewrites, if it rewrites none that the edit is meant to break.
-        Its old text stands there by chance. None if it rewrites one."""
-        places = [self.around(crate, file, old, top) for file, old, _ in pairs(path) if file.startswith("src/")]
-        found = [it for it in places if it]
-        is_meant = any(is_named(it, name) or is_of_type(it, name) for it in found for name, _ in said)
-        return None if is_meant or len(found) < len(places) else next(iter(found), None)
+    def asked(self, crate, edit, pairs):
+        """Returns the functions to ask the prover for, by its names for them, if these replacements change nothing but the
+        bodies and proofs of those that the edit breaks: their callers see their contracts alone. None if they change more."""
+        names, found = [name for name, what in edit.breaks if what != "lemma"], set()
+        for file, old, _ in pairs:
+            around, own = self.around(crate, file, old), OWN_PROOF.fullmatch(file)
+            if not own and (not around or old not in around.body):
+                return None
+            found |= {it for it in names if (own and own[1].replace("/", "::") == it) or (around and is_named(around, it))} or {None}
+        return None if None in found or not found else sorted(names)
 
-    def labels(self, functions, kind):
-        """Returns the labels of the clauses of these functions, function by function."""
-        return [[clause.label for clause in it.clauses if clause.kind == kind] for it in functions]
+    def elsewhere(self, crate, edit, pairs):
+        """Returns a function that these replacements change, if they change none that the edit is meant to break. Its old
+        text stands there by chance. None if they change one."""
+        found = [self.around(crate, file, old) for file, old, _ in pairs if file.startswith("src/")]
+        is_its = lambda it, name: is_named(it, name) or (it.owner and name.split("::")[-1].startswith(it.owner))
+        is_meant = any(is_its(it, name) for it in filter(None, found) for name, _ in edit.breaks)
+        return None if is_meant or None in found else next(iter(found), None)
 
     def why_not(self, crate, function, what):
         """Returns why there is no such thing to break, or None."""
         kind, *names = what.split()
+        labels = lambda functions, kind: [[it.label for it in one.clauses if it.kind == kind] for one in functions]
         found = self.functions(crate, function)
         is_impl = any(it.owner and function.split("::")[-1].startswith(it.owner) for it in self.by_crate[crate])
         if not found and not is_impl:
             return f"there is no function {function}"
         if kind == "requires":
-            required = sum(self.labels([it for it in self.all if it.name == names[0]], "requires"), [])
+            required = sum(labels([it for it in self.all if it.name == names[0]], "requires"), [])
             return f"{names[0]} requires no `{names[1]}`" if names[1:] and required and names[1] not in required else None
-        ensured = self.labels(found, "ensures")
+        ensured = labels(found, "ensures")
         if not any(ensured) and all(it.owner and it.owner != function.split("::")[-2] for it in found):
             return None  # A trait of a library, whose clauses aren't here.
         if kind == "returns":
             return None if any(len(it) < 2 for it in ensured) else f"{function} has {max(map(len, ensured))} clauses: say which"
         return None if kind in NO_CLAUSES or kind in sum(ensured, []) else f"{function} has no clause `{kind}`"
 
+    def faults(self, crate, edit):
+        """Yields what is wrong with an edit: a line that it lacks, an old text that doesn't stand once in its file, a clause
+        that doesn't exist, or another function changed than it names."""
+        if not (edit.breaks and edit.case and edit.wrong and edit.twin and all(len(it) == 2 for it in edit.breaks)):
+            yield "it has to have lines breaks:, case:, file:, old:, new:, twin-old:, twin-new:"
+            return
+        gone = [*misplaced(self.top / "crates" / crate, edit.wrong), *misplaced(self.top / "crates" / crate, edit.twin)]
+        yield from gone
+        if why := next(filter(None, (self.why_not(crate, *it) for it in edit.breaks)), None):
+            yield why
+        for pairs in (edit.wrong, edit.twin) if not gone and not why else ():
+            if other := self.elsewhere(crate, edit, pairs):
+                yield f"changes {other.path()}, and breaks {edit.breaks[0][0]}"
 
-def misplaced(folder, path, top):
-    """Yields the replacements of an edit, or of its twin, whose old text isn't in its file exactly once."""
-    for file, old, _ in pairs(path):
-        source = folder / file
-        found = source.read_text().count(old) if source.is_file() else 0
+
+def misplaced(folder, pairs):
+    """Yields the texts that aren't in their files exactly once."""
+    for file, old, _ in pairs:
+        found = (folder / file).read_text().count(old) if (folder / file).is_file() else 0
         if found != 1:
-            yield f"{path.relative_to(top)}: stands {found} times in {file}: {old[:60]}"
-
-
-def is_of_type(function, name):
-    """Whether a name of the prover is that of the type, or of a trait's impl for the type, that has this function."""
-    return bool(function.owner) and name.split("::")[-1].startswith(function.owner)
+            yield f"stands {found} times in {file}: {old[:60]}"
 
 
 def faults(top=sources.TOP):
-    """Yields the edits that don't say which clause they break, name one that doesn't exist, rewrite another function
-    than they name, or whose old text is gone, those of scripts/threads too."""
-    known = Known(top)
+    """Yields what is wrong with the edits of the crates, and with those of scripts/threads."""
+    known, gate = Known(top), len([*top.glob("crates/*/must-fail/*.edit")])
     for path in sorted((top / "scripts" / "threads").rglob("*.edit")):
-        yield from misplaced(top, path, top)
+        yield from (f"{path.relative_to(top)}: {it}" for it in misplaced(top, read(path).wrong))
     for crate in known.by_crate:
-        for name, path in edits_of(crate, top).items():
-            twin = top / "crates" / crate / "edits" / f"{name}.twin"
-            for it in filter(Path.is_file, (path, twin)):
-                yield from misplaced(top / "crates" / crate, it, top)
-            said = breaks(path)
-            if not said or any(len(it) != 2 for it in said):
-                yield f"{path.relative_to(top)}: no line `{BREAKS}FUNCTION CLAUSE`"
-            elif why := next(filter(None, (known.why_not(crate, *it) for it in said)), None):
-                yield f"{path.relative_to(top)}: {why}"
-            else:
-                for it in filter(Path.is_file, (path, twin)):
-                    if other := known.elsewhere(crate, it, said, top):
-                        yield f"{it.relative_to(top)}: rewrites {other.path()}, and breaks {said[0][0]}"
+        for edit in edits_of(crate, top).values():
+            yield from (f"{edit.path.relative_to(top)}: {it}" for it in known.faults(crate, edit))
+    if gate > IN_THE_GATE:
+        yield f"crates/*/must-fail has {gate} edits, at most {IN_THE_GATE}"

@@ -1,9 +1,8 @@
 """What the sources of this repository contain, for the scripts beside this file: crates, functions with their clauses,
 lemmas."""
-import functools
-import hashlib
 import re
-import subprocess
+import shutil
+import sys
 from dataclasses import dataclass, field
 from pathlib import Path
 from typing import NamedTuple
@@ -15,10 +14,6 @@ CLAUSE = re.compile(r"\s*(requires|ensures)\*? *(\w*) *\{")
 TYPE = re.compile(r"^(?:pub(?:\([a-z]+\))? )?(?:struct|enum|trait) (\w+)", re.M)
 DEFINITION = re.compile(r"^(?:abbrev pub|unfoldable pub|pub record|pub data|pub) (?!mod |use )([^\s:({]+)", re.M)
 LEMMA = re.compile(r"(|  )(?:(?:pub|abbrev|unfoldable) )*([^\s:(){},|]+) : ")
-HINT = re.compile(r"\s*#\[(?:inline|cold)\b")
-OWN_PROOF = re.compile(r"proofs/((?:\w+/)*\w+)/(?:Answers|Proof|Invariants)\.antt")
-CITED = re.compile(r"\b(\w+)(?:\.|::)proofs(?:\.|::)(\w+)")
-IMPORT = re.compile(r"^ *(?:ghost )?use ([^;{]+?)(?:\.|::)(?:\{([^;]*)\}|(\w+));\n", re.M)
 
 
 class Clause(NamedTuple):
@@ -35,8 +30,6 @@ class Function:
     owner: str
     name: str
     is_public: bool
-    is_in_trait: bool
-    is_seen: bool  # whether another crate can call it
     clauses: list = field(default_factory=list)
     body: str = ""
     text: str = ""
@@ -44,12 +37,6 @@ class Function:
     @property
     def lines(self):
         return self.text.count("\n") + 1
-
-    @property
-    def body_lines(self):
-        """Returns the indices in its file of the lines of its body, without those of its braces."""
-        end = self.line + self.lines - 2
-        return range(end - len(self.body.splitlines()), end)
 
     @property
     def parameters(self):
@@ -81,108 +68,57 @@ def stands_on(top=TOP):
     return {crate: [it for it in rest if it in named] for crate, (_, rest) in named.items()}
 
 
-@functools.cache
-def stamp(crate, top=TOP):
-    """Returns a short sum of all that the prover's verdict on a crate stands on: its sources, definitions and proofs,
-    what it reads of the crates below, and the toolchain's program logic. Remarks and hints on inlining, which change no
-    proof, aren't part of it."""
-    folder = top / "crates" / crate
-    total = hashlib.sha256(repr((logic(), (top / "HANDLES").read_text(), rows(top)[crate])).encode())
-    for path in texts(folder):
-        total.update(repr((str(path.relative_to(folder)), proved_lines(path, path.read_text().splitlines()))).encode())
-    total.update(repr([promised(it, top) for it in stands_on(top)[crate]]).encode())
-    return total.hexdigest()[:12]
+def below(crates, top=TOP):
+    """Returns these crates and those that they stand on, in the order of crates.txt."""
+    found, more, of = set(), list(crates), stands_on(top)
+    while more:
+        crate = more.pop()
+        more += of[crate] if crate not in found else ()
+        found.add(crate)
+    return [it for it in of if it in found]
 
 
-@functools.cache
-def promised(crate, top=TOP):
-    """Returns a sum of what the prover can read of a crate for one above: its definitions, its types, the contracts of the
-    functions that another crate can call, a trait's bodies, since a type may have them as its own, the lemmas that another
-    crate cites, and the same of the crates below."""
-    folder, hidden = top / "crates" / crate, {}
-    for it in functions(crate, top):
-        if not it.is_in_trait:
-            hidden.setdefault(it.file, set()).update(it.body_lines if it.is_seen else range(it.line - 1, it.line - 1 + it.lines))
-    total = hashlib.sha256(repr(rows(top)[crate]).encode())
-    for path in texts(folder):
-        name = str(path.relative_to(folder))
-        if path.suffix == ".rt":
-            lines = [line for at, line in enumerate(path.read_text().splitlines()) if at not in hidden.get(path.name, ())]
-            total.update(repr((name, named_alone("\n".join(proved_lines(path, lines))))).encode())
-        elif not OWN_PROOF.fullmatch(name) and (path.parent.name != "proofs" or path.stem in cited(top).get(crate, ())):
-            total.update(repr((name, proved_lines(path, path.read_text().splitlines()))).encode())
-    total.update(repr([promised(it, top) for it in stands_on(top)[crate]]).encode())
-    return total.hexdigest()
+def copied(folder, crates, more=()):
+    """Makes or renews a copy of what is proved of these crates, as a repository of its own, and of other files of their
+    folders by their names. What was built there before (out/) stays. Returns the folder."""
+    (folder / "crates").mkdir(parents=True, exist_ok=True)
+    for old in (folder / "crates").iterdir():
+        if old.name not in crates:
+            shutil.rmtree(old)
+    shutil.copy(TOP / "HANDLES", folder / "HANDLES")
+    lines = (TOP / "crates.txt").read_text().splitlines()
+    (folder / "crates.txt").write_text("".join(f"{it}\n" for it in lines if (it.split(":")[0].split() or [""])[0] in crates))
+    for crate in crates:
+        here, there = TOP / "crates" / crate, folder / "crates" / crate
+        for part in ("src", "specs", "proofs", *more):
+            shutil.rmtree(there / part, ignore_errors=True)
+            if (here / part).is_dir():
+                shutil.copytree(here / part, there / part)
+            elif (here / part).is_file():
+                shutil.copy(here / part, there / part)
+    return folder
 
 
-@functools.cache
-def cited(top=TOP):
-    """Returns for each crate those of its files of lemmas that another crate cites, or such a file, by their names."""
-    found = {}
-    for crate in stands_on(top):
-        for path in texts(top / "crates" / crate):
-            for other, name in CITED.findall(path.read_text()):
-                if other != crate:
-                    found.setdefault(other, set()).add(name)
-    for crate, names in found.items():
-        left = list(names)
-        while left:
-            path = top / "crates" / crate / "proofs" / f"{left.pop()}.antt"
-            more = {name for _, name in CITED.findall(path.read_text())} - names if path.is_file() else ()
-            names.update(more)
-            left += more
-    return found
-
-
-def named_alone(text):
-    """Returns a source with only those of its imports that the rest of it names."""
-    rest = IMPORT.sub("", text)
-    imported = [(module, name.strip()) for module, names, one in IMPORT.findall(text) for name in (names or one).split(",")]
-    is_named = lambda name: all(it in rest for it in name.rpartition(" as ")[2].split("◌"))
-    return rest, sorted((module, name) for module, name in imported if name and is_named(name))
-
-
-def texts(folder):
-    """Returns the files of a crate's sources, definitions and proofs."""
-    return sorted(it for part in ("src", "specs", "proofs") for it in (folder / part).rglob("*") if it.is_file())
-
-
-def proved_lines(path, lines):
-    """Returns those of a file's lines that a proof stands on: no remarks, no hints on inlining, no empty lines."""
-    sign = "//" if path.suffix == ".rt" else "--"
-    return [line for line in lines if line.strip() and not line.lstrip().startswith(sign) and not HINT.match(line)]
-
-
-@functools.cache
-def toolchain():
-    """Returns what the toolchain says that it is."""
-    return subprocess.run(["rt", "version"], capture_output=True, text=True, check=True).stdout.strip()
-
-
-def logic():
-    """Returns the program logic of the toolchain, in which its proofs are."""
-    return toolchain().partition(" ")[2]
-
-
-def kit():
-    """Returns the name of the toolchain's kit. Kits of one logic hold the same for a proof."""
-    return toolchain().partition(" ")[0].removeprefix("rattle-kit-")
+def need_rt():
+    """Ends the script where the toolchain isn't there."""
+    if not shutil.which("rt"):
+        sys.exit("this needs the toolchain's command `rt`, which isn't on the PATH")
 
 
 def functions(crate, top=TOP):
     """The functions of a crate's sources."""
     for path in sorted((top / "crates" / crate / "src").rglob("*.rt")):
-        owner, kind, lines = "", "", path.read_text().splitlines()
+        owner, is_trait, lines = "", False, path.read_text().splitlines()
         for at, line in enumerate(lines):
             if found := OWNER.match(line):
-                owner, kind = found[2], "of a trait" if " for " in line else found[1]
+                owner, is_trait = found[2], found[1] == "trait"
             elif line == "}":
-                owner, kind = "", ""
+                owner, is_trait = "", False
             if found := FUNCTION.match(line):
-                yield function(crate, path, lines, at, found, owner if found[1] else "", kind)
+                yield function(crate, path, lines, at, found, owner if found[1] else "", is_trait)
 
 
-def function(crate, path, lines, at, found, owner, kind):
+def function(crate, path, lines, at, found, owner, is_trait):
     space, start, depth = found[1], at, lines[at].count("{") - lines[at].count("}")
     while not (lines[at] in (f"{space}{{", f"{space}{{}}") or lines[at].endswith(" {}") or ends(lines[at], depth) or opens(lines[at], space)):
         at += 1
@@ -193,8 +129,7 @@ def function(crate, path, lines, at, found, owner, kind):
             at += 1
     clauses = list(clauses_of(head))
     body, text = "\n".join(lines[begin + 1 : at]), "\n".join(lines[start : at + 1])
-    is_trait, is_seen = kind == "trait", found[2] == "pub " or kind in ("trait", "of a trait")
-    return Function(crate, path.name, start + 1, owner, found[3], bool(found[2]) or is_trait, is_trait, is_seen, clauses, body, text)
+    return Function(crate, path.name, start + 1, owner, found[3], bool(found[2]) or is_trait, clauses, body, text)
 
 
 def clauses_of(head):

@@ -1,17 +1,13 @@
 #!/usr/bin/env python3
-"""Tests how edits.py reads edits and the prover's words, on what the prover said of some edits (kept/), and what
-trying.py would try together, and not again.
+"""Tests how edits.py reads edits and the prover's words, on what the prover said of some edits (kept/).
 
 usage: scripts/test_edits.py      from anywhere in a checkout
 """
 import tempfile
 import unittest
 from pathlib import Path
-from unittest import mock
 
 import edits
-import sources
-import trying
 
 KEPT = Path(__file__).resolve().parent / "kept"
 # The functions that the kept words are about, as far as it matters, each at the line that they name.
@@ -30,18 +26,9 @@ SOURCES = {
     {
         self.free
     }
-
-
-
-
-
-
-
-
-
-
-
-    pub fn is_full(&self) -> bool
+"""
+    + "\n" * 11
+    + """    pub fn is_full(&self) -> bool
         ensures { IsTrue result ↔ (free self.now.held ≡ 0) }
     {
         self.free_count() == 1
@@ -74,33 +61,22 @@ class WithSources(unittest.TestCase):
 
 
 class Goals(unittest.TestCase):
-    """Whether a goal is of what an edit is meant to break."""
-
-    def look(self, what, goals, others):
-        for goal in goals:
-            self.assertTrue(edits.is_of(goal, what), f"{goal} is of {what}")
-        for goal in others:
-            self.assertFalse(edits.is_of(goal, what), f"{goal} is not of {what}")
-
-    def test_a_clause_by_its_whole_label(self):
-        goals = ["returns-clause-opened", "returns-in_err-sync-clause-opened", "returns-then-contains-3-clause-opened-2"]
+    def test_whether_a_goal_is_of_what_an_edit_breaks(self):
+        """Of each: the words for it, goals that are of it, and goals that aren't."""
         others = ["returns", "returns-clause-opened_later", "write_at-requires-clause-opened", "loop-opened-init", "returns-opened"]
-        self.look("opened", goals, others)
-
-    def test_an_only_clause(self):
-        self.look("returns", ["returns", "returns-in-Ok"], ["loop-at-init", "note-requires", "returns-in-note-requires"])
-
-    def test_what_a_call_requires(self):
-        self.look("requires put_in_force ready", ["put_in_force-requires-clause-ready"], ["put_in_force-requires", "returns-clause-ready"])
-        self.look("requires note", ["note-requires", "in_ok-note-requires"], ["note-requires-clause-at", "footnote-requires"])
-        at_a_place = ["accept-requires-in-Ok-false-clause-accepted", "accept-answer-requires-clause-accepted"]
-        self.look("requires accept accepted", at_a_place, ["accept-requires", "accepted-requires-clause-accepted"])
-
-    def test_loops_invariants_and_bounds(self):
-        self.look("loop i", ["loop-i-init", "loop-i-preserved"], ["loop-item-init", "invariant_of-self"])
-        self.look("loop", ["loop-init", "loop-i-preserved"], ["returns"])
-        self.look("invariant", ["invariant_of-result", "invariant_of-self-in-Err"], ["invariant-loop-i"])
-        self.look("overflow", ["overflow_add-at"], ["returns-clause-overflow"])
+        required = ["accept-requires-in-Ok-false-clause-accepted", "accept-answer-requires-clause-accepted"]
+        for what, goals, others in [
+            ("opened", ["returns-clause-opened", "returns-in_err-sync-clause-opened", "returns-then-contains-3-clause-opened-2"], others),
+            ("returns", ["returns", "returns-in-Ok"], ["loop-at-init", "note-requires", "returns-in-note-requires"]),
+            ("requires put_in_force ready", ["put_in_force-requires-clause-ready"], ["put_in_force-requires", "returns-clause-ready"]),
+            ("requires note", ["note-requires", "in_ok-note-requires"], ["note-requires-clause-at", "footnote-requires"]),
+            ("requires accept accepted", required, ["accept-requires", "accepted-requires-clause-accepted"]),
+            ("loop i", ["loop-i-init", "loop-i-preserved"], ["loop-item-init", "invariant_of-self"]),
+            ("loop", ["loop-init", "loop-i-preserved"], ["returns"]),
+            ("invariant", ["invariant_of-result", "invariant_of-self-in-Err"], ["invariant-loop-i"]),
+            ("overflow", ["overflow_add-at"], ["returns-clause-overflow"]),
+        ]:
+            self.assertEqual([it for it in [*goals, *others] if edits.is_of(it, what)], goals, what)
 
 
 class Words(WithSources):
@@ -112,7 +88,7 @@ class Words(WithSources):
         self.assertEqual(said.gone, {"gate::open_gate": ["returns-in_err-write_at-clause-leaves"]})
         self.assertEqual(said.open_at("gate::open_gate", "opened"), ["returns-clause-opened"])
         self.assertEqual(said.open_at("gate::open_gate", "calls"), [])
-        self.assertTrue(said.missed("gate::open_gate", "calls").startswith("BAD: refused, but not at calls of gate::open_gate; open: "))
+        self.assertTrue(said.missed("gate::open_gate", "calls").startswith("refused, but not at calls of gate::open_gate; open: "))
 
     def test_each_of_several_functions_has_its_own_goals(self):
         said = self.words("im_arena", "several_at_once.txt")
@@ -160,19 +136,33 @@ class Words(WithSources):
 
 
 class Edits(WithSources):
-    """What an edit says of itself."""
+    """What an edit says of itself, and of the sources."""
+
+    def setUp(self):
+        super().setUp()
+        self.known = edits.Known(self.top)
+
+    def edit(self, breaks, pairs, twin="", name="one"):
+        """Returns an edit of im_arena that breaks these functions, with its pairs of a file and an old text."""
+        path = self.top / f"{name}.edit"
+        lines = [*(f"# breaks: {it} returns" for it in breaks), "# case: a case"]
+        lines += [line for file, old in pairs for line in (f"file: {file}", f"old: {old}", f"new: {old} + 0")]
+        path.write_text("\n".join([*lines, f"# twin-old: {twin or pairs[0][1]}", "# twin-new: 0", ""]))
+        return edits.read(path)
 
     def test_the_lines_of_an_edit(self):
-        with tempfile.TemporaryDirectory() as folder:
-            path = Path(folder) / "take-gives_two.edit"
-            path.write_text("# breaks: shelf::take requires give some\nfile: src/shelf.rt\nold: a\nnew: b\nold: c\nnew:\n")
-            self.assertEqual(edits.breaks(path), [("shelf::take", "requires give some")])
-            self.assertEqual(list(edits.pairs(path)), [("src/shelf.rt", "a", "b"), ("src/shelf.rt", "c", "")])
+        path = self.top / "take-gives_two.edit"
+        lines = ["# breaks: shelf::take requires give some", "# case: of two", "file: src/shelf.rt", "old:   a", "new: b", "old: c", "new:"]
+        twin = ["# twin-old: a", "# twin-new:  d", "# twin-file: src/lib.rt", "# twin-old: e", "# twin-new:", "# a remark"]
+        path.write_text("\n".join([*lines, *twin, ""]))
+        read = edits.read(path)
+        self.assertEqual((read.breaks, read.case), ([("shelf::take", "requires give some")], "of two"))
+        self.assertEqual(read.wrong, [("src/shelf.rt", "  a", "b"), ("src/shelf.rt", "c", "")])
+        self.assertEqual(read.twin, [("src/shelf.rt", "a", " d"), ("src/lib.rt", "e", "")])
 
     def test_what_there_is_to_break(self):
-        known = edits.Known(self.top)
         for what in ("opened", "calls", "loop at", "requires write_at", "requires open_gate inside"):
-            self.assertIsNone(known.why_not("im_disk", "gate::open_gate", what))
+            self.assertIsNone(self.known.why_not("im_disk", "gate::open_gate", what))
         wrong = {
             "shut": "gate::open_gate has no clause `shut`",
             "inside": "gate::open_gate has no clause `inside`",
@@ -180,130 +170,28 @@ class Edits(WithSources):
             "requires open_gate shut": "open_gate requires no `shut`",
         }
         for what, why in wrong.items():
-            self.assertEqual(known.why_not("im_disk", "gate::open_gate", what), why)
-        self.assertEqual(known.why_not("im_disk", "gate::no_gate", "opened"), "there is no function gate::no_gate")
+            self.assertEqual(self.known.why_not("im_disk", "gate::open_gate", what), why)
+        self.assertEqual(self.known.why_not("im_disk", "gate::no_gate", "opened"), "there is no function gate::no_gate")
 
-    def test_an_edit_of_another_function_than_it_names(self):
-        known, path = edits.Known(self.top), self.top / "one.edit"
-        look = lambda name: known.elsewhere("im_arena", path, [(name, "returns")], self.top)
-        path.write_text("file: src/lib.rt\nold: self.nodes.len() as u32\nnew: 0\n")
-        self.assertEqual(look("Arena::node_count").name, "list_count")
-        self.assertIsNone(look("Arena::list_count"))
-        self.assertIsNone(look("ArenaDrop"))
+    def test_what_is_wrong_with_an_edit(self):
+        body, other = ("src/lib.rt", "self.nodes.len() as u32"), ("src/lib.rt", "self.free_count() == 1")
+        look = lambda *words: list(self.known.faults("im_arena", self.edit(*words)))
+        self.assertEqual(look(["Arena::list_count"], [body]), [])
+        self.assertEqual(look(["Arena::list_count"], [body], "self.free_count() == 1"), ["changes im_arena::Arena::is_full, and breaks Arena::list_count"])
+        self.assertEqual(look(["Arena::node_count"], [body])[0], "changes im_arena::Arena::list_count, and breaks Arena::node_count")
+        self.assertEqual(look(["Arena::list_count"], [("src/lib.rt", "pub fn")])[0], "stands 3 times in src/lib.rt: pub fn")
+        self.assertEqual(look(["Arena::no_count"], [body]), ["there is no function Arena::no_count"])
+        self.assertEqual(look([], [other]), ["it has to have lines breaks:, case:, file:, old:, new:, twin-old:, twin-new:"])
 
-
-class Trying(WithSources):
-    """What is tried together, and what isn't tried again."""
-
-    def setUp(self):
-        super().setUp()
-        (self.top / "HANDLES").write_text("Handles allowed: none.\n")
-        (self.top / "crates/im_arena/edits").mkdir()
-        self.reach = trying.Reach("im_arena", edits.Known(self.top), self.top)
-        sources.stamp.cache_clear()
-        mock.patch.object(sources, "toolchain", lambda: "rattle-kit-1a logic 2b").start()
-        self.addCleanup(mock.patch.stopall)
-
-    def edit(self, name, breaks, old, file="src/lib.rt"):
-        path = self.top / "crates/im_arena/edits" / f"{name}.edit"
-        path.write_text("".join(f"# breaks: {it} returns\n" for it in breaks) + f"file: {file}\nold: {old}\nnew: {old} + 0\n")
-        return path
-
-    def test_edits_of_different_functions_are_tried_together(self):
-        one = self.edit("list_count-one", ["Arena::list_count"], "self.nodes.len() as u32")
-        other = self.edit("is_full-one", ["Arena::is_full"], "self.free_count() == 1")
-        same = self.edit("is_full-other", ["Arena::is_full"], "self.free_count()")
-        meant = self.edit("list_count-both", ["Arena::list_count", "Arena::node_count"], "self.nodes.len()")
-        law = self.edit("list_count-law", ["Arena::list_count"], "length self.now.held.lists")
-        self.assertEqual(self.reach.companies([one, other, same, meant, law]), [[one, other], [same, meant], [law]])
-        self.assertEqual(self.reach.asked(one, one), ["Arena::list_count"])
-        self.assertEqual(self.reach.asked(meant, meant), ["Arena::list_count", "Arena::node_count"])
-        self.assertIsNone(self.reach.asked(law, law))
-
-    def test_twins_of_one_text_are_not_tried_together(self):
-        edit = self.edit("is_full-one", ["Arena::is_full"], "self.free_count() == 1")
-        twin, other = edit.with_suffix(".twin"), edit.with_name("is_full-other.twin")
-        for it in (twin, other):
-            it.write_text("file: src/lib.rt\nold: self.free_count() == 1\nnew: 1 == self.free_count()\n")
-        self.assertEqual(self.reach.rounds([(twin, edit), (other, edit)]), [[twin], [other]])
-
-    def test_what_went_well_is_known_until_something_changes(self):
-        path = self.edit("is_full-one", ["Arena::is_full"], "self.free_count() == 1")
-        record = trying.Record("im_arena", self.top)
-        record.note("is_full-one", "edits", True)
-        record.write()
-        again = trying.Record("im_arena", self.top)
-        self.assertTrue(again.is_done("is_full-one", "edits"))
-        self.assertFalse(again.is_done("is_full-one", "twins"))
-        self.assertEqual(again.counts(), (1, 0, 0, 1))
-        again.note("is_full-one", "twins", True)
-        self.assertEqual(again.counts(), (1, 1, 1, 0))
-        again.write()
-        source = self.top / "crates/im_arena/src/lib.rt"
-        source.write_text(source.read_text() + "// a remark\n")
-        sources.stamp.cache_clear()
-        self.assertEqual(trying.Record("im_arena", self.top).counts(), (1, 1, 1, 0))
-        source.write_text(source.read_text() + "fn more() {}\n")
-        sources.stamp.cache_clear()
-        self.assertEqual(trying.Record("im_arena", self.top).counts(), (1, 0, 1, 0))
-        path.write_text(path.read_text().replace("+ 0", "+ 1"))
-        self.assertEqual(trying.Record("im_arena", self.top).counts(), (1, 0, 0, 1))
-
-    def test_a_kit_of_the_same_logic_changes_no_stamp(self):
-        self.edit("is_full-one", ["Arena::is_full"], "self.free_count() == 1")
-        record = trying.Record("im_arena", self.top)
-        for kind in trying.KINDS:
-            record.note("is_full-one", kind, True)
-        record.write()
-        for words, found in [("rattle-kit-1c logic 2b", (1, 1, 1, 0)), ("rattle-kit-1c logic 2d", (1, 0, 1, 0))]:
-            sources.stamp.cache_clear()
-            with mock.patch.object(sources, "toolchain", lambda: words):
-                again = trying.Record("im_arena", self.top)
-                self.assertEqual(again.counts(), found)
-                self.assertEqual(again.kits(), {"1a": 1} if found[1] else {})
-
-    def changed(self, path, old, new):
-        """Whether a change of a file changes the stamp of im_arena."""
-        before, file = self.stamped(), self.top / "crates" / path
-        text = file.read_text()
-        file.write_text(text.replace(old, new))
-        self.assertNotEqual(file.read_text(), text)
-        after = self.stamped()
-        file.write_text(text)
-        return after != before
-
-    def stamped(self):
-        sources.stamp.cache_clear()
-        sources.promised.cache_clear()
-        sources.cited.cache_clear()
-        return sources.stamp("im_arena", self.top)
-
-    def test_the_stamp_is_of_what_the_crates_below_promise(self):
-        (self.top / "crates.txt").write_text("im_disk:\nim_arena: im_disk\n")
-        for name, text in {"proofs/Lemmas.antt": "one : 1\n", "proofs/gate/open_gate/Answers.antt": "two\n"}.items():
-            path = self.top / "crates/im_disk" / name
-            path.parent.mkdir(parents=True, exist_ok=True)
-            path.write_text(text)
-        gate = "im_disk/src/gate.rt"
-        self.assertTrue(self.changed("im_arena/src/lib.rt", "self.free_count() == 1", "self.free_count() == 2"))
-        self.assertTrue(self.changed(gate, "at + 1", "at + 2"))
-        self.assertTrue(self.changed(gate, "at: usize", "at: u32"))
-        self.assertTrue(self.changed(gate, "pub fn", "use one::CallsBy;\npub fn"))
-        self.assertFalse(self.changed(gate, "pub fn", "use one::Two;\npub fn"))
-        self.assertFalse(self.changed(gate, "pub fn", "fn more() {}\n\npub fn"))
-        self.assertFalse(self.changed(gate, "disk.sync()", "disk.sync_all()"))
-        self.assertFalse(self.changed(gate, "pub fn", "#[inline(always)]\npub fn"))
-        self.assertFalse(self.changed("im_disk/proofs/gate/open_gate/Answers.antt", "two", "three"))
-        self.assertFalse(self.changed("im_disk/proofs/Lemmas.antt", "1", "2"))
-        (self.top / "crates/im_arena/proofs").mkdir()
-        (self.top / "crates/im_arena/proofs/Own.antt").write_text("use Rattle.im_disk.proofs.Lemmas.{one}\n")
-        self.assertTrue(self.changed("im_disk/proofs/Lemmas.antt", "1", "2"))
-
-    def test_the_bodies_of_a_trait_below_are_promised(self):
-        (self.top / "crates.txt").write_text("im_disk:\nim_arena: im_disk\n")
-        source = self.top / "crates/im_disk/src/gate.rt"
-        source.write_text("trait Disk {\n    fn is_calm(&self) -> bool\n    {\n        true\n    }\n}\n")
-        self.assertTrue(self.changed("im_disk/src/gate.rt", "true", "false"))
+    def test_which_functions_to_ask_for(self):
+        body, law = ("src/lib.rt", "self.nodes.len()"), ("src/lib.rt", "length self.now.held.lists")
+        ask = lambda *words: self.known.asked("im_arena", edit := self.edit(*words), edit.wrong)
+        self.assertEqual(ask(["Arena::list_count"], [body]), ["Arena::list_count"])
+        self.assertEqual(ask(["Arena::list_count", "Arena::node_count"], [body]), ["Arena::list_count", "Arena::node_count"])
+        self.assertEqual(ask(["Arena::list_count"], [body, ("proofs/Arena/list_count/Answers.antt", "a")]), ["Arena::list_count"])
+        self.assertIsNone(ask(["Arena::list_count"], [body, ("proofs/Arena/is_full/Answers.antt", "a")]))
+        self.assertIsNone(ask(["Arena::list_count"], [law]))
+        self.assertIsNone(ask(["Arena::is_full"], [body]))
 
 
 if __name__ == "__main__":
