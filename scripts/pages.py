@@ -6,7 +6,7 @@ from sources import TOP
 WIDEST, LARGEST, LONGEST = 120, 40, 45  # columns of a line, KB of a page, words of a sentence
 USERS = ("README.md", *(f"docs/{it}.md" for it in "TUTORIAL SCRIPTS SERVE EMBEDDING CLUSTER MIGRATION DETERMINACY".split()))
 SHORT = ("README.md", *(f"docs/{it}.md" for it in "TUTORIAL SCRIPTS SERVE EMBEDDING".split()))
-LARGE = ("docs/DECISIONS.md",)
+LARGE = {"docs/DECISIONS.md": 70}
 
 
 def paragraphs(text):
@@ -27,8 +27,8 @@ def sentences(text):
 def faults():
     for path in sorted([*TOP.glob("*.md"), *TOP.glob("docs/*.md"), *TOP.glob("models/*.md")]):
         name, text = str(path.relative_to(TOP)), path.read_text()
-        if len(text.encode()) > 1000 * LARGEST and name not in LARGE:
-            yield f"{name}: {len(text.encode()) // 1000} KB, at most {LARGEST}"
+        if len(text.encode()) > 1000 * (most := LARGE.get(name, LARGEST)):
+            yield f"{name}: {len(text.encode()) / 1000:.1f} KB, at most {most}"
         for at, line in enumerate(text.splitlines(), 1):
             if len(line) > WIDEST and not line.startswith("|"):
                 yield f"{name}:{at}: {len(line)} columns, at most {WIDEST}"
