@@ -1,4 +1,7 @@
 //! How the lines of replies are told: writers in front of a writer.
+//!
+//! Contracts see such a writer as the text that it took. So each clause about what is printed holds of that text,
+//! however its lines are told.
 #![tactic(auto)]
 
 mod calls;

@@ -1,4 +1,7 @@
 //! A memory, and one command on it.
+//!
+//! A struct that a call returns through memory costs its caller some 25 instructions, and so at each level that hands
+//! it on. So a step is inlined into its caller; a confirmation, which is rarer, isn't.
 ghost use Rattle.std.specs.Prelude.{◌≡◌, ◌*◌, ◌≤◌, List, [], ◌∷◌, ◌++◌, length};
 ghost use Rattle.std.specs.Prelude.{IfOk, IfErr, OnErr, false, slice_get};
 ghost use Rattle.im_types.specs.declared.commands.Command.{Command};

@@ -1,4 +1,7 @@
 //! Whether a plan is under way in a memory.
+//!
+//! Each request is tested by itself, against the memory and the values that the plan stores. So the test takes no
+//! memory (decision 530).
 ghost use Rattle.std.specs.Prelude.{◌≡◌, ◌↔◌, Option, Some, IsTrue, option_map};
 ghost use Rattle.im_types.specs.Contents.{Held};
 ghost use Rattle.im_types.specs.Window.{bounds, same_op};

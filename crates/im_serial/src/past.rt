@@ -1,4 +1,6 @@
 //! What an image has of a script already.
+//!
+//! The n-th request of an element has number n, so an image needs no mark of a script (decision 330).
 ghost use Rattle.std.specs.Prelude.{◌≡◌, ◌-◌, ◌+◌, ℕ, false, true, [], IfOk, Ok, OnOk, slice_get, string_bytes};
 ghost use Rattle.std.specs.Option.{option_map_or};
 ghost use Rattle.im_types.specs.Window.{bounds, next_number};
