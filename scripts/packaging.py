@@ -14,6 +14,7 @@ VERSION = (TOP / "VERSION").read_text().strip()
 SERIES = "1"  # Of the calls: it changes if a program that was built before would not run as before.
 SONAME = f"libluntrebis.so.{SERIES}"
 ARCHIVE, SHARED, IMEM = OUT / "libluntrebis.a", OUT / SONAME, OUT / "imem"
+OWN = OUT / "libim_c.a"  # The library without its part in C.
 PROVED = OUT / "libluntrebis.proved"  # Of which commit the library is, and what the prover said of it.
 FLAGS = ["-std=c11", "-O2", "-fPIC", "-Wall", "-Wextra", "-Werror"]
 SAFE = "-Wl,-z,defs,-z,relro,-z,now,-z,noexecstack"

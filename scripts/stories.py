@@ -6,7 +6,7 @@ from sources import TOP
 
 STORIES = TOP / "crates" / "im_stories"
 DATA = STORIES / "data"
-PROGRAM = STORIES / "out" / "im_stories"
+PROGRAM = TOP / "out" / "im_stories"
 
 
 def parts():
@@ -22,5 +22,4 @@ def parts():
 def build():
     """Builds the program that the gate proves, unless it is there."""
     if not PROGRAM.exists():
-        words = {"cwd": STORIES, "stdin": subprocess.DEVNULL, "stdout": subprocess.DEVNULL}
-        subprocess.run(["rt", "run", "--", "data/memory/lists.story"], check=True, **words)
+        subprocess.run([TOP / "scripts" / "build-imem", "im_stories"], stdout=subprocess.DEVNULL, check=True)
